@@ -1,0 +1,10 @@
+pub mod Machine
+pub mod Words
+pub mod Mask
+pub mod Loop
+pub mod Order
+pub mod Slice
+pub mod Format
+pub mod Stream
+pub mod Checkpoint
+pub mod Columns

@@ -1,0 +1,73 @@
+-- Events of any kind, in order of time.
+-- Assumes nothing.
+use mathlib.Core.Path.{_≡_, refl}
+use mathlib.Core.Bool.{Bool, true, false, _&&_}
+use mathlib.Core.List.{List, [], _∷_, _++_}
+use Prim.Native.Nat.{ℕ, zero, suc, _≤_, _<_, max}
+use native.Mathlib.Omega.{arith}
+use lib.Dec.{leb}
+use borrow.Author.Tests.{leb-true}
+use Rattle.stream.specs.Machine.{All, all-map}
+
+-- a test of two, passed
+pub both : (a b : Bool) → (a && b) ≡ true → (a ≡ true) × (b ≡ true)
+both true b h = (refl, h)
+both false b h = (h, cc)
+
+-- `clock`: an event's time; `ok`: whether an encoding can say the event at all
+module _ {E : Type 0} (clock : E → ℕ) (ok : E → Bool) where
+  pub record Fine (from : ℕ) (e : E) : Type 0 where
+    pub rises : from ≤ clock e
+    pub fine : ok e ≡ true
+
+  -- each event is fine, and none is earlier than the one before
+  abbrev pub Rise : ℕ → List E → Type 0
+  Rise from [] = Unit
+  Rise from (e ∷ es) = Fine from e × Rise (clock e) es
+
+  -- the test for it
+  abbrev pub riseb : ℕ → List E → Bool
+  riseb from [] = true
+  riseb from (e ∷ es) = (leb from (clock e) && ok e) && riseb (clock e) es
+
+  abbrev pub lastOf : ℕ → List E → ℕ
+  lastOf from [] = from
+  lastOf from (e ∷ es) = lastOf (clock e) es
+
+  pub riseb-true : (from : ℕ) (es : List E) → riseb from es ≡ true → Rise from es
+  riseb-true from [] h = tt
+  riseb-true from (e ∷ es) h =
+      let a = both (leb from (clock e) && ok e) (riseb (clock e) es) h in
+      let b = both (leb from (clock e)) (ok e) (a .0) in
+      (record { rises = leb-true from (clock e) (b .0); fine = b .1 }, riseb-true (clock e) es (a .1))
+
+  pub rise-from : (a b : ℕ) (es : List E) → a ≤ b → Rise b es → Rise a es
+  rise-from a b [] h r = tt
+  rise-from a b (e ∷ es) h r = (record { rises = omega (arith, r .0 .rises); fine = r .0 .fine }, r .1)
+
+  -- from any time up to the first event's
+  pub rise-first : (from to : ℕ) (e : E) (es : List E) → to ≤ clock e → Rise from (e ∷ es) → Rise to (e ∷ es)
+  rise-first from to e es h r = (record { rises = h; fine = r .0 .fine }, r .1)
+
+  pub rise-all : (b : ℕ) (es : List E) → Rise b es → All (λ e. b ≤ clock e) es
+  rise-all b [] r = tt
+  rise-all b (e ∷ es) r = (r .0 .rises, rise-all b es (rise-from b (clock e) es (r .0 .rises) (r .1)))
+
+  pub rise-append : (from : ℕ) (a b : List E) → Rise from a → Rise (lastOf from a) b → Rise from (a ++ b)
+  rise-append from [] b r q = q
+  rise-append from (e ∷ a) b r q = (r .0, rise-append (clock e) a b (r .1) q)
+
+  -- what follows
+  pub rise-suffix : (from : ℕ) (a b : List E) → Rise from (a ++ b) → Rise from b
+  rise-suffix from [] b r = r
+  rise-suffix from (e ∷ a) b r = rise-from from (clock e) b (r .0 .rises) (rise-suffix (clock e) a b (r .1))
+
+-- the latest of some events: what a checkpoint keeps
+module _ {E : Type 0} (clock : E → ℕ) where
+  abbrev pub latest : List E → ℕ
+  latest [] = 0
+  latest (e ∷ es) = max (clock e) (latest es)
+
+  pub latest-all : (t : ℕ) (es : List E) → latest es < t → All (λ e. clock e < t) es
+  latest-all t [] h = tt
+  latest-all t (e ∷ es) h = (omega arith, latest-all t es (omega arith))

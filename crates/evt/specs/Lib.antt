@@ -1,1 +1,6 @@
 pub mod Told
+pub mod Event
+pub mod Layout
+pub mod Clock
+pub mod Evt2
+pub mod Evt3

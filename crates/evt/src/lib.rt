@@ -52,3 +52,13 @@ pub enum Refusal {
     OutputTooShort(usize),
     ColumnLengths,
 }
+
+pub mod clock;
+pub mod evt2;
+pub mod evt3;
+pub mod fields;
+pub mod vector;
+
+pub use evt2::Evt2Decoder;
+pub use evt3::Decoder;
+pub use vector::EventVector;

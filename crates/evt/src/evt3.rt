@@ -1,0 +1,185 @@
+// EVT3: words of 16 bits. A word sets the row, the base column or the time, or carries events.
+ghost use mathlib.Core.Path.{_≡_};
+ghost use Prim.Native.Nat.{_+_, _≤_, min};
+ghost use Rattle.evt.specs.Evt3.{fresh3, step3, vector3, Sane3, Slim, widened, slimmed, inRange3, single, several};
+use crate::clock;
+use crate::fields::bits;
+use crate::vector;
+use crate::vector::Vector;
+
+pub struct Decoder {
+    pub initialised: bool,
+    pub time_base: u64,
+    pub time: u64,
+    pub y: u16,
+    pub base_x: u16,
+    pub polarity: bool,
+    pub high_loops: u64,
+}
+
+// The decoder inside a loop: all numbers have 64 bits, so that a step is inlined.
+pub struct WideDecoder {
+    pub initialised: bool,
+    pub time_base: u64,
+    pub time: u64,
+    pub y: u64,
+    pub base_x: u64,
+    pub polarity: bool,
+    pub high_loops: u64,
+}
+
+// The decoder after a word, and the word's events.
+pub struct WideStep {
+    pub next: WideDecoder,
+    pub events: Vector,
+}
+
+impl Decoder {
+    pub const WORD_SIZE: usize = 2;
+    pub const PERIOD: u64 = 16777216;
+    pub const THRESHOLD: u64 = 16732160;
+    pub const MOST_LOOPS: u64 = 268435456;
+
+    pub fn new() -> Self
+        ensures { λ r. ⌜ r ≡ fresh3 ⌝ }
+    {
+        Self {
+            initialised: false,
+            time_base: 0,
+            time: 0,
+            y: 0,
+            base_x: 0,
+            polarity: false,
+            high_loops: 0,
+        }
+    }
+
+    pub fn widen(self) -> WideDecoder
+        ensures { λ r. ⌜ r ≡ widened self ⌝ }
+    {
+        WideDecoder {
+            initialised: self.initialised,
+            time_base: self.time_base,
+            time: self.time,
+            y: self.y as u64,
+            base_x: self.base_x as u64,
+            polarity: self.polarity,
+            high_loops: self.high_loops,
+        }
+    }
+}
+
+// base + n, held at 65,535.
+fn advanced(base: u64, n: u64) -> u64
+    requires { ⌜ n ≤ 65535 ⌝ }
+    ensures { λ r. ⌜ r ≡ min (base + n) 65535 ⌝ }
+{
+    if base <= 65535 - n { base + n } else { 65535 }
+}
+
+impl WideDecoder {
+    pub fn slim(self) -> Decoder
+        requires { ⌜ Slim self ⌝ }
+        ensures { λ r. ⌜ r ≡ slimmed self ⌝ }
+    {
+        Decoder {
+            initialised: self.initialised,
+            time_base: self.time_base,
+            time: self.time,
+            y: self.y as u16,
+            base_x: self.base_x as u16,
+            polarity: self.polarity,
+            high_loops: self.high_loops,
+        }
+    }
+
+    // The event at column x.
+    fn one(self, x: u64, p: u64) -> Vector
+        ensures { λ r. ⌜ r ≡ single (slimmed self) x p ⌝ }
+    {
+        Vector {
+            x,
+            y: self.y,
+            t: self.time,
+            p,
+            mask: 1,
+        }
+    }
+
+    // The events of a mask, from the base column on.
+    fn many(self, mask: u64) -> Vector
+        ensures { λ r. ⌜ r ≡ several (slimmed self) mask ⌝ }
+    {
+        Vector {
+            x: self.base_x,
+            y: self.y,
+            t: self.time,
+            p: self.polarity as u64,
+            mask,
+        }
+    }
+
+    // One word, for loops: they keep the decoder's numbers small enough that no sum wraps.
+    pub fn advance(self, word: u64) -> WideStep
+        requires { ⌜ Sane3 self ⌝ }
+        ensures { λ r. ⌜ (r .next ≡ widened (step3 (slimmed self) word)) × (r .events ≡ vector3 (slimmed self) word) ⌝ }
+    {
+        let kind = bits(word, 12, 4);
+        let low = bits(word, 0, 12);
+        let x = bits(word, 0, 11);
+        let p = bits(word, 11, 1);
+        let mut d = self;
+        let mut v = vector::none();
+        if d.initialised {
+            match kind {
+                0 => {
+                    d.y = x;
+                }
+                2 => {
+                    v = d.one(x, p);
+                }
+                3 => {
+                    d.base_x = x;
+                    d.polarity = p == 1;
+                }
+                4 => {
+                    v = d.many(low);
+                    d.base_x = advanced(d.base_x, 12);
+                }
+                5 => {
+                    v = d.many(bits(word, 0, 8));
+                    d.base_x = advanced(d.base_x, 8);
+                }
+                6 => {
+                    d.time = d.time_base + low;
+                }
+                8 => {
+                    let raw = low * 4096;
+                    let c = clock::after(
+                        Decoder::PERIOD,
+                        Decoder::THRESHOLD,
+                        d.time_base,
+                        d.high_loops,
+                        raw,
+                    );
+                    d.time_base = c.coarse;
+                    d.time = c.coarse;
+                    d.high_loops = c.loops;
+                }
+                1 | 7 | 9..=15 => {}
+                _ => {}
+            }
+        } else {
+            match kind {
+                8 => {
+                    let raw = low * 4096;
+                    d.initialised = true;
+                    d.time_base = raw;
+                    d.time = raw;
+                }
+                _ => {}
+            }
+        }
+        WideStep { next: d, events: v }
+    }
+}

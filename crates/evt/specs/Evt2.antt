@@ -14,8 +14,8 @@ use Rattle.evt.specs.Event.{Event, eventsOf, noEvents}
 use Rattle.evt.specs.Clock.{clockInRange}
 use Rattle.evt.specs.Layout.{type2, timeLow2, x2, y2, timeHigh2}
 
-abbrev pub fresh : Evt2Decoder
-fresh = record { initialised = false; «time_high» = 0; time = 0; «high_loops» = 0 }
+abbrev pub fresh2 : Evt2Decoder
+fresh2 = record { initialised = false; «time_high» = 0; time = 0; «high_loops» = 0 }
 
 abbrev pub period2 : ℕ
 period2 = 2 ^ 34

@@ -110,10 +110,13 @@ reader3 = record { step = step3; emit = λ d w. eventsOf (vector3 d w) }
 
 -- ---- out of range (10)
 
+abbrev pub isZero : Decoder → Bool
+isZero d = eqb (d .«time_base») 0 && (eqb (d .time) 0 && (eqb (d .y) 0 && (eqb (d .«base_x») 0 && (not (d .polarity) && eqb (d .«high_loops») 0))))
+
 abbrev pub inRange3 : Decoder → Bool
 inRange3 d =
     cond (d .initialised) (clockInRange period3 4096 (2 ^ 28) (d .«time_base») (d .time) (d .«high_loops») && leb (d .y) 2047)
-    (eqb (d .«time_base») 0 && (eqb (d .time) 0 && (eqb (d .y) 0 && (eqb (d .«base_x») 0 && (not (d .polarity) && eqb (d .«high_loops») 0)))))
+    (isZero d)
 
 -- ---- the same decoder in the loops' struct
 

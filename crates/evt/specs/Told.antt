@@ -2,19 +2,19 @@
 -- Every promise about an answer goes through a function into `Told`.
 use mathlib.Core.Path.{_≡_, refl, sym, ap, _∙_}
 use mathlib.Core.Bool.{cond}
-use mathlib.Core.List.{List, [], _∷_}
+use mathlib.Core.List.{List, [], _∷_, map}
 use Prim.Native.Nat.{ℕ}
 use lib.Dec.{eqb}
-use lib.ListN.{getD}
+use lib.IntN.{ℤ, pos, negsuc}
 use Rattle.evt.specs.declared.Refusal.{Refusal}
 use Rattle.evt.specs.declared.Refusal.the-variants.{InvalidSensorSize, UnknownEncoding, HeaderNotAscii, TooLong, ColumnsTooShort, TimeOrder, EventOutOfRange, InvalidSpacing, TooFewRecords, StateOutOfRange, OutputTooShort, ColumnLengths}
 
 pub record Told : Type 0 where
   pub number : ℕ
-  pub values : List ℕ
+  pub values : List ℤ
 
 abbrev pub accepted : List ℕ → Told
-accepted vs = record { number = 0; values = vs }
+accepted vs = record { number = 0; values = map pos vs }
 
 -- a refusal that tells nothing besides its number
 abbrev pub refused : ℕ → Told
@@ -22,7 +22,7 @@ refused n = record { number = n; values = [] }
 
 -- a refusal that tells a count
 abbrev pub short : ℕ → ℕ → Told
-short n need = record { number = n; values = need ∷ [] }
+short n need = record { number = n; values = pos need ∷ [] }
 
 -- the table
 abbrev pub told : Refusal → Told
@@ -41,10 +41,15 @@ told ColumnLengths = refused 12
 
 -- ---- no two cases are told alike
 
+abbrev first : List ℤ → ℕ
+first [] = 0
+first (pos n ∷ vs) = n
+first (negsuc n ∷ vs) = 0
+
 abbrev meant : Told → Refusal
 meant t =
     let n = t .number in
-    let v = getD (t .values) 0 0 in
+    let v = first (t .values) in
     cond (eqb n 1) InvalidSensorSize (cond (eqb n 2) UnknownEncoding (cond (eqb n 3) HeaderNotAscii (cond (eqb n 4) TooLong
     (cond (eqb n 5) (ColumnsTooShort v) (cond (eqb n 6) TimeOrder (cond (eqb n 7) EventOutOfRange (cond (eqb n 8) InvalidSpacing
     (cond (eqb n 9) (TooFewRecords v) (cond (eqb n 10) StateOutOfRange (cond (eqb n 11) (OutputTooShort v) ColumnLengths))))))))))

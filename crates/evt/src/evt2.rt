@@ -1,6 +1,9 @@
 // EVT2: words of 32 bits. An event word carries its own coordinates and the low six bits of its time.
 ghost use mathlib.Core.Path.{_≡_};
-ghost use Rattle.evt.specs.Evt2.{fresh, step2, vector2, Sane2, inRange2};
+ghost use Rattle.evt.specs.Evt2.{fresh2, step2, vector2, Sane2, inRange2};
+ghost use Rattle.evt.specs.Decode.{Decoded2};
+use crate::DecodeAnswer;
+use crate::Refusal;
 use crate::clock;
 use crate::fields::bits;
 use crate::vector;
@@ -19,6 +22,12 @@ pub struct Evt2Step {
     pub events: Vector,
 }
 
+// What `step` leaves: the decoder to go on with, and the answer.
+pub struct Evt2Decoded {
+    pub next: Evt2Decoder,
+    pub answer: DecodeAnswer,
+}
+
 impl Evt2Decoder {
     pub const WORD_SIZE: usize = 4;
     pub const PERIOD: u64 = 17179869184;
@@ -26,13 +35,55 @@ impl Evt2Decoder {
     pub const MOST_LOOPS: u64 = 134217728;
 
     pub fn new() -> Self
-        ensures { λ r. ⌜ r ≡ fresh ⌝ }
+        ensures { λ r. ⌜ r ≡ fresh2 ⌝ }
     {
         Self {
             initialised: false,
             time_high: 0,
             time: 0,
             high_loops: 0,
+        }
+    }
+
+    pub fn in_range(self) -> bool
+        ensures { λ r. ⌜ r ≡ inRange2 self ⌝ }
+    {
+        if self.initialised {
+            return clock::in_range(
+                Self::PERIOD,
+                64,
+                Self::MOST_LOOPS,
+                self.time_high,
+                self.time,
+                self.high_loops,
+            );
+        }
+        if self.time_high != 0 {
+            return false;
+        }
+        if self.time != 0 {
+            return false;
+        }
+        self.high_loops == 0
+    }
+
+    // One word, by value. A decoder out of range is refused, and comes back as it was.
+    pub fn step(self, word: u32) -> Evt2Decoded
+        ensures { λ r. ⌜ Decoded2 self word r ⌝ }
+    {
+        if !self.in_range() {
+            return Evt2Decoded {
+                next: self,
+                answer: DecodeAnswer::Refused(Refusal::StateOutOfRange),
+            };
+        }
+        let s = self.advance(word as u64);
+        let next = s.next;
+        let events = s.events;
+        let v = vector::narrow(events);
+        Evt2Decoded {
+            next,
+            answer: DecodeAnswer::Events(v),
         }
     }
 

@@ -1,7 +1,10 @@
 // EVT3: words of 16 bits. A word sets the row, the base column or the time, or carries events.
 ghost use mathlib.Core.Path.{_≡_};
 ghost use Prim.Native.Nat.{_+_, _≤_, min};
-ghost use Rattle.evt.specs.Evt3.{fresh3, step3, vector3, Sane3, Slim, widened, slimmed, inRange3, single, several};
+ghost use Rattle.evt.specs.Evt3.{fresh3, step3, vector3, Sane3, Slim, widened, slimmed, inRange3, isZero, single, several};
+ghost use Rattle.evt.specs.Decode.{Decoded3};
+use crate::DecodeAnswer;
+use crate::Refusal;
 use crate::clock;
 use crate::fields::bits;
 use crate::vector;
@@ -34,6 +37,12 @@ pub struct WideStep {
     pub events: Vector,
 }
 
+// What `step` leaves: the decoder to go on with, and the answer.
+pub struct Decoded {
+    pub next: Decoder,
+    pub answer: DecodeAnswer,
+}
+
 impl Decoder {
     pub const WORD_SIZE: usize = 2;
     pub const PERIOD: u64 = 16777216;
@@ -51,6 +60,68 @@ impl Decoder {
             base_x: 0,
             polarity: false,
             high_loops: 0,
+        }
+    }
+
+    pub fn in_range(self) -> bool
+        ensures { λ r. ⌜ r ≡ inRange3 self ⌝ }
+    {
+        if self.initialised {
+            if !clock::in_range(
+                Self::PERIOD,
+                4096,
+                Self::MOST_LOOPS,
+                self.time_base,
+                self.time,
+                self.high_loops,
+            ) {
+                return false;
+            }
+            return self.y <= 2047;
+        }
+        self.is_zero()
+    }
+
+    // Whether every number of an unstarted decoder is 0.
+    fn is_zero(self) -> bool
+        ensures { λ r. ⌜ r ≡ isZero self ⌝ }
+    {
+        if self.time_base != 0 {
+            return false;
+        }
+        if self.time != 0 {
+            return false;
+        }
+        if self.y != 0 {
+            return false;
+        }
+        if self.base_x != 0 {
+            return false;
+        }
+        if self.polarity {
+            return false;
+        }
+        self.high_loops == 0
+    }
+
+    // One word, by value. A decoder out of range is refused, and comes back as it was.
+    pub fn step(self, word: u16) -> Decoded
+        ensures { λ r. ⌜ Decoded3 self word r ⌝ }
+    {
+        if !self.in_range() {
+            return Decoded {
+                next: self,
+                answer: DecodeAnswer::Refused(Refusal::StateOutOfRange),
+            };
+        }
+        let s = self.widen().advance(word as u64);
+        let wide = s.next;
+        let next = wide.slim();
+        let events = s.events;
+        let v = vector::narrow(events);
+        Decoded {
+            next,
+            answer: DecodeAnswer::Events(v),
         }
     }
 

@@ -53,12 +53,20 @@ pub enum Refusal {
     ColumnLengths,
 }
 
+// What decoding one word answers.
+pub enum DecodeAnswer {
+    Events(EventVector),
+    Refused(Refusal),
+}
+
 pub mod clock;
+pub mod codec;
 pub mod evt2;
 pub mod evt3;
 pub mod fields;
 pub mod vector;
 
+pub use codec::Codec;
 pub use evt2::Evt2Decoder;
 pub use evt3::Decoder;
 pub use vector::EventVector;

@@ -1,0 +1,34 @@
+use borrow.Author.Needs.{needs}
+use Rattle.evt.proofs.codec.Codec.new.Statement.{statement}
+use Rattle.evt.proofs.codec.Codec.new.Tie as tie
+use Rattle.evt.proofs.codec.Codec.new.Reads as reads
+use Rattle.evt.proofs.codec.Codec.new.Lts as lts
+use Rattle.evt.proofs.evt2.Evt2Decoder.new.Reads as evt2-Evt2Decoder-new-reads
+use Rattle.evt.proofs.evt3.Decoder.new.Reads as evt3-Decoder-new-reads
+
+-- src/codec.rt:26:43
+enum-told : tie.Need-enum-told
+enum-told c = search needs
+
+-- src/codec.rt:26:43
+new-requires : tie.Need-new-requires
+new-requires c κs = search needs
+
+-- src/codec.rt:27:43
+enum-told-2 : tie.Need-enum-told-2
+enum-told-2 c = search needs
+
+-- src/codec.rt:27:43
+new-requires-2 : tie.Need-new-requires-2
+new-requires-2 c κs = search needs
+
+-- src/codec.rt:22:5
+returns : tie.Need-returns
+returns c = ?
+
+-- src/codec.rt:22:5
+returns-2 : tie.Need-returns-2
+returns-2 c = ?
+
+pub new-spec : {M : Type 1} → statement M
+new-spec = tie.close (tie.spec enum-told new-requires enum-told-2 new-requires-2 returns returns-2)

@@ -1,0 +1,29 @@
+use borrow.Author.Needs.{needs}
+use Rattle.evt.proofs.evt2.Evt2Decoder.in_range.Statement.{statement}
+use Rattle.evt.proofs.evt2.Evt2Decoder.in_range.Tie as tie
+use Rattle.evt.proofs.evt2.Evt2Decoder.in_range.Reads as reads
+use Rattle.evt.proofs.evt2.Evt2Decoder.in_range.Lts as lts
+use Rattle.evt.proofs.clock.in_range.Reads as in-range-reads
+
+-- src/evt2.rt:52:13
+in-range-requires : tie.Need-in-range-requires
+in-range-requires c κs = search needs
+
+-- src/evt2.rt:52:13
+returns : tie.Need-returns
+returns c = ?
+
+-- src/evt2.rt:62:13
+returns-2 : tie.Need-returns-2
+returns-2 c = ?
+
+-- src/evt2.rt:65:13
+returns-3 : tie.Need-returns-3
+returns-3 c = ?
+
+-- src/evt2.rt:48:5
+returns-4 : tie.Need-returns-4
+returns-4 c = ?
+
+pub in-range-spec : {M : Type 1} → statement M
+in-range-spec = tie.close (tie.spec in-range-requires returns returns-2 returns-3 returns-4)

@@ -1,0 +1,31 @@
+use Rattle.evt.proofs.evt3.Decoder.is_zero.Statement.{statement}
+use Rattle.evt.proofs.evt3.Decoder.is_zero.Tie as tie
+use Rattle.evt.proofs.evt3.Decoder.is_zero.Reads as reads
+use Rattle.evt.proofs.evt3.Decoder.is_zero.Lts as lts
+
+-- src/evt3.rt:90:13
+returns : tie.Need-returns
+returns c = ?
+
+-- src/evt3.rt:93:13
+returns-2 : tie.Need-returns-2
+returns-2 c = ?
+
+-- src/evt3.rt:96:13
+returns-3 : tie.Need-returns-3
+returns-3 c = ?
+
+-- src/evt3.rt:99:13
+returns-4 : tie.Need-returns-4
+returns-4 c = ?
+
+-- src/evt3.rt:102:13
+returns-5 : tie.Need-returns-5
+returns-5 c = ?
+
+-- src/evt3.rt:86:5
+returns-6 : tie.Need-returns-6
+returns-6 c = ?
+
+pub is-zero-spec : {M : Type 1} → statement M
+is-zero-spec = tie.close (tie.spec returns returns-2 returns-3 returns-4 returns-5 returns-6)

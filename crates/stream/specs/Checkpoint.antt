@@ -11,7 +11,7 @@ use Rattle.stream.specs.Words.{wordsOf}
 use Rattle.stream.specs.Format.{Format, Lawful, Good}
 use Rattle.stream.specs.Stream.{decode, after, split-words, decode-slice, bytesOf, good-past}
 use Rattle.stream.specs.Slice.{sift, until, Past, within, reached, over-time, all-early}
-use Rattle.stream.specs.Order.{latest, latest-all}
+use Rattle.stream.specs.Order.{latest, greatest-lt}
 
 module _ {S E : Type 0} (n : ℕ) (D : Machine S ℕ E) (start : S) (clock : E → ℕ) (l : List ℕ) where
   -- what is kept after the first `at` words
@@ -40,7 +40,7 @@ module _ {S E : Type 0} (n : ℕ) (D : Machine S ℕ E) (start : S) (clock : E �
     Before t = All (λ e. clock e < t) (decode n D start (take (m .at * n) l))
 
     pub mark-before : (t : ℕ) → m .last < t → Before t
-    mark-before t h = latest-all clock t (decode n D start (take (m .at * n) l)) (rw (m .last-is) at h)
+    mark-before t h = greatest-lt clock t (decode n D start (take (m .at * n) l)) (rw (m .last-is) at h)
 
     -- the first mark, which has no event before it, serves for every time
     pub mark-none : (t : ℕ) → m .count ≡ 0 → Before t

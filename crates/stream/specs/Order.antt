@@ -1,8 +1,8 @@
 -- Events of any kind, in order of time.
 -- Assumes nothing.
-use mathlib.Core.Path.{_≡_, refl}
+use mathlib.Core.Path.{_≡_, refl, ap}
 use mathlib.Core.Bool.{Bool, true, false, _&&_}
-use mathlib.Core.List.{List, [], _∷_, _++_}
+use mathlib.Core.List.{List, [], _∷_, _++_, map}
 use Prim.Native.Nat.{ℕ, zero, suc, _≤_, _<_, max}
 use native.Mathlib.Omega.{arith}
 use lib.Dec.{leb}
@@ -62,12 +62,28 @@ module _ {E : Type 0} (clock : E → ℕ) (ok : E → Bool) where
   rise-suffix from [] b r = r
   rise-suffix from (e ∷ a) b r = rise-from from (clock e) b (r .0 .rises) (rise-suffix (clock e) a b (r .1))
 
--- the latest of some events: what a checkpoint keeps
-module _ {E : Type 0} (clock : E → ℕ) where
-  abbrev pub latest : List E → ℕ
-  latest [] = 0
-  latest (e ∷ es) = max (clock e) (latest es)
+-- the greatest f of some elements, 0 of none
+module _ {E : Type 0} (f : E → ℕ) where
+  abbrev pub greatest : List E → ℕ
+  greatest [] = 0
+  greatest (e ∷ es) = max (f e) (greatest es)
 
-  pub latest-all : (t : ℕ) (es : List E) → latest es < t → All (λ e. clock e < t) es
-  latest-all t [] h = tt
-  latest-all t (e ∷ es) h = (omega arith, latest-all t es (omega arith))
+  pub greatest-append : (a b : List E) → greatest (a ++ b) ≡ max (greatest a) (greatest b)
+  greatest-append [] b = omega arith
+  greatest-append (e ∷ a) b = omega (arith, greatest-append a b)
+
+  pub greatest-lt : (t : ℕ) (es : List E) → greatest es < t → All (λ e. f e < t) es
+  greatest-lt t [] h = tt
+  greatest-lt t (e ∷ es) h = (omega arith, greatest-lt t es (omega arith))
+
+  pub greatest-le : (t : ℕ) (es : List E) → All (λ e. f e ≤ t) es → greatest es ≤ t
+  greatest-le t [] h = omega arith
+  greatest-le t (e ∷ es) h = omega (arith, h .0, greatest-le t es (h .1))
+
+pub greatest-map : {A E : Type 0} (f : E → ℕ) (g : A → E) (l : List A) → greatest f (map g l) ≡ greatest (λ a. f (g a)) l
+greatest-map f g [] = refl
+greatest-map f g (a ∷ l) = ap (max (f (g a))) (greatest-map f g l)
+
+-- the latest of some events: what a checkpoint keeps
+abbrev pub latest : {E : Type 0} → (E → ℕ) → List E → ℕ
+latest clock es = greatest clock es

@@ -1,15 +1,14 @@
 -- Words of n bytes, the low byte first. A last word that is broken off is no word.
--- Assumes nothing.
 use mathlib.Core.Path.{_≡_, refl, sym, ap, _∙_}
 use mathlib.Core.Logic.{_↔_}
 use mathlib.Core.List.{List, [], _∷_, _++_, append-assoc, append-nil}
 use Prim.Native.Nat.{ℕ, zero, suc, _+_, _-_, _*_, _/_, _%_, _^_, _≤_, _<_, min}
 use native.Mathlib.Omega.{arith}
-use native.Mathlib.Nat.{zero-add, suc-add, suc-mul, zero-mul, mod-lt, div-add-mod', div-eq-of-eq-mul-left, mul-add-div-right, div-eq-of-lt, le-div-iff-mul-le}
-use lib.Arith.{digits-div}
-use lib.ListN.{length, take, drop, length-append, length-take, length-drop, take-append-drop}
-use lib.Seq.{take-at, drop-at, take-append-add, drop-append-add, take-add, take-append-le, take-nil, drop-nil, drop-append-le}
-use Rattle.stream.specs.Machine.{All, all-append, all-take}
+use native.Mathlib.Nat.{pow-suc, zero-add, suc-add, suc-mul, zero-mul, mod-lt, div-add-mod', div-eq-of-eq-mul-left, div-eq-sub-div, mul-add-div-right, div-eq-of-lt, le-div-iff-mul-le}
+use native.Mathlib.Numerals.{add-one}
+use lib.ListN.{length, take, drop, getD, length-append, length-take, length-drop}
+use lib.Seq.{take-at, drop-at, take-append-add, drop-append-add, take-add, take-append-le, take-nil, drop-nil, drop-append-le, drop-cons, drop-drop, length-take-le}
+use Rattle.stream.specs.Machine.{All, all-append, all-take, all-drop}
 
 abbrev pub bytes : ℕ → ℕ → List ℕ
 bytes zero w = []
@@ -28,6 +27,31 @@ value-bytes zero w h = omega arith
 value-bytes (suc n) w h =
     let ih = value-bytes n (w / 256) (omega arith) in
     omega (arith, ih)
+
+pub value-lt : (l : List ℕ) → All (λ b. b < 256) l → value l < 256 ^ length l
+value-lt [] h = omega arith
+value-lt (b ∷ l) h = rw pow-suc (omega (arith, h .0, value-lt l (h .1)))
+
+-- of the bytes at i and after
+pub value-next : (k : ℕ) (l : List ℕ) (i : ℕ) → i < length l → value (take (suc k) (drop i l)) ≡ getD l i 0 + value (take k (drop (suc i) l)) * 256
+value-next k l i h = rw (drop-cons l i 0 h)
+
+pub value-two : (l : List ℕ) (i : ℕ) → i + 2 ≤ length l → value (take 2 (drop i l)) ≡ getD l i 0 + getD l (i + 1) 0 * 256
+value-two l i h =
+    let a = value-next 1 l i (omega arith) in
+    let b = value-next 0 l (suc i) (omega arith) in
+    rw add-one (omega (arith, a, b))
+
+pub value-four : (l : List ℕ) (i : ℕ) → i + 4 ≤ length l
+    → value (take 4 (drop i l)) ≡ getD l i 0 + getD l (i + 1) 0 * 256 + getD l (i + 2) 0 * 65536 + getD l (i + 3) 0 * 16777216
+value-four l i h =
+    let a = value-next 3 l i (omega arith) in
+    let b = value-next 2 l (suc i) (omega arith) in
+    let c = value-next 1 l (suc (suc i)) (omega arith) in
+    let d = value-next 0 l (suc (suc (suc i))) (omega arith) in
+    let e : i + 2 ≡ suc (suc i) = omega arith in
+    let f : i + 3 ≡ suc (suc (suc i)) = omega arith in
+    rw (add-one, e, f) (omega (arith, a, b, c, d))
 
 empty : (a : List ℕ) → length a ≡ 0 → a ≡ []
 empty [] h = refl
@@ -48,6 +72,22 @@ module _ (n : ℕ) where
 
   abbrev pub wordsOf : List ℕ → List ℕ
   wordsOf l = parse (length l / n) l
+
+  length-parse : (k : ℕ) (l : List ℕ) → length (parse k l) ≡ k
+  length-parse zero l = refl
+  length-parse (suc k) l = ap suc (length-parse k (drop n l))
+
+  pub length-words : (l : List ℕ) → length (wordsOf l) ≡ length l / n
+  length-words l = length-parse (length l / n) l
+
+  parse-fits : (k : ℕ) (l : List ℕ) → k * n ≤ length l → All (λ b. b < 256) l → All Fits (parse k l)
+  parse-fits zero l h b = tt
+  parse-fits (suc k) l h b =
+      let e : length (take n l) ≡ n = length-take-le n l (omega arith) in
+      (rw e at (value-lt (take n l) (all-take _ n l b)), parse-fits k (drop n l) (rw length-drop (omega arith)) (all-drop _ n l b))
+
+  pub words-fit : (l : List ℕ) → All (λ b. b < 256) l → All Fits (wordsOf l)
+  words-fit l h = parse-fits (length l / n) l (omega (arith, div-add-mod' (length l) n)) h
 
   pub stream-append : (a b : List ℕ) → stream (a ++ b) ≡ stream a ++ stream b
   stream-append [] b = refl
@@ -94,6 +134,18 @@ module _ (n : ℕ) where
     -- word k is among the first c / n where its last byte is among the first c
     pub whole : (c k : ℕ) → (k < c / n) ↔ (suc k * n ≤ c)
     whole c k = le-div-iff-mul-le pos
+
+    -- a loop over the bytes l that stands at i: the next word, or none
+    pub words-next : (l : List ℕ) (i : ℕ) → i + n ≤ length l → wordsOf (drop i l) ≡ value (take n (drop i l)) ∷ wordsOf (drop (i + n) l)
+    words-next l i h =
+        let le : n ≤ length (drop i l) = rw length-drop (omega arith) in
+        let e : length (drop i l) / n ≡ suc (length (drop n (drop i l)) / n) = div-eq-sub-div pos le ∙ rw (add-one, length-drop n (drop i l)) in
+        rw (e, drop-drop n i l)
+
+    pub words-end : (l : List ℕ) (i : ℕ) → length l < i + n → wordsOf (drop i l) ≡ []
+    words-end l i h =
+        let z : length (drop i l) / n ≡ 0 = div-eq-of-lt (rw length-drop (omega arith)) in
+        rw z
 
     -- what follows a whole number of words
     pub wordsOf-append : (k : ℕ) (a b : List ℕ) → length a ≡ k * n → wordsOf (a ++ b) ≡ wordsOf a ++ wordsOf b

@@ -1,15 +1,16 @@
 -- EVT2: what a word does to a decoder, and the events that it carries.
-use mathlib.Core.Path.{_≡_, ap}
+use mathlib.Core.Path.{_≡_, refl, ap}
 use mathlib.Core.Bool.{Bool, true, false, cond, _&&_}
 use mathlib.Core.List.{List}
 use Prim.Native.Nat.{ℕ, _+_, _-_, _*_, _^_, _≤_, _<_}
 use native.Mathlib.Omega.{arith}
-use borrow.Author.Tests.{eq-eqb, ne-eqb, lt-ltb, le-ltb}
+use borrow.Author.Tests.{eq-eqb, ne-eqb, lt-ltb, le-ltb, ltb-true}
 use lib.Dec.{eqb, ltb}
 use Rattle.stream.specs.Loop.{loopsAfter, timeAfter}
 use Rattle.stream.specs.Machine.{Machine}
 use Rattle.evt.specs.declared.evt2.Evt2Decoder.{Evt2Decoder}
 use Rattle.evt.specs.declared.vector.Vector.{Vector}
+use Rattle.evt.specs.Clock.{either}
 use Rattle.evt.specs.Event.{Event, eventsOf, noEvents}
 use Rattle.evt.specs.Clock.{clockInRange}
 use Rattle.evt.specs.Layout.{type2, timeLow2, x2, y2, timeHigh2}
@@ -28,7 +29,7 @@ pub data Kind : Type 0 where
   timeHigh event skip : Kind
 
 abbrev pub kindOf : ℕ → Bool → Kind
-kindOf type started = cond (eqb type 8) timeHigh (cond (ltb type 2 && started) event skip)
+kindOf type started = cond (eqb type 8) timeHigh (cond started (cond (ltb type 2) event skip) skip)
 
 abbrev pub stepAs : Kind → Evt2Decoder → ℕ → Evt2Decoder
 stepAs timeHigh d w =
@@ -84,10 +85,23 @@ module _ (d : Evt2Decoder) (w k : ℕ) (is-type : k ≡ type2 w) where
   time-word h = by-rule timeHigh (rw (eq-eqb k 8 h))
 
   pub event-word : k < 2 → d .initialised ≡ true → By event
-  event-word h s = by-rule event (rw (ne-eqb k 8 (omega arith), lt-ltb k 2 h, s))
+  event-word h s = by-rule event (rw (ne-eqb k 8 (omega arith), s, lt-ltb k 2 h))
 
   pub early-word : k < 2 → d .initialised ≡ false → By skip
-  early-word h s = by-rule skip (rw (ne-eqb k 8 (omega arith), lt-ltb k 2 h, s))
+  early-word h s = by-rule skip (rw (ne-eqb k 8 (omega arith), s))
 
   pub other-word : (k ≡ 8 → ⊥) → 2 ≤ k → By skip
-  other-word h l = by-rule skip (rw (ne-eqb k 8 h, le-ltb k 2 l))
+  other-word h l = by-rule skip (rw (ne-eqb k 8 h, le-ltb k 2 l) (same (d .initialised)))
+    where
+      same : (b : Bool) → cond b skip skip ≡ skip
+      same true = refl
+      same false = refl
+
+-- what holds by each rule holds of every word
+pub by-kinds : (P : Kind → Type 0) (type : ℕ) (started : Bool) → P timeHigh → (started ≡ true → type < 2 → P event) → P skip → P (kindOf type started)
+by-kinds P type true h e k = either P (eqb type 8) h (one (ltb type 2) refl)
+  where
+    one : (b : Bool) → ltb type 2 ≡ b → P (cond b event skip)
+    one true q = e refl (ltb-true type 2 q)
+    one false q = k
+by-kinds P type false h e k = either P (eqb type 8) h k

@@ -1,5 +1,5 @@
 -- EVT3: what a word does to a decoder, and the events that it carries.
-use mathlib.Core.Path.{_≡_, ap}
+use mathlib.Core.Path.{_≡_, refl, ap}
 use mathlib.Core.Bool.{Bool, true, false, cond, not, _&&_}
 use Prim.Native.Nat.{ℕ, _+_, _*_, _^_, _≤_, _<_, min}
 use native.Mathlib.Omega.{arith}
@@ -10,6 +10,7 @@ use Rattle.stream.specs.Machine.{Machine}
 use Rattle.evt.specs.declared.evt3.Decoder.{Decoder}
 use Rattle.evt.specs.declared.evt3.WideDecoder.{WideDecoder}
 use Rattle.evt.specs.declared.vector.Vector.{Vector}
+use Rattle.evt.specs.Clock.{either}
 use Rattle.evt.specs.Event.{Event, eventsOf, noEvents}
 use Rattle.evt.specs.Clock.{clockInRange}
 use Rattle.evt.specs.Layout.{type3, y3, x3, polarity3, mask12, mask8, time3}
@@ -159,3 +160,12 @@ module _ (d : Decoder) (w k : ℕ) (is-type : k ≡ type3 w) where
 
   pub early-word : (k ≡ 8 → ⊥) → d .initialised ≡ false → By skip
   early-word h s = by-rule skip (rw (s, ne-eqb k 8 h))
+
+-- what holds by each rule holds of every word
+pub by-kinds : (P : Kind → Type 0) (type : ℕ) (started : Bool) → (started ≡ false → P firstTime) → (started ≡ true → P timeHigh) → (started ≡ true → P timeLow)
+    → (started ≡ true → P addrY) → (started ≡ true → P addrX) → (started ≡ true → P baseX) → (started ≡ true → P vect12) → (started ≡ true → P vect8) → P skip
+    → P (kindOf type started)
+by-kinds P type true f h l y x b v u k =
+    either P (eqb type 0) (y refl) (either P (eqb type 2) (x refl) (either P (eqb type 3) (b refl) (either P (eqb type 4) (v refl) (either P (eqb type 5) (u refl)
+    (either P (eqb type 6) (l refl) (either P (eqb type 8) (h refl) k))))))
+by-kinds P type false f h l y x b v u k = either P (eqb type 8) (f refl) k

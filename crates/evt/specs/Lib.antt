@@ -6,3 +6,4 @@ pub mod Evt2
 pub mod Evt3
 pub mod Codec
 pub mod Decode
+pub mod Range

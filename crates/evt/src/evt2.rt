@@ -71,19 +71,19 @@ impl Evt2Decoder {
     pub fn step(self, word: u32) -> Evt2Decoded
         ensures { λ r. ⌜ Decoded2 self word r ⌝ }
     {
-        if !self.in_range() {
+        if self.in_range() {
+            let s = self.advance(word as u64);
+            let next = s.next;
+            let events = s.events;
+            let v = vector::narrow(events);
             return Evt2Decoded {
-                next: self,
-                answer: DecodeAnswer::Refused(Refusal::StateOutOfRange),
+                next,
+                answer: DecodeAnswer::Events(v),
             };
         }
-        let s = self.advance(word as u64);
-        let next = s.next;
-        let events = s.events;
-        let v = vector::narrow(events);
         Evt2Decoded {
-            next,
-            answer: DecodeAnswer::Events(v),
+            next: self,
+            answer: DecodeAnswer::Refused(Refusal::StateOutOfRange),
         }
     }
 

@@ -67,7 +67,7 @@ impl Decoder {
         ensures { λ r. ⌜ r ≡ inRange3 self ⌝ }
     {
         if self.initialised {
-            if !clock::in_range(
+            if clock::in_range(
                 Self::PERIOD,
                 4096,
                 Self::MOST_LOOPS,
@@ -75,9 +75,9 @@ impl Decoder {
                 self.time,
                 self.high_loops,
             ) {
-                return false;
+                return self.y <= 2047;
             }
-            return self.y <= 2047;
+            return false;
         }
         self.is_zero()
     }
@@ -108,25 +108,25 @@ impl Decoder {
     pub fn step(self, word: u16) -> Decoded
         ensures { λ r. ⌜ Decoded3 self word r ⌝ }
     {
-        if !self.in_range() {
+        if self.in_range() {
+            let s = self.widen().advance(word as u64);
+            let wide = s.next;
+            let next = wide.slim();
+            let events = s.events;
+            let v = vector::narrow(events);
             return Decoded {
-                next: self,
-                answer: DecodeAnswer::Refused(Refusal::StateOutOfRange),
+                next,
+                answer: DecodeAnswer::Events(v),
             };
         }
-        let s = self.widen().advance(word as u64);
-        let wide = s.next;
-        let next = wide.slim();
-        let events = s.events;
-        let v = vector::narrow(events);
         Decoded {
-            next,
-            answer: DecodeAnswer::Events(v),
+            next: self,
+            answer: DecodeAnswer::Refused(Refusal::StateOutOfRange),
         }
     }
 
     pub fn widen(self) -> WideDecoder
-        ensures { λ r. ⌜ r ≡ widened self ⌝ }
+        ensures { λ r. ⌜ (r ≡ widened self) × Slim (widened self) ⌝ }
     {
         WideDecoder {
             initialised: self.initialised,

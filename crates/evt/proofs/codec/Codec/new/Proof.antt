@@ -1,3 +1,6 @@
+use mathlib.Core.Path.{_≡_, refl, sym, ap, _∙_}
+use Rattle.evt.specs.Codec.{freshC}
+use Rattle.evt.specs.declared.codec.Codec.the-variants.{Evt2, Evt3}
 use borrow.Author.Needs.{needs}
 use Rattle.evt.proofs.codec.Codec.new.Statement.{statement}
 use Rattle.evt.proofs.codec.Codec.new.Tie as tie
@@ -24,11 +27,11 @@ new-requires-2 c κs = search needs
 
 -- src/codec.rt:22:5
 returns : tie.Need-returns
-returns c = ?
+returns c = ap Evt2 (c .new .ensures) ∙ sym (ap freshC (c .before .enum-told .given .1))
 
 -- src/codec.rt:22:5
 returns-2 : tie.Need-returns-2
-returns-2 c = ?
+returns-2 c = ap Evt3 (c .new2 .ensures) ∙ sym (ap freshC (c .before .enum-told2 .given .1))
 
 pub new-spec : {M : Type 1} → statement M
 new-spec = tie.close (tie.spec enum-told new-requires enum-told-2 new-requires-2 returns returns-2)

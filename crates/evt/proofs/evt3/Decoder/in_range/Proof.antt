@@ -1,3 +1,4 @@
+use mathlib.Core.Path.{_≡_, refl, sym, ap, _∙_}
 use borrow.Author.Needs.{needs}
 use Rattle.evt.proofs.evt3.Decoder.in_range.Statement.{statement}
 use Rattle.evt.proofs.evt3.Decoder.in_range.Tie as tie
@@ -6,17 +7,17 @@ use Rattle.evt.proofs.evt3.Decoder.in_range.Lts as lts
 use Rattle.evt.proofs.clock.in_range.Reads as in-range-reads
 use Rattle.evt.proofs.evt3.Decoder.is_zero.Reads as is-zero-reads
 
--- src/evt3.rt:70:17
+-- src/evt3.rt:70:16
 in-range-requires : tie.Need-in-range-requires
 in-range-requires c κs = search needs
 
 -- src/evt3.rt:78:17
 returns : tie.Need-returns
-returns c = ?
+returns c = rw (c .before .before .before .if1 .taken, ← c .before .before .in-range .ensures, c .before .if2 .taken)
 
 -- src/evt3.rt:80:13
 returns-2 : tie.Need-returns-2
-returns-2 c = ?
+returns-2 c = rw (c .before .before .if1 .taken, ← c .before .in-range .ensures, c .if2 .left)
 
 -- src/evt3.rt:82:9
 is-zero-requires : tie.Need-is-zero-requires
@@ -24,7 +25,7 @@ is-zero-requires c κs = search needs
 
 -- src/evt3.rt:66:5
 returns-3 : tie.Need-returns-3
-returns-3 c = ?
+returns-3 c = rw (c .before .if1 .left) (c .is-zero .ensures)
 
 pub in-range-spec : {M : Type 1} → statement M
 in-range-spec = tie.close (tie.spec in-range-requires returns returns-2 is-zero-requires returns-3)

@@ -7,3 +7,4 @@ pub mod Evt3
 pub mod Codec
 pub mod Decode
 pub mod Range
+pub mod Columns

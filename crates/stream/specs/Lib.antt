@@ -4,6 +4,7 @@ pub mod Mask
 pub mod Loop
 pub mod Order
 pub mod Slice
+pub mod Select
 pub mod Format
 pub mod Stream
 pub mod Checkpoint

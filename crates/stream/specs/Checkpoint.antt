@@ -1,12 +1,10 @@
 -- Checkpoints over any bytes, and slices from them by number and by time.
--- Assumes nothing.
-use mathlib.Core.Path.{_≡_, refl, sym, ap, _∙_}
-use mathlib.Core.Bool.{Bool, true, false}
-use mathlib.Core.List.{List, [], _∷_, _++_}
-use Prim.Native.Nat.{ℕ, zero, suc, _+_, _-_, _*_, _/_, _≤_, _<_}
-use native.Mathlib.Omega.{arith}
+use mathlib.Core.Path.{_≡_, sym, _∙_}
+use mathlib.Core.Bool.{Bool, true}
+use mathlib.Core.List.{List, []}
+use Prim.Native.Nat.{ℕ, _-_, _*_, _≤_, _<_}
 use lib.ListN.{length, take, drop}
-use Rattle.stream.specs.Machine.{Machine, Note, All, all-none, run, emits, from-checkpoint}
+use Rattle.stream.specs.Machine.{Machine, Note, All, all-none, emits, from-checkpoint}
 use Rattle.stream.specs.Words.{wordsOf}
 use Rattle.stream.specs.Format.{Format, Lawful, Good}
 use Rattle.stream.specs.Stream.{decode, after, split-words, decode-slice, bytesOf, good-past}

@@ -1,3 +1,4 @@
+-- The root of the laws: what each file is stands at its head.
 pub mod Machine
 pub mod Words
 pub mod Mask

@@ -2,9 +2,9 @@
 use mathlib.Core.Path.{_≡_, refl, sym, ap, _∙_}
 use mathlib.Core.Bool.{Bool, true, false, _&&_, _||_, and-false, or-false}
 use mathlib.Core.List.{List, [], _∷_, _++_, append-nil}
-use Prim.Native.Nat.{ℕ, zero, suc, _+_, _-_, _≤_, _<_, max}
+use Prim.Native.Nat.{ℕ, suc, _+_, _-_, _≤_, _<_, max}
 use native.Mathlib.Omega.{arith}
-use native.Mathlib.Nat.{add-zero, add-suc, suc-add, add-assoc}
+use native.Mathlib.Nat.{add-zero, add-suc, suc-add}
 use lib.Dec.{leb, ltb}
 use lib.ListN.{length, take, drop, length-append}
 use lib.Seq.{take-nil, drop-nil, drop-append-add}
@@ -61,10 +61,10 @@ module _ {S W E : Type 0} (R : Reading S W E) where
   pub numbered-append : (s : S) (a b : List W) → numbered s (a ++ b) ≡ numbered s a ++ numbered (run (R .machine) s a) b
   numbered-append s a b = rw (emits-append (R .machine) s a b, sift-append)
 
-  numbered-cons : (s : S) (w : W) (ws : List W) → numbered s (w ∷ ws) ≡ numberedOf s w ++ numbered (R .machine .step s w) ws
+  pub numbered-cons : (s : S) (w : W) (ws : List W) → numbered s (w ∷ ws) ≡ numberedOf s w ++ numbered (R .machine .step s w) ws
   numbered-cons s w ws = sift-append (R .inside) (R .machine .emit s w) (emits (R .machine) (R .machine .step s w) ws)
 
-  length-numbered : (s : S) (w : W) (ws : List W) → length (numbered s (w ∷ ws)) ≡ length (numberedOf s w) + length (numbered (R .machine .step s w) ws)
+  pub length-numbered : (s : S) (w : W) (ws : List W) → length (numbered s (w ∷ ws)) ≡ length (numberedOf s w) + length (numbered (R .machine .step s w) ws)
   length-numbered s w ws = ap length (numbered-cons s w ws) ∙ length-append (numberedOf s w) (numbered (R .machine .step s w) ws)
 
   -- after all the words
@@ -151,7 +151,7 @@ module _ {S W E : Type 0} (R : Reading S W E) where
     chosen-cons k s w ws = sym (ap (chosen k) (numbered-cons s w ws) ∙ chosen-append k (numberedOf s w) (numbered (R .machine .step s w) ws))
 
     spans-past : (k t : ℕ) → win .n1 ≤ k → spans win k t ≡ false
-    spans-past k t h = rw (le-ltb k (win .n1) h) (and-false (leb (win .n0) k))
+    spans-past k t h = rw (le-ltb k) (and-false (leb (win .n0) k))
 
     pub chosen-past : (k : ℕ) (es : List E) → win .n1 ≤ k → chosen k es ≡ []
     chosen-past k [] h = refl

@@ -1,12 +1,10 @@
 -- Checkpoints over any bytes, and slices from them by number and by time.
--- Assumes nothing.
-use mathlib.Core.Path.{_≡_, refl, sym, ap, _∙_}
-use mathlib.Core.Bool.{Bool, true, false}
-use mathlib.Core.List.{List, [], _∷_, _++_}
-use Prim.Native.Nat.{ℕ, zero, suc, _+_, _-_, _*_, _/_, _≤_, _<_}
-use native.Mathlib.Omega.{arith}
+use mathlib.Core.Path.{_≡_, sym, _∙_}
+use mathlib.Core.Bool.{Bool, true}
+use mathlib.Core.List.{List, []}
+use Prim.Native.Nat.{ℕ, _-_, _*_, _≤_, _<_}
 use lib.ListN.{length, take, drop}
-use Rattle.stream.specs.Machine.{Machine, Note, All, all-none, run, emits, from-checkpoint}
+use Rattle.stream.specs.Machine.{Machine, Note, All, all-none, emits, from-checkpoint}
 use Rattle.stream.specs.Words.{wordsOf}
 use Rattle.stream.specs.Format.{Format, Lawful, Good}
 use Rattle.stream.specs.Stream.{decode, after, split-words, decode-slice, bytesOf, good-past}
@@ -48,16 +46,16 @@ module _ {S E : Type 0} (n : ℕ) (D : Machine S ℕ E) (start : S) (clock : E �
 
     module _ (live : S → Bool) (time : S → ℕ) (t₀ t₁ : ℕ) where
       -- from any mark before t₀, up to the first word after which the reader is live and its time is t₁ or later
-      pub mark-time : Before t₀ → Past D (within live time clock t₀ t₁) (reached live time clock t₀ t₁) start (wordsOf n l)
-          → sift (within live time clock t₀ t₁) (emits D (m .state) (until D (reached live time clock t₀ t₁) (m .state) onward)) ≡ sift (within live time clock t₀ t₁) (decode n D start l)
+      pub mark-time : Before t₀ → Past D (within clock t₀ t₁) (reached live time t₁) start (wordsOf n l)
+          → sift (within clock t₀ t₁) (emits D (m .state) (until D (reached live time t₁) (m .state) onward)) ≡ sift (within clock t₀ t₁) (decode n D start l)
       mark-time h p =
           rw (m .state-is)
-          (decode-slice n D pos (within live time clock t₀ t₁) (reached live time clock t₀ t₁) start (m .at) l (m .inside)
-          (all-early live time clock t₀ t₁ (decode n D start (take (m .at * n) l)) h) p)
+          (decode-slice n D pos (within clock t₀ t₁) (reached live time t₁) start (m .at) l (m .inside)
+          (all-early clock t₀ t₁ (decode n D start (take (m .at * n) l)) h) p)
 
 -- a stream that was written, cut and resumed or not, has times that `mark-time` can go by
 module _ {S Q I E : Type 0} (F : Format S Q I E) (L : Lawful F) (live : S → Bool) (time : S → ℕ) (clock : E → ℕ)
     (ahead : (s : S) (es : List E) → F .Ready s es → live s ≡ true → All (λ e. time s ≤ clock e) es) where
   pub good-timed : (t₀ t₁ : ℕ) (s : S) (ns : List (Note ℕ E)) → Good F s ns []
-      → Past (F .reader) (within live time clock t₀ t₁) (reached live time clock t₀ t₁) s (wordsOf (F .size) (bytesOf F L ns))
-  good-timed t₀ t₁ = good-past F L (within live time clock t₀ t₁) (reached live time clock t₀ t₁) (λ s es rd d. over-time live time clock t₀ t₁ s es (ahead s es rd) d)
+      → Past (F .reader) (within clock t₀ t₁) (reached live time t₁) s (wordsOf (F .size) (bytesOf F L ns))
+  good-timed t₀ t₁ = good-past F L (within clock t₀ t₁) (reached live time t₁) (λ s es rd d. over-time live time t₁ clock t₀ s es (ahead s es rd) d)

@@ -1,10 +1,9 @@
 -- What an encoding is, what it must show, and what follows for every encoding: the cut and the resumption.
--- Assumes nothing.
-use mathlib.Core.Path.{_≡_, refl, sym, ap, _∙_}
-use mathlib.Core.List.{List, [], _∷_, _++_, append-assoc, append-nil}
-use Prim.Native.Nat.{ℕ, zero, suc, _+_, _-_, _≤_, _<_}
-use lib.ListN.{length, take, drop, take-append-drop}
-use Rattle.stream.specs.Machine.{Machine, Note, All, run, emits, run-append, emits-append, words, notes, words-append, notes-append, words-take, notes-split, Said, Says, says-append, says-emits, says-take, says-ready}
+use mathlib.Core.Path.{_≡_, refl, _∙_}
+use mathlib.Core.List.{List, [], _∷_, _++_, append-assoc}
+use Prim.Native.Nat.{ℕ, _<_}
+use lib.ListN.{take, drop}
+use Rattle.stream.specs.Machine.{Machine, Note, All, run, emits, run-append, words, notes, words-append, notes-append, notes-split, Says, says-append, says-take, says-ready}
 use Rattle.stream.specs.Words.{Fits}
 
 -- S: the reader's states. Q: the writer's. I: what the writer is given at a time. E: events

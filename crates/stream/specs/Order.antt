@@ -1,18 +1,12 @@
--- Events of any kind, in order of time.
--- Assumes nothing.
+-- Events of any kind in order of time, and the greatest of what they hold.
 use mathlib.Core.Path.{_≡_, refl, ap}
-use mathlib.Core.Bool.{Bool, true, false, _&&_}
+use mathlib.Core.Bool.{Bool, true, _&&_}
 use mathlib.Core.List.{List, [], _∷_, _++_, map}
-use Prim.Native.Nat.{ℕ, zero, suc, _≤_, _<_, max}
+use Prim.Native.Nat.{ℕ, _≤_, _<_, max}
 use native.Mathlib.Omega.{arith}
 use lib.Dec.{leb}
 use borrow.Author.Tests.{leb-true}
-use Rattle.stream.specs.Machine.{All, all-map}
-
--- a test of two, passed
-pub both : (a b : Bool) → (a && b) ≡ true → (a ≡ true) × (b ≡ true)
-both true b h = (refl, h)
-both false b h = (h, cc)
+use Rattle.stream.specs.Machine.{and-both, All}
 
 -- `clock`: an event's time; `ok`: whether an encoding can say the event at all
 module _ {E : Type 0} (clock : E → ℕ) (ok : E → Bool) where
@@ -37,8 +31,8 @@ module _ {E : Type 0} (clock : E → ℕ) (ok : E → Bool) where
   pub riseb-true : (from : ℕ) (es : List E) → riseb from es ≡ true → Rise from es
   riseb-true from [] h = tt
   riseb-true from (e ∷ es) h =
-      let a = both (leb from (clock e) && ok e) (riseb (clock e) es) h in
-      let b = both (leb from (clock e)) (ok e) (a .0) in
+      let a = and-both (leb from (clock e) && ok e) (riseb (clock e) es) h in
+      let b = and-both (leb from (clock e)) (ok e) (a .0) in
       (record { rises = leb-true from (clock e) (b .0); fine = b .1 }, riseb-true (clock e) es (a .1))
 
   pub rise-from : (a b : ℕ) (es : List E) → a ≤ b → Rise b es → Rise a es

@@ -1,21 +1,19 @@
 -- A part of a stream's events, by number and by time.
--- Assumes nothing.
 use mathlib.Core.Path.{_≡_, refl, sym, ap, _∙_}
-use mathlib.Core.List.{List, [], _∷_, _++_, append-assoc, append-nil}
+use mathlib.Core.List.{List, [], _∷_, _++_, append-assoc}
 use mathlib.Core.Bool.{Bool, true, false, _&&_, and-false}
-use Prim.Native.Nat.{ℕ, zero, suc, _+_, _-_, _≤_, _<_}
+use Prim.Native.Nat.{ℕ, _≤_, _<_}
 use native.Mathlib.Omega.{arith}
 use lib.Dec.{leb, ltb}
-use borrow.Author.Tests.{leb-true, leb-false, ltb-true, ltb-false, le-leb, lt-leb, lt-ltb, le-ltb}
-use lib.ListN.{length, take, drop}
-use Rattle.stream.specs.Machine.{Machine, Note, All, all-append, all-append-left, all-map, run, emits, run-append, emits-append, words, notes, Said, Says, says-emits}
+use borrow.Author.Tests.{leb-true, le-leb, lt-leb, lt-ltb, le-ltb}
+use Rattle.stream.specs.Machine.{and-both, Machine, Note, All, all-append, all-append-left, all-map, run, emits, emits-append, words, notes, Says, says-emits}
 
 module _ {E : Type 0} where
   abbrev pub onto : Bool → E → List E → List E
   onto true e l = e ∷ l
   onto false e l = l
 
-  onto-append : (b : Bool) (e : E) (l m : List E) → onto b e l ++ m ≡ onto b e (l ++ m)
+  pub onto-append : (b : Bool) (e : E) (l m : List E) → onto b e l ++ m ≡ onto b e (l ++ m)
   onto-append true e l m = refl
   onto-append false e l m = refl
 
@@ -29,9 +27,46 @@ module _ {E : Type 0} (keep : E → Bool) where
   sift-append [] b = refl
   sift-append (e ∷ a) b = rw (sift-append a b, onto-append)
 
+  pub all-sift : (P : E → Type 0) (a : List E) → All P a → All P (sift a)
+  all-sift P [] h = tt
+  all-sift P (e ∷ a) h = go (keep e) (all-sift P a (h .1))
+    where
+      go : (b : Bool) → All P (sift a) → All P (onto b e (sift a))
+      go true k = (h .0, k)
+      go false k = k
+
+  pub sift-all : (a : List E) → All (λ e. keep e ≡ true) a → sift a ≡ a
+  sift-all [] h = refl
+  sift-all (e ∷ a) h = rw (h .0, sift-all a (h .1))
+
   pub sift-none : (a : List E) → All (λ e. keep e ≡ false) a → sift a ≡ []
   sift-none [] h = refl
   sift-none (e ∷ a) h = rw (h .0) (sift-none a (h .1))
+
+-- one test after another
+module _ {E : Type 0} (first then : E → Bool) where
+  abbrev pub andThen : E → Bool
+  andThen e = first e && then e
+
+  pub sift-sift : (a : List E) → sift then (sift first a) ≡ sift andThen a
+  sift-sift [] = refl
+  sift-sift (e ∷ a) = go (first e) (sift-sift a)
+    where
+      go : (b : Bool) → sift then (sift first a) ≡ sift andThen a → sift then (onto b e (sift first a)) ≡ onto (b && then e) e (sift andThen a)
+      go true ih = rw ih
+      go false ih = ih
+
+  pub none-sifted : (a : List E) → All (λ e. then e ≡ false) (sift first a) → All (λ e. andThen e ≡ false) a
+  none-sifted [] h = tt
+  none-sifted (e ∷ a) h = go (first e) refl h (none-sifted a)
+    where
+      go : (b : Bool) → first e ≡ b → All (λ e. then e ≡ false) (onto b e (sift first a))
+          → (All (λ e. then e ≡ false) (sift first a) → All (λ e. andThen e ≡ false) a) → (andThen e ≡ false) × All (λ e. andThen e ≡ false) a
+      go true q h ih = (rw (h .0) (and-false (first e)), ih (h .1))
+      go false q h ih = (rw q, ih h)
+
+  none-then : (a : List E) → All (λ e. then e ≡ false) a → All (λ e. andThen e ≡ false) a
+  none-then a h = all-map _ _ (λ e q. rw q (and-false (first e))) a h
 
 module _ {W : Type 0} where
   abbrev pub unless : Bool → List W → List W
@@ -86,20 +121,15 @@ module _ {S W E : Type 0} (M : Machine S W E) (keep : E → Bool) (done : S → 
           says-past t ns more (p .rest),
         )
 
+module _ {S W E : Type 0} (M : Machine S W E) (first then : E → Bool) (done : S → Bool) where
+  pub past-then : (s : S) (ws : List W) → Past M then done s ws → Past M (andThen first then) done s ws
+  past-then s [] p = tt
+  past-then s (w ∷ ws) p = ((λ d. none-then first then (emits M (M .step s w) ws) (p .0 d)), past-then (M .step s w) ws (p .1))
+
 -- by time
-module _ {S E : Type 0} (live : S → Bool) (time : S → ℕ) (clock : E → ℕ) (t₀ t₁ : ℕ) where
+module _ {E : Type 0} (clock : E → ℕ) (t₀ t₁ : ℕ) where
   abbrev pub within : E → Bool
   within e = leb t₀ (clock e) && ltb (clock e) t₁
-
-  abbrev pub reached : S → Bool
-  reached s = live s && leb t₁ (time s)
-
-  and-split : (a b : Bool) → (a && b) ≡ true → (a ≡ true) × (b ≡ true)
-  and-split true b h = (refl, h)
-  and-split false b h = (h, h′)
-    where
-      h′ : b ≡ true
-      h′ = cc
 
   pub early : (e : E) → clock e < t₀ → within e ≡ false
   early e h = rw (lt-leb t₀ (clock e) h)
@@ -107,14 +137,25 @@ module _ {S E : Type 0} (live : S → Bool) (time : S → ℕ) (clock : E → �
   pub late : (e : E) → t₁ ≤ clock e → within e ≡ false
   late e h = rw (le-ltb (clock e) t₁ h) (and-false (leb t₀ (clock e)))
 
-  -- where the times to come are no less than the state's, nothing within the span is left after it is reached
-  pub over-time : (s : S) (es : List E) → (live s ≡ true → All (λ e. time s ≤ clock e) es) → reached s ≡ true → All (λ e. within e ≡ false) es
-  over-time s es h r =
-      let q = and-split (live s) (leb t₁ (time s)) r in
-      all-map _ _ (λ e k. late e (omega (arith, leb-true t₁ (time s) (q .1)))) es (h (q .0))
+  pub timely : (e : E) → t₀ ≤ clock e → clock e < t₁ → within e ≡ true
+  timely e h k = rw (le-leb t₀ (clock e) h, lt-ltb (clock e) t₁ k)
 
   pub all-early : (es : List E) → All (λ e. clock e < t₀) es → All (λ e. within e ≡ false) es
   all-early es h = all-map _ _ early es h
+
+module _ {S : Type 0} (live : S → Bool) (time : S → ℕ) (t₁ : ℕ) where
+  abbrev pub reached : S → Bool
+  reached s = live s && leb t₁ (time s)
+
+  pub not-reached : (s : S) → time s < t₁ → reached s ≡ false
+  not-reached s h = rw (lt-leb t₁ (time s) h) (and-false (live s))
+
+  -- where the times to come are no less than the state's, nothing within the span is left after it is reached
+  pub over-time : {E : Type 0} (clock : E → ℕ) (t₀ : ℕ) (s : S) (es : List E) → (live s ≡ true → All (λ e. time s ≤ clock e) es) → reached s ≡ true
+      → All (λ e. within clock t₀ t₁ e ≡ false) es
+  over-time clock t₀ s es h r =
+      let q = and-both (live s) (leb t₁ (time s)) r in
+      all-map _ _ (λ e k. late clock t₀ t₁ e (omega (arith, leb-true t₁ (time s) (q .1)))) es (h (q .0))
 
 -- a stream whose times never fall
 module _ {S W E : Type 0} (M : Machine S W E) (live : S → Bool) (time : S → ℕ) (clock : E → ℕ) where
@@ -130,10 +171,10 @@ module _ {S W E : Type 0} (M : Machine S W E) (live : S → Bool) (time : S → 
         all-append _ (M .emit s w) (emits M (M .step s w) ws) (all-map _ _ (λ e q. omega arith) (M .emit s w) (stamped s w))
         (rising-all (M .step s w) ws t (stays s w l) k (r .1))
 
-    pub rising-past : (t₀ t₁ : ℕ) (s : S) (ws : List W) → Rising s ws → Past M (within live time clock t₀ t₁) (reached live time clock t₀ t₁) s ws
+    pub rising-past : (t₀ t₁ : ℕ) (s : S) (ws : List W) → Rising s ws → Past M (within clock t₀ t₁) (reached live time t₁) s ws
     rising-past t₀ t₁ s [] r = tt
     rising-past t₀ t₁ s (w ∷ ws) r =
         let u = M .step s w in (
-          over-time live time clock t₀ t₁ u (emits M u ws) (λ l. rising-all u ws (time u) l (omega arith) (r .1)),
+          over-time live time t₁ clock t₀ u (emits M u ws) (λ l. rising-all u ws (time u) l (omega arith) (r .1)),
           rising-past t₀ t₁ u ws (r .1),
         )

@@ -1,11 +1,10 @@
 -- An encoding as bytes: the cut, the resumption and the checkpoint, for every encoding.
--- Assumes nothing.
-use mathlib.Core.Path.{_≡_, refl, sym, ap, _∙_}
-use mathlib.Core.List.{List, [], _∷_, _++_, append-assoc, append-nil, append-cancel-left}
-use Prim.Native.Nat.{ℕ, zero, suc, _+_, _-_, _*_, _/_, _%_, _≤_, _<_}
+use mathlib.Core.Path.{_≡_, sym, ap, _∙_}
+use mathlib.Core.List.{List, [], _++_, append-nil, append-cancel-left}
+use Prim.Native.Nat.{ℕ, _*_, _/_, _≤_, _<_}
 use lib.ListN.{length, take, drop, take-append-drop}
 use lib.Seq.{length-take-le}
-use Rattle.stream.specs.Machine.{Machine, Note, All, all-take, run, emits, emits-append, run-append, checkpoint, words, notes, words-take, words-append, notes-split, says-emits, says-fits, cut}
+use Rattle.stream.specs.Machine.{Machine, Note, All, run, emits, emits-append, run-append, checkpoint, words, notes, words-take, words-append, notes-split, says-emits, says-fits, cut}
 use mathlib.Core.Bool.{Bool, true, false}
 use Rattle.stream.specs.Slice.{sift, until, Past, sliced, says-past}
 use Rattle.stream.specs.Format.{Format, Lawful, Good, givens, sent, sent-good, written-notes, resumes, resumed-notes}

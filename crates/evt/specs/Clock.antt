@@ -7,7 +7,7 @@ use native.Mathlib.Nat.{mul-lt-mul-of-pos-right, div-add-mod', mod-lt, mul-mod-l
 use borrow.Author.Tests.{le-leb, lt-ltb, eq-eqb, leb-true, ltb-true, eqb-true}
 use lib.Dec.{leb, ltb, eqb}
 use Rattle.stream.specs.Loop.{loopsAfter, timeAfter, in-period}
-use Rattle.stream.specs.Order.{both}
+use Rattle.stream.specs.Machine.{and-both}
 use Rattle.evt.specs.declared.clock.Clock.{Clock}
 
 abbrev pub clockAfter : (period threshold old loops raw : ℕ) → Clock
@@ -54,10 +54,10 @@ module _ (k grain : ℕ) (pos : 0 < grain) (more : 0 < k * grain) where
 
   pub range-ticking : (most coarse time loops : ℕ) → clockInRange (k * grain) grain most coarse time loops ≡ true → Ticking k grain coarse time loops × (loops ≤ most)
   range-ticking most coarse time loops h =
-      let a = both _ _ h in
-      let b = both _ _ (a .1) in
-      let c = both _ _ (b .1) in
-      let d = both _ _ (c .1) in
+      let a = and-both _ _ h in
+      let b = and-both _ _ (a .1) in
+      let c = and-both _ _ (b .1) in
+      let d = and-both _ _ (c .1) in
       let e : coarse / (k * grain) ≡ loops = eqb-true (coarse / (k * grain)) loops (b .0) in
       let s : coarse / (k * grain) * (k * grain) + coarse % (k * grain) ≡ coarse = div-add-mod' coarse (k * grain) in
       let s′ : loops * (k * grain) + coarse % (k * grain) ≡ coarse = rw e at s in

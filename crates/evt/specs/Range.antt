@@ -8,9 +8,8 @@ use native.Mathlib.Omega.{arith}
 use borrow.Author.Tests.{le-leb, lt-ltb, eq-eqb, leb-true, ltb-true, eqb-true}
 use lib.Dec.{leb, eqb, ltb}
 use lib.ListN.{length}
-use Rattle.stream.specs.Machine.{run, run-keeps}
+use Rattle.stream.specs.Machine.{and-both, run, run-keeps}
 use Rattle.stream.specs.Loop.{loopsAfter, timeAfter, loops-one, charge, charge-one, charge-le, charge-fresh, charge-run}
-use Rattle.stream.specs.Order.{both}
 use Rattle.stream.specs.Words.{wordsOf, length-words}
 use Rattle.evt.specs.declared.evt2.Evt2Decoder.{Evt2Decoder}
 use Rattle.evt.specs.declared.evt3.Decoder.{Decoder}
@@ -71,8 +70,8 @@ regular-range2 d h = go (d .initialised) refl
         let t = range-ticking (2 ^ 28) 64 (omega arith) (omega arith) (2 ^ 27) (d .«time_high») (d .time) (d .«high_loops») (rw e at h) in
         (record { unstarted = λ f. absurd (true≢false (sym e ∙ f)); started = λ f. t .0 }, t .1)
     go false e =
-        let a = both _ _ (rw e at h) in
-        let b = both _ _ (a .1) in
+        let a = and-both _ _ (rw e at h) in
+        let b = and-both _ _ (a .1) in
         let is-high = eqb-true (d .«time_high») 0 (a .0) in
         let is-time = eqb-true (d .time) 0 (b .0) in
         let is-loops = eqb-true (d .«high_loops») 0 (b .1) in (
@@ -197,11 +196,11 @@ is-off false h = refl
 
 zero3 : (d : Decoder) → d .initialised ≡ false → isZero d ≡ true → d ≡ fresh3
 zero3 d e h =
-    let a = both _ _ h in
-    let b = both _ _ (a .1) in
-    let c = both _ _ (b .1) in
-    let f = both _ _ (c .1) in
-    let g = both _ _ (f .1) in
+    let a = and-both _ _ h in
+    let b = and-both _ _ (a .1) in
+    let c = and-both _ _ (b .1) in
+    let f = and-both _ _ (c .1) in
+    let g = and-both _ _ (f .1) in
     λ i. record {
       initialised = e i;
       «time_base» = eqb-true (d .«time_base») 0 (a .0) i;
@@ -217,7 +216,7 @@ regular-range3 d h = go (d .initialised) refl
   where
     go : (b : Bool) → d .initialised ≡ b → Regular3 d × (d .«high_loops» ≤ 2 ^ 28)
     go true e =
-        let a = both _ _ (rw e at h) in
+        let a = and-both _ _ (rw e at h) in
         let t = range-ticking 4096 4096 (omega arith) (omega arith) (2 ^ 28) (d .«time_base») (d .time) (d .«high_loops») (a .0) in
         (goes-on3 d e (t .0, omega (arith, leb-true (d .y) 2047 (a .1))), t .1)
     go false e =

@@ -6,6 +6,7 @@ use crate::Encoding;
 use crate::evt2::Evt2Decoder;
 use crate::evt3::Decoder;
 
+
 pub enum Codec {
     Evt2(Evt2Decoder),
     Evt3(Decoder),

@@ -8,3 +8,4 @@ pub mod Codec
 pub mod Decode
 pub mod Range
 pub mod Columns
+pub mod Bench

@@ -10,10 +10,10 @@ use denote.Triple.Spec.{tripleOf}
 use denote.Triple.Table.{entered, cited}
 use Rattle.evt.specs.declared.DecodeAnswer.{DecodeAnswer}
 use Rattle.evt.specs.declared.codec.Codec.{Codec}
-use Rattle.evt.specs.declared.codec.CodecDecoded.{CodecDecoded}
 use Rattle.evt.specs.Codec.{stepC, vectorC, inRangeC}
 use Rattle.evt.specs.Decode.{Owed}
-use Rattle.evt.proofs.Lent.{Datum, Answered, ofEnum, lent-bytes}
+use Rattle.evt.proofs.Lent.{Datum, Answered, ofEnum}
+use Rattle.evt.proofs.LentBytes.{lent-bytes}
 use Rattle.evt.proofs.DecodeAnswer as B
 use Rattle.evt.proofs.DecodeAnswer.Laws as B′
 use Rattle.evt.proofs.codec.Codec as D

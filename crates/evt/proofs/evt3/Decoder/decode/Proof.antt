@@ -2,8 +2,7 @@
 -- Assumes nothing.
 use mathlib.Core.Path.{refl}
 use Prim.Native.Nat.{ℕ}
-use package.mir.Syntax.{Ty, w16}
-use prog.Wp.{Heap}
+use package.mir.Syntax.{w16}
 use contract.Running.{givenOf, tables, tablesOf}
 use denote.Memory.{pointee}
 use denote.Struct.Laws as LL
@@ -11,10 +10,10 @@ use denote.Triple.Spec.{tripleOf}
 use denote.Triple.Table.{entered, cited}
 use Rattle.evt.specs.declared.DecodeAnswer.{DecodeAnswer}
 use Rattle.evt.specs.declared.evt3.Decoder.{Decoder}
-use Rattle.evt.specs.declared.evt3.Decoded.{Decoded}
 use Rattle.evt.specs.Evt3.{step3, vector3, inRange3}
 use Rattle.evt.specs.Decode.{Owed}
-use Rattle.evt.proofs.Lent.{Datum, Answered, ofStruct, ofEnum, lent-word}
+use Rattle.evt.proofs.Lent.{Datum, Answered, ofStruct, ofEnum}
+use Rattle.evt.proofs.LentWord.{lent-word}
 use Rattle.evt.proofs.DecodeAnswer as B
 use Rattle.evt.proofs.DecodeAnswer.Laws as B′
 use Rattle.evt.proofs.evt3.Decoder as D

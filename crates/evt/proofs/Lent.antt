@@ -18,7 +18,7 @@ use types.Run.{look, init, look-raw, store-raw, forget, stop, hop, fld, from, lo
 use types.Part.{whole, sub, look-in}
 use types.SemTy.{Body}
 use sound.WpLaws.{FmC}
-use denote.RattleType.{RattleType, owns}
+use denote.RattleType.{RattleType}
 use denote.Laws.{Is, Tells, Typed, Makes, Lawful, shows}
 use denote.Memory.{mem, cellAt, lone}
 use denote.Steps.{opens, closes, owned, peeks, heard, only}
@@ -30,7 +30,6 @@ use denote.Enum.Declared as ED
 use denote.Enum.Enum.{Few, Plainss}
 use denote.Enum.Laws as EL
 use denote.Triple.Call.{calls-from}
-use denote.Triple.Walked.{says}
 
 -- ---- a type of one machine value that owns only facts
 pub record Datum : Type 2 where
@@ -70,10 +69,10 @@ lent D B S ω π n f = record {
   params = 2;
   locals = local (B .mir) valueLocal ∷ local (tyRef (named 0) mut ω) valueLocal ∷ local π valueLocal ∷ local (both D B S) valueLocal ∷ local (D .mir) valueLocal ∷ [];
   body =
-    seq (assign (place 4 []) (rvOpd (copy (place 1 (deref (D .mir) ∷ [])))))
-    (seq (call f (copy (place 4 []) ∷ copy (place 2 []) ∷ []) (place 3 []))
-    (seq (assign (place 1 (deref (D .mir) ∷ [])) (rvOpd (copy (place 3 (field 0 ∷ [])))))
-    (seq (assign (place 0 []) (rvOpd (copy (place 3 (field 1 ∷ []))))) return)));
+      seq (assign (place 4 []) (rvOpd (copy (place 1 (deref (D .mir) ∷ [])))))
+      (seq (call f (copy (place 4 []) ∷ copy (place 2 []) ∷ []) (place 3 []))
+      (seq (assign (place 1 (deref (D .mir) ∷ [])) (rvOpd (copy (place 3 (field 0 ∷ [])))))
+      (seq (assign (place 0 []) (rvOpd (copy (place 3 (field 1 ∷ []))))) return)));
 }
 
 module _ {M : Type 1} (𝓤 : URA M) (H : Heap 𝓤) (A : Atoms 𝓤) (W : Given 𝓤 H A) where

@@ -1,7 +1,7 @@
 // A decoder of either encoding.
 ghost use mathlib.Core.Path.{_≡_};
 ghost use Rattle.evt.specs.Event.{noEvents};
-ghost use Rattle.evt.specs.Codec.{freshC, wordSize, inRangeC};
+ghost use Rattle.evt.specs.Codec.{freshC, wordSize, inRangeC, stepC, vectorC};
 ghost use Rattle.evt.specs.Decode.{Owed, DecodedC};
 use crate::DecodeAnswer;
 use crate::Encoding;
@@ -78,6 +78,15 @@ impl Codec {
             next: self,
             answer: DecodeAnswer::Refused(Refusal::StateOutOfRange),
         }
+    }
+
+    // The first word of `bytes`, into a lent decoder. Out of range, it is refused and left as it was.
+    pub fn decode(&mut self, bytes: &[u8]) -> DecodeAnswer
+        ensures { λ r. ⌜ Owed (inRangeC (now (self .entry))) (now (self .entry)) (stepC (now (self .entry)) (now (bytes .entry))) (vectorC (now (self .entry)) (now (bytes .entry))) (now (self .exit)) r ⌝ }
+    {
+        let s = (*self).step(bytes);
+        *self = s.next;
+        s.answer
     }
 }
 

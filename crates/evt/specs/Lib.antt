@@ -8,4 +8,3 @@ pub mod Codec
 pub mod Decode
 pub mod Range
 pub mod Columns
-pub mod Bench

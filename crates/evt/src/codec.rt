@@ -12,7 +12,6 @@ use crate::fields::word16;
 use crate::fields::word32;
 use crate::vector;
 
-
 pub enum Codec {
     Evt2(Evt2Decoder),
     Evt3(Decoder),

@@ -30,8 +30,11 @@ pub struct Evt2Decoded {
 
 impl Evt2Decoder {
     pub const WORD_SIZE: usize = 4;
+
     pub const PERIOD: u64 = 17179869184;
+
     pub const THRESHOLD: u64 = 16106127360;
+
     pub const MOST_LOOPS: u64 = 134217728;
 
     pub fn new() -> Self
@@ -98,7 +101,13 @@ impl Evt2Decoder {
         match kind {
             8 => {
                 let raw = bits(word, 0, 28) * 64;
-                let c = clock::after(Self::PERIOD, Self::THRESHOLD, d.time_high, d.high_loops, raw);
+                let c = clock::after(
+                    Self::PERIOD,
+                    Self::THRESHOLD,
+                    d.time_high,
+                    d.high_loops,
+                    raw,
+                );
                 d.initialised = true;
                 d.time_high = c.coarse;
                 d.time = c.coarse;

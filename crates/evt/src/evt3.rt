@@ -45,8 +45,11 @@ pub struct Decoded {
 
 impl Decoder {
     pub const WORD_SIZE: usize = 2;
+
     pub const PERIOD: u64 = 16777216;
+
     pub const THRESHOLD: u64 = 16732160;
+
     pub const MOST_LOOPS: u64 = 268435456;
 
     pub fn new() -> Self

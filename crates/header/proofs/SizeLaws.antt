@@ -97,6 +97,12 @@ module _ (c : ℕ) (s : List ℕ) where
   abbrev pub high : Number
   high = numberOf (trimOf (restOf (from (isByte c) s)))
 
+  pub wide-is : (n m : Number) (head part : List ℕ) → n ≡ numberOf part → part ≡ trimOf head → head ≡ upTo (isByte c) s → n ≡ m → wide ≡ m
+  wide-is n m head part a b d e = sym (a ∙ ap numberOf (b ∙ ap trimOf d)) ∙ e
+
+  pub high-is : (n m : Number) (tail after part : List ℕ) → n ≡ numberOf part → part ≡ trimOf after → after ≡ restOf tail → tail ≡ from (isByte c) s → n ≡ m → high ≡ m
+  high-is n m tail after part a b d f e = sym (a ∙ ap numberOf (b ∙ ap trimOf (d ∙ ap restOf f))) ∙ e
+
   pub size-no-width : wide ≡ Invalid → Unknown ≡ sizeAt c s
   unfolding sizeAt both
   size-no-width e = rw e

@@ -14,6 +14,7 @@ use Rattle.header.specs.Text.{isBlank, upTo, from, any, restOf, trimStar
 
 pub at-drop : (s : List ℕ) (i : ℕ) → i < length s → drop i s ≡ getD s i 0 ∷ drop (i + 1) s
 at-drop s i h = rw (add-one, drop-cons s i 0)
+
 pub at-end : (s : List ℕ) (i : ℕ) → length s ≤ i → drop i s ≡ []
 at-end s i h = drop-of-length-le s h
 

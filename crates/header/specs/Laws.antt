@@ -87,7 +87,7 @@ meant v =
     record {
       «data_offset» = getD v 0 0;
       «sensor_size» = cond (eqb (getD v 2 0) 0) Unknown (Known (getD v 3 0) (getD v 4 0));
-      encoding = cond (eqb (getD v 1 0) 2) Evt2 Evt3
+      encoding = cond (eqb (getD v 1 0) 2) Evt2 Evt3;
     }
 
 meant-values : (at : ℕ) (size : SensorSize) (e : Encoding)
@@ -166,5 +166,5 @@ of-accepted s given h e =
       start = sym (k .1 .1 .0);
       within = omega (arith, body-within s, k .1 .1 .0);
       size = sym (k .1 .1 .1);
-      positive = ap hasZero (sym (k .1 .1 .1)) ∙ k .1 .0
+      positive = ap hasZero (sym (k .1 .1 .1)) ∙ k .1 .0;
     }

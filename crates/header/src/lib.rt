@@ -9,6 +9,7 @@ ghost use Rattle.header.specs.Notes.{versionOf, noteLine, scanOf, nameOf
 
 mod size;
 mod text;
+
 use crate::size::geometry;
 use crate::text::ByteClass;
 use crate::text::begins_with;

@@ -1,7 +1,6 @@
 // Numbers, and sizes as the header writes them.
 ghost use mathlib.Core.Path.{_≡_};
 ghost use Rattle.header.specs.Size.{digitsOf, numberOf, sizeAt, geometryOf};
-
 use crate::text::ByteClass;
 use crate::text::has;
 use crate::text::head_until;

@@ -8,7 +8,7 @@ use Rattle.header.proofs.parse_header.Statement.{statement}
 use Rattle.header.proofs.parse_header.Tie as tie
 
 returns : tie.Need-returns
-returns c = laws.answer-long _ _ (c .if1 .taken)
+returns c = laws.parsed _ _ _ (laws.answer-long _ _ (c .if1 .taken))
 
 scan-lines-requires : tie.Need-scan-lines-requires
 scan-lines-requires c κs = search needs
@@ -20,7 +20,7 @@ has-requires : tie.Need-has-requires
 has-requires c κs = search needs
 
 returns-2 : tie.Need-returns-2
-returns-2 c = laws.answer-high _ _ (c .before .before .before .before .if1 .left) _ (c .before .before .before .scan-lines .ensures) (sym (c .before .has .ensures) ∙ c .if2 .taken)
+returns-2 c = laws.parsed _ _ _ (laws.answer-high _ _ (c .before .before .before .before .if1 .left) _ (c .before .before .before .scan-lines .ensures) (sym (c .before .has .ensures) ∙ c .if2 .taken))
 
 name-encoding-requires : tie.Need-name-encoding-requires
 name-encoding-requires c κs = search needs
@@ -32,7 +32,7 @@ enum-told : tie.Need-enum-told
 enum-told c = search needs
 
 returns-3 : tie.Need-returns-3
-returns-3 c = laws.answer-none _ _ (c .before .before .before .before .before .before .before .before .if1 .left) _ (c .before .before .before .before .before .before .before .scan-lines .ensures) (sym (c .before .before .before .before .before .has .ensures) ∙ c .before .before .before .before .if2 .left) (sym (c .before .before .name-encoding .ensures) ∙ c .enum-told .given .1)
+returns-3 c = laws.parsed _ _ _ (laws.answer-none _ _ (c .before .before .before .before .before .before .before .before .if1 .left) _ (c .before .before .before .before .before .before .before .scan-lines .ensures) (sym (c .before .before .before .before .before .has .ensures) ∙ c .before .before .before .before .if2 .left) (sym (c .before .before .name-encoding .ensures) ∙ c .enum-told .given .1))
 
 size-of-requires : tie.Need-size-of-requires
 size-of-requires c κs = search needs
@@ -41,10 +41,10 @@ has-zero-requires : tie.Need-has-zero-requires
 has-zero-requires c κs = search needs
 
 returns-4 : tie.Need-returns-4
-returns-4 c = laws.answer-zero _ _ (c .before .before .before .before .before .before .before .before .before .before .before .before .if1 .left) _ (c .before .before .before .before .before .before .before .before .before .before .before .scan-lines .ensures) (sym (c .before .before .before .before .before .before .before .before .before .has .ensures) ∙ c .before .before .before .before .before .before .before .before .if2 .left) _ (sym (c .before .before .before .before .before .before .name-encoding .ensures) ∙ c .before .before .before .before .encoding .given .1) _ (c .before .before .size-of .ensures) (sym (c .before .has-zero .ensures) ∙ c .if3 .taken)
+returns-4 c = laws.parsed _ _ _ (laws.answer-zero _ _ (c .before .before .before .before .before .before .before .before .before .before .before .before .if1 .left) _ (c .before .before .before .before .before .before .before .before .before .before .before .scan-lines .ensures) (sym (c .before .before .before .before .before .before .before .before .before .has .ensures) ∙ c .before .before .before .before .before .before .before .before .if2 .left) _ (sym (c .before .before .before .before .before .before .name-encoding .ensures) ∙ c .before .before .before .before .encoding .given .1) _ (c .before .before .size-of .ensures) (sym (c .before .has-zero .ensures) ∙ c .if3 .taken))
 
 returns-5 : tie.Need-returns-5
-returns-5 c = laws.answer-header _ _ (c .before .before .before .before .before .before .before .before .before .before .before .before .if1 .left) _ (c .before .before .before .before .before .before .before .before .before .before .before .scan-lines .ensures) (sym (c .before .before .before .before .before .before .before .before .before .has .ensures) ∙ c .before .before .before .before .before .before .before .before .if2 .left) _ (sym (c .before .before .before .before .before .before .name-encoding .ensures) ∙ c .before .before .before .before .encoding .given .1) _ (c .before .before .size-of .ensures) (sym (c .before .has-zero .ensures) ∙ c .if3 .left)
+returns-5 c = laws.parsed _ _ _ (laws.answer-header _ _ (c .before .before .before .before .before .before .before .before .before .before .before .before .if1 .left) _ (c .before .before .before .before .before .before .before .before .before .before .before .scan-lines .ensures) (sym (c .before .before .before .before .before .before .before .before .before .has .ensures) ∙ c .before .before .before .before .before .before .before .before .if2 .left) _ (sym (c .before .before .before .before .before .before .name-encoding .ensures) ∙ c .before .before .before .before .encoding .given .1) _ (c .before .before .size-of .ensures) (sym (c .before .has-zero .ensures) ∙ c .if3 .left))
 
 pub parse-header-spec : {M : Type 1} → statement M
 parse-header-spec =

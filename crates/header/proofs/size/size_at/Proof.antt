@@ -20,7 +20,7 @@ enum-told : tie.Need-enum-told
 enum-told c = search needs
 
 returns : tie.Need-returns
-returns c = laws.size-no-width _ _ (cc)
+returns c = laws.size-no-width _ _ (laws.wide-is _ _ _ _ _ _ (c .before .before .read-number .ensures) (c .before .before .before .trim .ensures) (c .before .before .before .before .head-until .ensures) (c .enum-told .given .1))
 
 tail-from-requires : tie.Need-tail-from-requires
 tail-from-requires c κs = search needs
@@ -41,10 +41,10 @@ enum-told-2 : tie.Need-enum-told-2
 enum-told-2 c = search needs
 
 returns-2 : tie.Need-returns-2
-returns-2 c = laws.size-no-height _ _ (c .before .before .before .before .before .before .before .w .given .0 .0) (cc) (cc)
+returns-2 c = laws.size-no-height _ _ _ (laws.wide-is _ _ _ _ _ _ (c .before .before .before .before .before .before .before .before .before .read-number .ensures) (c .before .before .before .before .before .before .before .before .before .before .trim .ensures) (c .before .before .before .before .before .before .before .before .before .before .before .head-until .ensures) (c .before .before .before .before .before .before .before .w .given .1)) (laws.high-is _ _ _ _ _ _ _ (c .before .before .read-number2 .ensures) (c .before .before .before .trim2 .ensures) (c .before .before .before .before .rest .ensures) (c .before .before .before .before .before .tail-from .ensures) (c .enum-told2 .given .1))
 
 returns-3 : tie.Need-returns-3
-returns-3 c = laws.size-both _ _ (c .before .before .before .before .before .before .before .before .w .given .0 .0) (c .before .h .given .0 .0) (cc) (cc)
+returns-3 c = laws.size-both _ _ _ _ (laws.wide-is _ _ _ _ _ _ (c .before .before .before .before .before .before .before .before .before .before .read-number .ensures) (c .before .before .before .before .before .before .before .before .before .before .before .trim .ensures) (c .before .before .before .before .before .before .before .before .before .before .before .before .head-until .ensures) (c .before .before .before .before .before .before .before .before .w .given .1)) (laws.high-is _ _ _ _ _ _ _ (c .before .before .before .read-number2 .ensures) (c .before .before .before .before .trim2 .ensures) (c .before .before .before .before .before .rest .ensures) (c .before .before .before .before .before .before .tail-from .ensures) (c .before .h .given .1))
 
 pub size-at-spec : {M : Type 1} → statement M
 size-at-spec =

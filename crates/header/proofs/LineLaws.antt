@@ -105,6 +105,18 @@ module _ (seen : Seen) (l key value : List ℕ) (p : Parts l key value) where
 
 -- ---- the loop over the lines
 
+-- a line of n bytes at a place where `left` is still to be read
+pub record Line (s : List ℕ) (at : ℕ) (left : List ℕ) (n : ℕ) : Type 0 where
+  pub within : n ≤ length left
+  pub fits : at + n ≤ length s
+  pub some : 0 < n
+
+pub line-at : (s : List ℕ) (at : ℕ) → at < length s → (left : List ℕ) → left ≡ drop at s → (n : ℕ) → n ≡ lineLength left → Line s at left n
+line-at s at h left e n en =
+    let w : n ≤ length left = omega (arith, line-le left) in
+    let p : 0 < lineLength left = rw (e, at-drop s at h) (line-pos _ _) in
+    record { within = w; fits = omega (arith, ap length e, length-drop at s); some = omega arith }
+
 -- where the scan ends and what it has seen, from a place where it saw `seen` with `s` left
 abbrev pub resume : ℕ → Seen → List ℕ → Scan
 resume at seen s = record { at = at + bodyStart s; seen = noteAll seen (headerLines s) }
@@ -133,17 +145,7 @@ module _ (s : List ℕ) (at : ℕ) (seen : Seen) (inv : resume at seen (drop at 
     pub scan-stop : (getD s at 0 ≡ 37 → ⊥) → _≡_ {A = Scan} (record { at = at; seen = seen }) (scanOf s)
     scan-stop k = scan-over at seen (drop at s) (rw (at-drop s at h) (header-stop _ _ k)) ∙ inv
 
-    -- one more line, of n bytes, with `left` still to be read
     module _ (left : List ℕ) (e : left ≡ drop at s) (n : ℕ) (en : n ≡ lineLength left) where
-      pub line-within : n ≤ length left
-      line-within = omega (arith, line-le left)
-
-      pub line-fits : at + n ≤ length s
-      line-fits = omega (arith, line-within, ap length e, length-drop at s)
-
-      pub line-some : 0 < n
-      line-some = let p : 0 < lineLength left = rw (e, at-drop s at h) (line-pos _ _) in omega arith
-
       pub scan-next : (seen′ : Seen) → getD s at 0 ≡ 37 → seen′ ≡ noteLine seen (take n left) → resume (at + n) seen′ (drop (at + n) s) ≡ scanOf s
       unfolding noteAll
       scan-next seen′ k es =
@@ -151,7 +153,8 @@ module _ (s : List ℕ) (at : ℕ) (seen : Seen) (inv : resume at seen (drop at 
           let a : headerLines left ≡ take n left ∷ headerLines (drop n left) = rw (en, d) (header-step (drop (at + 1) s)) in
           let f : drop n left ≡ drop (at + n) s = rw e (drop-drop n at s) in
           let b : headerLines left ≡ take n left ∷ headerLines (drop (at + n) s) = rw f at a in
+          let w : n ≤ length left = line-at s at h left e n en .within in
           let l : (at + n) + bodyStart (drop (at + n) s) ≡ at + bodyStart left =
-          omega (arith, start-line left (take n left) (drop (at + n) s) b, length-take n left, line-within) in
+          omega (arith, start-line left (take n left) (drop (at + n) s) b, length-take n left) in
           let r : noteAll seen′ (headerLines (drop (at + n) s)) ≡ noteAll seen (headerLines left) = rw (b, es) in
           rw (l, r, e) inv

@@ -24,7 +24,7 @@ shared-slice-read-if1 : tie.Need-shared-slice-read-if1 Inv-loop μ-loop
 shared-slice-read-if1 c = search needs
 
 returns : tie.Need-returns Inv-loop μ-loop
-returns c = laws.scan-stop _ _ _ (cc) (omega arith) (c .if1 .taken)
+returns c = laws.scan-stop _ _ _ (c .before .before .before .loop .inv .1) (c .before .before .loop-test .taken) (c .if1 .taken)
 
 sub-left : tie.Need-sub-left Inv-loop μ-loop
 sub-left c = search needs
@@ -39,22 +39,22 @@ line-length-requires : tie.Need-line-length-requires Inv-loop μ-loop
 line-length-requires c κs = search needs
 
 slice-aggregate-read-line : tie.Need-slice-aggregate-read-line Inv-loop μ-loop
-slice-aggregate-read-line c = sym (length-take-le _ _ (laws.line-within _ _ _ (c .before .before .before .before .before .before .loop .inv .1) (c .before .before .before .before .before .loop-test .taken) _ (tail-part _ _ (c .before .before .before .before .before .before .loop .inv .0)) _ (c .before .line-length .ensures)))
+slice-aggregate-read-line c = sym (length-take-le _ _ (laws.line-at (c .before .before .before .before .before .before .before .before .args .s .now) _ (c .before .before .before .before .before .loop-test .taken) _ (tail-part _ _ (c .before .before .before .before .before .before .loop .inv .0)) _ (c .before .line-length .ensures) .within))
 
 read-line-requires : tie.Need-read-line-requires Inv-loop μ-loop
 read-line-requires c κs = search needs
 
 add-at : tie.Need-add-at Inv-loop μ-loop
-add-at c = omega (arith, laws.line-fits _ _ _ (c .before .before .before .before .before .before .before .loop .inv .1) (c .before .before .before .before .before .before .loop-test .taken) _ (tail-part _ _ (c .before .before .before .before .before .before .before .loop .inv .0)) _ (c .before .before .line-length .ensures))
+add-at c = omega (arith, laws.line-at (c .before .before .before .before .before .before .before .before .before .args .s .now) _ (c .before .before .before .before .before .before .loop-test .taken) _ (tail-part _ _ (c .before .before .before .before .before .before .before .loop .inv .0)) _ (c .before .before .line-length .ensures))
 
 loop-less : tie.Need-loop-less Inv-loop μ-loop
-loop-less c = omega (arith, laws.line-fits _ _ _ (c .before .before .before .before .before .before .before .loop .inv .1) (c .before .before .before .before .before .before .loop-test .taken) _ (tail-part _ _ (c .before .before .before .before .before .before .before .loop .inv .0)) _ (c .before .before .line-length .ensures), laws.line-some _ _ _ (c .before .before .before .before .before .before .before .loop .inv .1) (c .before .before .before .before .before .before .loop-test .taken) _ (tail-part _ _ (c .before .before .before .before .before .before .before .loop .inv .0)) _ (c .before .before .line-length .ensures))
+loop-less c = omega (arith, laws.line-at (c .before .before .before .before .before .before .before .before .before .args .s .now) _ (c .before .before .before .before .before .before .loop-test .taken) _ (tail-part _ _ (c .before .before .before .before .before .before .before .loop .inv .0)) _ (c .before .before .line-length .ensures))
 
 loop-again : tie.Need-loop-again Inv-loop μ-loop
-loop-again c = (omega (arith, laws.line-fits _ _ _ (c .before .before .before .before .before .before .before .loop .inv .1) (c .before .before .before .before .before .before .loop-test .taken) _ (tail-part _ _ (c .before .before .before .before .before .before .before .loop .inv .0)) _ (c .before .before .line-length .ensures)), laws.scan-next _ _ _ (c .before .before .before .before .before .before .before .loop .inv .1) (c .before .before .before .before .before .before .loop-test .taken) _ (tail-part _ _ (c .before .before .before .before .before .before .before .loop .inv .0)) _ (c .before .before .line-length .ensures) _ (c .before .before .before .before .if1 .left) (c .read-line .ensures))
+loop-again c = (omega (arith, laws.line-at (c .before .before .before .before .before .before .before .before .before .args .s .now) _ (c .before .before .before .before .before .before .loop-test .taken) _ (tail-part _ _ (c .before .before .before .before .before .before .before .loop .inv .0)) _ (c .before .before .line-length .ensures)), laws.scan-next _ _ _ (c .before .before .before .before .before .before .before .loop .inv .1) (c .before .before .before .before .before .before .loop-test .taken) _ (tail-part _ _ (c .before .before .before .before .before .before .before .loop .inv .0)) _ (c .before .before .line-length .ensures) _ (c .before .before .before .before .if1 .left) (c .read-line .ensures))
 
 returns-2 : tie.Need-returns-2 Inv-loop μ-loop
-returns-2 c = laws.scan-end _ _ _ (cc) (omega arith)
+returns-2 c = laws.scan-end _ _ _ (c .before .loop .inv .1) (c .loop-test .left)
 
 pub scan-lines-spec : {M : Type 1} → statement M
 scan-lines-spec =

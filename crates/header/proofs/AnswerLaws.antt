@@ -17,7 +17,7 @@ use Rattle.header.specs.declared.HeaderAnswer.{HeaderAnswer}
 use Rattle.header.specs.declared.HeaderAnswer.the-variants.{Header, Refused}
 use Rattle.header.specs.Text.{notAscii, any, begins, same}
 use Rattle.header.specs.Lines.{headerLines, headerBytes, bodyStart, keyOf}
-use Rattle.header.specs.Header.{geometryName, formatName, evtName, evt2, evt3, two, three, Said, readLine, readAll, nothing, saidBy, encodingOf, sizeOf, hasZero, withEncoding, toldHeader, headerOf, Parsed}
+use Rattle.header.specs.Header.{geometryName, formatName, evtName, evt2, evt3, two, three, Said, readLine, readAll, nothing, saidBy, encodingOf, sizeThatHolds, hasZero, withEncoding, toldHeader, headerOf, Parsed}
 use Rattle.header.specs.Notes.{versionOf, seenOf, noteLine, noteAll, blankNote, scanOf, nameOf}
 use Rattle.header.specs.Laws.{by-bool, header-part, body-within, verdict-of}
 
@@ -82,15 +82,15 @@ module _ (s : List ℕ) (given : SensorSize) where
     answer-high q = rw (le-ltb (2 ^ 30) (length s) h, sym (ap (any notAscii) scan-part) ∙ q)
 
     module _ (q : any notAscii (take (sc .at) s) ≡ false) where
-      answer-from : withEncoding (sc .at) (sizeOf given (sc .seen .size)) (nameOf (sc .seen)) ≡ headerOf s given
+      answer-from : withEncoding (sc .at) (sizeThatHolds given (sc .seen .size)) (nameOf (sc .seen)) ≡ headerOf s given
       unfolding headerOf
       answer-from = rw (le-ltb (2 ^ 30) (length s) h, sym (ap (any notAscii) scan-part) ∙ q, scan-at, scan-seen, named (saidBy s))
 
       pub answer-none : nameOf (sc .seen) ≡ Nothing → Refused UnknownEncoding ≡ headerOf s given
       unfolding withEncoding
-      answer-none d = sym (ap (withEncoding (sc .at) (sizeOf given (sc .seen .size))) d) ∙ answer-from
+      answer-none d = sym (ap (withEncoding (sc .at) (sizeThatHolds given (sc .seen .size))) d) ∙ answer-from
 
-      module _ (n : Encoding) (d : nameOf (sc .seen) ≡ As n) (size : SensorSize) (f : size ≡ sizeOf given (sc .seen .size)) where
+      module _ (n : Encoding) (d : nameOf (sc .seen) ≡ As n) (size : SensorSize) (f : size ≡ sizeThatHolds given (sc .seen .size)) where
         answer-named : withEncoding (sc .at) size (As n) ≡ headerOf s given
         answer-named = rw (f, ← d) answer-from
 

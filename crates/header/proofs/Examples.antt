@@ -5,9 +5,9 @@ use mathlib.Core.List.{List, [], _∷_}
 use Rattle.evt.specs.declared.SensorSize.the-variants.{Unknown, Known}
 use Rattle.evt.specs.Told.{accepted, refused}
 use Rattle.header.specs.Text.{isBlank, upTo, from, any, restOf, trimStart, trimEnd, trimOf, lowerOf, begins, same}
-use Rattle.header.specs.Size.{isDigit, allDigits, decimal, valueOf, digitsOf, numberOf, both, sizeAt, geometryOf}
-use Rattle.header.specs.Lines.{joined, linesOf, startsPercent, leading, headerLines, bytesOf, headerBytes, bodyStart, bodyOf, keyOf, textOf}
-use Rattle.header.specs.Header.{readLine, readAll, saidBy, encodingOf, sizeOf, hasZero, headerVerdict}
+use Rattle.header.specs.Size.{isDigit, allDigits, decimal, numberFrom, digitsOf, numberOf, both, sizeAt, geometryOf}
+use Rattle.header.specs.Lines.{joined, linesOf, startsPercent, leading, headerLines, bytesOf, headerBytes, bodyStart, bodyOf, keyOf, valueOf}
+use Rattle.header.specs.Header.{readLine, readAll, saidBy, encodingOf, sizeThatHolds, hasZero, headerVerdict}
 
 -- `% format EVT3`, `% geometry 64x48`, and three bytes of the body
 abbrev listing : List ℕ
@@ -20,5 +20,5 @@ flat = 37 ∷ 101 ∷ 118 ∷ 116 ∷ 32 ∷ 50 ∷ 46 ∷ 48 ∷ 10 ∷ 37 ∷ 
 pub worked :
     headerVerdict listing Unknown ∷ headerVerdict (37 ∷ 128 ∷ []) Unknown ∷ headerVerdict [] Unknown ∷ headerVerdict flat Unknown ∷ headerVerdict flat (Known 5 7) ∷ []
     ≡ accepted (31 ∷ 3 ∷ 1 ∷ 64 ∷ 48 ∷ []) ∷ refused 3 ∷ refused 2 ∷ refused 1 ∷ accepted (27 ∷ 2 ∷ 1 ∷ 5 ∷ 7 ∷ []) ∷ []
-unfolding isBlank upTo from any restOf trimStart trimEnd trimOf lowerOf begins same isDigit allDigits decimal valueOf digitsOf numberOf both sizeAt geometryOf joined linesOf startsPercent leading headerLines bytesOf headerBytes bodyStart bodyOf keyOf textOf readLine readAll saidBy encodingOf sizeOf hasZero headerVerdict
+unfolding isBlank upTo from any restOf trimStart trimEnd trimOf lowerOf begins same isDigit allDigits decimal numberFrom digitsOf numberOf both sizeAt geometryOf joined linesOf startsPercent leading headerLines bytesOf headerBytes bodyStart bodyOf keyOf valueOf readLine readAll saidBy encodingOf sizeThatHolds hasZero headerVerdict
 worked = refl

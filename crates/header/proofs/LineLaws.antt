@@ -1,5 +1,5 @@
 -- Laws of the header's lines: the first one, what is kept of one, and the loop over them.
-use Prim.Native.Nat.{ℕ, suc, _+_, _<_, _≤_}
+use Prim.Native.Nat.{ℕ, suc, _+_, _-_, _<_, _≤_}
 use mathlib.Core.Path.{_≡_, refl, sym, _∙_, ap}
 use mathlib.Core.List.{List, [], _∷_}
 use mathlib.Core.Bool.{Bool, true, false, cond}
@@ -13,11 +13,11 @@ use Rattle.header.specs.declared.Seen.{Seen}
 use Rattle.header.specs.declared.Scan.{Scan}
 use Rattle.header.specs.Text.{isBlank, isByte, upTo, from, any, trimOf, same}
 use Rattle.header.specs.Size.{geometryOf}
-use Rattle.header.specs.Lines.{joined, linesOf, startsPercent, leading, headerLines, bytesOf, headerBytes, bodyStart, lineLength, bodyOf, keyOf, textOf}
+use Rattle.header.specs.Lines.{joined, linesOf, startsPercent, leading, headerLines, bytesOf, headerBytes, bodyStart, bodyOf, keyOf, valueOf}
 use Rattle.header.specs.Header.{geometryName, formatName, evtName, evt2, evt3, two, three}
 use Rattle.header.specs.Laws.{by-bool}
-use Rattle.header.specs.Notes.{versionOf, noteLine, noteAll, blankNote, scanOf}
-use Rattle.header.proofs.TextLaws.{at-drop, at-end, lt-upTo}
+use Rattle.header.specs.Notes.{lineLength, versionOf, noteLine, noteAll, blankNote, scanOf}
+use Rattle.header.proofs.TextLaws.{at-drop, at-end, lt-upTo, count-take, count-drop}
 
 -- ---- the first line
 
@@ -71,12 +71,12 @@ module _ (s : List ℕ) (n : ℕ) (e : n ≡ length (upTo (isByte 10) s)) where
 
 pub record Parts (l key value : List ℕ) : Type 0 where
   pub key-is : key ≡ keyOf l
-  pub value-is : value ≡ textOf l
+  pub value-is : value ≡ valueOf l
 
-pub parts : (l body key tail value : List ℕ) → body ≡ bodyOf l → key ≡ upTo isBlank body → tail ≡ from isBlank body → value ≡ trimOf tail → Parts l key value
-unfolding keyOf textOf
-parts l body key tail value b k t v =
-    record { key-is = k ∙ ap (upTo isBlank) b; value-is = v ∙ ap trimOf (t ∙ ap (from isBlank) b) }
+pub parts : (l body value : List ℕ) (n : ℕ) → body ≡ bodyOf l → n ≡ length (upTo isBlank body) → value ≡ trimOf (take (length body - n) (drop n body)) → Parts l (take n body) value
+unfolding keyOf valueOf
+parts l body value n b k v =
+    record { key-is = count-take isBlank body n k ∙ ap (upTo isBlank) b; value-is = v ∙ ap trimOf (count-drop isBlank body n k ∙ ap (from isBlank) b) }
 
 module _ (seen : Seen) (l key value : List ℕ) (p : Parts l key value) where
   named-as : (name : List ℕ) (b : Bool) → same name key ≡ b → same name (keyOf l) ≡ b

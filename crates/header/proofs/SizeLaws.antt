@@ -13,8 +13,9 @@ use Rattle.evt.specs.declared.SensorSize.the-variants.{Unknown, Known}
 use Rattle.header.specs.declared.size.Number.{Number}
 use Rattle.header.specs.declared.size.Number.the-variants.{Invalid, Value}
 use Rattle.header.specs.Text.{isByte, upTo, from, any, restOf, trimOf}
-use Rattle.header.specs.Size.{isDigit, allDigits, decimal, valueOf, digitsOf, numberOf, both, sizeAt, geometryOf}
-use Rattle.header.proofs.TextLaws.{at-drop, at-end, tail-part}
+use Rattle.header.specs.Size.{isDigit, allDigits, decimal, numberFrom, digitsOf, numberOf, both, sizeAt, geometryOf}
+use Rattle.header.specs.Notes.{halvesAt}
+use Rattle.header.proofs.TextLaws.{at-drop, at-end, tail-part, lt-upTo, count-take, rest-after}
 
 -- ---- digits
 
@@ -23,25 +24,25 @@ unfolding decimal
 decimal-ge n [] = omega arith
 decimal-ge n (b ∷ s) = omega (arith, decimal-ge (n * 10 + (b - 48)) s)
 
-pub value-big : (n : ℕ) (s : List ℕ) → 2 ^ 64 ≤ n → valueOf n s ≡ Invalid
-unfolding valueOf
+pub value-big : (n : ℕ) (s : List ℕ) → 2 ^ 64 ≤ n → numberFrom n s ≡ Invalid
+unfolding numberFrom
 value-big n s h =
     let e : ltb (decimal n s) (2 ^ 64) ≡ false = le-ltb (decimal n s) (2 ^ 64) (omega (arith, decimal-ge n s)) in
     rw (e, and-false)
 
-pub value-end : (n : ℕ) → n < 2 ^ 64 → valueOf n [] ≡ Value n
-unfolding valueOf allDigits decimal
+pub value-end : (n : ℕ) → n < 2 ^ 64 → numberFrom n [] ≡ Value n
+unfolding numberFrom allDigits decimal
 value-end n h = rw (lt-ltb n (2 ^ 64) h)
 
-pub value-bad : (n b : ℕ) (s : List ℕ) → isDigit b ≡ false → valueOf n (b ∷ s) ≡ Invalid
-unfolding valueOf allDigits
+pub value-bad : (n b : ℕ) (s : List ℕ) → isDigit b ≡ false → numberFrom n (b ∷ s) ≡ Invalid
+unfolding numberFrom allDigits
 value-bad n b s e = rw e
 
-pub value-step : (n b : ℕ) (s : List ℕ) → isDigit b ≡ true → valueOf n (b ∷ s) ≡ valueOf (n * 10 + (b - 48)) s
-unfolding valueOf allDigits decimal
+pub value-step : (n b : ℕ) (s : List ℕ) → isDigit b ≡ true → numberFrom n (b ∷ s) ≡ numberFrom (n * 10 + (b - 48)) s
+unfolding numberFrom allDigits decimal
 value-step n b s e = rw e
 
-pub digits-some : (s : List ℕ) → (length s ≡ 0 → ⊥) → valueOf 0 s ≡ digitsOf s
+pub digits-some : (s : List ℕ) → (length s ≡ 0 → ⊥) → numberFrom 0 s ≡ digitsOf s
 unfolding digitsOf
 digits-some [] h = absurd (h refl)
 digits-some (b ∷ s) h = refl
@@ -59,7 +60,7 @@ pub a-digit : (b : ℕ) → 48 ≤ b → b ≤ 57 → isDigit b ≡ true
 unfolding isDigit
 a-digit b l u = rw (le-leb 48 b l, le-leb b 57 u)
 
-module _ (s : List ℕ) (n i : ℕ) (inv : valueOf n (drop i s) ≡ digitsOf s) where
+module _ (s : List ℕ) (n i : ℕ) (inv : numberFrom n (drop i s) ≡ digitsOf s) where
   pub digits-end : length s ≤ i → n < 2 ^ 64 → Value n ≡ digitsOf s
   digits-end h k = sym (value-end n k) ∙ rw (at-end s i h) at inv
 
@@ -67,7 +68,7 @@ module _ (s : List ℕ) (n i : ℕ) (inv : valueOf n (drop i s) ≡ digitsOf s) 
     pub digits-bad : (getD s i 0 < 48) ⊎ (57 < getD s i 0) → Invalid ≡ digitsOf s
     digits-bad k = rw (at-drop s i h, value-bad n _ _ (not-digit _ k)) at inv
 
-    pub digits-next : 48 ≤ getD s i 0 → getD s i 0 ≤ 57 → valueOf (n * 10 + (getD s i 0 - 48)) (drop (i + 1) s) ≡ digitsOf s
+    pub digits-next : 48 ≤ getD s i 0 → getD s i 0 ≤ 57 → numberFrom (n * 10 + (getD s i 0 - 48)) (drop (i + 1) s) ≡ digitsOf s
     digits-next l u = rw (at-drop s i h, value-step n _ _ (a-digit _ l u)) at inv
 
     pub digits-big : 48 ≤ getD s i 0 → getD s i 0 ≤ 57 → (2 ^ 64 - 1 - (getD s i 0 - 48)) / 10 < n → Invalid ≡ digitsOf s
@@ -90,40 +91,56 @@ unfolding numberOf
 number-plain [] h e = absurd (h refl)
 number-plain (b ∷ s) h e = rw (ne-eqb b 43 e)
 
-module _ (c : ℕ) (s : List ℕ) where
+-- a value that parts at its byte n, from what the trimmed halves are
+
+module _ (n : ℕ) (s : List ℕ) where
   abbrev pub wide : Number
-  wide = numberOf (trimOf (upTo (isByte c) s))
+  wide = numberOf (trimOf (take n s))
 
   abbrev pub high : Number
-  high = numberOf (trimOf (restOf (from (isByte c) s)))
+  high = numberOf (trimOf (drop (n + 1) s))
 
-  pub wide-is : (n m : Number) (head part : List ℕ) → n ≡ numberOf part → part ≡ trimOf head → head ≡ upTo (isByte c) s → n ≡ m → wide ≡ m
-  wide-is n m head part a b d e = sym (a ∙ ap numberOf (b ∙ ap trimOf d)) ∙ e
+  pub wide-is : (v m : Number) (part : List ℕ) → v ≡ numberOf part → part ≡ trimOf (take n s) → v ≡ m → wide ≡ m
+  wide-is v m part a b e = sym (a ∙ ap numberOf b) ∙ e
 
-  pub high-is : (n m : Number) (tail after part : List ℕ) → n ≡ numberOf part → part ≡ trimOf after → after ≡ restOf tail → tail ≡ from (isByte c) s → n ≡ m → high ≡ m
-  high-is n m tail after part a b d f e = sym (a ∙ ap numberOf (b ∙ ap trimOf (d ∙ ap restOf f))) ∙ e
+  pub high-is : n < length s → (v m : Number) (part : List ℕ) → v ≡ numberOf part → part ≡ trimOf (take (length s - (n + 1)) (drop (n + 1) s)) → v ≡ m → high ≡ m
+  high-is h v m part a b e = sym (a ∙ ap numberOf (b ∙ ap trimOf (tail-part s (n + 1) (omega arith)))) ∙ e
 
-  pub size-no-width : wide ≡ Invalid → Unknown ≡ sizeAt c s
-  unfolding sizeAt both
+  pub size-no-width : wide ≡ Invalid → Unknown ≡ halvesAt n s
+  unfolding halvesAt both
   size-no-width e = rw e
 
-  pub size-no-height : (w : ℕ) → wide ≡ Value w → high ≡ Invalid → Unknown ≡ sizeAt c s
-  unfolding sizeAt both
+  pub size-no-height : (w : ℕ) → wide ≡ Value w → high ≡ Invalid → Unknown ≡ halvesAt n s
+  unfolding halvesAt both
   size-no-height w e f = rw (e, f)
 
-  pub size-both : (w h : ℕ) → wide ≡ Value w → high ≡ Value h → Known w h ≡ sizeAt c s
-  unfolding sizeAt both
+  pub size-both : (w h : ℕ) → wide ≡ Value w → high ≡ Value h → Known w h ≡ halvesAt n s
+  unfolding halvesAt both
   size-both w h e f = rw (e, f)
 
-module _ (s : List ℕ) (old : SensorSize) where
-  pub geometry-small : (r : SensorSize) → any (isByte 120) s ≡ true → r ≡ sizeAt 120 s → r ≡ geometryOf s old
-  unfolding geometryOf
-  geometry-small r a e = rw a e
+-- the first byte c, found or not
 
-  pub geometry-large : (r : SensorSize) → any (isByte 120) s ≡ false → any (isByte 88) s ≡ true → r ≡ sizeAt 88 s → r ≡ geometryOf s old
-  unfolding geometryOf
-  geometry-large r a b e = rw (a, b) e
+module _ (c : ℕ) (s : List ℕ) (n : ℕ) (e : n ≡ length (upTo (isByte c) s)) where
+  found : n < length s → any (isByte c) s ≡ true
+  found h = sym (lt-upTo (isByte c) s) ∙ lt-ltb (length (upTo (isByte c) s)) (length s) (omega arith)
 
-  pub geometry-none : any (isByte 120) s ≡ false → any (isByte 88) s ≡ false → old ≡ geometryOf s old
+  missing : length s ≤ n → any (isByte c) s ≡ false
+  missing h = sym (lt-upTo (isByte c) s) ∙ le-ltb (length (upTo (isByte c) s)) (length s) (omega arith)
+
+  parted : halvesAt n s ≡ sizeAt c s
+  unfolding halvesAt sizeAt
+  parted = rw (count-take (isByte c) s n e, rest-after (isByte c) s n e)
+
+module _ (s : List ℕ) (old r : SensorSize) (small : ℕ) (e : small ≡ length (upTo (isByte 120) s)) where
+  pub geometry-small : small < length s → r ≡ halvesAt small s → r ≡ geometryOf s old
   unfolding geometryOf
-  geometry-none a b = rw (a, b)
+  geometry-small h k = rw (found 120 s small e h) (k ∙ parted 120 s small e)
+
+  module _ (h : length s ≤ small) (large : ℕ) (f : large ≡ length (upTo (isByte 88) s)) where
+    pub geometry-large : large < length s → r ≡ halvesAt large s → r ≡ geometryOf s old
+    unfolding geometryOf
+    geometry-large l k = rw (missing 120 s small e h, found 88 s large f l) (k ∙ parted 88 s large f)
+
+    pub geometry-none : length s ≤ large → r ≡ old → r ≡ geometryOf s old
+    unfolding geometryOf
+    geometry-none l k = rw (missing 120 s small e h, missing 88 s large f l) k

@@ -6,7 +6,7 @@ use mathlib.Core.Bool.{Bool, true, false, cond}
 use native.Mathlib.Numerals.{add-one}
 use native.Mathlib.Omega.{arith}
 use lib.ListN.{length, getD, take, drop, length-drop, drop-of-length-le}
-use lib.Seq.{take-all, drop-cons, take-suc}
+use lib.Seq.{take-all, drop-cons, drop-drop, take-suc}
 use lib.Dec.{ltb, leb·suc-suc}
 use borrow.Author.Tests.{lt-ltb, le-ltb, eq-eqb, ne-eqb}
 use Rattle.header.specs.Laws.{by-bool}
@@ -79,15 +79,15 @@ module _ (p : ℕ → Bool) (s : List ℕ) (n : ℕ) (e : n ≡ length (upTo p s
   pub count-drop : take (length s - n) (drop n s) ≡ from p s
   count-drop = tail-part s n count-le ∙ rw e (drop-upTo p s)
 
-pub rest-none : (s : List ℕ) → length s ≡ 0 → s ≡ restOf s
+drop-one : (s : List ℕ) → drop 1 s ≡ restOf s
 unfolding restOf
-rest-none [] h = refl
-rest-none (b ∷ s) h = absurd (omega arith)
+drop-one [] = refl
+drop-one (b ∷ s) = refl
 
-pub rest-some : (s : List ℕ) → (length s ≡ 0 → ⊥) → take (length s - 1) (drop 1 s) ≡ restOf s
-unfolding restOf
-rest-some [] h = absurd (h refl)
-rest-some (b ∷ s) h = tail-part (b ∷ s) 1 (omega arith)
+pub rest-after : (p : ℕ → Bool) (s : List ℕ) (n : ℕ) → n ≡ length (upTo p s) → drop (n + 1) s ≡ restOf (from p s)
+rest-after p s n e =
+    let d : drop n s ≡ from p s = rw e (drop-upTo p s) in
+    sym (drop-drop 1 n s) ∙ drop-one (drop n s) ∙ ap restOf d
 
 -- ---- trimming the end
 

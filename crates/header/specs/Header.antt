@@ -17,7 +17,7 @@ use Rattle.header.specs.declared.HeaderAnswer.{HeaderAnswer}
 use Rattle.header.specs.declared.HeaderAnswer.the-variants.{Header, Refused}
 use Rattle.header.specs.Text.{notAscii, any, begins, same}
 use Rattle.header.specs.Size.{geometryOf}
-use Rattle.header.specs.Lines.{headerLines, headerBytes, bodyStart, keyOf, textOf}
+use Rattle.header.specs.Lines.{headerLines, headerBytes, bodyStart, keyOf, valueOf}
 
 -- ---- the keys, and what their values begin with
 
@@ -57,11 +57,11 @@ nothing = record { format = []; evt = []; size = Unknown }
 unfoldable pub readLine : Said → List ℕ → Said
 readLine said l =
     cond (same geometryName (keyOf l))
-    (record { format = said .format; evt = said .evt; size = geometryOf (textOf l) (said .size) })
+    (record { format = said .format; evt = said .evt; size = geometryOf (valueOf l) (said .size) })
     (cond (same formatName (keyOf l))
-    (record { format = textOf l; evt = said .evt; size = said .size })
+    (record { format = valueOf l; evt = said .evt; size = said .size })
     (cond (same evtName (keyOf l))
-    (record { format = said .format; evt = textOf l; size = said .size })
+    (record { format = said .format; evt = valueOf l; size = said .size })
     said))
 
 -- line after line
@@ -79,9 +79,9 @@ encodingOf said =
     (cond (begins evt2 (said .format) || begins two (said .evt)) (As Evt2) Nothing)
 
 -- the size that holds: the caller's, or without one the header's
-unfoldable pub sizeOf : SensorSize → SensorSize → SensorSize
-sizeOf Unknown read = read
-sizeOf (Known w h) read = Known w h
+unfoldable pub sizeThatHolds : SensorSize → SensorSize → SensorSize
+sizeThatHolds Unknown read = read
+sizeThatHolds (Known w h) read = Known w h
 
 unfoldable pub hasZero : SensorSize → Bool
 hasZero Unknown = false
@@ -115,8 +115,8 @@ headerVerdict s given =
     cond (ltb (2 ^ 30) (length s)) (refused 4)
     (cond (any notAscii (headerBytes s)) (refused 3)
     (cond (eqb (namedNumber (encodingOf (saidBy s))) 0) (refused 2)
-    (cond (hasZero (sizeOf given (saidBy s .size))) (refused 1)
-    (accepted (bodyStart s ∷ namedNumber (encodingOf (saidBy s)) ∷ sizeValues (sizeOf given (saidBy s .size)))))))
+    (cond (hasZero (sizeThatHolds given (saidBy s .size))) (refused 1)
+    (accepted (bodyStart s ∷ namedNumber (encodingOf (saidBy s)) ∷ sizeValues (sizeThatHolds given (saidBy s .size)))))))
 
 -- ---- the answer itself, for callers
 
@@ -129,7 +129,7 @@ unfoldable pub headerOf : List ℕ → SensorSize → HeaderAnswer
 headerOf s given =
     cond (ltb (2 ^ 30) (length s)) (Refused TooLong)
     (cond (any notAscii (headerBytes s)) (Refused HeaderNotAscii)
-    (withEncoding (bodyStart s) (sizeOf given (saidBy s .size)) (encodingOf (saidBy s))))
+    (withEncoding (bodyStart s) (sizeThatHolds given (saidBy s .size)) (encodingOf (saidBy s))))
 
 -- what `parse_header` promises of its answer r
 pub record Parsed (s : List ℕ) (given : SensorSize) (r : HeaderAnswer) : Type 0 where

@@ -23,7 +23,7 @@ use Rattle.header.specs.declared.HeaderAnswer.{HeaderAnswer}
 use Rattle.header.specs.declared.HeaderAnswer.the-variants.{Header, Refused}
 use Rattle.header.specs.Text.{notAscii, any}
 use Rattle.header.specs.Lines.{joined, linesOf, startsPercent, leading, headerLines, bytesOf, headerBytes, bodyStart}
-use Rattle.header.specs.Header.{saidBy, encodingOf, sizeOf, hasZero, encodingNumber, namedNumber, sizeValues, toldHeader, headerVerdict, withEncoding, headerOf}
+use Rattle.header.specs.Header.{saidBy, encodingOf, sizeThatHolds, hasZero, encodingNumber, namedNumber, sizeValues, toldHeader, headerVerdict, withEncoding, headerOf}
 
 pub by-bool : {P : Type 0} (b : Bool) → (b ≡ true → P) → (b ≡ false → P) → P
 by-bool true t f = t refl
@@ -78,7 +78,7 @@ verdict-by false false at size (As Evt3) = by-bool (hasZero size) (λ e. rw e) (
 pub verdict-of : (s : List ℕ) (given : SensorSize) → toldHeader (headerOf s given) ≡ headerVerdict s given
 unfolding headerOf headerVerdict
 verdict-of s given =
-    verdict-by (ltb (2 ^ 30) (length s)) (any notAscii (headerBytes s)) (bodyStart s) (sizeOf given (saidBy s .size)) (encodingOf (saidBy s))
+    verdict-by (ltb (2 ^ 30) (length s)) (any notAscii (headerBytes s)) (bodyStart s) (sizeThatHolds given (saidBy s .size)) (encodingOf (saidBy s))
 
 -- ---- no two answers are told alike
 
@@ -135,7 +135,7 @@ pub record Accepted (s : List ℕ) (given : SensorSize) (h : header.Header) : Ty
   pub short : length s ≤ 2 ^ 30
   pub start : h .«data_offset» ≡ bodyStart s
   pub within : h .«data_offset» ≤ length s
-  pub size : h .«sensor_size» ≡ sizeOf given (saidBy s .size)
+  pub size : h .«sensor_size» ≡ sizeThatHolds given (saidBy s .size)
   pub positive : hasZero (h .«sensor_size») ≡ false
 
 never : {P : Type 0} (r : Refusal) (h : header.Header) → Refused r ≡ Header h → P
@@ -160,7 +160,7 @@ accepted-by false false at size (As n) h e =
 pub of-accepted : (s : List ℕ) (given : SensorSize) (h : header.Header) → headerOf s given ≡ Header h → Accepted s given h
 unfolding headerOf
 of-accepted s given h e =
-    let k = accepted-by (ltb (2 ^ 30) (length s)) (any notAscii (headerBytes s)) (bodyStart s) (sizeOf given (saidBy s .size)) (encodingOf (saidBy s)) h e in
+    let k = accepted-by (ltb (2 ^ 30) (length s)) (any notAscii (headerBytes s)) (bodyStart s) (sizeThatHolds given (saidBy s .size)) (encodingOf (saidBy s)) h e in
     record {
       short = ltb-false (2 ^ 30) (length s) (k .0);
       start = sym (k .1 .1 .0);

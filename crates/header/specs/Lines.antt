@@ -1,5 +1,5 @@
 -- The lines of the header, and a line's key and value.
-use Prim.Native.Nat.{ℕ, suc}
+use Prim.Native.Nat.{ℕ}
 use mathlib.Core.List.{List, [], _∷_, _++_}
 use mathlib.Core.Bool.{Bool, true, false, cond}
 use lib.ListN.{length}
@@ -51,10 +51,5 @@ unfoldable pub keyOf : List ℕ → List ℕ
 keyOf l = upTo isBlank (bodyOf l)
 
 -- the value: the trimmed remainder
-unfoldable pub textOf : List ℕ → List ℕ
-textOf l = trimOf (from isBlank (bodyOf l))
-
--- how long the first line is
-unfoldable pub lineLength : List ℕ → ℕ
-lineLength [] = 0
-lineLength (b ∷ s) = cond (eqb b 10) 1 (suc (lineLength s))
+unfoldable pub valueOf : List ℕ → List ℕ
+valueOf l = trimOf (from isBlank (bodyOf l))

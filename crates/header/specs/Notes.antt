@@ -1,10 +1,12 @@
 -- What the code keeps: classes of bytes, and of the `format` and the `evt` value only the version that it begins with. No contract of
 -- a public function cites these definitions.
-use Prim.Native.Nat.{ℕ}
+use Prim.Native.Nat.{ℕ, suc, _+_}
 use mathlib.Core.List.{List, [], _∷_}
 use mathlib.Core.Bool.{Bool, cond, _||_}
+use lib.ListN.{take, drop}
 use lib.Dec.{eqb}
 use Rattle.evt.specs.declared.Encoding.the-variants.{Evt2, Evt3}
+use Rattle.evt.specs.declared.SensorSize.{SensorSize}
 use Rattle.evt.specs.declared.SensorSize.the-variants.{Unknown}
 use Rattle.header.specs.declared.text.ByteClass.{ByteClass}
 use Rattle.header.specs.declared.text.ByteClass.the-variants.{Blank, NotBlank, NotPercent, NotAscii, Byte}
@@ -12,9 +14,9 @@ use Rattle.header.specs.declared.Named.{Named}
 use Rattle.header.specs.declared.Named.the-variants.{As, Nothing}
 use Rattle.header.specs.declared.Seen.{Seen}
 use Rattle.header.specs.declared.Scan.{Scan}
-use Rattle.header.specs.Text.{isBlank, notBlank, notPercent, notAscii, isByte, begins, same}
-use Rattle.header.specs.Size.{geometryOf}
-use Rattle.header.specs.Lines.{headerLines, bodyStart, keyOf, textOf}
+use Rattle.header.specs.Text.{isBlank, notBlank, notPercent, notAscii, isByte, trimOf, begins, same}
+use Rattle.header.specs.Size.{numberOf, both, geometryOf}
+use Rattle.header.specs.Lines.{headerLines, bodyStart, keyOf, valueOf}
 use Rattle.header.specs.Header.{Said, geometryName, formatName, evtName, evt2, evt3, two, three}
 
 abbrev pub isIn : ByteClass → ℕ → Bool
@@ -23,6 +25,15 @@ isIn NotBlank = notBlank
 isIn NotPercent = notPercent
 isIn NotAscii = notAscii
 isIn (Byte x) = isByte x
+
+-- how long the first line is
+unfoldable pub lineLength : List ℕ → ℕ
+lineLength [] = 0
+lineLength (b ∷ s) = cond (eqb b 10) 1 (suc (lineLength s))
+
+-- the size of a value that parts at its byte n
+unfoldable pub halvesAt : ℕ → List ℕ → SensorSize
+halvesAt n s = both (numberOf (trimOf (take n s))) (numberOf (trimOf (drop (n + 1) s)))
 
 -- the version that a text begins with: 3, 2, or 0 for neither
 unfoldable pub versionOf : List ℕ → List ℕ → List ℕ → ℕ
@@ -34,11 +45,11 @@ seenOf said = record { format = versionOf evt2 evt3 (said .format); evt = versio
 unfoldable pub noteLine : Seen → List ℕ → Seen
 noteLine seen l =
     cond (same geometryName (keyOf l))
-    (record { format = seen .format; evt = seen .evt; size = geometryOf (textOf l) (seen .size) })
+    (record { format = seen .format; evt = seen .evt; size = geometryOf (valueOf l) (seen .size) })
     (cond (same formatName (keyOf l))
-    (record { format = versionOf evt2 evt3 (textOf l); evt = seen .evt; size = seen .size })
+    (record { format = versionOf evt2 evt3 (valueOf l); evt = seen .evt; size = seen .size })
     (cond (same evtName (keyOf l))
-    (record { format = seen .format; evt = versionOf two three (textOf l); size = seen .size })
+    (record { format = seen .format; evt = versionOf two three (valueOf l); size = seen .size })
     seen))
 
 unfoldable pub noteAll : Seen → List (List ℕ) → Seen

@@ -22,13 +22,13 @@ decimal n [] = n
 decimal n (b ∷ s) = decimal (n * 10 + (b - 48)) s
 
 -- what follows digits of value n: the number, if all of it are digits and it stays below 2^64
-unfoldable pub valueOf : ℕ → List ℕ → Number
-valueOf n s = cond (allDigits s && ltb (decimal n s) (2 ^ 64)) (Value (decimal n s)) Invalid
+unfoldable pub numberFrom : ℕ → List ℕ → Number
+numberFrom n s = cond (allDigits s && ltb (decimal n s) (2 ^ 64)) (Value (decimal n s)) Invalid
 
 -- one or more digits
 unfoldable pub digitsOf : List ℕ → Number
 digitsOf [] = Invalid
-digitsOf (b ∷ s) = valueOf 0 (b ∷ s)
+digitsOf (b ∷ s) = numberFrom 0 (b ∷ s)
 
 -- a number: a `+` or none, then digits
 unfoldable pub numberOf : List ℕ → Number

@@ -3,9 +3,9 @@
 // specs/Header.antt, over the lines (specs/Lines.antt), the numbers and sizes (specs/Size.antt) and
 // the texts (specs/Text.antt). specs/Notes.antt has only what the functions in here keep.
 ghost use mathlib.Core.Path.{_≡_};
-ghost use Rattle.header.specs.Lines.{bodyOf, lineLength};
-ghost use Rattle.header.specs.Header.{sizeOf, hasZero, Parsed};
-ghost use Rattle.header.specs.Notes.{versionOf, noteLine, scanOf, nameOf};
+ghost use Rattle.header.specs.Lines.{bodyOf};
+ghost use Rattle.header.specs.Header.{sizeThatHolds, hasZero, Parsed};
+ghost use Rattle.header.specs.Notes.{lineLength, versionOf, noteLine, scanOf, nameOf};
 
 mod size;
 mod text;
@@ -14,7 +14,6 @@ use crate::size::geometry;
 use crate::text::ByteClass;
 use crate::text::begins_with;
 use crate::text::has;
-use crate::text::head_until;
 use crate::text::is_word;
 use crate::text::tail_from;
 use crate::text::trim;
@@ -49,6 +48,7 @@ struct Scan {
     seen: Seen,
 }
 
+// The encoding that the header names, if it names one.
 enum Named {
     Nothing,
     As(Encoding),
@@ -79,8 +79,9 @@ fn read_line(seen: Seen, line: &[u8]) -> Seen
     ensures { λ r. ⌜ r ≡ noteLine seen (now (line .entry)) ⌝ }
 {
     let body = line_body(line);
-    let key = head_until(body, ByteClass::Blank);
-    let value = trim(tail_from(body, ByteClass::Blank));
+    let n = until(body, ByteClass::Blank);
+    let key = &body[..n];
+    let value = trim(&body[n..]);
     let format = seen.format;
     let evt = seen.evt;
     let size = seen.size;
@@ -159,8 +160,9 @@ fn name_encoding(seen: Seen) -> Named
     Named::Nothing
 }
 
-fn size_of(given: SensorSize, read: SensorSize) -> SensorSize
-    ensures { λ r. ⌜ r ≡ sizeOf given read ⌝ }
+// The caller's size, or without one the header's.
+fn size_that_holds(given: SensorSize, read: SensorSize) -> SensorSize
+    ensures { λ r. ⌜ r ≡ sizeThatHolds given read ⌝ }
 {
     match given {
         SensorSize::Known(_, _) => given,
@@ -197,7 +199,7 @@ pub fn parse_header(recording: &[u8], size: SensorSize) -> HeaderAnswer
         return HeaderAnswer::Refused(Refusal::UnknownEncoding);
     };
     let read = seen.size;
-    let sensor_size = size_of(size, read);
+    let sensor_size = size_that_holds(size, read);
     if has_zero(sensor_size) {
         return HeaderAnswer::Refused(Refusal::InvalidSensorSize);
     }

@@ -1,12 +1,12 @@
 // Numbers, and sizes as the header writes them.
 ghost use mathlib.Core.Path.{_≡_};
-ghost use Rattle.header.specs.Size.{digitsOf, numberOf, sizeAt, geometryOf};
+ghost use Prim.Native.Nat.{_<_};
+ghost use lib.ListN.{length};
+ghost use Rattle.header.specs.Size.{digitsOf, numberOf, geometryOf};
+ghost use Rattle.header.specs.Notes.{halvesAt};
 use crate::text::ByteClass;
-use crate::text::has;
-use crate::text::head_until;
-use crate::text::rest;
-use crate::text::tail_from;
 use crate::text::trim;
+use crate::text::until;
 use evt::SensorSize;
 
 enum Number {
@@ -52,14 +52,16 @@ fn read_number(s: &[u8]) -> Number
     digits(s)
 }
 
-// The size that a value gives which parts at its first byte `c`.
-fn size_at(s: &[u8], c: u8) -> SensorSize
-    ensures { λ r. ⌜ r ≡ sizeAt c (now (s .entry)) ⌝ }
+// The size of a value that parts at its byte `n`.
+fn size_at(s: &[u8], n: usize) -> SensorSize
+    requires { ⌜ n < length (now s) ⌝ }
+    ensures { λ r. ⌜ r ≡ halvesAt n (now (s .entry)) ⌝ }
 {
-    let Number::Value(w) = read_number(trim(head_until(s, ByteClass::Byte(c)))) else {
+    let Number::Value(w) = read_number(trim(&s[..n])) else {
         return SensorSize::Unknown;
     };
-    let Number::Value(h) = read_number(trim(rest(tail_from(s, ByteClass::Byte(c))))) else {
+    let after = n + 1;
+    let Number::Value(h) = read_number(trim(&s[after..])) else {
         return SensorSize::Unknown;
     };
     SensorSize::Known(w, h)
@@ -69,11 +71,13 @@ fn size_at(s: &[u8], c: u8) -> SensorSize
 pub(crate) fn geometry(s: &[u8], old: SensorSize) -> SensorSize
     ensures { λ r. ⌜ r ≡ geometryOf (now (s .entry)) old ⌝ }
 {
-    if has(s, ByteClass::Byte(120)) {
-        return size_at(s, 120);
+    let small = until(s, ByteClass::Byte(120));
+    if small < s.len() {
+        return size_at(s, small);
     }
-    if has(s, ByteClass::Byte(88)) {
-        return size_at(s, 88);
+    let large = until(s, ByteClass::Byte(88));
+    if large < s.len() {
+        return size_at(s, large);
     }
     old
 }

@@ -2,7 +2,7 @@
 // byte of any class, and the rest are parts of slices, so each is linear in the text's length.
 ghost use mathlib.Core.Path.{_≡_};
 ghost use lib.ListN.{length};
-ghost use Rattle.header.specs.Text.{isBlank, lowerOf, upTo, from, any, restOf, trimEnd, trimOf, begins, same};
+ghost use Rattle.header.specs.Text.{isBlank, lowerOf, upTo, from, any, trimEnd, trimOf, begins, same};
 ghost use Rattle.header.specs.Notes.{isIn};
 
 // A set of bytes that a scan stops at.
@@ -58,27 +58,11 @@ pub(crate) fn has(s: &[u8], class: ByteClass) -> bool
     until(s, class) < s.len()
 }
 
-pub(crate) fn head_until(s: &[u8], class: ByteClass) -> &[u8]
-    ensures { λ r. ⌜ now r ≡ upTo (isIn class) (now (s .entry)) ⌝ }
-{
-    let n = until(s, class);
-    &s[..n]
-}
-
 pub(crate) fn tail_from(s: &[u8], class: ByteClass) -> &[u8]
     ensures { λ r. ⌜ now r ≡ from (isIn class) (now (s .entry)) ⌝ }
 {
     let n = until(s, class);
     &s[n..]
-}
-
-pub(crate) fn rest(s: &[u8]) -> &[u8]
-    ensures { λ r. ⌜ now r ≡ restOf (now (s .entry)) ⌝ }
-{
-    if s.len() == 0 {
-        return s;
-    }
-    &s[1..]
 }
 
 fn trim_end(s: &[u8]) -> &[u8]

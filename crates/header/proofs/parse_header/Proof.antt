@@ -34,17 +34,17 @@ enum-told c = search needs
 returns-3 : tie.Need-returns-3
 returns-3 c = laws.parsed _ _ _ (laws.answer-none _ _ (c .before .before .before .before .before .before .before .before .if1 .left) _ (c .before .before .before .before .before .before .before .scan-lines .ensures) (sym (c .before .before .before .before .before .has .ensures) ∙ c .before .before .before .before .if2 .left) (sym (c .before .before .name-encoding .ensures) ∙ c .enum-told .given .1))
 
-size-of-requires : tie.Need-size-of-requires
-size-of-requires c κs = search needs
+size-that-holds-requires : tie.Need-size-that-holds-requires
+size-that-holds-requires c κs = search needs
 
 has-zero-requires : tie.Need-has-zero-requires
 has-zero-requires c κs = search needs
 
 returns-4 : tie.Need-returns-4
-returns-4 c = laws.parsed _ _ _ (laws.answer-zero _ _ (c .before .before .before .before .before .before .before .before .before .before .before .before .if1 .left) _ (c .before .before .before .before .before .before .before .before .before .before .before .scan-lines .ensures) (sym (c .before .before .before .before .before .before .before .before .before .has .ensures) ∙ c .before .before .before .before .before .before .before .before .if2 .left) _ (sym (c .before .before .before .before .before .before .name-encoding .ensures) ∙ c .before .before .before .before .encoding .given .1) _ (c .before .before .size-of .ensures) (sym (c .before .has-zero .ensures) ∙ c .if3 .taken))
+returns-4 c = laws.parsed _ _ _ (laws.answer-zero _ _ (c .before .before .before .before .before .before .before .before .before .before .before .before .if1 .left) _ (c .before .before .before .before .before .before .before .before .before .before .before .scan-lines .ensures) (sym (c .before .before .before .before .before .before .before .before .before .has .ensures) ∙ c .before .before .before .before .before .before .before .before .if2 .left) _ (sym (c .before .before .before .before .before .before .name-encoding .ensures) ∙ c .before .before .before .before .encoding .given .1) _ (c .before .before .size-that-holds .ensures) (sym (c .before .has-zero .ensures) ∙ c .if3 .taken))
 
 returns-5 : tie.Need-returns-5
-returns-5 c = laws.parsed _ _ _ (laws.answer-header _ _ (c .before .before .before .before .before .before .before .before .before .before .before .before .if1 .left) _ (c .before .before .before .before .before .before .before .before .before .before .before .scan-lines .ensures) (sym (c .before .before .before .before .before .before .before .before .before .has .ensures) ∙ c .before .before .before .before .before .before .before .before .if2 .left) _ (sym (c .before .before .before .before .before .before .name-encoding .ensures) ∙ c .before .before .before .before .encoding .given .1) _ (c .before .before .size-of .ensures) (sym (c .before .has-zero .ensures) ∙ c .if3 .left))
+returns-5 c = laws.parsed _ _ _ (laws.answer-header _ _ (c .before .before .before .before .before .before .before .before .before .before .before .before .if1 .left) _ (c .before .before .before .before .before .before .before .before .before .before .before .scan-lines .ensures) (sym (c .before .before .before .before .before .before .before .before .before .has .ensures) ∙ c .before .before .before .before .before .before .before .before .if2 .left) _ (sym (c .before .before .before .before .before .before .name-encoding .ensures) ∙ c .before .before .before .before .encoding .given .1) _ (c .before .before .size-that-holds .ensures) (sym (c .before .has-zero .ensures) ∙ c .if3 .left))
 
 pub parse-header-spec : {M : Type 1} → statement M
 parse-header-spec =
@@ -59,7 +59,7 @@ parse-header-spec =
     enum-known-encoding
     enum-told
     returns-3
-    size-of-requires
+    size-that-holds-requires
     has-zero-requires
     returns-4
     returns-5)

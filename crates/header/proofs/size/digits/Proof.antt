@@ -5,13 +5,13 @@ use mathlib.Core.Logic.{inl, inr}
 use native.Mathlib.Omega.{arith}
 use borrow.Author.Needs.{needs}
 use lib.ListN.{length, drop}
-use Rattle.header.specs.Size.{valueOf, digitsOf}
+use Rattle.header.specs.Size.{numberFrom, digitsOf}
 use Rattle.header.proofs.SizeLaws as laws
 use Rattle.header.proofs.size.digits.Statement.{statement}
 use Rattle.header.proofs.size.digits.Tie as tie
 
 abbrev Inv-loop : tie.InvT-loop
-Inv-loop s n₀ i₀ n i = (i ≤ length s) × ((n < 2 ^ 64) × (valueOf n (drop i s) ≡ digitsOf s))
+Inv-loop s n₀ i₀ n i = (i ≤ length s) × ((n < 2 ^ 64) × (numberFrom n (drop i s) ≡ digitsOf s))
 
 abbrev μ-loop : tie.MeasureT-loop
 μ-loop s n₀ i₀ n i = length s - i

@@ -1,11 +1,14 @@
 -- `header::size::size_at` meets its contract.
+use mathlib.Core.Path.{sym}
+use native.Mathlib.Omega.{arith}
 use borrow.Author.Needs.{needs}
+use lib.Seq.{length-take-le}
 use Rattle.header.proofs.SizeLaws as laws
 use Rattle.header.proofs.size.size_at.Statement.{statement}
 use Rattle.header.proofs.size.size_at.Tie as tie
 
-head-until-requires : tie.Need-head-until-requires
-head-until-requires c κs = search needs
+slice-aggregate-trim : tie.Need-slice-aggregate-trim
+slice-aggregate-trim c = sym (length-take-le _ _ (omega arith))
 
 trim-requires : tie.Need-trim-requires
 trim-requires c κs = search needs
@@ -20,13 +23,19 @@ enum-told : tie.Need-enum-told
 enum-told c = search needs
 
 returns : tie.Need-returns
-returns c = laws.size-no-width _ _ (laws.wide-is _ _ _ _ _ _ (c .before .before .read-number .ensures) (c .before .before .before .trim .ensures) (c .before .before .before .before .head-until .ensures) (c .enum-told .given .1))
+returns c = laws.size-no-width (c .before .before .before .before .before .before .args .n) (c .before .before .before .before .before .before .args .s .now) (laws.wide-is (c .before .before .before .before .before .before .args .n) (c .before .before .before .before .before .before .args .s .now) _ _ _ (c .before .before .read-number .ensures) (c .before .before .before .trim .ensures) (c .enum-told .given .1))
 
-tail-from-requires : tie.Need-tail-from-requires
-tail-from-requires c κs = search needs
+add-after : tie.Need-add-after
+add-after c = search needs
 
-rest-requires : tie.Need-rest-requires
-rest-requires c κs = search needs
+sub-trim : tie.Need-sub-trim
+sub-trim c = search needs
+
+part-trim-start : tie.Need-part-trim-start
+part-trim-start c = search needs
+
+part-trim-end : tie.Need-part-trim-end
+part-trim-end c = search needs
 
 trim-requires-2 : tie.Need-trim-requires-2
 trim-requires-2 c κs = search needs
@@ -41,23 +50,25 @@ enum-told-2 : tie.Need-enum-told-2
 enum-told-2 c = search needs
 
 returns-2 : tie.Need-returns-2
-returns-2 c = laws.size-no-height _ _ _ (laws.wide-is _ _ _ _ _ _ (c .before .before .before .before .before .before .before .before .before .read-number .ensures) (c .before .before .before .before .before .before .before .before .before .before .trim .ensures) (c .before .before .before .before .before .before .before .before .before .before .before .head-until .ensures) (c .before .before .before .before .before .before .before .w .given .1)) (laws.high-is _ _ _ _ _ _ _ (c .before .before .read-number2 .ensures) (c .before .before .before .trim2 .ensures) (c .before .before .before .before .rest .ensures) (c .before .before .before .before .before .tail-from .ensures) (c .enum-told2 .given .1))
+returns-2 c = laws.size-no-height (c .before .before .before .before .before .before .before .before .before .before .before .before .args .n) (c .before .before .before .before .before .before .before .before .before .before .before .before .args .s .now) _ (laws.wide-is (c .before .before .before .before .before .before .before .before .before .before .before .before .args .n) (c .before .before .before .before .before .before .before .before .before .before .before .before .args .s .now) _ _ _ (c .before .before .before .before .before .before .before .before .read-number .ensures) (c .before .before .before .before .before .before .before .before .before .trim .ensures) (c .before .before .before .before .before .before .w .given .1)) (laws.high-is (c .before .before .before .before .before .before .before .before .before .before .before .before .args .n) (c .before .before .before .before .before .before .before .before .before .before .before .before .args .s .now) (c .before .before .before .before .before .before .before .before .before .before .before .before .pre) _ _ _ (c .before .before .read-number2 .ensures) (c .before .before .before .trim2 .ensures) (c .enum-told2 .given .1))
 
 returns-3 : tie.Need-returns-3
-returns-3 c = laws.size-both _ _ _ _ (laws.wide-is _ _ _ _ _ _ (c .before .before .before .before .before .before .before .before .before .before .read-number .ensures) (c .before .before .before .before .before .before .before .before .before .before .before .trim .ensures) (c .before .before .before .before .before .before .before .before .before .before .before .before .head-until .ensures) (c .before .before .before .before .before .before .before .before .w .given .1)) (laws.high-is _ _ _ _ _ _ _ (c .before .before .before .read-number2 .ensures) (c .before .before .before .before .trim2 .ensures) (c .before .before .before .before .before .rest .ensures) (c .before .before .before .before .before .before .tail-from .ensures) (c .before .h .given .1))
+returns-3 c = laws.size-both (c .before .before .before .before .before .before .before .before .before .before .before .before .before .args .n) (c .before .before .before .before .before .before .before .before .before .before .before .before .before .args .s .now) _ _ (laws.wide-is (c .before .before .before .before .before .before .before .before .before .before .before .before .before .args .n) (c .before .before .before .before .before .before .before .before .before .before .before .before .before .args .s .now) _ _ _ (c .before .before .before .before .before .before .before .before .before .read-number .ensures) (c .before .before .before .before .before .before .before .before .before .before .trim .ensures) (c .before .before .before .before .before .before .before .w .given .1)) (laws.high-is (c .before .before .before .before .before .before .before .before .before .before .before .before .before .args .n) (c .before .before .before .before .before .before .before .before .before .before .before .before .before .args .s .now) (c .before .before .before .before .before .before .before .before .before .before .before .before .before .pre) _ _ _ (c .before .before .before .read-number2 .ensures) (c .before .before .before .before .trim2 .ensures) (c .before .h .given .1))
 
 pub size-at-spec : {M : Type 1} → statement M
 size-at-spec =
     tie.close
     (tie.spec
-    head-until-requires
+    slice-aggregate-trim
     trim-requires
     read-number-requires
     enum-known-w
     enum-told
     returns
-    tail-from-requires
-    rest-requires
+    add-after
+    sub-trim
+    part-trim-start
+    part-trim-end
     trim-requires-2
     read-number-requires-2
     enum-known-h

@@ -2,7 +2,7 @@
 use Prim.Native.Nat.{ℕ, _+_, _*_, _-_, _^_, _/_, _<_, _≤_}
 use mathlib.Core.Path.{_≡_, refl, sym, _∙_, ap}
 use mathlib.Core.List.{List, [], _∷_}
-use mathlib.Core.Bool.{Bool, true, false, and-false}
+use mathlib.Core.Bool.{true, false, and-false}
 use mathlib.Core.Logic.{_⊎_, ⊎-elim}
 use native.Mathlib.Omega.{arith}
 use lib.ListN.{length, getD, take, drop}
@@ -12,7 +12,7 @@ use Rattle.evt.specs.declared.SensorSize.{SensorSize}
 use Rattle.evt.specs.declared.SensorSize.the-variants.{Unknown, Known}
 use Rattle.header.specs.declared.size.Number.{Number}
 use Rattle.header.specs.declared.size.Number.the-variants.{Invalid, Value}
-use Rattle.header.specs.Text.{isByte, upTo, from, any, restOf, trimOf}
+use Rattle.header.specs.Text.{isByte, upTo, any, trimOf}
 use Rattle.header.specs.Size.{isDigit, allDigits, decimal, numberFrom, digitsOf, numberOf, both, sizeAt, geometryOf}
 use Rattle.header.specs.Notes.{halvesAt}
 use Rattle.header.proofs.TextLaws.{at-drop, at-end, tail-part, lt-upTo, count-take, rest-after}

@@ -1,7 +1,7 @@
 -- The lines of the header, and a line's key and value.
 use Prim.Native.Nat.{ℕ}
 use mathlib.Core.List.{List, [], _∷_, _++_}
-use mathlib.Core.Bool.{Bool, true, false, cond}
+use mathlib.Core.Bool.{Bool, false, cond}
 use lib.ListN.{length}
 use lib.Dec.{eqb}
 use Rattle.header.specs.Text.{isBlank, notPercent, upTo, from, trimOf}

@@ -1,7 +1,7 @@
 -- Numbers, and sizes as the header writes them.
 use Prim.Native.Nat.{ℕ, _+_, _*_, _-_, _^_}
 use mathlib.Core.List.{List, [], _∷_}
-use mathlib.Core.Bool.{Bool, true, false, cond, _&&_}
+use mathlib.Core.Bool.{Bool, true, cond, _&&_}
 use lib.Dec.{leb, ltb, eqb}
 use Rattle.evt.specs.declared.SensorSize.{SensorSize}
 use Rattle.evt.specs.declared.SensorSize.the-variants.{Unknown, Known}

@@ -52,7 +52,7 @@ fn read_number(s: &[u8]) -> Number
     digits(s)
 }
 
-// The size of a value that parts at its byte `n`.
+// The size of a value that parts at its byte `n`, which the caller has found there.
 fn size_at(s: &[u8], n: usize) -> SensorSize
     requires { ⌜ n < length (now s) ⌝ }
     ensures { λ r. ⌜ r ≡ halvesAt n (now (s .entry)) ⌝ }

@@ -47,7 +47,7 @@ sub-if4 : tie.Need-sub-if4 Inv-loop μ-loop
 sub-if4 c = search needs
 
 returns-4 : tie.Need-returns-4 Inv-loop μ-loop
-returns-4 c = laws.digits-big _ _ _ (c .before .before .before .before .before .before .before .loop .inv .1 .1) (c .before .before .before .before .before .before .loop-test .taken) (c .before .before .before .before .if2 .left) (c .before .before .if3 .left) (c .if4 .taken)
+returns-4 c = laws.digits-big _ _ _ (c .before .before .before .before .before .before .before .loop .inv .1 .1) (c .before .before .before .before .before .before .loop-test .taken) (c .before .before .before .before .if2 .left) (c .before .before .if3 .left) (omega arith)
 
 mul-n : tie.Need-mul-n Inv-loop μ-loop
 mul-n c = search needs

@@ -4,8 +4,8 @@ use mathlib.Core.List.{List, [], _∷_, map}
 use Prim.Native.Nat.{ℕ, suc, _+_, _≤_, _<_, max}
 use native.Mathlib.Omega.{arith}
 use native.Mathlib.Numerals.{add-one}
-use lib.ListN.{length, take, drop, getD, length-drop, length-map}
-use lib.Seq.{drop-cons, drop-all, take-at}
+use lib.ListN.{length, take, drop, getD, length-map, drop-of-length-le}
+use lib.Seq.{drop-cons, take-at}
 use Rattle.stream.specs.Mask.{top}
 use Rattle.stream.specs.Order.{greatest, greatest-map}
 use Rattle.stream.specs.Columns.{written}
@@ -17,10 +17,10 @@ top-next l i most next h e n =
 
 pub top-end : (l : List ℕ) (i most : ℕ) → length l ≤ i → max most (top (drop i l)) ≡ top l → most ≡ top l
 top-end l i most h e =
-    let a : top (drop i l) ≡ 0 = ap top (drop-all i l h) in
+    let a : top (drop i l) ≡ 0 = ap top (drop-of-length-le l h) in
     omega (arith, a, e)
 
 -- of the entries that were written from the start
 pub top-written : {E : Type 0} (f : E → ℕ) (es : List E) (old : List ℕ) → top (take (length es) (written old 0 (map f es))) ≡ greatest f es
 unfolding written
-top-written f es old = ap top (take-at (map f es) (drop (length (map f es)) old) (length es) (length-map es f)) ∙ greatest-map (λ x. x) f es
+top-written f es old = ap top (take-at (map f es) (drop (0 + length (map f es)) old) (length es) (length-map es f)) ∙ greatest-map (λ x. x) f es

@@ -1,0 +1,110 @@
+// The plain loops over the words of a part of a recording: all events inside a sensor, written to
+// four columns, or counted with their greatest time. They serve unlimited reading and the opening of
+// an index; limits and slices go through the window. specs/Decode.antt says what they yield,
+// specs/Laws.antt what a caller can use of it.
+//
+// They keep a `requires`: no sum wraps, and the columns suffice. The caller has judged its decoder
+// (10) and its columns (5) before, and specs/Laws.antt shows that this is enough.
+ghost use mathlib.Core.Path.{_≡_};
+ghost use lib.ListN.{length};
+ghost use Rattle.evt.specs.Columns.{Wrote};
+ghost use Rattle.decode.specs.Turn.{Fits};
+ghost use Rattle.decode.specs.Decode.{Bounded, insideEvents, tallyOf, surveyOf};
+use evt::Codec;
+
+pub mod evt2;
+pub mod evt3;
+pub mod extent;
+mod words;
+
+// What filling leaves: how many events were written, and the decoder.
+pub struct Tally {
+    pub count: usize,
+    pub codec: Codec,
+}
+
+// What counting leaves: how many events there are, their greatest time (0 of none), and the decoder.
+pub struct Survey {
+    pub count: usize,
+    pub latest: u64,
+    pub codec: Codec,
+}
+
+// Writes all events of the bytes inside the sensor.
+pub fn fill_all(
+    bytes: &[u8],
+    codec: Codec,
+    width: u64,
+    height: u64,
+    xs: &mut [u16],
+    ys: &mut [u16],
+    ts: &mut [i64],
+    ps: &mut [u8],
+) -> Tally
+    requires { ⌜ Bounded (length (now bytes)) codec ⌝ ∗ ⌜ Fits (length (insideEvents width height codec (now bytes))) (length (now xs)) (length (now ys)) (length (now ts)) (length (now ps)) ⌝ }
+    ensures { λ r. ⌜ r ≡ tallyOf width height codec (now (bytes .entry)) ⌝ ∗ ⌜ Wrote (insideEvents width height codec (now (bytes .entry))) 0 (now (xs .entry)) (now (ys .entry)) (now (ts .entry)) (now (ps .entry)) (now (xs .exit)) (now (ys .exit)) (now (ts .exit)) (now (ps .exit)) ⌝ }
+{
+    match codec {
+        Codec::Evt2(d) => {
+            let t = evt2::fill_all(
+                bytes,
+                d,
+                width,
+                height,
+                &mut *xs,
+                &mut *ys,
+                &mut *ts,
+                &mut *ps,
+            );
+            let decoder = t.decoder;
+            Tally {
+                count: t.count,
+                codec: Codec::Evt2(decoder),
+            }
+        }
+        Codec::Evt3(d) => {
+            let t = evt3::fill_all(
+                bytes,
+                d,
+                width,
+                height,
+                &mut *xs,
+                &mut *ys,
+                &mut *ts,
+                &mut *ps,
+            );
+            let decoder = t.decoder;
+            Tally {
+                count: t.count,
+                codec: Codec::Evt3(decoder),
+            }
+        }
+    }
+}
+
+// Counts all events of the bytes inside the sensor.
+pub fn count_all(bytes: &[u8], codec: Codec, width: u64, height: u64) -> Survey
+    requires { ⌜ Bounded (length (now bytes)) codec ⌝ }
+    ensures { λ r. ⌜ r ≡ surveyOf width height codec (now (bytes .entry)) ⌝ }
+{
+    match codec {
+        Codec::Evt2(d) => {
+            let s = evt2::count_all(bytes, d, width, height);
+            let decoder = s.decoder;
+            Survey {
+                count: s.count,
+                latest: s.latest,
+                codec: Codec::Evt2(decoder),
+            }
+        }
+        Codec::Evt3(d) => {
+            let s = evt3::count_all(bytes, d, width, height);
+            let decoder = s.decoder;
+            Survey {
+                count: s.count,
+                latest: s.latest,
+                codec: Codec::Evt3(decoder),
+            }
+        }
+    }
+}

@@ -14,8 +14,8 @@ use Rattle.evt.specs.declared.SensorSize.the-variants.{Unknown, Known}
 use Rattle.evt.specs.declared.Encoding.{Encoding}
 use Rattle.evt.specs.declared.Encoding.the-variants.{Evt2, Evt3}
 use Rattle.evt.specs.declared.Refusal.{Refusal}
-use Rattle.evt.specs.declared.Refusal.the-variants.{InvalidSensorSize, UnknownEncoding, HeaderNotAscii, TooLong, ColumnsTooShort, TimeOrder, EventOutOfRange, InvalidSpacing, TooFewRecords, StateOutOfRange, OutputTooShort, ColumnLengths}
-use Rattle.evt.specs.Told.{Told, accepted, refused, told, told-apart}
+use Rattle.evt.specs.declared.Refusal.the-variants.{InvalidSensorSize, UnknownEncoding, HeaderNotAscii, TooLong}
+use Rattle.evt.specs.Told.{Told, accepted, refused, told, told-apart, told-numbered, naturals, accepted-naturals}
 use Rattle.header.specs.declared.Named.{Named}
 use Rattle.header.specs.declared.Named.the-variants.{As, Nothing}
 use Rattle.header.specs.declared.Header as header
@@ -97,36 +97,21 @@ meant-values at Unknown Evt3 = refl
 meant-values at (Known w h) Evt2 = refl
 meant-values at (Known w h) Evt3 = refl
 
-meant-told : (h : header.Header) → meant (toldHeader (Header h) .values) ≡ h
-meant-told h = meant-values (h .«data_offset») (h .«sensor_size») (h .encoding)
-
--- a refusal's number is not 0
-numbered : (r : Refusal) → 0 < told r .number
-numbered InvalidSensorSize = omega arith
-numbered UnknownEncoding = omega arith
-numbered HeaderNotAscii = omega arith
-numbered TooLong = omega arith
-numbered (ColumnsTooShort n) = omega arith
-numbered TimeOrder = omega arith
-numbered EventOutOfRange = omega arith
-numbered InvalidSpacing = omega arith
-numbered (TooFewRecords n) = omega arith
-numbered StateOutOfRange = omega arith
-numbered (OutputTooShort n) = omega arith
-numbered ColumnLengths = omega arith
+meant-told : (h : header.Header) → meant (naturals (toldHeader (Header h) .values)) ≡ h
+meant-told h = ap meant (accepted-naturals (h .«data_offset» ∷ encodingNumber (h .encoding) ∷ sizeValues (h .«sensor_size»))) ∙ meant-values (h .«data_offset») (h .«sensor_size») (h .encoding)
 
 abbrev number : Told → ℕ
 number t = t .number
 
 pub told-header-apart : (a b : HeaderAnswer) → toldHeader a ≡ toldHeader b → a ≡ b
 told-header-apart (Header h) (Header k) e =
-    ap Header (sym (meant-told h) ∙ ap (λ (t : Told). meant (t .values)) e ∙ meant-told k)
+    ap Header (sym (meant-told h) ∙ ap (λ (t : Told). meant (naturals (t .values))) e ∙ meant-told k)
 told-header-apart (Header h) (Refused r) e =
     let z : 0 ≡ told r .number = ap number e in
-    absurd (omega (arith, numbered r))
+    absurd (omega (arith, told-numbered r))
 told-header-apart (Refused r) (Header h) e =
     let z : told r .number ≡ 0 = ap number e in
-    absurd (omega (arith, numbered r))
+    absurd (omega (arith, told-numbered r))
 told-header-apart (Refused r) (Refused q) e = ap Refused (told-apart r q e)
 
 -- ---- what an acceptance says

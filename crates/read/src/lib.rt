@@ -82,14 +82,15 @@ fn most_events(encoding: Encoding, n: usize) -> usize
 fn deliver_all(
     body: &[u8],
     encoding: Encoding,
-    span: Span,
+    width: u64,
+    height: u64,
     xs: &mut [u16],
     ys: &mut [u16],
     ts: &mut [i64],
     ps: &mut [u8],
 ) -> Delivered
     requires { ⌜ length (now body) ≤ 2 ^ 30 ⌝ }
-    ensures { λ r. ⌜ Delivers (sensorEvents span encoding (now (body .entry))) r (now (xs .entry)) (now (ys .entry)) (now (ts .entry)) (now (ps .entry)) (now (xs .exit)) (now (ys .exit)) (now (ts .exit)) (now (ps .exit)) ⌝ }
+    ensures { λ r. ⌜ Delivers (sensorEvents width height encoding (now (body .entry))) r (now (xs .entry)) (now (ys .entry)) (now (ts .entry)) (now (ps .entry)) (now (xs .exit)) (now (ys .exit)) (now (ts .exit)) (now (ps .exit)) ⌝ }
 {
     let codec = Codec::new(encoding);
     let room = less(less(xs.len(), ys.len()), less(ts.len(), ps.len()));
@@ -97,8 +98,8 @@ fn deliver_all(
         let t = decode::fill_all(
             body,
             codec,
-            span.width,
-            span.height,
+            width,
+            height,
             &mut *xs,
             &mut *ys,
             &mut *ts,
@@ -106,13 +107,13 @@ fn deliver_all(
         );
         return Delivered::Written(t.count);
     }
-    let n = decode::count_all(body, codec, span.width, span.height).count;
+    let n = decode::count_all(body, codec, width, height).count;
     if n <= room {
         let t = decode::fill_all(
             body,
             codec,
-            span.width,
-            span.height,
+            width,
+            height,
             &mut *xs,
             &mut *ys,
             &mut *ts,

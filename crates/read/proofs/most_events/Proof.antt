@@ -1,3 +1,6 @@
+use mathlib.Core.Path.{_≡_, refl, sym, ap, _∙_}
+use Rattle.evt.specs.declared.Encoding.{Encoding}
+use Rattle.read.specs.Laws.{mostEvents}
 use borrow.Author.Needs.{needs}
 use Rattle.read.proofs.most_events.Statement.{statement}
 use Rattle.read.proofs.most_events.Tie as tie
@@ -18,11 +21,11 @@ mul-result c = search needs
 
 -- src/lib.rt:70:1
 returns : tie.Need-returns
-returns c = ?
+returns c = sym (ap (λ (e : Encoding). mostEvents e (c .before .before .args .n)) (c .enum-told .given .1))
 
 -- src/lib.rt:70:1
 returns-2 : tie.Need-returns-2
-returns-2 c = ?
+returns-2 c = sym (ap (λ (e : Encoding). mostEvents e (c .before .before .args .n)) (c .enum-told2 .given .1))
 
 pub most-events-spec : {M : Type 1} → statement M
 most-events-spec = tie.close (tie.spec enum-told enum-told-2 mul-result returns returns-2)

@@ -1,6 +1,6 @@
 -- What the bytes of a part of a recording yield from a decoder of either encoding: the events, the decoder after them, and what a loop tells.
 use mathlib.Core.List.{List}
-use Prim.Native.Nat.{ℕ, _/_}
+use Prim.Native.Nat.{ℕ, _/_, _<_, _^_}
 use lib.ListN.{length}
 use Rattle.stream.specs.Order.{greatest}
 use Rattle.stream.specs.Slice.{sift}
@@ -43,3 +43,8 @@ surveyOf width height c l = record {
 abbrev pub Bounded : ℕ → Codec → Type 0
 Bounded n (Evt2 d) = Bounded2 (n / 4) d
 Bounded n (Evt3 d) = Bounded3 (n / 2) d
+
+-- a column that is 16 bits wide, as the decoder's is
+abbrev pub Fitting : Codec → Type 0
+Fitting (Evt2 d) = Unit
+Fitting (Evt3 d) = d .«base_x» < 2 ^ 16

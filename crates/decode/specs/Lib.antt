@@ -4,3 +4,4 @@ pub mod Turn
 pub mod Glance
 pub mod Loops
 pub mod Extent
+pub mod Laws

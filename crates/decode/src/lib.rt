@@ -7,9 +7,10 @@
 // (10) and its columns (5) before, and specs/Laws.antt shows that this is enough.
 ghost use mathlib.Core.Path.{_≡_};
 ghost use lib.ListN.{length};
+ghost use Rattle.evt.specs.Codec.{inRangeC};
 ghost use Rattle.evt.specs.Columns.{Wrote};
 ghost use Rattle.decode.specs.Turn.{Fits};
-ghost use Rattle.decode.specs.Decode.{Bounded, insideEvents, tallyOf, surveyOf};
+ghost use Rattle.decode.specs.Decode.{Bounded, Fitting, insideEvents, tallyOf, surveyOf};
 use evt::Codec;
 
 pub mod evt2;
@@ -28,6 +29,16 @@ pub struct Survey {
     pub count: usize,
     pub latest: u64,
     pub codec: Codec,
+}
+
+// Whether the decoder is in range (10). If so, a loop takes it with all bytes that may be read.
+pub fn in_range(codec: Codec) -> bool
+    ensures { λ r. ⌜ (r ≡ inRangeC codec) × Fitting codec ⌝ }
+{
+    match codec {
+        Codec::Evt2(d) => d.in_range(),
+        Codec::Evt3(d) => d.in_range(),
+    }
 }
 
 // Writes all events of the bytes inside the sensor.

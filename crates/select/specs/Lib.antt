@@ -1,0 +1,3 @@
+pub mod Window
+pub mod Trim
+pub mod Extent

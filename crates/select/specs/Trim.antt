@@ -14,9 +14,10 @@ use Rattle.stream.specs.Slice.{sift, sift-all, sift-none, onto}
 use Rattle.stream.specs.Select as Select
 use Rattle.evt.specs.declared.vector.Vector.{Vector}
 use Rattle.evt.specs.Event.{Event, eventAt}
+use Rattle.sensor.specs.Inside.{isInside, inside}
 use Rattle.select.specs.declared.Window.{Window}
 use Rattle.select.specs.declared.trim.Trimmed.{Trimmed}
-use Rattle.select.specs.Window.{isInside, inside, isWithin, isSpanned, spanOf, anyReading, choose}
+use Rattle.select.specs.Window.{isWithin, isSpanned, spanOf, anyReading, choose}
 
 -- a word's events, with n bits of the mask looked at
 abbrev pub eventsIn : ℕ → Vector → List Event
@@ -24,7 +25,7 @@ eventsIn n v = map (eventAt v) (bits n (v .x) (v .mask))
 
 -- those that have a number
 abbrev pub insideIn : ℕ → Vector → Window → List Event
-insideIn n v win = sift (inside win) (eventsIn n v)
+insideIn n v win = sift (inside (win .width) (win .height)) (eventsIn n v)
 
 -- v with another mask
 abbrev pub masked : Vector → ℕ → Vector
@@ -123,21 +124,21 @@ module _ (v : Vector) (win : Window) (k : ℕ) where
   }
 
   pub picked-none : v .mask ≡ 0 → Picked v win k (record { mask = 0; extra = 0 })
-  picked-none z = no-inside (λ n. ap (λ (m : ℕ). sift (inside win) (map (eventAt v) (bits n (v .x) m))) z ∙ ap (sift (inside win)) (none-kept n))
+  picked-none z = no-inside (λ n. ap (λ (m : ℕ). sift (inside (win .width) (win .height)) (map (eventAt v) (bits n (v .x) m))) z ∙ ap (sift (inside (win .width) (win .height))) (none-kept n))
 
   outside : (b : Bool) → ltb (v .y) (win .height) ≡ false → (b && ltb (v .y) (win .height)) ≡ false
   outside true h = h
   outside false h = refl
 
   pub picked-out : win .height ≤ v .y → Picked v win k (record { mask = 0; extra = 0 })
-  picked-out h = no-inside (λ n. sift-none (inside win) (eventsIn n v) (all-mapped _ (eventAt v) (bits n (v .x) (v .mask))
+  picked-out h = no-inside (λ n. sift-none (inside (win .width) (win .height)) (eventsIn n v) (all-mapped _ (eventAt v) (bits n (v .x) (v .mask))
     (all-of _ (λ c. outside (ltb (min c 65535) (win .width)) (le-ltb (v .y) (win .height) h)) (bits n (v .x) (v .mask)))))
 
   -- ---- every event is inside
 
   all-inside : v .mask < 2 ^ 32 → v .y < win .height → v .x + 32 ≤ win .width → (n : ℕ) → insideIn n v win ≡ eventsIn n v
-  all-inside h y x n = sift-all (inside win) (eventsIn n v) (all-mapped _ (eventAt v) (bits n (v .x) (v .mask))
-    (all-map (λ c. (v .x ≤ c) × (c < v .x + 32)) (λ c. inside win (eventAt v c) ≡ true) (λ c q. rw (lt-ltb (min c 65535) (win .width) (omega (arith, q .1)), lt-ltb (v .y) (win .height) y)) (bits n (v .x) (v .mask)) (bits-in n 32 (v .x) (v .mask) h)))
+  all-inside h y x n = sift-all (inside (win .width) (win .height)) (eventsIn n v) (all-mapped _ (eventAt v) (bits n (v .x) (v .mask))
+    (all-map (λ c. (v .x ≤ c) × (c < v .x + 32)) (λ c. inside (win .width) (win .height) (eventAt v c) ≡ true) (λ c q. rw (lt-ltb (min c 65535) (win .width) (omega (arith, q .1)), lt-ltb (v .y) (win .height) y)) (bits n (v .x) (v .mask)) (bits-in n 32 (v .x) (v .mask) h)))
 
   all-timed : (b : Bool) → isWithin win (v .t) ≡ b → (n : ℕ) → All (λ e. isWithin win (e .t) ≡ b) (eventsIn n v)
   all-timed b e n = all-mapped _ (eventAt v) (bits n (v .x) (v .mask)) (all-of _ (λ c. e) (bits n (v .x) (v .mask)))
@@ -209,15 +210,15 @@ module _ (v : Vector) (win : Window) (k : ℕ) where
         (λ n h. rw (kept-double n (r .mask), same n) (q .counts n h))
 
     pub picked-even : v .mask % 2 ≡ 0 → Picked (halved v) win k r → Picked v win k (record { mask = r .mask * 2; extra = r .extra })
-    picked-even e q = without (λ n. ap (sift (inside win)) (split-even n e)) q
+    picked-even e q = without (λ n. ap (sift (inside (win .width) (win .height))) (split-even n e)) q
 
     pub picked-beyond : v .mask % 2 ≡ 1 → win .width ≤ min (v .x) 65535 → Picked (halved v) win k r → Picked v win k (record { mask = r .mask * 2; extra = r .extra })
-    picked-beyond e w q = without (λ n. ap (sift (inside win)) (split-odd n e) ∙ rw (le-ltb (min (v .x) 65535) (win .width) w)) q
+    picked-beyond e w q = without (λ n. ap (sift (inside (win .width) (win .height))) (split-odd n e) ∙ rw (le-ltb (min (v .x) 65535) (win .width) w)) q
 
     -- it has the number k
     module _ (e : v .mask % 2 ≡ 1) (x : min (v .x) 65535 < win .width) (y : v .y < win .height) (q : Picked (halved v) win (suc k) r) where
       split-in : (n : ℕ) → insideIn (suc n) v win ≡ eventAt v (v .x) ∷ insideIn n (halved v) win
-      split-in n = ap (sift (inside win)) (split-odd n e) ∙ rw (lt-ltb (min (v .x) 65535) (win .width) x, lt-ltb (v .y) (win .height) y)
+      split-in n = ap (sift (inside (win .width) (win .height))) (split-odd n e) ∙ rw (lt-ltb (min (v .x) 65535) (win .width) x, lt-ltb (v .y) (win .height) y)
 
       pub picked-keep : isSpanned win k (v .t) ≡ true → Picked v win k (record { mask = r .mask * 2 + 1; extra = r .extra })
       picked-keep s = with-bit (r .mask * 2 + 1) (r .extra) (omega (arith, q .low)) (omega (arith, q .few))
@@ -238,19 +239,19 @@ module _ (v : Vector) (win : Window) (k : ℕ) (one : v .mask ≡ 1) (c : v .x <
   no-more : (j : ℕ) → Picked (halved v) win j nothing
   no-more j = picked-none (halved v) win j (omega arith)
 
-  pub single-in : isInside win (v .x) (v .y) ≡ true → isSpanned win k (v .t) ≡ true → Picked v win k (record { mask = 1; extra = 0 })
+  pub single-in : isInside (win .width) (win .height) (v .x) (v .y) ≡ true → isSpanned win k (v .t) ≡ true → Picked v win k (record { mask = 1; extra = 0 })
   single-in i s =
       let a = and-both _ _ i in
       let x : v .x < win .width = ltb-true _ _ (a .0) in
       picked-keep v win k nothing (omega arith) (omega arith) (omega arith) (ltb-true _ _ (a .1)) (no-more (suc k)) s
 
-  pub single-numbered : isInside win (v .x) (v .y) ≡ true → isSpanned win k (v .t) ≡ false → Picked v win k (record { mask = 0; extra = 1 })
+  pub single-numbered : isInside (win .width) (win .height) (v .x) (v .y) ≡ true → isSpanned win k (v .t) ≡ false → Picked v win k (record { mask = 0; extra = 1 })
   single-numbered i s =
       let a = and-both _ _ i in
       let x : v .x < win .width = ltb-true _ _ (a .0) in
       picked-pass v win k nothing (omega arith) (omega arith) (omega arith) (ltb-true _ _ (a .1)) (no-more (suc k)) s
 
-  pub single-out : isInside win (v .x) (v .y) ≡ false → Picked v win k nothing
+  pub single-out : isInside (win .width) (win .height) (v .x) (v .y) ≡ false → Picked v win k nothing
   single-out i = go (ltb (v .x) (win .width)) refl
     where
       go : (b : Bool) → ltb (v .x) (win .width) ≡ b → Picked v win k nothing

@@ -12,14 +12,8 @@ use Rattle.evt.specs.declared.evt2.Evt2Decoder.{Evt2Decoder}
 use Rattle.evt.specs.declared.evt3.Decoder.{Decoder}
 use Rattle.evt.specs.Evt2.{reader2}
 use Rattle.evt.specs.Evt3.{reader3}
+use Rattle.sensor.specs.Inside.{inside, clock}
 use Rattle.select.specs.declared.Window.{Window}
-
-abbrev pub isInside : Window → (x y : ℕ) → Bool
-isInside win x y = ltb x (win .width) && ltb y (win .height)
-
--- events outside width x height are dropped and have no number
-abbrev pub inside : Window → Event → Bool
-inside win e = isInside win (e .x) (e .y)
 
 -- numbers n0 to before n1, times t0 to before t1
 abbrev pub spanOf : Window → Select.Window
@@ -31,12 +25,9 @@ isWithin win t = leb (win .t0) t && ltb t (win .t1)
 abbrev pub isSpanned : Window → (k t : ℕ) → Bool
 isSpanned win k t = Select.spans (spanOf win) k t
 
-abbrev pub clock : Event → ℕ
-clock e = e .t
-
--- what the rule of selection reads: a machine, whether a state of it is started, and a state's time
+-- what the rule of selection reads: a machine, whether a state of it is started, and a state's time; events outside width x height have no number
 abbrev pub reading : {S : Type 0} → Machine S ℕ Event → (S → Bool) → (S → ℕ) → Window → Select.Reading S ℕ Event
-reading M live time win = record { machine = M; inside = inside win; clock = clock; live = live; time = time }
+reading M live time win = record { machine = M; inside = inside (win .width) (win .height); clock = clock; live = live; time = time }
 
 abbrev pub reading2 : Window → Select.Reading Evt2Decoder ℕ Event
 reading2 = reading reader2 (λ d. d .initialised) (λ d. d .time)

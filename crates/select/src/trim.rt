@@ -2,7 +2,8 @@
 ghost use mathlib.Core.Path.{_≡_};
 ghost use Prim.Native.Nat.{_+_, _≤_, _<_, _^_, min};
 ghost use Rattle.evt.specs.Event.{Narrow};
-ghost use Rattle.select.specs.Window.{isInside, isWithin, isSpanned};
+ghost use Rattle.sensor.specs.Inside.{isInside};
+ghost use Rattle.select.specs.Window.{isWithin, isSpanned};
 ghost use Rattle.select.specs.Trim.{Pickable, Picked, isWhole, isSkipped};
 use crate::Window;
 use evt::vector::Vector;
@@ -21,7 +22,7 @@ pub fn held(x: u64) -> u64
 }
 
 fn inside(win: Window, x: u64, y: u64) -> bool
-    ensures { λ r. ⌜ r ≡ isInside win x y ⌝ }
+    ensures { λ r. ⌜ r ≡ isInside (win .width) (win .height) x y ⌝ }
 {
     if x < win.width { y < win.height } else { false }
 }

@@ -1,3 +1,5 @@
+use mathlib.Core.Path.{_≡_, refl, sym, ap, _∙_}
+use Rattle.select.specs.Trim.{picked-whole}
 use borrow.Author.Needs.{needs}
 use Rattle.select.proofs.trim.trim.Statement.{statement}
 use Rattle.select.proofs.trim.trim.Tie as tie
@@ -21,7 +23,7 @@ whole-requires c κs = search needs
 
 -- src/trim.rt:163:9
 returns-2 : tie.Need-returns-2
-returns-2 c = ?
+returns-2 c = picked-whole (c .before .before .before .before .args .v) (c .before .before .before .before .args .win) (c .before .before .before .before .args .k) (c .before .before .before .before .pre .0 .mask<) (sym (c .before .whole .ensures) ∙ c .if2 .taken)
 
 -- src/trim.rt:168:5
 pick-requires : tie.Need-pick-requires

@@ -1,6 +1,6 @@
 -- The window of a pass: which events have a number, and which of these are handed over.
 use mathlib.Core.Path.{_≡_, refl, ap}
-use mathlib.Core.Bool.{Bool, false, _&&_}
+use mathlib.Core.Bool.{Bool, false, _&&_, _||_}
 use mathlib.Core.List.{List, [], _∷_}
 use Prim.Native.Nat.{ℕ, suc}
 use lib.Dec.{leb, ltb}
@@ -24,6 +24,9 @@ isWithin win t = leb (win .t0) t && ltb t (win .t1)
 
 abbrev pub isSpanned : Window → (k t : ℕ) → Bool
 isSpanned win k t = Select.spans (spanOf win) k t
+
+abbrev pub isStopped : Window → ℕ → Bool → ℕ → Bool
+isStopped win k started time = leb (win .n1) k || (started && leb (win .t1) time)
 
 -- what the rule of selection reads: a machine, whether a state of it is started, and a state's time; events outside width x height have no number
 abbrev pub reading : {S : Type 0} → Machine S ℕ Event → (S → Bool) → (S → ℕ) → Window → Select.Reading S ℕ Event

@@ -3,7 +3,7 @@ ghost use mathlib.Core.Path.{_≡_};
 ghost use Prim.Native.Nat.{_+_, _≤_, _<_, _^_, min};
 ghost use Rattle.evt.specs.Event.{Narrow};
 ghost use Rattle.sensor.specs.Inside.{isInside};
-ghost use Rattle.select.specs.Window.{isWithin, isSpanned};
+ghost use Rattle.select.specs.Window.{isWithin, isSpanned, isStopped};
 ghost use Rattle.select.specs.Trim.{Pickable, Picked, isWhole, isSkipped};
 use crate::Window;
 use evt::vector::Vector;
@@ -41,6 +41,17 @@ fn spans(win: Window, k: u64, t: u64) -> bool
     } else {
         false
     }
+}
+
+// Whether a pass stops after a word: the next number reaches n1, or the decoder is started and its
+// time reaches t1.
+pub fn stopped(win: Window, k: u64, started: bool, time: u64) -> bool
+    ensures { λ r. ⌜ r ≡ isStopped win k started time ⌝ }
+{
+    if win.n1 <= k {
+        return true;
+    }
+    if started { win.t1 <= time } else { false }
 }
 
 // Each event of v is handed over.

@@ -13,7 +13,7 @@ use Rattle.stream.specs.Mask.{bits, bits-zero, bits-one, bits-even, bits-odd, b
 use Rattle.stream.specs.Slice.{sift, sift-all, sift-none, onto}
 use Rattle.stream.specs.Select as Select
 use Rattle.evt.specs.declared.vector.Vector.{Vector}
-use Rattle.evt.specs.Event.{Event, eventAt}
+use Rattle.evt.specs.Event.{Event, eventAt, eventsOf, Narrow}
 use Rattle.sensor.specs.Inside.{isInside, inside}
 use Rattle.select.specs.declared.Window.{Window}
 use Rattle.select.specs.declared.trim.Trimmed.{Trimmed}
@@ -259,3 +259,11 @@ module _ (v : Vector) (win : Window) (k : ℕ) (one : v .mask ≡ 1) (c : v .x <
       go false e =
           let x : win .width ≤ v .x = ltb-false _ _ e in
           picked-beyond v win k nothing (omega arith) (omega arith) (omega arith) (no-more k)
+
+-- ---- v with fewer bits
+
+pub narrow-masked : (v : Vector) (m : ℕ) → Narrow v → m ≤ v .mask → Narrow (masked v m)
+narrow-masked v m n h = record { x< = n .x<; y< = n .y<; t< = n .t<; p< = n .p<; mask< = omega (arith, n .mask<) }
+
+pub masked-count : (v : Vector) (m : ℕ) → m < 2 ^ 32 → ones m ≡ length (eventsOf (masked v m))
+masked-count v m h = sym (length-map (bits 32 (v .x) m) (eventAt v) ∙ bits-count 32 (v .x) m h)

@@ -7,3 +7,4 @@ pub mod Turn
 pub mod Count
 pub mod Fill
 pub mod Sources
+pub mod Uses

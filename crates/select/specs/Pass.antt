@@ -1,13 +1,14 @@
 -- What a pass over some bytes hands over from a decoder of either encoding, and what it tells.
 use mathlib.Core.List.{List}
-use Prim.Native.Nat.{ℕ, _≤_, _<_, _/_, _^_}
+use Prim.Native.Nat.{ℕ, _+_, _*_, _/_, _^_, _≤_}
 use lib.ListN.{length}
 use Rattle.stream.specs.Words.{wordsOf}
 use Rattle.stream.specs.Select.{End, handed, ended}
+use Rattle.evt.specs.declared.evt3.Decoder.{Decoder}
 use Rattle.evt.specs.declared.codec.Codec.{Codec}
 use Rattle.evt.specs.declared.codec.Codec.the-variants.{Evt2, Evt3}
 use Rattle.evt.specs.Event.{Event}
-use Rattle.evt.specs.Range.{Bounded2, Bounded3}
+use Rattle.evt.specs.Range.{Bounded2, Regular3}
 use Rattle.select.specs.declared.Window.{Window}
 use Rattle.select.specs.declared.Tally.{Tally}
 use Rattle.select.specs.declared.Filled.{Filled}
@@ -50,10 +51,15 @@ filled win k c l = filledOf (endOver win k c l) (handedOver win k c l)
 
 -- ---- what a pass asks for: every caller has it, from the range of a decoder (10) and the length of a recording (4)
 
--- a decoder that takes so many bytes, and no sum wraps; that a base column fits 16 bits its type says
+-- `Bounded3` but for the base column, which fits 16 bits by its type
+pub record Paced3 (n : ℕ) (d : Decoder) : Type 0 where
+  pub regular : Regular3 d
+  pub loops : d .«high_loops» + n ≤ 3 * 2 ^ 28
+
+-- the decoder takes so many bytes, and no sum wraps
 abbrev pub Able : ℕ → Codec → Type 0
 Able bytes (Evt2 d) = Bounded2 (bytes / 4) d
-Able bytes (Evt3 d) = d .«base_x» < 2 ^ 16 → Bounded3 (bytes / 2) d
+Able bytes (Evt3 d) = Paced3 (bytes / 2) d
 
 pub record Ready (c : Codec) (number bytes : ℕ) : Type 0 where
   pub able : Able bytes c

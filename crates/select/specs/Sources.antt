@@ -49,4 +49,4 @@ pub inv2 : {number : ℕ} (d : Evt2Decoder) (l : List ℕ) → Ready (Evt2 d) nu
 inv2 d l r = rw (length-words 4 l) (r .able)
 
 pub inv3 : {number : ℕ} (d : Decoder) (l : List ℕ) → Ready (Evt3 d) number (length l) → d .«base_x» < 2 ^ 16 → Bounded3 (length (wordsOf 2 l)) d
-inv3 d l r x = rw (length-words 2 l) (r .able x)
+inv3 d l r x = rw (length-words 2 l) (record { regular = r .able .regular; loops = r .able .loops; column = x })

@@ -76,7 +76,7 @@ module _ (win : Window) where
   choose-all : (k : ℕ) (es : List Event) → win .n0 ≤ k → k + length es ≤ win .n1 → All (λ e. isWithin win (e .t) ≡ true) es → choose win k es ≡ es
   choose-all k es a b h = Select.chosen-time (anyReading win) (spanOf win) k es a b ∙ sift-all (λ e. isWithin win (e .t)) es h
 
-all-mapped : (P : Event → Type 0) (f : ℕ → Event) (l : List ℕ) → All (λ c. P (f c)) l → All P (map f l)
+pub all-mapped : (P : Event → Type 0) (f : ℕ → Event) (l : List ℕ) → All (λ c. P (f c)) l → All P (map f l)
 all-mapped P f [] h = tt
 all-mapped P f (c ∷ l) h = (h .0, all-mapped P f l (h .1))
 

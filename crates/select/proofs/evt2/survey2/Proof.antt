@@ -1,0 +1,192 @@
+use Rattle.select.proofs.evt2.survey2.Statement.{statement}
+use Rattle.select.proofs.evt2.survey2.Tie as tie
+use Rattle.select.proofs.evt2.survey2.Reads as reads
+use Rattle.select.proofs.evt2.survey2.Lts as lts
+use Rattle.evt.proofs.evt2.Evt2Decoder.advance.Reads as advance-reads
+use Rattle.select.proofs.evt2.word4.Reads as word4-reads
+use Rattle.select.proofs.extent.see.Reads as see-reads
+use Rattle.select.proofs.trim.stopped.Reads as stopped-reads
+use Rattle.select.proofs.trim.trim.Reads as trim-reads
+use mathlib.Core.Path.{_≡_, refl, sym, ap, _∙_}
+use mathlib.Core.Logic.{⊎-elim}
+use native.Mathlib.Omega.{arith}
+use borrow.Author.Needs.{needs}
+use Prim.Native.Nat.{ℕ, _+_, _-_, _/_, _≤_, _<_, _^_}
+use denote.Ref.{now}
+use lib.ListN.{length, take, drop}
+use lib.Count.{ones, ones-le}
+use Rattle.stream.specs.Words.{value, value-four}
+use Rattle.evt.specs.Event.{Narrow}
+use Rattle.evt.specs.Range.{bounded-sane2}
+use Rattle.evt.specs.Evt2.{step2, vector2}
+use Rattle.select.specs.Extent.{noExtent}
+use Rattle.select.specs.Trim.{narrow-masked, masked-count}
+use Rattle.select.specs.Turn.{narrow-here, number-here}
+use Rattle.select.specs.Count.{Counts, CountsIf, Counted, counts-start, counts-on, counts-stop, counted, counts-end, counts-turn, counts-quiet}
+use Rattle.select.specs.Sources.{source2, laws2, inv2}
+
+abbrev Inv-loop : tie.InvT-loop
+Inv-loop bytes win number s₀ k₀ n₀ seen₀ i₀ s k n seen i = Counts source2 win number s₀ bytes s k n seen i
+
+abbrev μ-loop : tie.MeasureT-loop
+μ-loop bytes win number s₀ k₀ n₀ seen₀ i₀ s k n seen i = length bytes - i
+
+-- the word and the step
+h-at : (c : tie.After-struct-known Inv-loop μ-loop) → c .before .before .before .before .before .before .before .before .before .before .loop .i + 4 ≤ length (now (c .before .before .before .before .before .before .before .before .before .before .before .before .args .bytes))
+h-at c = omega (arith, c .before .before .before .before .before .before .before .before .before .loop-test .taken)
+
+word-at : (c : tie.After-struct-known Inv-loop μ-loop) → c .before .before .before .before .word4 .result ≡ value (take 4 (drop (c .before .before .before .before .before .before .before .before .before .before .loop .i) (now (c .before .before .before .before .before .before .before .before .before .before .before .before .args .bytes))))
+word-at c = c .before .before .before .before .word4 .ensures ∙ sym (value-four (now (c .before .before .before .before .before .before .before .before .before .before .before .before .args .bytes)) (c .before .before .before .before .before .before .before .before .before .before .loop .i) (h-at c))
+
+next-at : (c : tie.After-struct-known Inv-loop μ-loop) → (c .before .before .before .advance .result .next) ≡ step2 (c .before .before .before .before .before .before .before .before .before .before .loop .s) (c .before .before .before .before .word4 .result)
+next-at c = c .before .before .before .advance .ensures .0
+
+events-at : (c : tie.After-struct-known Inv-loop μ-loop) → c .before .before .before .advance .result .events ≡ vector2 (c .before .before .before .before .before .before .before .before .before .before .loop .s) (c .before .before .before .before .word4 .result)
+events-at c = c .before .before .before .advance .ensures .1
+
+narrow-at : (c : tie.After-struct-known Inv-loop μ-loop) → Narrow (c .before .before .before .advance .result .events)
+narrow-at c = narrow-here laws2 (c .before .before .before .before .before .before .before .before .before .before .loop .inv .at) (h-at c) (c .before .before .before .before .word4 .result) (word-at c) (c .before .before .before .advance .result .next) (next-at c) (c .before .before .before .advance .result .events) (events-at c)
+
+number-at : (c : tie.After-struct-known Inv-loop μ-loop) → c .before .before .before .before .before .before .before .before .before .before .loop .k < 2 ^ 62 + 2 ^ 61
+number-at c = number-here laws2 (c .before .before .before .before .before .before .before .before .before .before .loop .inv .at) (h-at c) (c .before .before .before .before .word4 .result) (word-at c) (c .before .before .before .advance .result .next) (next-at c) (c .before .before .before .advance .result .events) (events-at c)
+
+few-at : (c : tie.After-see Inv-loop μ-loop) → ones (c .before .before .trim .result .mask) ≤ 32
+few-at c = ones-le 32 (c .before .before .trim .result .mask) (omega (arith, c .before .before .trim .ensures .low, narrow-at (c .before .before .before .before) .mask<))
+
+pend : (c : tie.Joined1 Inv-loop μ-loop) → CountsIf source2 (c .before .before .before .before .before .before .before .before .before .before .before .before .before .args .win) (c .before .before .before .before .before .before .before .before .before .before .before .before .before .args .number) (c .before .before .before .before .before .before .before .before .before .before .before .before .before .args .d) (now (c .before .before .before .before .before .before .before .before .before .before .before .before .before .args .bytes)) (c .before .before .before .before .advance .result .next) (c .if1 .k) (c .if1 .n) (c .if1 .seen) (c .before .before .before .before .before .before .before .before .before .before .before .loop .i + 4)
+pend c =
+    ⊎-elim
+    (λ w.
+    let small : w .1 .result .mask < 2 ^ 32 = omega (arith, w .1 .ensures .low, narrow-at (c .before) .mask<) in
+    rw (w .5, w .6, w .7) (counts-turn laws2 (c .before .before .before .before .before .before .before .before .before .before .before .loop .inv) (h-at (c .before)) (c .before .before .before .before .before .word4 .result) (word-at (c .before)) (c .before .before .before .before .advance .result .next) (next-at (c .before)) (c .before .before .before .before .advance .result .events) (events-at (c .before)) (w .1 .result) (w .1 .ensures) (ones (w .1 .result .mask)) (masked-count (c .before .before .before .before .advance .result .events) (w .1 .result .mask) small) (w .3 .result) (w .3 .ensures)))
+    (λ w. rw (w .1, w .2, w .3) (counts-quiet laws2 (c .before .before .before .before .before .before .before .before .before .before .before .loop .inv) (h-at (c .before)) (c .before .before .before .before .before .word4 .result) (word-at (c .before)) (c .before .before .before .before .advance .result .next) (next-at (c .before)) (c .before .before .before .before .advance .result .events) (events-at (c .before)) (w .0 .left)))
+    (c .if1 .came)
+
+done : (c : tie.Left-loop Inv-loop μ-loop) → Counted source2 (c .before .before .before .args .win) (c .before .before .before .args .number) (c .before .before .before .args .d) (now (c .before .before .before .args .bytes)) (c .loop-test .s) (c .loop-test .k) (c .loop-test .n) (c .loop-test .seen) (c .loop-test .i)
+done c =
+    ⊎-elim
+    (λ w. rw (w .1, w .2, w .3, w .4, w .5) (counts-end laws2 (c .before .loop .inv) (omega (arith, w .0 .left))))
+    (λ w. rw (w .13, w .14, w .15, w .16, w .17) (counts-stop laws2 (sym (w .11 .ensures) ∙ w .12 .taken) (pend (record { before = record { before = record { before = record { before = record { before = record { before = record { before = record { before = record { before = record { before = record { before = c .before; loop-test = w .0 }; shared-slice-known2 = w .1 }; shared-slice-known3 = w .2 }; shared-slice-known4 = w .3 }; shared-slice-known5 = w .4 }; word4 = w .5 }; advance = w .6 }; v = w .7 }; s = w .8 }; struct-known = w .9 }; if1 = w .10 }))))
+    (c .loop-test .came)
+
+-- src/evt2.rt:37:5
+loop-holds : tie.Need-loop-holds Inv-loop μ-loop
+loop-holds c = counts-start laws2 (inv2 (c .before .args .d) (now (c .before .args .bytes)) (c .before .pre)) (c .before .pre .long) (c .before .pre .low)
+
+-- src/evt2.rt:37:11
+add-loop : tie.Need-add-loop Inv-loop μ-loop
+add-loop c = omega (arith, c .loop .inv .at .within, c .loop .inv .at .long)
+
+-- src/evt2.rt:38:23
+shared-slice-read-word4 : tie.Need-shared-slice-read-word4 Inv-loop μ-loop
+shared-slice-read-word4 c = omega (arith, c .before .loop-test .taken)
+
+-- src/evt2.rt:38:39
+add-word4 : tie.Need-add-word4 Inv-loop μ-loop
+add-word4 c = omega (arith, c .before .loop-test .taken)
+
+-- src/evt2.rt:38:33
+shared-slice-read-word4-2 : tie.Need-shared-slice-read-word4-2 Inv-loop μ-loop
+shared-slice-read-word4-2 c = omega (arith, c .before .before .loop-test .taken)
+
+-- src/evt2.rt:38:53
+add-word4-2 : tie.Need-add-word4-2 Inv-loop μ-loop
+add-word4-2 c = omega (arith, c .before .before .loop-test .taken)
+
+-- src/evt2.rt:38:47
+shared-slice-read-word4-3 : tie.Need-shared-slice-read-word4-3 Inv-loop μ-loop
+shared-slice-read-word4-3 c = omega (arith, c .before .before .before .loop-test .taken)
+
+-- src/evt2.rt:38:67
+add-word4-3 : tie.Need-add-word4-3 Inv-loop μ-loop
+add-word4-3 c = omega (arith, c .before .before .before .loop-test .taken)
+
+-- src/evt2.rt:38:61
+shared-slice-read-word4-4 : tie.Need-shared-slice-read-word4-4 Inv-loop μ-loop
+shared-slice-read-word4-4 c = omega (arith, c .before .before .before .before .loop-test .taken)
+
+-- src/evt2.rt:38:13
+word4-requires : tie.Need-word4-requires Inv-loop μ-loop
+word4-requires c κs = search needs
+
+-- src/evt2.rt:39:13
+advance-requires : tie.Need-advance-requires Inv-loop μ-loop
+advance-requires c κs = bounded-sane2 (c .before .before .before .before .before .before .loop .inv .at .inv)
+
+-- src/evt2.rt:42:9
+add-i : tie.Need-add-i Inv-loop μ-loop
+add-i c = omega (arith, c .before .before .before .before .before .before .before .before .before .loop .inv .at .within, c .before .before .before .before .before .before .before .before .before .loop .inv .at .long)
+
+-- src/evt2.rt:44:17
+trim-requires : tie.Need-trim-requires Inv-loop μ-loop
+trim-requires c κs = (narrow-at (c .before), number-at (c .before))
+
+-- src/evt2.rt:53:13
+see-requires : tie.Need-see-requires Inv-loop μ-loop
+see-requires c κs = narrow-masked (c .before .before .before .before .before .before .advance .result .events) (c .before .trim .result .mask) (narrow-at (c .before .before .before)) (c .before .trim .ensures .low)
+
+-- src/evt2.rt:54:18
+cast-n : tie.Need-cast-n Inv-loop μ-loop
+cast-n c = omega (arith, few-at c)
+
+-- src/evt2.rt:54:13
+add-n : tie.Need-add-n Inv-loop μ-loop
+add-n c = omega (arith, few-at c, c .before .before .before .before .before .before .before .before .before .before .before .before .before .before .loop .inv .at .few, c .before .before .before .before .before .before .before .before .before .before .before .before .before .before .loop .inv .at .within, c .before .before .before .before .before .before .before .before .before .before .before .before .before .before .loop .inv .at .long)
+
+-- src/evt2.rt:55:21
+cast-k : tie.Need-cast-k Inv-loop μ-loop
+cast-k c = omega (arith, few-at c)
+
+-- src/evt2.rt:55:17
+add-k : tie.Need-add-k Inv-loop μ-loop
+add-k c = omega (arith, few-at c, number-at (c .before .before .before .before))
+
+-- src/evt2.rt:55:17
+add-k-2 : tie.Need-add-k-2 Inv-loop μ-loop
+add-k-2 c = omega (arith, few-at (c .before), number-at (c .before .before .before .before .before), narrow-at (c .before .before .before .before .before) .mask<, c .before .before .before .trim .ensures .few)
+
+-- src/evt2.rt:57:12
+stopped-requires : tie.Need-stopped-requires Inv-loop μ-loop
+stopped-requires c κs = search needs
+
+-- src/evt2.rt:37:5
+loop-less : tie.Need-loop-less Inv-loop μ-loop
+loop-less c = omega (arith, c .before .before .before .before .before .before .before .before .before .before .before .before .loop-test .taken)
+
+-- src/evt2.rt:37:5
+loop-again : tie.Need-loop-again Inv-loop μ-loop
+loop-again c = counts-on laws2 (sym (c .before .stopped .ensures) ∙ c .if2 .left) (pend (c .before .before))
+
+-- src/evt2.rt:24:1
+returns : tie.Need-returns Inv-loop μ-loop
+returns c = counted laws2 (done (c .before))
+
+pub survey2-spec : {M : Type 1} → statement M
+survey2-spec =
+    tie.close
+    (tie.spec
+    Inv-loop
+    μ-loop
+    loop-holds
+    add-loop
+    shared-slice-read-word4
+    add-word4
+    shared-slice-read-word4-2
+    add-word4-2
+    shared-slice-read-word4-3
+    add-word4-3
+    shared-slice-read-word4-4
+    word4-requires
+    advance-requires
+    add-i
+    trim-requires
+    see-requires
+    cast-n
+    add-n
+    cast-k
+    add-k
+    add-k-2
+    stopped-requires
+    loop-less
+    loop-again
+    returns)

@@ -1,0 +1,200 @@
+use Rattle.select.proofs.evt3.fill3.Statement.{statement}
+use Rattle.select.proofs.evt3.fill3.Tie as tie
+use Rattle.select.proofs.evt3.fill3.Reads as reads
+use Rattle.select.proofs.evt3.fill3.Lts as lts
+use Rattle.evt.proofs.evt3.Decoder.widen.Reads as widen-reads
+use Rattle.evt.proofs.evt3.WideDecoder.advance.Reads as advance-reads
+use Rattle.evt.proofs.evt3.WideDecoder.slim.Reads as slim-reads
+use Rattle.select.proofs.evt3.word2.Reads as word2-reads
+use Rattle.select.proofs.trim.stopped.Reads as stopped-reads
+use Rattle.select.proofs.trim.trim.Reads as trim-reads
+use Rattle.sensor.proofs.put_all.Reads as put-all-reads
+use mathlib.Core.Path.{_≡_, refl, sym, ap, _∙_}
+use mathlib.Core.Logic.{⊎-elim}
+use native.Mathlib.Omega.{arith}
+use borrow.Author.Needs.{needs}
+use Prim.Native.Nat.{ℕ, _+_, _-_, _/_, _≤_, _<_, _^_}
+use denote.Ref.{now}
+use lib.ListN.{length, take, drop}
+use Rattle.stream.specs.Words.{value, value-two}
+use Rattle.evt.specs.Event.{Narrow, eventsOf}
+use Rattle.evt.specs.Columns.{Room}
+use Rattle.evt.specs.Evt3.{widened, slimmed, Slim}
+use Rattle.evt.specs.Range.{bounded-sane3, bounded-slim3}
+use Rattle.evt.specs.Evt3.{step3, vector3}
+use Rattle.select.specs.Trim.{masked, events-few}
+use Rattle.select.specs.Pass.{Fits}
+use Rattle.select.specs.Turn.{all, narrow-here, number-here}
+use Rattle.select.specs.Fill.{Fills, FillsIf, Full, fills-start, fills-on, fills-stop, full, full-wrote, fills-end, fills-turn, fills-quiet, room-here}
+use Rattle.select.specs.Sources.{source3, laws3, inv3}
+
+abbrev Inv-loop : tie.InvT-loop
+Inv-loop bytes win number xs₀ ys₀ ts₀ ps₀ s₀ k₀ n₀ i₀ xs ys ts ps s k n i = Fills source3 win number (slimmed s₀) bytes xs₀ ys₀ ts₀ ps₀ xs ys ts ps (slimmed s) k n i
+
+abbrev μ-loop : tie.MeasureT-loop
+μ-loop bytes win number xs₀ ys₀ ts₀ ps₀ s₀ k₀ n₀ i₀ xs ys ts ps s k n i = length bytes - i
+
+-- the room, over the decoder as the loop has it
+fits-at : (c : tie.After-widen Inv-loop μ-loop) → Fits (length (all source3 (c .before .before .before .before .before .args .win) (c .before .before .before .before .before .args .number) (slimmed (c .widen .result)) (now (c .before .before .before .before .before .args .bytes)))) (length (now (c .before .before .before .before .before .args .xs))) (length (now (c .before .before .before .before .before .args .ys))) (length (now (c .before .before .before .before .before .args .ts))) (length (now (c .before .before .before .before .before .args .ps)))
+fits-at c = rw (c .widen .ensures .0) (c .before .before .before .before .before .pre .1)
+
+-- the word and the step
+h-at : (c : tie.After-struct-known Inv-loop μ-loop) → c .before .before .before .before .before .before .before .before .loop .i + 2 ≤ length (now (c .before .before .before .before .before .before .before .before .before .before .before .before .before .before .args .bytes))
+h-at c = omega (arith, c .before .before .before .before .before .before .before .loop-test .taken)
+
+word-at : (c : tie.After-struct-known Inv-loop μ-loop) → c .before .before .before .before .word2 .result ≡ value (take 2 (drop (c .before .before .before .before .before .before .before .before .loop .i) (now (c .before .before .before .before .before .before .before .before .before .before .before .before .before .before .args .bytes))))
+word-at c = c .before .before .before .before .word2 .ensures ∙ sym (value-two (now (c .before .before .before .before .before .before .before .before .before .before .before .before .before .before .args .bytes)) (c .before .before .before .before .before .before .before .before .loop .i) (h-at c))
+
+next-at : (c : tie.After-struct-known Inv-loop μ-loop) → (slimmed (c .before .before .before .advance .result .next)) ≡ step3 (slimmed (c .before .before .before .before .before .before .before .before .loop .s)) (c .before .before .before .before .word2 .result)
+next-at c = ap slimmed (c .before .before .before .advance .ensures .0)
+
+events-at : (c : tie.After-struct-known Inv-loop μ-loop) → c .before .before .before .advance .result .events ≡ vector3 (slimmed (c .before .before .before .before .before .before .before .before .loop .s)) (c .before .before .before .before .word2 .result)
+events-at c = c .before .before .before .advance .ensures .1
+
+narrow-at : (c : tie.After-struct-known Inv-loop μ-loop) → Narrow (c .before .before .before .advance .result .events)
+narrow-at c = narrow-here laws3 (c .before .before .before .before .before .before .before .before .loop .inv .at) (h-at c) (c .before .before .before .before .word2 .result) (word-at c) (slimmed (c .before .before .before .advance .result .next)) (next-at c) (c .before .before .before .advance .result .events) (events-at c)
+
+number-at : (c : tie.After-struct-known Inv-loop μ-loop) → c .before .before .before .before .before .before .before .before .loop .k < 2 ^ 62 + 2 ^ 61
+number-at c = number-here laws3 (c .before .before .before .before .before .before .before .before .loop .inv .at) (h-at c) (c .before .before .before .before .word2 .result) (word-at c) (slimmed (c .before .before .before .advance .result .next)) (next-at c) (c .before .before .before .advance .result .events) (events-at c)
+
+room-at : (c : tie.After-trim Inv-loop μ-loop) → Room (length (eventsOf (masked (c .before .before .before .before .before .advance .result .events) (c .trim .result .mask)))) (masked (c .before .before .before .before .before .advance .result .events) (c .trim .result .mask)) (c .before .before .before .before .before .before .before .before .before .before .loop .n) (length (c .before .before .before .before .before .before .before .before .before .before .loop .xs)) (length (c .before .before .before .before .before .before .before .before .before .before .loop .ys)) (length (c .before .before .before .before .before .before .before .before .before .before .loop .ts)) (length (c .before .before .before .before .before .before .before .before .before .before .loop .ps))
+room-at c = room-here laws3 (c .before .before .before .before .before .before .before .before .before .before .loop .inv) (h-at (c .before .before)) (c .before .before .before .before .before .before .word2 .result) (word-at (c .before .before)) (slimmed (c .before .before .before .before .before .advance .result .next)) (next-at (c .before .before)) (c .before .before .before .before .before .advance .result .events) (events-at (c .before .before)) (fits-at (c .before .before .before .before .before .before .before .before .before .before .before)) (c .trim .result) (c .trim .ensures)
+
+few-at : (c : tie.After-trim Inv-loop μ-loop) → length (eventsOf (masked (c .before .before .before .before .before .advance .result .events) (c .trim .result .mask))) ≤ 32
+few-at c = events-few 32 32 (masked (c .before .before .before .before .before .advance .result .events) (c .trim .result .mask)) (room-at c .mask)
+
+pend : (c : tie.Joined1 Inv-loop μ-loop) → FillsIf source3 (c .before .before .before .before .before .before .before .before .before .before .before .before .before .before .before .args .win) (c .before .before .before .before .before .before .before .before .before .before .before .before .before .before .before .args .number) (slimmed (c .before .before .before .before .before .before .before .before .before .before .widen .result)) (now (c .before .before .before .before .before .before .before .before .before .before .before .before .before .before .before .args .bytes)) (now (c .before .before .before .before .before .before .before .before .before .before .before .before .before .before .before .args .xs)) (now (c .before .before .before .before .before .before .before .before .before .before .before .before .before .before .before .args .ys)) (now (c .before .before .before .before .before .before .before .before .before .before .before .before .before .before .before .args .ts)) (now (c .before .before .before .before .before .before .before .before .before .before .before .before .before .before .before .args .ps)) (c .if1 .xs) (c .if1 .ys) (c .if1 .ts) (c .if1 .ps) (slimmed (c .before .before .before .before .advance .result .next)) (c .if1 .k) (c .if1 .n) (c .before .before .before .before .before .before .before .before .before .loop .i + 2)
+pend c =
+    ⊎-elim
+    (λ w. rw (w .15, w .16, w .17, w .18, w .19, w .20) (fills-turn laws3 (c .before .before .before .before .before .before .before .before .before .loop .inv) (h-at (c .before)) (c .before .before .before .before .before .word2 .result) (word-at (c .before)) (slimmed (c .before .before .before .before .advance .result .next)) (next-at (c .before)) (c .before .before .before .before .advance .result .events) (events-at (c .before)) (fits-at (c .before .before .before .before .before .before .before .before .before .before)) (w .1 .result) (w .1 .ensures) (w .6 .result) (w .6 .ensures .0) (w .6 .ensures .1)))
+    (λ w. rw (w .1, w .2, w .3, w .4, w .5, w .6) (fills-quiet laws3 (c .before .before .before .before .before .before .before .before .before .loop .inv) (h-at (c .before)) (c .before .before .before .before .before .word2 .result) (word-at (c .before)) (slimmed (c .before .before .before .before .advance .result .next)) (next-at (c .before)) (c .before .before .before .before .advance .result .events) (events-at (c .before)) (w .0 .left)))
+    (c .if1 .came)
+
+done : (c : tie.Left-loop Inv-loop μ-loop) → Full source3 (c .before .before .before .before .before .before .before .args .win) (c .before .before .before .before .before .before .before .args .number) (slimmed (c .before .before .widen .result)) (now (c .before .before .before .before .before .before .before .args .bytes)) (now (c .before .before .before .before .before .before .before .args .xs)) (now (c .before .before .before .before .before .before .before .args .ys)) (now (c .before .before .before .before .before .before .before .args .ts)) (now (c .before .before .before .before .before .before .before .args .ps)) (c .loop-test .xs) (c .loop-test .ys) (c .loop-test .ts) (c .loop-test .ps) (slimmed (c .loop-test .s)) (c .loop-test .k) (c .loop-test .n) (c .loop-test .i)
+done c =
+    ⊎-elim
+    (λ w. rw (w .1, w .2, w .3, w .4, w .5, w .6, w .7, w .8) (fills-end laws3 (c .before .loop .inv) (omega (arith, w .0 .left))))
+    (λ w. rw (w .11, w .12, w .13, w .14, w .15, w .16, w .17, w .18) (fills-stop laws3 (sym (w .9 .ensures) ∙ w .10 .taken) (pend (record { before = record { before = record { before = record { before = record { before = record { before = record { before = record { before = record { before = c .before; loop-test = w .0 }; shared-slice-known2 = w .1 }; shared-slice-known3 = w .2 }; word2 = w .3 }; advance = w .4 }; v = w .5 }; s = w .6 }; struct-known = w .7 }; if1 = w .8 }))))
+    (c .loop-test .came)
+
+-- src/evt3.rt:86:9
+widen-requires : tie.Need-widen-requires Inv-loop μ-loop
+widen-requires c κs = search needs
+
+-- src/evt3.rt:90:5
+loop-holds : tie.Need-loop-holds Inv-loop μ-loop
+loop-holds c = rw (c .widen .ensures .0) (fills-start laws3 (inv3 (c .before .before .before .before .before .args .d) (now (c .before .before .before .before .before .args .bytes)) (c .before .before .before .before .before .pre .0) (c .widen .ensures .1 .column)) (c .before .before .before .before .before .pre .0 .long) (c .before .before .before .before .before .pre .0 .low))
+
+-- src/evt3.rt:90:11
+add-loop : tie.Need-add-loop Inv-loop μ-loop
+add-loop c = omega (arith, c .loop .inv .at .within, c .loop .inv .at .long)
+
+-- src/evt3.rt:91:23
+shared-slice-read-word2 : tie.Need-shared-slice-read-word2 Inv-loop μ-loop
+shared-slice-read-word2 c = omega (arith, c .before .loop-test .taken)
+
+-- src/evt3.rt:91:39
+add-word2 : tie.Need-add-word2 Inv-loop μ-loop
+add-word2 c = omega (arith, c .before .loop-test .taken)
+
+-- src/evt3.rt:91:33
+shared-slice-read-word2-2 : tie.Need-shared-slice-read-word2-2 Inv-loop μ-loop
+shared-slice-read-word2-2 c = omega (arith, c .before .before .loop-test .taken)
+
+-- src/evt3.rt:91:13
+word2-requires : tie.Need-word2-requires Inv-loop μ-loop
+word2-requires c κs = search needs
+
+-- src/evt3.rt:92:13
+advance-requires : tie.Need-advance-requires Inv-loop μ-loop
+advance-requires c κs = bounded-sane3 (c .before .before .before .before .loop .inv .at .inv)
+
+-- src/evt3.rt:95:9
+add-i : tie.Need-add-i Inv-loop μ-loop
+add-i c = omega (arith, c .before .before .before .before .before .before .before .loop .inv .at .within, c .before .before .before .before .before .before .before .loop .inv .at .long)
+
+-- src/evt3.rt:97:17
+trim-requires : tie.Need-trim-requires Inv-loop μ-loop
+trim-requires c κs = (narrow-at (c .before), number-at (c .before))
+
+-- src/evt3.rt:106:13
+put-all-requires : tie.Need-put-all-requires Inv-loop μ-loop
+put-all-requires c κs = room-at (c .before .before .before .before)
+
+-- src/evt3.rt:107:22
+sub-k : tie.Need-sub-k Inv-loop μ-loop
+sub-k c = omega (arith, c .before .before .before .before .before .before .before .put-all .ensures .0)
+
+-- src/evt3.rt:107:17
+add-k : tie.Need-add-k Inv-loop μ-loop
+add-k c = omega (arith, c .before .before .before .before .before .before .before .put-all .ensures .0, few-at (c .before .before .before .before .before .before .before .before .before .before .before .before), number-at (c .before .before .before .before .before .before .before .before .before .before .before .before .before .before))
+
+-- src/evt3.rt:107:17
+add-k-2 : tie.Need-add-k-2 Inv-loop μ-loop
+add-k-2 c = omega (arith, c .before .before .before .before .before .before .before .before .put-all .ensures .0, few-at (c .before .before .before .before .before .before .before .before .before .before .before .before .before), number-at (c .before .before .before .before .before .before .before .before .before .before .before .before .before .before .before), narrow-at (c .before .before .before .before .before .before .before .before .before .before .before .before .before .before .before) .mask<, c .before .before .before .before .before .before .before .before .before .before .before .before .before .trim .ensures .few)
+
+-- src/evt3.rt:109:12
+stopped-requires : tie.Need-stopped-requires Inv-loop μ-loop
+stopped-requires c κs = search needs
+
+-- src/evt3.rt:90:5
+loop-less : tie.Need-loop-less Inv-loop μ-loop
+loop-less c = omega (arith, c .before .before .before .before .before .before .before .before .before .before .loop-test .taken)
+
+-- src/evt3.rt:90:5
+loop-again : tie.Need-loop-again Inv-loop μ-loop
+loop-again c = fills-on laws3 (sym (c .before .stopped .ensures) ∙ c .if2 .left) (pend (c .before .before))
+
+-- src/evt3.rt:113:9
+slim-requires : tie.Need-slim-requires Inv-loop μ-loop
+slim-requires c κs = bounded-slim3 (done c .at .inv)
+
+-- src/evt3.rt:73:1
+same-length : tie.Need-same-length Inv-loop μ-loop
+same-length c = done (c .before .before) .going .in-x .long
+
+-- src/evt3.rt:73:1
+same-length-2 : tie.Need-same-length-2 Inv-loop μ-loop
+same-length-2 c = done (c .before .before) .going .in-y .long
+
+-- src/evt3.rt:73:1
+same-length-3 : tie.Need-same-length-3 Inv-loop μ-loop
+same-length-3 c = done (c .before .before) .going .in-t .long
+
+-- src/evt3.rt:73:1
+same-length-4 : tie.Need-same-length-4 Inv-loop μ-loop
+same-length-4 c = done (c .before .before) .going .in-p .long
+
+-- src/evt3.rt:73:1
+returns : tie.Need-returns Inv-loop μ-loop
+returns c = (rw (c .before .slim .ensures) (rw (c .before .before .before .before .widen .ensures .0) at (full laws3 (done (c .before .before)))), rw (c .before .before .before .before .widen .ensures .0) at (full-wrote laws3 (fits-at (c .before .before .before .before)) (done (c .before .before))))
+
+pub fill3-spec : {M : Type 1} → statement M
+fill3-spec =
+    tie.close
+    (tie.spec
+    Inv-loop
+    μ-loop
+    widen-requires
+    loop-holds
+    add-loop
+    shared-slice-read-word2
+    add-word2
+    shared-slice-read-word2-2
+    word2-requires
+    advance-requires
+    add-i
+    trim-requires
+    put-all-requires
+    sub-k
+    add-k
+    add-k-2
+    stopped-requires
+    loop-less
+    loop-again
+    slim-requires
+    same-length
+    same-length-2
+    same-length-3
+    same-length-4
+    returns)

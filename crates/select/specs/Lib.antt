@@ -1,0 +1,10 @@
+-- What each file is stands at its head.
+pub mod Window
+pub mod Trim
+pub mod Extent
+pub mod Pass
+pub mod Turn
+pub mod Count
+pub mod Fill
+pub mod Sources
+pub mod Uses

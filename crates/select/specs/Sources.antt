@@ -1,0 +1,52 @@
+-- The two decoders as sources of a pass.
+use mathlib.Core.Path.{_≡_, refl}
+use mathlib.Core.List.{List}
+use Prim.Native.Nat.{ℕ, _<_, _^_}
+use native.Mathlib.Omega.{arith}
+use lib.ListN.{length}
+use Rattle.stream.specs.Words.{wordsOf, length-words}
+use Rattle.evt.specs.declared.evt2.Evt2Decoder.{Evt2Decoder}
+use Rattle.evt.specs.declared.evt3.Decoder.{Decoder}
+use Rattle.evt.specs.declared.codec.Codec.the-variants.{Evt2, Evt3}
+use Rattle.evt.specs.Evt2.{reader2, vector2}
+use Rattle.evt.specs.Evt3.{reader3, vector3}
+use Rattle.evt.specs.Range.{Bounded2, Bounded3, bounded-step2, bounded-step3, bounded-narrow2, bounded-narrow3}
+use Rattle.select.specs.Pass.{Ready}
+use Rattle.select.specs.Turn.{Source, Laws}
+
+abbrev pub source2 : Source
+source2 = record {
+  State = Evt2Decoder;
+  size = 4;
+  machine = reader2;
+  live = λ d. d .initialised;
+  time = λ d. d .time;
+  vector = vector2;
+  codec = Evt2;
+  Inv = Bounded2;
+}
+
+abbrev pub source3 : Source
+source3 = record {
+  State = Decoder;
+  size = 2;
+  machine = reader3;
+  live = λ d. d .initialised;
+  time = λ d. d .time;
+  vector = vector3;
+  codec = Evt3;
+  Inv = Bounded3;
+}
+
+pub laws2 : Laws source2
+laws2 = record { some = omega arith; emits = λ d w. refl; steps = bounded-step2; narrow = λ n d w b. bounded-narrow2 w b }
+
+pub laws3 : Laws source3
+laws3 = record { some = omega arith; emits = λ d w. refl; steps = bounded-step3; narrow = λ n d w b. bounded-narrow3 w b }
+
+-- a pass that is asked for what it may be
+pub inv2 : {number : ℕ} (d : Evt2Decoder) (l : List ℕ) → Ready (Evt2 d) number (length l) → Bounded2 (length (wordsOf 4 l)) d
+inv2 d l r = rw (length-words 4 l) (r .able)
+
+pub inv3 : {number : ℕ} (d : Decoder) (l : List ℕ) → Ready (Evt3 d) number (length l) → d .«base_x» < 2 ^ 16 → Bounded3 (length (wordsOf 2 l)) d
+inv3 d l r x = rw (length-words 2 l) (record { regular = r .able .regular; loops = r .able .loops; column = x })

@@ -1,0 +1,193 @@
+-- What a pass comes to in each use: by number, with a limit, by time, and of all events. One law for either encoding.
+use mathlib.Core.Path.{_≡_, refl, sym, ap, _∙_}
+use mathlib.Core.Bool.{Bool, true, false}
+use mathlib.Core.List.{List, [], _∷_, map}
+use Prim.Native.Nat.{ℕ, suc, _+_, _*_, _/_, _^_, _≤_, _<_}
+use native.Mathlib.Omega.{arith}
+use lib.ListN.{length, take}
+use Rattle.stream.specs.Machine.{Machine, All, all-of, emits, emits-all}
+use Rattle.stream.specs.Words.{wordsOf, length-words}
+use Rattle.stream.specs.Loop.{loops-one}
+use Rattle.stream.specs.Mask.{bits}
+use Rattle.stream.specs.Slice.{sift, all-sift, andThen, until, Past, timely}
+use Rattle.stream.specs.Select as Select
+use Rattle.stream.specs.Select.{End, byNumber}
+use Rattle.evt.specs.declared.evt2.Evt2Decoder.{Evt2Decoder}
+use Rattle.evt.specs.declared.evt3.Decoder.{Decoder}
+use Rattle.evt.specs.declared.codec.Codec.{Codec}
+use Rattle.evt.specs.declared.codec.Codec.the-variants.{Evt2, Evt3}
+use Rattle.evt.specs.declared.vector.Vector.{Vector}
+use Rattle.evt.specs.Event.{Event, eventAt, eventsOf}
+use Rattle.evt.specs.Layout.{type3, time3}
+use Rattle.evt.specs.Evt2.{reader2, vector2}
+use Rattle.evt.specs.Evt3 as Evt3
+use Rattle.evt.specs.Evt3.{reader3, step3, vector3, period3, threshold3}
+use Rattle.evt.specs.Codec.{inRangeC}
+use Rattle.evt.specs.Range.{Bounded2, Bounded3, Regular2, Regular3, bounded-range2, bounded-step2, bounded-narrow2, regular-range3, regular-step3}
+use Rattle.sensor.specs.Inside.{inside, clock}
+use Rattle.select.specs.declared.Window.{Window}
+use Rattle.select.specs.Window.{spanOf, reading, reading2, reading3}
+use Rattle.select.specs.Trim.{all-mapped}
+use Rattle.select.specs.Pass.{handedOver, endOver, endOf, Paced3, Able}
+
+-- ---- a decoder in range is able
+
+pub able-range : (c : Codec) (bytes : ℕ) → inRangeC c ≡ true → bytes ≤ 2 ^ 30 → Able bytes c
+able-range (Evt2 d) bytes h l = bounded-range2 (bytes / 4) d h (omega arith)
+able-range (Evt3 d) bytes h l =
+    let r = regular-range3 d h in
+    record { regular = r .0; loops = omega (arith, r .1) }
+
+pub able-bounded3 : (bytes : ℕ) {d : Decoder} → Bounded3 (bytes / 2) d → Able bytes (Evt3 d)
+able-bounded3 bytes b = record { regular = b .regular; loops = b .loops }
+
+-- ---- no time reaches 2^63
+
+-- what holds of a state that takes n words more bounds its time and its events'
+pub record Timed {S : Type 0} (M : Machine S ℕ Event) (time : S → ℕ) (Inv : ℕ → S → Type 0) : Type 0 where
+  pub keeps : (n : ℕ) (s : S) (w : ℕ) → Inv (suc n) s → Inv n (M .step s w)
+  pub state : (n : ℕ) (s : S) → Inv n s → time s < 2 ^ 63
+  pub events : (n : ℕ) (s : S) (w : ℕ) → Inv (suc n) s → All (λ e. e .t < 2 ^ 63) (M .emit s w)
+
+stamped : (v : Vector) → v .t < 2 ^ 63 → All (λ e. e .t < 2 ^ 63) (eventsOf v)
+stamped v h = all-mapped (λ e. e .t < 2 ^ 63) (eventAt v) (bits 32 (v .x) (v .mask)) (all-of _ (λ c. h) (bits 32 (v .x) (v .mask)))
+
+timed2 : Timed reader2 (λ d. d .time) Bounded2
+timed2 = record { keeps = bounded-step2; state = state; events = λ n d w b. stamped (vector2 d w) (bounded-narrow2 w b .t<) }
+  where
+    state : (n : ℕ) (d : Evt2Decoder) → Bounded2 n d → d .time < 2 ^ 63
+    state n d b = go (d .initialised) refl
+      where
+        go : (t : Bool) → d .initialised ≡ t → d .time < 2 ^ 63
+        go true e = let k = b .regular .started e in omega (arith, k .near, k .high, b .loops)
+        go false e = rw (b .regular .unstarted e) (omega arith)
+
+loops3 : (d : Decoder) (w : ℕ) → step3 d w .«high_loops» ≤ suc (d .«high_loops»)
+unfolding step3
+loops3 d w =
+    let same : d .«high_loops» ≤ suc (d .«high_loops») = omega arith in
+    Evt3.by-kinds (λ k. Evt3.stepAs k d w .«high_loops» ≤ suc (d .«high_loops»)) (type3 w) (d .initialised)
+    (λ o. same) (λ o. loops-one period3 threshold3 (d .«time_base») (d .«high_loops») (time3 w * 4096) .1)
+    (λ o. same) (λ o. same) (λ o. same) (λ o. same) (λ o. same) (λ o. same) same
+
+time3-lt : (n : ℕ) (d : Decoder) → Paced3 n d → d .time < 2 ^ 63
+time3-lt n d b = go (d .initialised) refl
+  where
+    go : (t : Bool) → d .initialised ≡ t → d .time < 2 ^ 63
+    go true e = let k = b .regular .started e .0 in omega (arith, k .near, k .high, b .loops)
+    go false e = rw (b .regular .unstarted e) (omega arith)
+
+stamp3 : (d : Decoder) (w : ℕ) → d .time < 2 ^ 63 → vector3 d w .t < 2 ^ 63
+unfolding vector3
+stamp3 d w h = Evt3.by-kinds (λ k. Evt3.vectorAs k d w .t < 2 ^ 63) (type3 w) (d .initialised)
+    (λ o. omega arith) (λ o. omega arith) (λ o. omega arith) (λ o. omega arith) (λ o. h) (λ o. omega arith) (λ o. h) (λ o. h) (omega arith)
+
+timed3 : Timed reader3 (λ d. d .time) Paced3
+timed3 = record {
+  keeps = λ n d w b. record { regular = regular-step3 d w (b .regular); loops = omega (arith, b .loops, loops3 d w) };
+  state = time3-lt;
+  events = λ n d w b. stamped (vector3 d w) (stamp3 d w (time3-lt _ d b));
+}
+
+module _ {S : Type 0} {M : Machine S ℕ Event} {time : S → ℕ} {Inv : ℕ → S → Type 0} (T : Timed M time Inv) (live : S → Bool) (win : Window) (no-end : 2 ^ 63 ≤ win .t1)
+    (s : S) (ws : List ℕ) (inv : Inv (length ws) s) where
+  calm : Select.Calm (reading M live time win) (spanOf win) s ws
+  calm = Select.calm-bounded (reading M live time win) (spanOf win) Inv (T .keeps) (λ n u i. omega (arith, T .state n u i)) s ws inv
+
+  in-window : win .t0 ≡ 0 → All (λ e. Select.inTime (reading M live time win) (spanOf win) e ≡ true) (Select.numbered (reading M live time win) s ws)
+  in-window z = all-sift (inside (win .width) (win .height)) _ (emits M s ws)
+    (emits-all M Inv (T .keeps) _ (λ n u w i. all-timely (M .emit u w) (T .events n u w i)) s ws inv)
+    where
+      all-timely : (es : List Event) → All (λ e. e .t < 2 ^ 63) es → All (λ e. Select.inTime (reading M live time win) (spanOf win) e ≡ true) es
+      all-timely [] h = tt
+      all-timely (e ∷ es) h = (timely clock (win .t0) (win .t1) e (omega arith) (omega (arith, h .0)), all-timely es (h .1))
+
+-- ---- over either encoding
+
+-- the events that have a number: those inside width x height
+abbrev pub numberedOver : Window → Codec → List ℕ → List Event
+numberedOver win (Evt2 d) l = Select.numbered (reading2 win) d (wordsOf 4 l)
+numberedOver win (Evt3 d) l = Select.numbered (reading3 win) d (wordsOf 2 l)
+
+abbrev pub isTimely : Window → Event → Bool
+isTimely win = Select.inTime (reading2 win) (spanOf win)
+
+-- those up to the first word after which the decoder is started and its time is t1 or more
+abbrev pub untilOver : Window → Codec → List ℕ → List Event
+untilOver win (Evt2 d) l = Select.numbered (reading2 win) d (until reader2 (Select.isOver (reading2 win) (spanOf win)) d (wordsOf 4 l))
+untilOver win (Evt3 d) l = Select.numbered (reading3 win) d (until reader3 (Select.isOver (reading3 win) (spanOf win)) d (wordsOf 2 l))
+
+-- after that word no event inside is in time
+abbrev pub PastOver : Window → Codec → List ℕ → Type 0
+PastOver win (Evt2 d) l = Past reader2 (andThen (inside (win .width) (win .height)) (isTimely win)) (Select.isOver (reading2 win) (spanOf win)) d (wordsOf 4 l)
+PastOver win (Evt3 d) l = Past reader3 (andThen (inside (win .width) (win .height)) (isTimely win)) (Select.isOver (reading3 win) (spanOf win)) d (wordsOf 2 l)
+
+-- after all words
+abbrev pub endAfterAll : Window → ℕ → Codec → List ℕ → End Codec
+endAfterAll win k (Evt2 d) l = endOf Evt2 (Select.endAfter (reading2 win) k d (wordsOf 4 l))
+endAfterAll win k (Evt3 d) l = endOf Evt3 (Select.endAfter (reading3 win) k d (wordsOf 2 l))
+
+module _ (win : Window) where
+  abbrev Calm2 : Evt2Decoder → List ℕ → Type 0
+  Calm2 d l = Select.Calm (reading2 win) (spanOf win) d (wordsOf 4 l)
+
+  abbrev Calm3 : Decoder → List ℕ → Type 0
+  Calm3 d l = Select.Calm (reading3 win) (spanOf win) d (wordsOf 2 l)
+
+  calm2 : 2 ^ 63 ≤ win .t1 → (d : Evt2Decoder) (l : List ℕ) → Able (length l) (Evt2 d) → Calm2 d l
+  calm2 no-end d l a = calm timed2 (λ d. d .initialised) win no-end d (wordsOf 4 l) (rw (length-words 4 l) a)
+
+  calm3 : 2 ^ 63 ≤ win .t1 → (d : Decoder) (l : List ℕ) → Able (length l) (Evt3 d) → Calm3 d l
+  calm3 no-end d l a = calm timed3 (λ d. d .initialised) win no-end d (wordsOf 2 l) (rw (length-words 2 l) a)
+
+  -- every event is in time
+  pub all-timely : (c : Codec) (l : List ℕ) → Able (length l) c → win .t0 ≡ 0 → 2 ^ 63 ≤ win .t1 → All (λ e. isTimely win e ≡ true) (numberedOver win c l)
+  all-timely (Evt2 d) l a z no-end = in-window timed2 (λ d. d .initialised) win no-end d (wordsOf 4 l) (rw (length-words 4 l) a) z
+  all-timely (Evt3 d) l a z no-end = in-window timed3 (λ d. d .initialised) win no-end d (wordsOf 2 l) (rw (length-words 2 l) a) z
+
+  -- ---- where the window has all times
+
+  module _ (c : Codec) (l : List ℕ) (able : Able (length l) c) (no-start : win .t0 ≡ 0) (no-end : 2 ^ 63 ≤ win .t1) where
+    -- BY NUMBER
+    pub over-by-number : (k : ℕ) → handedOver win k c l ≡ byNumber (win .n0) (win .n1) k (numberedOver win c l)
+    over-by-number k = go c able (all-timely c l able no-start no-end)
+      where
+        go : (c : Codec) → Able (length l) c → All (λ e. isTimely win e ≡ true) (numberedOver win c l) → handedOver win k c l ≡ byNumber (win .n0) (win .n1) k (numberedOver win c l)
+        go (Evt2 d) a t = Select.handed-by-number (reading2 win) (spanOf win) k d (wordsOf 4 l) (calm2 no-end d l a) t
+        go (Evt3 d) a t = Select.handed-by-number (reading3 win) (spanOf win) k d (wordsOf 2 l) (calm3 no-end d l a) t
+
+    -- THE LIMIT
+    pub over-limit : win .n0 ≡ 0 → handedOver win 0 c l ≡ take (win .n1) (numberedOver win c l)
+    over-limit z = go c able (all-timely c l able no-start no-end)
+      where
+        go : (c : Codec) → Able (length l) c → All (λ e. isTimely win e ≡ true) (numberedOver win c l) → handedOver win 0 c l ≡ take (win .n1) (numberedOver win c l)
+        go (Evt2 d) a t = Select.handed-limit (reading2 win) (spanOf win) d (wordsOf 4 l) z (calm2 no-end d l a) t
+        go (Evt3 d) a t = Select.handed-limit (reading3 win) (spanOf win) d (wordsOf 2 l) z (calm3 no-end d l a) t
+
+    -- ALL: and all numbers
+    pub over-all : (k : ℕ) → win .n0 ≤ k → k + length (numberedOver win c l) ≤ win .n1 → handedOver win k c l ≡ numberedOver win c l
+    over-all k lo hi = go c able lo hi (all-timely c l able no-start no-end)
+      where
+        go : (c : Codec) → Able (length l) c → win .n0 ≤ k → k + length (numberedOver win c l) ≤ win .n1 → All (λ e. isTimely win e ≡ true) (numberedOver win c l)
+            → handedOver win k c l ≡ numberedOver win c l
+        go (Evt2 d) a lo hi t = Select.handed-all (reading2 win) (spanOf win) k d (wordsOf 4 l) lo hi (calm2 no-end d l a) t
+        go (Evt3 d) a lo hi t = Select.handed-all (reading3 win) (spanOf win) k d (wordsOf 2 l) lo hi (calm3 no-end d l a) t
+
+  -- nothing stops it
+  pub over-all-end : (c : Codec) (l : List ℕ) → Able (length l) c → 2 ^ 63 ≤ win .t1 → (k : ℕ) → k + length (numberedOver win c l) < win .n1
+      → endOver win k c l ≡ endAfterAll win k c l
+  over-all-end (Evt2 d) l a no-end k hi = ap (endOf Evt2) (Select.ended-all (reading2 win) (spanOf win) k d (wordsOf 4 l) hi (calm2 no-end d l a))
+  over-all-end (Evt3 d) l a no-end k hi = ap (endOf Evt3) (Select.ended-all (reading3 win) (spanOf win) k d (wordsOf 2 l) hi (calm3 no-end d l a))
+
+  -- ---- BY TIME: where the window has all numbers
+
+  pub over-by-time : (k : ℕ) (c : Codec) (l : List ℕ) → win .n0 ≤ k → k + length (numberedOver win c l) < win .n1
+      → handedOver win k c l ≡ sift (isTimely win) (untilOver win c l)
+  over-by-time k (Evt2 d) l lo hi = Select.handed-by-time (reading2 win) (spanOf win) k d (wordsOf 4 l) lo hi
+  over-by-time k (Evt3 d) l lo hi = Select.handed-by-time (reading3 win) (spanOf win) k d (wordsOf 2 l) lo hi
+
+  -- of all the bytes, where no event that is in time follows the stop
+  pub over-in-time : (k : ℕ) (c : Codec) (l : List ℕ) → win .n0 ≤ k → k + length (numberedOver win c l) < win .n1 → PastOver win c l
+      → handedOver win k c l ≡ sift (isTimely win) (numberedOver win c l)
+  over-in-time k (Evt2 d) l lo hi p = Select.handed-in-time (reading2 win) (spanOf win) k d (wordsOf 4 l) lo hi p
+  over-in-time k (Evt3 d) l lo hi p = Select.handed-in-time (reading3 win) (spanOf win) k d (wordsOf 2 l) lo hi p

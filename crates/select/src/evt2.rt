@@ -1,0 +1,118 @@
+// The passes over EVT2 words.
+ghost use mathlib.Core.Path.{_≡_};
+ghost use Prim.Native.Nat.{_+_, _*_};
+ghost use lib.ListN.{length};
+ghost use Rattle.evt.specs.declared.codec.Codec.the-variants.{Evt2};
+ghost use Rattle.evt.specs.Columns.{Wrote};
+ghost use Rattle.select.specs.Pass.{Ready, Fits, handedOver, surveyed, filled};
+use crate::Filled;
+use crate::Tally;
+use crate::Window;
+use crate::extent;
+use crate::extent::Extent;
+use crate::trim;
+use evt::Codec;
+use evt::Evt2Decoder;
+use evt::vector::Vector;
+
+fn word4(a: u8, b: u8, c: u8, d: u8) -> u64
+    ensures { λ r. ⌜ r ≡ a + b * 256 + c * 65536 + d * 16777216 ⌝ }
+{
+    a as u64 + b as u64 * 256 + c as u64 * 65536 + d as u64 * 16777216
+}
+
+pub fn survey2(bytes: &[u8], d: Evt2Decoder, win: Window, number: u64) -> Tally
+    requires { ⌜ Ready (Evt2 d) number (length (now bytes)) ⌝ }
+    ensures { λ r. ⌜ r ≡ surveyed win number (Evt2 d) (now (bytes .entry)) ⌝ }
+{
+    let mut s = d;
+    let mut k = number;
+    let mut n: usize = 0;
+    let mut seen = Extent {
+        latest: 0,
+        width: 0,
+        height: 0,
+    };
+    let mut i: usize = 0;
+    while i + 3 < bytes.len() {
+        let w = word4(bytes[i], bytes[i + 1], bytes[i + 2], bytes[i + 3]);
+        let step = s.advance(w);
+        let v = step.events;
+        s = step.next;
+        i += 4;
+        if v.mask != 0 {
+            let r = trim::trim(v, win, k);
+            let kept = Vector {
+                x: v.x,
+                y: v.y,
+                t: v.t,
+                p: v.p,
+                mask: r.mask,
+            };
+            let m = u64::count_ones(r.mask);
+            seen = extent::see(seen, kept);
+            n += m as usize;
+            k = k + m as u64 + r.extra;
+        }
+        if trim::stopped(win, k, s.initialised, s.time) {
+            break;
+        }
+    }
+    Tally {
+        number: k,
+        count: n,
+        latest: seen.latest,
+        width: seen.width,
+        height: seen.height,
+        consumed: i / 4,
+        codec: Codec::Evt2(s),
+    }
+}
+
+pub fn fill2(
+    bytes: &[u8],
+    d: Evt2Decoder,
+    win: Window,
+    number: u64,
+    xs: &mut [u16],
+    ys: &mut [u16],
+    ts: &mut [i64],
+    ps: &mut [u8],
+) -> Filled
+    requires { ⌜ Ready (Evt2 d) number (length (now bytes)) ⌝ ∗ ⌜ Fits (length (handedOver win number (Evt2 d) (now bytes))) (length (now xs)) (length (now ys)) (length (now ts)) (length (now ps)) ⌝ }
+    ensures { λ r. ⌜ r ≡ filled win number (Evt2 d) (now (bytes .entry)) ⌝ ∗ ⌜ Wrote (handedOver win number (Evt2 d) (now (bytes .entry))) 0 (now (xs .entry)) (now (ys .entry)) (now (ts .entry)) (now (ps .entry)) (now (xs .exit)) (now (ys .exit)) (now (ts .exit)) (now (ps .exit)) ⌝ }
+{
+    let mut s = d;
+    let mut k = number;
+    let mut n: usize = 0;
+    let mut i: usize = 0;
+    while i + 3 < bytes.len() {
+        let w = word4(bytes[i], bytes[i + 1], bytes[i + 2], bytes[i + 3]);
+        let step = s.advance(w);
+        let v = step.events;
+        s = step.next;
+        i += 4;
+        if v.mask != 0 {
+            let r = trim::trim(v, win, k);
+            let kept = Vector {
+                x: v.x,
+                y: v.y,
+                t: v.t,
+                p: v.p,
+                mask: r.mask,
+            };
+            let was = n;
+            n = sensor::put_all(kept, was, &mut *xs, &mut *ys, &mut *ts, &mut *ps);
+            k = k + (n - was) as u64 + r.extra;
+        }
+        if trim::stopped(win, k, s.initialised, s.time) {
+            break;
+        }
+    }
+    Filled {
+        number: k,
+        count: n,
+        consumed: i / 4,
+        codec: Codec::Evt2(s),
+    }
+}

@@ -1,0 +1,120 @@
+// The passes over EVT3 words.
+ghost use mathlib.Core.Path.{_≡_};
+ghost use Prim.Native.Nat.{_+_, _*_};
+ghost use lib.ListN.{length};
+ghost use Rattle.evt.specs.declared.codec.Codec.the-variants.{Evt3};
+ghost use Rattle.evt.specs.Columns.{Wrote};
+ghost use Rattle.select.specs.Pass.{Ready, Fits, handedOver, surveyed, filled};
+use crate::Filled;
+use crate::Tally;
+use crate::Window;
+use crate::extent;
+use crate::extent::Extent;
+use crate::trim;
+use evt::Codec;
+use evt::Decoder;
+use evt::vector::Vector;
+
+fn word2(lo: u8, hi: u8) -> u64
+    ensures { λ r. ⌜ r ≡ lo + hi * 256 ⌝ }
+{
+    lo as u64 + hi as u64 * 256
+}
+
+pub fn survey3(bytes: &[u8], d: Decoder, win: Window, number: u64) -> Tally
+    requires { ⌜ Ready (Evt3 d) number (length (now bytes)) ⌝ }
+    ensures { λ r. ⌜ r ≡ surveyed win number (Evt3 d) (now (bytes .entry)) ⌝ }
+{
+    let mut s = d.widen();
+    let mut k = number;
+    let mut n: usize = 0;
+    let mut seen = Extent {
+        latest: 0,
+        width: 0,
+        height: 0,
+    };
+    let mut i: usize = 0;
+    while i + 1 < bytes.len() {
+        let w = word2(bytes[i], bytes[i + 1]);
+        let step = s.advance(w);
+        let v = step.events;
+        s = step.next;
+        i += 2;
+        if v.mask != 0 {
+            let r = trim::trim(v, win, k);
+            let kept = Vector {
+                x: v.x,
+                y: v.y,
+                t: v.t,
+                p: v.p,
+                mask: r.mask,
+            };
+            let m = u64::count_ones(r.mask);
+            seen = extent::see(seen, kept);
+            n += m as usize;
+            k = k + m as u64 + r.extra;
+        }
+        if trim::stopped(win, k, s.initialised, s.time) {
+            break;
+        }
+    }
+    let decoder = s.slim();
+    Tally {
+        number: k,
+        count: n,
+        latest: seen.latest,
+        width: seen.width,
+        height: seen.height,
+        consumed: i / 2,
+        codec: Codec::Evt3(decoder),
+    }
+}
+
+pub fn fill3(
+    bytes: &[u8],
+    d: Decoder,
+    win: Window,
+    number: u64,
+    xs: &mut [u16],
+    ys: &mut [u16],
+    ts: &mut [i64],
+    ps: &mut [u8],
+) -> Filled
+    requires { ⌜ Ready (Evt3 d) number (length (now bytes)) ⌝ ∗ ⌜ Fits (length (handedOver win number (Evt3 d) (now bytes))) (length (now xs)) (length (now ys)) (length (now ts)) (length (now ps)) ⌝ }
+    ensures { λ r. ⌜ r ≡ filled win number (Evt3 d) (now (bytes .entry)) ⌝ ∗ ⌜ Wrote (handedOver win number (Evt3 d) (now (bytes .entry))) 0 (now (xs .entry)) (now (ys .entry)) (now (ts .entry)) (now (ps .entry)) (now (xs .exit)) (now (ys .exit)) (now (ts .exit)) (now (ps .exit)) ⌝ }
+{
+    let mut s = d.widen();
+    let mut k = number;
+    let mut n: usize = 0;
+    let mut i: usize = 0;
+    while i + 1 < bytes.len() {
+        let w = word2(bytes[i], bytes[i + 1]);
+        let step = s.advance(w);
+        let v = step.events;
+        s = step.next;
+        i += 2;
+        if v.mask != 0 {
+            let r = trim::trim(v, win, k);
+            let kept = Vector {
+                x: v.x,
+                y: v.y,
+                t: v.t,
+                p: v.p,
+                mask: r.mask,
+            };
+            let was = n;
+            n = sensor::put_all(kept, was, &mut *xs, &mut *ys, &mut *ts, &mut *ps);
+            k = k + (n - was) as u64 + r.extra;
+        }
+        if trim::stopped(win, k, s.initialised, s.time) {
+            break;
+        }
+    }
+    let decoder = s.slim();
+    Filled {
+        number: k,
+        count: n,
+        consumed: i / 2,
+        codec: Codec::Evt3(decoder),
+    }
+}

@@ -3,6 +3,7 @@
 // where the cases and the expected answers come from. A command has a module of its own.
 ghost use mathlib.Core.Path.{_≡_};
 ghost use lib.ListN.{length};
+
 mod show;
 mod state;
 mod step;
@@ -11,16 +12,29 @@ mod text;
 use libc::STDIN_FILENO;
 use libc::STDOUT_FILENO;
 
+enum Asked {
+    Step,
+    Word,
+    Unknown,
+}
+
+fn command(word: &[u8]) -> Asked {
+    if text::is(word, b"step") {
+        return Asked::Step;
+    }
+    if text::is(word, b"word") {
+        return Asked::Word;
+    }
+    Asked::Unknown
+}
+
 // What the command of a case answers, put at `at`.
 fn answer(case: &[u8], out: &mut [u8], at: usize) -> usize {
-    let command = text::field(case, b' ', 1);
-    if text::is(command, b"step") {
-        return step::all(case, out, at);
+    match command(text::field(case, b' ', 1)) {
+        Asked::Step => step::words(case, out, at),
+        Asked::Word => step::word(case, out, at),
+        Asked::Unknown => show::bytes(out, at, b"badcase command"),
     }
-    if text::is(command, b"word") {
-        return step::first(case, out, at);
-    }
-    show::bytes(out, at, b"badcase command")
 }
 
 fn replay(case: &[u8], out: &mut [u8]) {

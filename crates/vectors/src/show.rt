@@ -50,9 +50,23 @@ pub fn next(out: &mut [u8], at: usize, separator: u8, n: u64) -> usize {
     number(out, end, n)
 }
 
-// 0 or 1.
-pub fn flag(out: &mut [u8], at: usize, on: bool) -> usize {
-    number(out, at, on as u64)
+// Numbers with commas between them.
+pub fn list(out: &mut [u8], at: usize, numbers: &[u64]) -> usize {
+    let mut end = at;
+    let mut i = 0;
+    while i < numbers.len() {
+        end = element(out, end, i, numbers[i]);
+        i += 1;
+    }
+    end
+}
+
+// Number i of a list.
+fn element(out: &mut [u8], at: usize, i: usize, n: u64) -> usize {
+    if i == 0 {
+        return number(out, at, n);
+    }
+    next(out, at, b',', n)
 }
 
 // `t,x,y,p`.
@@ -63,26 +77,57 @@ pub fn event(out: &mut [u8], at: usize, e: RawEvent) -> usize {
     next(out, y, b',', e.p as u64)
 }
 
-// `refused`, the table's number, and the count that goes with it.
-pub fn refusal(out: &mut [u8], at: usize, r: Refusal) -> usize {
-    let end = bytes(out, at, b"refused ");
-    match r {
-        Refusal::InvalidSensorSize => number(out, end, 1),
-        Refusal::UnknownEncoding => number(out, end, 2),
-        Refusal::HeaderNotAscii => number(out, end, 3),
-        Refusal::TooLong => number(out, end, 4),
-        Refusal::ColumnsTooShort(n) => counted(out, end, 5, n),
-        Refusal::TimeOrder => number(out, end, 6),
-        Refusal::EventOutOfRange => number(out, end, 7),
-        Refusal::InvalidSpacing => number(out, end, 8),
-        Refusal::TooFewRecords(n) => counted(out, end, 9, n),
-        Refusal::StateOutOfRange => number(out, end, 10),
-        Refusal::OutputTooShort(n) => counted(out, end, 11, n),
-        Refusal::ColumnLengths => number(out, end, 12),
+// What a refusal tells: the table's number and, if it goes with one, a count.
+pub struct Told {
+    pub number: u64,
+    pub counts: bool,
+    pub count: u64,
+}
+
+// No refusal.
+pub fn nothing() -> Told {
+    plain(0)
+}
+
+fn plain(number: u64) -> Told {
+    Told {
+        number,
+        counts: false,
+        count: 0,
     }
 }
 
-fn counted(out: &mut [u8], at: usize, k: u64, n: usize) -> usize {
-    let end = number(out, at, k);
-    next(out, end, b' ', n as u64)
+fn counted(number: u64, n: usize) -> Told {
+    Told {
+        number,
+        counts: true,
+        count: n as u64,
+    }
+}
+
+pub fn by_table(r: Refusal) -> Told {
+    match r {
+        Refusal::InvalidSensorSize => plain(1),
+        Refusal::UnknownEncoding => plain(2),
+        Refusal::HeaderNotAscii => plain(3),
+        Refusal::TooLong => plain(4),
+        Refusal::ColumnsTooShort(n) => counted(5, n),
+        Refusal::TimeOrder => plain(6),
+        Refusal::EventOutOfRange => plain(7),
+        Refusal::InvalidSpacing => plain(8),
+        Refusal::TooFewRecords(n) => counted(9, n),
+        Refusal::StateOutOfRange => plain(10),
+        Refusal::OutputTooShort(n) => counted(11, n),
+        Refusal::ColumnLengths => plain(12),
+    }
+}
+
+// `refused NUMBER`, or `refused NUMBER COUNT`.
+pub fn refused(out: &mut [u8], at: usize, t: Told) -> usize {
+    let behind = bytes(out, at, b"refused ");
+    let end = number(out, behind, t.number);
+    if t.counts {
+        return next(out, end, b' ', t.count);
+    }
+    end
 }

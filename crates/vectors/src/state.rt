@@ -13,100 +13,81 @@ pub enum State {
 }
 
 pub fn read(s: &[u8]) -> State {
-    let fields = text::tail(s, 2);
     if text::at(s, 1) != b':' {
         return State::Bad;
     }
-    if text::at(s, 0) == b'2' {
+    let fields = text::tail(s, 2);
+    let kind = text::at(s, 0);
+    if kind == b'2' {
         return evt2(fields);
     }
-    if text::at(s, 0) == b'3' {
+    if kind == b'3' {
         return evt3(fields);
     }
     State::Bad
 }
 
-fn number(fields: &[u8], k: usize) -> Number {
-    text::read_number(text::field(fields, b',', k))
+// Number k of `fields`, stored at k; whether it is there and finds room.
+fn number(fields: &[u8], k: usize, into: &mut [u64]) -> bool {
+    let Number::Value(n) = text::read_number(text::field(fields, b',', k)) else {
+        return false;
+    };
+    if k < into.len() {
+        into[k] = n;
+        return true;
+    }
+    false
+}
+
+// As many numbers as `into` has places.
+fn numbers(fields: &[u8], into: &mut [u64]) -> bool {
+    let mut k = 0;
+    while k < into.len() {
+        if !number(fields, k, into) {
+            return false;
+        }
+        k += 1;
+    }
+    true
 }
 
 fn evt2(fields: &[u8]) -> State {
-    let Number::Value(started) = number(fields, 0) else {
+    let mut n = [0u64; 4];
+    if !numbers(fields, &mut n) {
         return State::Bad;
-    };
-    let Number::Value(high) = number(fields, 1) else {
-        return State::Bad;
-    };
-    let Number::Value(time) = number(fields, 2) else {
-        return State::Bad;
-    };
-    let Number::Value(loops) = number(fields, 3) else {
-        return State::Bad;
-    };
+    }
     State::Of(Codec::Evt2(Evt2Decoder {
-        initialised: started == 1,
-        time_high: high,
-        time,
-        high_loops: loops,
+        initialised: n[0] == 1,
+        time_high: n[1],
+        time: n[2],
+        high_loops: n[3],
     }))
-}
-
-// The clock of an EVT3 decoder.
-struct Clock {
-    started: bool,
-    base: u64,
-    time: u64,
-    loops: u64,
 }
 
 fn evt3(fields: &[u8]) -> State {
-    let Number::Value(started) = number(fields, 0) else {
+    let mut n = [0u64; 7];
+    if !numbers(fields, &mut n) {
         return State::Bad;
-    };
-    let Number::Value(base) = number(fields, 1) else {
-        return State::Bad;
-    };
-    let Number::Value(time) = number(fields, 2) else {
-        return State::Bad;
-    };
-    let Number::Value(loops) = number(fields, 6) else {
-        return State::Bad;
-    };
-    let clock = Clock {
-        started: started == 1,
-        base,
-        time,
-        loops,
-    };
-    placed(fields, clock)
+    }
+    let row = short(n[3]);
+    let column = short(n[4]);
+    State::Of(Codec::Evt3(Decoder {
+        initialised: n[0] == 1,
+        time_base: n[1],
+        time: n[2],
+        y: row,
+        base_x: column,
+        polarity: n[5] == 1,
+        high_loops: n[6],
+    }))
 }
 
-// Row, base column and polarity beside the clock.
-fn placed(fields: &[u8], clock: Clock) -> State {
-    let Number::Value(y) = number(fields, 3) else {
-        return State::Bad;
-    };
-    let Number::Value(x) = number(fields, 4) else {
-        return State::Bad;
-    };
-    let Number::Value(p) = number(fields, 5) else {
-        return State::Bad;
-    };
-    if y > 65535 {
-        return State::Bad;
+// A row or a column has 16 bits; more is held at 65,535.
+fn short(n: u64) -> u16 {
+    if n <= 65535 {
+        return n as u16;
     }
-    if x > 65535 {
-        return State::Bad;
-    }
-    State::Of(Codec::Evt3(Decoder {
-        initialised: clock.started,
-        time_base: clock.base,
-        time: clock.time,
-        y: y as u16,
-        base_x: x as u16,
-        polarity: p == 1,
-        high_loops: clock.loops,
-    }))
+    65535
 }
 
 pub fn show(out: &mut [u8], at: usize, codec: Codec) -> usize {
@@ -117,24 +98,21 @@ pub fn show(out: &mut [u8], at: usize, codec: Codec) -> usize {
 }
 
 fn show2(out: &mut [u8], at: usize, d: Evt2Decoder) -> usize {
+    let n = [d.initialised as u64, d.time_high, d.time, d.high_loops];
     let kind = show::bytes(out, at, b"2:");
-    let started = show::flag(out, kind, d.initialised);
-    let high = show::next(out, started, b',', d.time_high);
-    let time = show::next(out, high, b',', d.time);
-    show::next(out, time, b',', d.high_loops)
+    show::list(out, kind, &n)
 }
 
 fn show3(out: &mut [u8], at: usize, d: Decoder) -> usize {
+    let n = [
+        d.initialised as u64,
+        d.time_base,
+        d.time,
+        d.y as u64,
+        d.base_x as u64,
+        d.polarity as u64,
+        d.high_loops,
+    ];
     let kind = show::bytes(out, at, b"3:");
-    let started = show::flag(out, kind, d.initialised);
-    let base = show::next(out, started, b',', d.time_base);
-    let time = show::next(out, base, b',', d.time);
-    let place = show_place(out, time, d);
-    show::next(out, place, b',', d.high_loops)
-}
-
-fn show_place(out: &mut [u8], at: usize, d: Decoder) -> usize {
-    let row = show::next(out, at, b',', d.y as u64);
-    let column = show::next(out, row, b',', d.base_x as u64);
-    show::next(out, column, b',', d.polarity as u64)
+    show::list(out, kind, &n)
 }

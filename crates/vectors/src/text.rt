@@ -169,21 +169,35 @@ fn nibble(b: u8) -> u8 {
     16
 }
 
-// The byte of two hex digits, stored at i; whether there is one and room for it.
-fn pair(high: u8, low: u8, into: &mut [u8], i: usize) -> bool {
-    let h = nibble(high);
-    if h > 15 {
+// Byte i of the hex digits, stored at i; whether there is one and room for it.
+fn pair(s: &[u8], i: usize, into: &mut [u8]) -> bool {
+    if i >= s.len() / 2 {
         return false;
     }
-    let l = nibble(low);
-    if l > 15 {
+    let high = nibble(at(s, i * 2));
+    let low = nibble(at(s, i * 2 + 1));
+    if high > 15 {
+        return false;
+    }
+    if low > 15 {
         return false;
     }
     if i < into.len() {
-        into[i] = h * 16 + l;
+        into[i] = high * 16 + low;
         return true;
     }
     false
+}
+
+fn pairs(s: &[u8], n: usize, into: &mut [u8]) -> Bytes {
+    let mut i = 0;
+    while i < n {
+        if !pair(s, i, into) {
+            return Bytes::Bad;
+        }
+        i += 1;
+    }
+    Bytes::Count(n)
 }
 
 // Two lower case hex digits for each byte, and `-` for none; the bytes go to the start of `into`.
@@ -191,15 +205,8 @@ pub fn read_hex(s: &[u8], into: &mut [u8]) -> Bytes {
     if is(s, b"-") {
         return Bytes::Count(0);
     }
-    let mut i = 0;
-    while i < s.len() / 2 {
-        if !pair(at(s, i * 2), at(s, i * 2 + 1), into, i) {
-            return Bytes::Bad;
-        }
-        i += 1;
-    }
-    if i * 2 != s.len() {
+    if s.len() % 2 != 0 {
         return Bytes::Bad;
     }
-    Bytes::Count(i)
+    pairs(s, s.len() / 2, into)
 }

@@ -1,0 +1,68 @@
+use Prim.Native.Nat.{_≤_, _<_, _-_}
+use mathlib.Core.Path.{_≡_}
+use native.Mathlib.Omega.{arith}
+use borrow.Author.Needs.{needs}
+use lib.ListN.{length}
+use Rattle.vectors.proofs.step.turns.Statement.{statement}
+use Rattle.vectors.proofs.step.turns.Tie as tie
+
+abbrev Inv-loop : tie.InvT-loop
+Inv-loop bytes out₀ at size left₀ r₀ i₀ out left r i = length out ≡ length out₀
+
+abbrev μ-loop : tie.MeasureT-loop
+μ-loop bytes out₀ at size left₀ r₀ i₀ out left r i = left
+
+word-size-requires : tie.Need-word-size-requires Inv-loop μ-loop
+word-size-requires c κs = search needs
+
+whole-words-requires : tie.Need-whole-words-requires Inv-loop μ-loop
+whole-words-requires c κs = search needs
+
+start-requires : tie.Need-start-requires Inv-loop μ-loop
+start-requires c κs = search needs
+
+loop-holds : tie.Need-loop-holds Inv-loop μ-loop
+loop-holds c = search needs
+
+tail-requires : tie.Need-tail-requires Inv-loop μ-loop
+tail-requires c κs = search needs
+
+turn-requires : tie.Need-turn-requires Inv-loop μ-loop
+turn-requires c κs = search needs
+
+past-word-requires : tie.Need-past-word-requires Inv-loop μ-loop
+past-word-requires c κs = search needs
+
+sub-left : tie.Need-sub-left Inv-loop μ-loop
+sub-left c = search needs
+
+loop-less : tie.Need-loop-less Inv-loop μ-loop
+loop-less c = search needs
+
+loop-again : tie.Need-loop-again Inv-loop μ-loop
+loop-again c = search needs
+
+same-length : tie.Need-same-length Inv-loop μ-loop
+same-length c = search needs
+
+returns : tie.Need-returns Inv-loop μ-loop
+returns c = search needs
+
+pub turns-spec : {M : Type 1} → statement M
+turns-spec =
+    tie.close
+    (tie.spec
+    Inv-loop
+    μ-loop
+    word-size-requires
+    whole-words-requires
+    start-requires
+    loop-holds
+    tail-requires
+    turn-requires
+    past-word-requires
+    sub-left
+    loop-less
+    loop-again
+    same-length
+    returns)

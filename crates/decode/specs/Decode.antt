@@ -4,29 +4,18 @@ use Prim.Native.Nat.{ℕ, _/_, _<_, _^_}
 use lib.ListN.{length}
 use Rattle.stream.specs.Order.{greatest}
 use Rattle.stream.specs.Slice.{sift}
-use Rattle.stream.specs.Stream.{decode, after}
 use Rattle.evt.specs.declared.codec.Codec.{Codec}
 use Rattle.evt.specs.declared.codec.Codec.the-variants.{Evt2, Evt3}
 use Rattle.evt.specs.Event.{Event}
-use Rattle.evt.specs.Evt2.{reader2}
-use Rattle.evt.specs.Evt3.{reader3}
+pub use Rattle.evt.specs.Codec.{eventsFrom, codecAfter}
 use Rattle.evt.specs.Range.{Bounded2, Bounded3}
 use Rattle.sensor.specs.Inside.{inside, clock}
 use Rattle.decode.specs.declared.Tally.{Tally}
 use Rattle.decode.specs.declared.Survey.{Survey}
 
--- a broken last word is ignored
-abbrev pub events : Codec → List ℕ → List Event
-events (Evt2 d) l = decode 4 reader2 d l
-events (Evt3 d) l = decode 2 reader3 d l
-
-abbrev pub codecAfter : Codec → List ℕ → Codec
-codecAfter (Evt2 d) l = Evt2 (after 4 reader2 d l)
-codecAfter (Evt3 d) l = Evt3 (after 2 reader3 d l)
-
 -- events with x ≥ width or y ≥ height are dropped
 abbrev pub insideEvents : (width height : ℕ) → Codec → List ℕ → List Event
-insideEvents width height c l = sift (inside width height) (events c l)
+insideEvents width height c l = sift (inside width height) (eventsFrom c l)
 
 abbrev pub tallyOf : (width height : ℕ) → Codec → List ℕ → Tally
 tallyOf width height c l = record { count = length (insideEvents width height c l); codec = codecAfter c l }

@@ -26,7 +26,7 @@ use Rattle.evt.specs.Evt2.{vector2, reader2, fresh2}
 use Rattle.evt.specs.Evt3.{vector3, reader3, fresh3}
 use Rattle.evt.specs.Range.{Bounded2, Bounded3, bounded-step2, bounded-step3, bounded-narrow2, bounded-narrow3, bounded-range2, bounded-range3, fresh-range2, fresh-range3}
 use Rattle.sensor.specs.Inside.{inside, clock, all-mapped, events-few, sift-few}
-use Rattle.decode.specs.Decode.{events, codecAfter, insideEvents, Bounded, Fitting}
+use Rattle.decode.specs.Decode.{eventsFrom, codecAfter, insideEvents, Bounded, Fitting}
 use Rattle.decode.specs.Turn.{decode-few}
 use Rattle.decode.specs.Glance.{small-mask3}
 use Rattle.decode.specs.Loops.{small-mask2}
@@ -34,10 +34,10 @@ use Rattle.decode.specs.Loops.{small-mask2}
 -- ---- in chunks of 4 bytes, whatever the encoding
 
 module _ (c : Codec) (k : ℕ) (a b : List ℕ) (h : length a ≡ k * 4) where
-  pub events-append : events c (a ++ b) ≡ events c a ++ events (codecAfter c a) b
+  pub events-append : eventsFrom c (a ++ b) ≡ eventsFrom c a ++ eventsFrom (codecAfter c a) b
   events-append = go c
     where
-      go : (c : Codec) → events c (a ++ b) ≡ events c a ++ events (codecAfter c a) b
+      go : (c : Codec) → eventsFrom c (a ++ b) ≡ eventsFrom c a ++ eventsFrom (codecAfter c a) b
       go (Evt2 d) = decode-append 4 reader2 (omega arith) d k a b h
       go (Evt3 d) = decode-append 2 reader3 (omega arith) d (k * 2) a b (omega arith)
 
@@ -50,7 +50,7 @@ module _ (c : Codec) (k : ℕ) (a b : List ℕ) (h : length a ≡ k * 4) where
 
   module _ (width height : ℕ) where
     pub inside-append : insideEvents width height c (a ++ b) ≡ insideEvents width height c a ++ insideEvents width height (codecAfter c a) b
-    inside-append = ap (sift (inside width height)) events-append ∙ sift-append (inside width height) (events c a) (events (codecAfter c a) b)
+    inside-append = ap (sift (inside width height)) events-append ∙ sift-append (inside width height) (eventsFrom c a) (eventsFrom (codecAfter c a) b)
 
     pub count-append : length (insideEvents width height c (a ++ b)) ≡ length (insideEvents width height c a) + length (insideEvents width height (codecAfter c a) b)
     count-append = ap length inside-append ∙ length-append (insideEvents width height c a) (insideEvents width height (codecAfter c a) b)
@@ -60,7 +60,7 @@ module _ (c : Codec) (k : ℕ) (a b : List ℕ) (h : length a ≡ k * 4) where
     latest-append = ap (greatest clock) inside-append ∙ greatest-append clock (insideEvents width height c a) (insideEvents width height (codecAfter c a) b)
 
 -- no bytes
-pub events-nil : (c : Codec) → events c [] ≡ []
+pub events-nil : (c : Codec) → eventsFrom c [] ≡ []
 events-nil (Evt2 d) = refl
 events-nil (Evt3 d) = refl
 
@@ -80,14 +80,14 @@ abbrev pub most : Codec → ℕ
 most (Evt2 d) = 1
 most (Evt3 d) = 12
 
-pub all-few : (c : Codec) (l : List ℕ) → length (events c l) ≤ most c * (length l / wordSize c)
+pub all-few : (c : Codec) (l : List ℕ) → length (eventsFrom c l) ≤ most c * (length l / wordSize c)
 all-few (Evt2 d) l =
     omega (arith, decode-few 4 reader2 1 (λ s w. events-few (vector2 s w) 1 (omega (arith, small-mask2 s w))) d (wordsOf 4 l), length-words 4 l)
 all-few (Evt3 d) l =
     omega (arith, decode-few 2 reader3 12 (λ s w. events-few (vector3 s w) 12 (small-mask3 s w)) d (wordsOf 2 l), length-words 2 l)
 
 pub inside-few : (width height : ℕ) (c : Codec) (l : List ℕ) → length (insideEvents width height c l) ≤ most c * (length l / wordSize c)
-inside-few width height c l = omega (arith, sift-few (inside width height) (events c l), all-few c l)
+inside-few width height c l = omega (arith, sift-few (inside width height) (eventsFrom c l), all-few c l)
 
 -- of either encoding
 pub inside-bytes : (width height : ℕ) (c : Codec) (l : List ℕ) → length (insideEvents width height c l) ≤ 6 * length l
@@ -152,7 +152,7 @@ vector-small : (v : Vector) → Narrow v → All Small (eventsOf v)
 vector-small v n =
     all-mapped Small (eventAt v) (bits 32 (v .x) (v .mask)) (all-of _ (λ c. record { x< = omega arith; y< = n .y<; t< = n .t<; p< = n .p< }) (bits 32 (v .x) (v .mask)))
 
-pub events-small : (c : Codec) (l : List ℕ) → Bounded (length l) c → All Small (events c l)
+pub events-small : (c : Codec) (l : List ℕ) → Bounded (length l) c → All Small (eventsFrom c l)
 events-small (Evt2 d) l b =
     emits-all reader2 Bounded2 bounded-step2 Small (λ n s w i. vector-small (vector2 s w) (bounded-narrow2 w i)) d (wordsOf 4 l) (rw length-words b)
 events-small (Evt3 d) l b =
@@ -160,13 +160,13 @@ events-small (Evt3 d) l b =
 
 module _ (c : Codec) (l : List ℕ) (b : Bounded (length l) c) where
   pub inside-small : (width height : ℕ) → All Small (insideEvents width height c l)
-  inside-small width height = all-sift (inside width height) Small (events c l) (events-small c l b)
+  inside-small width height = all-sift (inside width height) Small (eventsFrom c l) (events-small c l b)
 
   -- an unknown size is read with 65,536 by 65,536
-  pub all-inside : insideEvents 65536 65536 c l ≡ events c l
+  pub all-inside : insideEvents 65536 65536 c l ≡ eventsFrom c l
   all-inside =
       let ins : (e : Event) → Small e → inside 65536 65536 e ≡ true = λ e s. rw (lt-ltb (e .x) 65536 (s .x<), lt-ltb (e .y) 65536 (s .y<)) in
-      sift-all (inside 65536 65536) (events c l) (all-map Small _ ins (events c l) (events-small c l b))
+      sift-all (inside 65536 65536) (eventsFrom c l) (all-map Small _ ins (eventsFrom c l) (events-small c l b))
 
   -- the greatest time fits an i64
   pub latest-small : (width height : ℕ) → greatest clock (insideEvents width height c l) < 2 ^ 63

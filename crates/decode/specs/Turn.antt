@@ -14,15 +14,9 @@ use Rattle.stream.specs.Slice.{sift, sift-append}
 use Rattle.stream.specs.Stream.{decode, after}
 use Rattle.evt.specs.declared.vector.Vector.{Vector}
 use Rattle.evt.specs.Event.{Event, eventsOf, Narrow}
+pub use Rattle.evt.specs.Columns.{Fits}
 use Rattle.evt.specs.Columns.{Going, Room, Wrote, going-start, going-run, going-end}
 use Rattle.sensor.specs.Inside.{inside, insideOf, clock, latestOf, inside-latest, sift-few}
-
--- columns that n events fit
-pub record Fits (n xs ys ts ps : ℕ) : Type 0 where
-  pub fit-x : n ≤ xs
-  pub fit-y : n ≤ ys
-  pub fit-t : n ≤ ts
-  pub fit-p : n ≤ ps
 
 module _ {S : Type 0} (n : ℕ) (M : Machine S ℕ Event) where
   -- all events of the bytes inside the sensor

@@ -11,18 +11,19 @@ use native.Mathlib.Nat.{zero-add}
 use borrow.Author.Tests.{le-leb, lt-leb, le-ltb, lt-ltb, eq-eqb, ne-eqb}
 use Rattle.stream.specs.Columns.{written}
 use Rattle.stream.specs.Mask.{top}
+use Rattle.stream.specs.Slice.{sift}
 use Rattle.evt.specs.declared.Encoding.{Encoding}
 use Rattle.evt.specs.declared.Encoding.the-variants.{Evt2, Evt3}
-use Rattle.evt.specs.declared.Refusal.the-variants.{InvalidSensorSize, ColumnsTooShort}
+use Rattle.evt.specs.declared.Refusal.the-variants.{InvalidSensorSize, UnknownEncoding, ColumnsTooShort}
+use Rattle.evt.specs.declared.Limit.the-variants.{Unlimited, AtMost}
 use Rattle.evt.specs.declared.SensorSize.{SensorSize}
 use Rattle.evt.specs.declared.SensorSize.the-variants.{Unknown, Known}
 use Rattle.evt.specs.declared.codec.Codec.{Codec}
-use Rattle.evt.specs.Codec.{freshC}
+use Rattle.evt.specs.Codec.{freshC, eventsFrom}
 use Rattle.evt.specs.Columns.{colX, colY, colT, colP, Wrote}
 use Rattle.evt.specs.Event.{Event}
 use Rattle.evt.specs.Evt2.{fresh2}
 use Rattle.evt.specs.Evt3.{fresh3}
-use Rattle.evt.specs.Range.{bounded-range2, bounded-range3}
 use Rattle.decode.specs.Loops.{few2, few3}
 use Rattle.decode.specs.declared.Tally.{Tally}
 use Rattle.decode.specs.declared.Survey.{Survey}
@@ -33,7 +34,14 @@ use Rattle.read.specs.declared.Delivered.{Delivered}
 use Rattle.read.specs.declared.Delivered.the-variants.{Written, Needed}
 use Rattle.read.specs.declared.ReadAnswer.{ReadAnswer}
 use Rattle.read.specs.declared.ReadAnswer.the-variants.{Read, Refused}
-use Rattle.read.specs.Read.{shortest, Handed}
+use Rattle.header.specs.declared.HeaderAnswer.{HeaderAnswer}
+use Rattle.header.specs.declared.HeaderAnswer.the-variants.{Header, Refused as NoHeader}
+use Rattle.decode.specs.Laws.{bounded-fresh, range-fresh, all-inside}
+use Rattle.sensor.specs.Inside.{inside}
+use Rattle.select.specs.declared.Window.{Window}
+use Rattle.select.specs.Pass.{Ready, handedOver}
+use Rattle.select.specs.Uses.{able-range, numberedOver, over-limit}
+use Rattle.read.specs.Read.{kept, bodyEvents, shortest, Handed}
 
 abbrev pub spanOf : SensorSize → Span
 spanOf Unknown = record { width = 65536; height = 65536 }
@@ -50,9 +58,48 @@ pub few-events : (width height : ℕ) (e : Encoding) (body : List ℕ) → lengt
 few-events width height Evt2 body = few2 width height fresh2 body
 few-events width height Evt3 body = omega (arith, few3 width height fresh3 body)
 
-pub bounded-fresh : (e : Encoding) (n : ℕ) → n ≤ 2 ^ 30 → Bounded n (freshC e)
-bounded-fresh Evt2 n h = bounded-range2 (n / 4) fresh2 refl (omega arith)
-bounded-fresh Evt3 n h = bounded-range3 (n / 2) fresh3 refl (omega arith) (omega arith)
+-- ---- the first n events, as a window
+
+abbrev pub limitWindow : (width height n : ℕ) → Window
+limitWindow width height n = record { width = width; height = height; n0 = 0; n1 = n; t0 = 0; t1 = 18446744073709551615 }
+
+numbered-inside : (width height n : ℕ) (e : Encoding) (body : List ℕ) → numberedOver (limitWindow width height n) (freshC e) body ≡ sensorEvents width height e body
+numbered-inside width height n Evt2 body = refl
+numbered-inside width height n Evt3 body = refl
+
+pub ready-fresh : (e : Encoding) (n : ℕ) → n ≤ 2 ^ 30 → Ready (freshC e) 0 n
+ready-fresh e n h = record { able = able-range (freshC e) n (range-fresh e) h; long = h; low = omega arith }
+
+pub handed-limit : (width height n : ℕ) (e : Encoding) (body : List ℕ) → length body ≤ 2 ^ 30
+    → handedOver (limitWindow width height n) 0 (freshC e) body ≡ take n (sensorEvents width height e body)
+handed-limit width height n e body h =
+    over-limit (limitWindow width height n) (freshC e) body (ready-fresh e (length body) h .able) refl (omega arith) refl ∙ ap (take n) (numbered-inside width height n e body)
+
+-- ---- the events of a body
+
+-- with a size or without
+kept-inside : (size : SensorSize) (e : Encoding) (body : List ℕ) → length body ≤ 2 ^ 30
+    → kept size (eventsFrom (freshC e) body) ≡ sensorEvents (spanOf size .width) (spanOf size .height) e body
+kept-inside Unknown e body h = from e
+  where
+    from : (e : Encoding) → eventsFrom (freshC e) body ≡ sensorEvents 65536 65536 e body
+    from Evt2 = sym (all-inside (freshC Evt2) body (bounded-fresh Evt2 (length body) h))
+    from Evt3 = sym (all-inside (freshC Evt3) body (bounded-fresh Evt3 (length body) h))
+kept-inside (Known w k) e body h = from e
+  where
+    from : (e : Encoding) → sift (inside w k) (eventsFrom (freshC e) body) ≡ sensorEvents w k e body
+    from Evt2 = refl
+    from Evt3 = refl
+
+pub body-all : (size : SensorSize) (e : Encoding) (body : List ℕ) → length body ≤ 2 ^ 30
+    → bodyEvents e size Unlimited body ≡ sensorEvents (spanOf size .width) (spanOf size .height) e body
+unfolding bodyEvents
+body-all size e body h = kept-inside size e body h
+
+pub body-some : (size : SensorSize) (e : Encoding) (n : ℕ) (body : List ℕ) → length body ≤ 2 ^ 30
+    → bodyEvents e size (AtMost n) body ≡ take n (sensorEvents (spanOf size .width) (spanOf size .height) e body)
+unfolding bodyEvents
+body-some size e n body h = ap (take n) (kept-inside size e body h)
 
 -- ---- all events or none
 
@@ -116,3 +163,16 @@ abbrev pub sizedOf : Encoding → SensorSize → ℕ → List ℕ → List ℕ �
 sizedOf e (Known w h) n xs ys = Read (record { encoding = e; width = w; height = h; count = n })
 sizedOf e Unknown n xs ys =
     cond (eqb n 0) (Refused InvalidSensorSize) (Read (record { encoding = e; width = top (take n xs) + 1; height = top (take n ys) + 1; count = n }))
+
+-- what was written is there
+abbrev pub Holds : Delivered → ℕ → ℕ → Type 0
+Holds (Written n) xs ys = (n ≤ xs) × (n ≤ ys)
+Holds (Needed n) xs ys = Unit
+
+abbrev pub settledOf : Encoding → SensorSize → Delivered → List ℕ → List ℕ → ReadAnswer
+settledOf e size (Written n) xs ys = sizedOf e size n xs ys
+settledOf e size (Needed n) xs ys = Refused (ColumnsTooShort n)
+
+abbrev pub refusalOf : HeaderAnswer → ReadAnswer
+refusalOf (NoHeader r) = Refused r
+refusalOf (Header h) = Refused UnknownEncoding

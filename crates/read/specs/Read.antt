@@ -141,3 +141,19 @@ pub record Reads (verdict : Told) (answer : ReadAnswer) (es : List Event) (r : R
   pub is-told : toldRead r ≡ verdict
   pub is-answer : r ≡ answer
   pub columns : Handed es xs₀ ys₀ ts₀ ps₀ xs ys ts ps
+
+-- of a body whose events are es
+abbrev pub ReadsBody : Encoding → SensorSize → List Event → ReadAnswer → (xs₀ ys₀ : List ℕ) (ts₀ : List ℤ) (ps₀ xs ys : List ℕ) (ts : List ℤ) (ps : List ℕ) → Type 0
+ReadsBody e size es r xs₀ ys₀ ts₀ ps₀ =
+    let room = shortest xs₀ ys₀ ts₀ ps₀ in
+    Reads (verdictOf e size es room) (answerOf e size es room) (handedOf size es room) r xs₀ ys₀ ts₀ ps₀
+
+abbrev pub DecodesWords : List ℕ → Encoding → SensorSize → Limit → ReadAnswer → (xs₀ ys₀ : List ℕ) (ts₀ : List ℤ) (ps₀ xs ys : List ℕ) (ts : List ℤ) (ps : List ℕ) → Type 0
+DecodesWords words e size limit r xs₀ ys₀ ts₀ ps₀ =
+    let room = shortest xs₀ ys₀ ts₀ ps₀ in
+    Reads (wordsVerdict words e size limit room) (wordsAnswer words e size limit room) (wordsHanded words e size limit room) r xs₀ ys₀ ts₀ ps₀
+
+abbrev pub ReadsRaw : List ℕ → LoadOptions → ReadAnswer → (xs₀ ys₀ : List ℕ) (ts₀ : List ℤ) (ps₀ xs ys : List ℕ) (ts : List ℤ) (ps : List ℕ) → Type 0
+ReadsRaw recording o r xs₀ ys₀ ts₀ ps₀ =
+    let room = shortest xs₀ ys₀ ts₀ ps₀ in
+    Reads (rawVerdict recording o room) (rawAnswer recording o room) (rawHanded recording o room) r xs₀ ys₀ ts₀ ps₀

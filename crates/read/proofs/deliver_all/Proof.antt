@@ -1,7 +1,8 @@
 use mathlib.Core.Path.{_≡_, refl, sym, ap, _∙_}
 use native.Mathlib.Omega.{arith}
 use lib.ListN.{length}
-use Rattle.read.specs.Laws.{sensorEvents, few-events, bounded-fresh, room-is, can-fill, is-count, delivers-filled, delivers-none}
+use Rattle.decode.specs.Laws.{bounded-fresh}
+use Rattle.read.specs.Laws.{sensorEvents, few-events, room-is, can-fill, is-count, delivers-filled, delivers-none}
 use borrow.Author.Needs.{needs}
 use Rattle.read.proofs.deliver_all.Statement.{statement}
 use Rattle.read.proofs.deliver_all.Tie as tie

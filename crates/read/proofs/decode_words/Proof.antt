@@ -1,0 +1,56 @@
+use Rattle.read.proofs.decode_words.Statement.{statement}
+use Rattle.read.proofs.decode_words.Tie as tie
+use Rattle.read.proofs.decode_words.Reads as reads
+use Rattle.read.proofs.decode_words.Lts as lts
+use Rattle.header.proofs.has_zero.Reads as has-zero-reads
+use Rattle.read.proofs.read_body.Reads as read-body-reads
+
+-- src/lib.rt:271:9
+returns : tie.Need-returns
+returns c = ?
+
+-- src/lib.rt:273:8
+has-zero-requires : tie.Need-has-zero-requires
+has-zero-requires c κs = ?
+
+-- src/lib.rt:274:9
+returns-2 : tie.Need-returns-2
+returns-2 c = ?
+
+-- src/lib.rt:276:5
+read-body-requires : tie.Need-read-body-requires
+read-body-requires c κs = ?
+
+-- src/lib.rt:258:1
+same-length : tie.Need-same-length
+same-length c = ?
+
+-- src/lib.rt:258:1
+same-length-2 : tie.Need-same-length-2
+same-length-2 c = ?
+
+-- src/lib.rt:258:1
+same-length-3 : tie.Need-same-length-3
+same-length-3 c = ?
+
+-- src/lib.rt:258:1
+same-length-4 : tie.Need-same-length-4
+same-length-4 c = ?
+
+-- src/lib.rt:258:1
+returns-3 : tie.Need-returns-3
+returns-3 c = ?
+
+pub decode-words-spec : {M : Type 1} → statement M
+decode-words-spec =
+    tie.close
+    (tie.spec
+    returns
+    has-zero-requires
+    returns-2
+    read-body-requires
+    same-length
+    same-length-2
+    same-length-3
+    same-length-4
+    returns-3)

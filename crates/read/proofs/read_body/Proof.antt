@@ -1,0 +1,46 @@
+use Rattle.read.proofs.read_body.Statement.{statement}
+use Rattle.read.proofs.read_body.Tie as tie
+use Rattle.read.proofs.read_body.Reads as reads
+use Rattle.read.proofs.read_body.Lts as lts
+use Rattle.read.proofs.deliver.Reads as deliver-reads
+use Rattle.read.proofs.settle.Reads as settle-reads
+
+-- src/lib.rt:253:9
+deliver-requires : tie.Need-deliver-requires
+deliver-requires c κs = ?
+
+-- src/lib.rt:254:5
+settle-requires : tie.Need-settle-requires
+settle-requires c κs = ?
+
+-- src/lib.rt:240:1
+same-length : tie.Need-same-length
+same-length c = ?
+
+-- src/lib.rt:240:1
+same-length-2 : tie.Need-same-length-2
+same-length-2 c = ?
+
+-- src/lib.rt:240:1
+same-length-3 : tie.Need-same-length-3
+same-length-3 c = ?
+
+-- src/lib.rt:240:1
+same-length-4 : tie.Need-same-length-4
+same-length-4 c = ?
+
+-- src/lib.rt:240:1
+returns : tie.Need-returns
+returns c = ?
+
+pub read-body-spec : {M : Type 1} → statement M
+read-body-spec =
+    tie.close
+    (tie.spec
+    deliver-requires
+    settle-requires
+    same-length
+    same-length-2
+    same-length-3
+    same-length-4
+    returns)

@@ -1,3 +1,6 @@
+use native.Mathlib.Omega.{arith}
+use lib.ListN.{length}
+use Rattle.read.specs.Laws.{room-is, ready-some, few-some, can-fill-some, is-count-some, delivers-filled-some, delivers-none}
 use borrow.Author.Needs.{needs}
 use Rattle.read.proofs.deliver_some.Statement.{statement}
 use Rattle.read.proofs.deliver_some.Tie as tie
@@ -40,7 +43,7 @@ less-requires-4 c κs = search needs
 
 -- src/lib.rt:158:13
 fill-requires : tie.Need-fill-requires
-fill-requires c κs = ?
+fill-requires c κs = can-fill-some (c .before .before .before .before .before .before .before .before .before .before .before .before .before .before .before .before .args .width) (c .before .before .before .before .before .before .before .before .before .before .before .before .before .before .before .before .args .height) (c .before .before .before .before .before .before .before .before .before .before .before .before .before .before .before .before .args .limit) (c .before .before .before .before .before .before .before .before .before .before .before .before .before .before .before .before .args .encoding) (c .before .before .before .before .before .before .before .before .before .before .before .before .before .before .before .before .args .body .now) (c .before .before .before .before .before .before .before .before .before .before .before .before .before .before .before .before .pre) (c .before .before .before .before .before .before .before .before .before .before .before .new .result) (c .before .before .before .before .before .before .before .before .before .before .before .new .ensures) (c .before .before .before .before .before .before .before .before .before .before .limit-window .result) (c .before .before .before .before .before .before .before .before .before .before .limit-window .ensures) (c .before .before .before .before .before .before .before .less3 .result) (length (c .before .before .before .before .before .before .before .before .before .before .before .before .before .before .before .before .args .xs .now)) (length (c .before .before .before .before .before .before .before .before .before .before .before .before .before .before .before .before .args .ys .now)) (length (c .before .before .before .before .before .before .before .before .before .before .before .before .before .before .before .before .args .ts .now)) (length (c .before .before .before .before .before .before .before .before .before .before .before .before .before .before .before .before .args .ps .now)) (room-is (length (c .before .before .before .before .before .before .before .before .before .before .before .before .before .before .before .before .args .xs .now)) (length (c .before .before .before .before .before .before .before .before .before .before .before .before .before .before .before .before .args .ys .now)) (length (c .before .before .before .before .before .before .before .before .before .before .before .before .before .before .before .before .args .ts .now)) (length (c .before .before .before .before .before .before .before .before .before .before .before .before .before .before .before .before .args .ps .now)) _ _ _ (c .before .before .before .before .before .before .before .before .before .less .ensures) (c .before .before .before .before .before .before .before .before .less2 .ensures) (c .before .before .before .before .before .before .before .less3 .ensures)) (omega (arith, few-some (c .before .before .before .before .before .before .before .before .before .before .before .before .before .before .before .before .args .width) (c .before .before .before .before .before .before .before .before .before .before .before .before .before .before .before .before .args .height) (c .before .before .before .before .before .before .before .before .before .before .before .before .before .before .before .before .args .limit) (c .before .before .before .before .before .before .before .before .before .before .before .before .before .before .before .before .args .encoding) (c .before .before .before .before .before .before .before .before .before .before .before .before .before .before .before .before .args .body .now) (c .before .before .before .before .before .before .before .before .before .before .before .before .before .before .before .before .pre) (c .before .before .before .before .before .before .before .before .before .before .before .new .result) (c .before .before .before .before .before .before .before .before .before .before .before .new .ensures) (c .before .before .before .before .before .before .before .before .before .before .limit-window .result) (c .before .before .before .before .before .before .before .before .before .before .limit-window .ensures) (c .before .before .before .before .before .before .most-events .result) (c .before .before .before .before .before .less4 .result) (c .before .before .before .before .before .before .most-events .ensures) (c .before .before .before .before .before .less4 .ensures), c .before .before .before .before .if1 .taken))
 
 -- src/lib.rt:159:9
 same-length : tie.Need-same-length
@@ -60,15 +63,15 @@ same-length-4 c = search needs
 
 -- src/lib.rt:159:9
 returns : tie.Need-returns
-returns c = ?
+returns c = delivers-filled-some (c .before .before .before .before .before .before .before .before .before .before .before .before .before .before .before .before .before .before .before .before .before .before .before .before .args .width) (c .before .before .before .before .before .before .before .before .before .before .before .before .before .before .before .before .before .before .before .before .before .before .before .before .args .height) (c .before .before .before .before .before .before .before .before .before .before .before .before .before .before .before .before .before .before .before .before .before .before .before .before .args .limit) (c .before .before .before .before .before .before .before .before .before .before .before .before .before .before .before .before .before .before .before .before .before .before .before .before .args .encoding) (c .before .before .before .before .before .before .before .before .before .before .before .before .before .before .before .before .before .before .before .before .before .before .before .before .args .body .now) (c .before .before .before .before .before .before .before .before .before .before .before .before .before .before .before .before .before .before .before .before .before .before .before .before .pre) (c .before .before .before .before .before .before .before .before .before .before .before .before .before .before .before .before .before .before .before .new .result) (c .before .before .before .before .before .before .before .before .before .before .before .before .before .before .before .before .before .before .before .new .ensures) (c .before .before .before .before .before .before .before .before .before .before .before .before .before .before .before .before .before .before .limit-window .result) (c .before .before .before .before .before .before .before .before .before .before .before .before .before .before .before .before .before .before .limit-window .ensures) (c .before .before .before .before .before .before .before .before .before .before .before .before .before .before .before .less3 .result) (c .before .before .before .before .before .before .before .fill .result) (room-is (length (c .before .before .before .before .before .before .before .before .before .before .before .before .before .before .before .before .before .before .before .before .before .before .before .before .args .xs .now)) (length (c .before .before .before .before .before .before .before .before .before .before .before .before .before .before .before .before .before .before .before .before .before .before .before .before .args .ys .now)) (length (c .before .before .before .before .before .before .before .before .before .before .before .before .before .before .before .before .before .before .before .before .before .before .before .before .args .ts .now)) (length (c .before .before .before .before .before .before .before .before .before .before .before .before .before .before .before .before .before .before .before .before .before .before .before .before .args .ps .now)) _ _ _ (c .before .before .before .before .before .before .before .before .before .before .before .before .before .before .before .before .before .less .ensures) (c .before .before .before .before .before .before .before .before .before .before .before .before .before .before .before .before .less2 .ensures) (c .before .before .before .before .before .before .before .before .before .before .before .before .before .before .before .less3 .ensures)) (omega (arith, few-some (c .before .before .before .before .before .before .before .before .before .before .before .before .before .before .before .before .before .before .before .before .before .before .before .before .args .width) (c .before .before .before .before .before .before .before .before .before .before .before .before .before .before .before .before .before .before .before .before .before .before .before .before .args .height) (c .before .before .before .before .before .before .before .before .before .before .before .before .before .before .before .before .before .before .before .before .before .before .before .before .args .limit) (c .before .before .before .before .before .before .before .before .before .before .before .before .before .before .before .before .before .before .before .before .before .before .before .before .args .encoding) (c .before .before .before .before .before .before .before .before .before .before .before .before .before .before .before .before .before .before .before .before .before .before .before .before .args .body .now) (c .before .before .before .before .before .before .before .before .before .before .before .before .before .before .before .before .before .before .before .before .before .before .before .before .pre) (c .before .before .before .before .before .before .before .before .before .before .before .before .before .before .before .before .before .before .before .new .result) (c .before .before .before .before .before .before .before .before .before .before .before .before .before .before .before .before .before .before .before .new .ensures) (c .before .before .before .before .before .before .before .before .before .before .before .before .before .before .before .before .before .before .limit-window .result) (c .before .before .before .before .before .before .before .before .before .before .before .before .before .before .before .before .before .before .limit-window .ensures) (c .before .before .before .before .before .before .before .before .before .before .before .before .before .before .most-events .result) (c .before .before .before .before .before .before .before .before .before .before .before .before .before .less4 .result) (c .before .before .before .before .before .before .before .before .before .before .before .before .before .before .most-events .ensures) (c .before .before .before .before .before .before .before .before .before .before .before .before .before .less4 .ensures), c .before .before .before .before .before .before .before .before .before .before .before .before .if1 .taken)) (c .before .before .before .before .before .before .before .fill .ensures .0) (c .before .before .before .before .before .before .before .fill .ensures .1)
 
 -- src/lib.rt:161:13
 survey-requires : tie.Need-survey-requires
-survey-requires c κs = ?
+survey-requires c κs = ready-some (c .before .before .before .before .before .before .before .before .before .before .before .before .args .width) (c .before .before .before .before .before .before .before .before .before .before .before .before .args .height) (c .before .before .before .before .before .before .before .before .before .before .before .before .args .limit) (c .before .before .before .before .before .before .before .before .before .before .before .before .args .encoding) (c .before .before .before .before .before .before .before .before .before .before .before .before .args .body .now) (c .before .before .before .before .before .before .before .before .before .before .before .before .pre) (c .before .before .before .before .before .before .before .new .result) (c .before .before .before .before .before .before .before .new .ensures) (c .before .before .before .before .before .before .limit-window .result) (c .before .before .before .before .before .before .limit-window .ensures)
 
 -- src/lib.rt:163:13
 fill-requires-2 : tie.Need-fill-requires-2
-fill-requires-2 c κs = ?
+fill-requires-2 c κs = can-fill-some (c .before .before .before .before .before .before .before .before .before .before .before .before .before .before .before .before .before .before .args .width) (c .before .before .before .before .before .before .before .before .before .before .before .before .before .before .before .before .before .before .args .height) (c .before .before .before .before .before .before .before .before .before .before .before .before .before .before .before .before .before .before .args .limit) (c .before .before .before .before .before .before .before .before .before .before .before .before .before .before .before .before .before .before .args .encoding) (c .before .before .before .before .before .before .before .before .before .before .before .before .before .before .before .before .before .before .args .body .now) (c .before .before .before .before .before .before .before .before .before .before .before .before .before .before .before .before .before .before .pre) (c .before .before .before .before .before .before .before .before .before .before .before .before .before .new .result) (c .before .before .before .before .before .before .before .before .before .before .before .before .before .new .ensures) (c .before .before .before .before .before .before .before .before .before .before .before .before .limit-window .result) (c .before .before .before .before .before .before .before .before .before .before .before .before .limit-window .ensures) (c .before .before .before .before .before .before .before .before .before .less3 .result) (length (c .before .before .before .before .before .before .before .before .before .before .before .before .before .before .before .before .before .before .args .xs .now)) (length (c .before .before .before .before .before .before .before .before .before .before .before .before .before .before .before .before .before .before .args .ys .now)) (length (c .before .before .before .before .before .before .before .before .before .before .before .before .before .before .before .before .before .before .args .ts .now)) (length (c .before .before .before .before .before .before .before .before .before .before .before .before .before .before .before .before .before .before .args .ps .now)) (room-is (length (c .before .before .before .before .before .before .before .before .before .before .before .before .before .before .before .before .before .before .args .xs .now)) (length (c .before .before .before .before .before .before .before .before .before .before .before .before .before .before .before .before .before .before .args .ys .now)) (length (c .before .before .before .before .before .before .before .before .before .before .before .before .before .before .before .before .before .before .args .ts .now)) (length (c .before .before .before .before .before .before .before .before .before .before .before .before .before .before .before .before .before .before .args .ps .now)) _ _ _ (c .before .before .before .before .before .before .before .before .before .before .before .less .ensures) (c .before .before .before .before .before .before .before .before .before .before .less2 .ensures) (c .before .before .before .before .before .before .before .before .before .less3 .ensures)) (omega (arith, (is-count-some (c .before .before .before .before .before .before .before .before .before .before .before .before .before .before .before .before .before .before .args .width) (c .before .before .before .before .before .before .before .before .before .before .before .before .before .before .before .before .before .before .args .height) (c .before .before .before .before .before .before .before .before .before .before .before .before .before .before .before .before .before .before .args .limit) (c .before .before .before .before .before .before .before .before .before .before .before .before .before .before .before .before .before .before .args .encoding) (c .before .before .before .before .before .before .before .before .before .before .before .before .before .before .before .before .before .before .args .body .now) (c .before .before .before .before .before .before .before .before .before .before .before .before .before .before .before .before .before .before .pre) (c .before .before .before .before .before .before .before .before .before .before .before .before .before .new .result) (c .before .before .before .before .before .before .before .before .before .before .before .before .before .new .ensures) (c .before .before .before .before .before .before .before .before .before .before .before .before .limit-window .result) (c .before .before .before .before .before .before .before .before .before .before .before .before .limit-window .ensures) (c .before .before .before .before .before .survey .result) (c .before .before .before .before .before .survey .ensures)), c .before .before .before .before .if2 .taken))
 
 -- src/lib.rt:164:9
 same-length-5 : tie.Need-same-length-5
@@ -88,11 +91,11 @@ same-length-8 c = search needs
 
 -- src/lib.rt:164:9
 returns-2 : tie.Need-returns-2
-returns-2 c = ?
+returns-2 c = delivers-filled-some (c .before .before .before .before .before .before .before .before .before .before .before .before .before .before .before .before .before .before .before .before .before .before .before .before .before .before .args .width) (c .before .before .before .before .before .before .before .before .before .before .before .before .before .before .before .before .before .before .before .before .before .before .before .before .before .before .args .height) (c .before .before .before .before .before .before .before .before .before .before .before .before .before .before .before .before .before .before .before .before .before .before .before .before .before .before .args .limit) (c .before .before .before .before .before .before .before .before .before .before .before .before .before .before .before .before .before .before .before .before .before .before .before .before .before .before .args .encoding) (c .before .before .before .before .before .before .before .before .before .before .before .before .before .before .before .before .before .before .before .before .before .before .before .before .before .before .args .body .now) (c .before .before .before .before .before .before .before .before .before .before .before .before .before .before .before .before .before .before .before .before .before .before .before .before .before .before .pre) (c .before .before .before .before .before .before .before .before .before .before .before .before .before .before .before .before .before .before .before .before .before .new .result) (c .before .before .before .before .before .before .before .before .before .before .before .before .before .before .before .before .before .before .before .before .before .new .ensures) (c .before .before .before .before .before .before .before .before .before .before .before .before .before .before .before .before .before .before .before .before .limit-window .result) (c .before .before .before .before .before .before .before .before .before .before .before .before .before .before .before .before .before .before .before .before .limit-window .ensures) (c .before .before .before .before .before .before .before .before .before .before .before .before .before .before .before .before .before .less3 .result) (c .before .before .before .before .before .before .before .fill2 .result) (room-is (length (c .before .before .before .before .before .before .before .before .before .before .before .before .before .before .before .before .before .before .before .before .before .before .before .before .before .before .args .xs .now)) (length (c .before .before .before .before .before .before .before .before .before .before .before .before .before .before .before .before .before .before .before .before .before .before .before .before .before .before .args .ys .now)) (length (c .before .before .before .before .before .before .before .before .before .before .before .before .before .before .before .before .before .before .before .before .before .before .before .before .before .before .args .ts .now)) (length (c .before .before .before .before .before .before .before .before .before .before .before .before .before .before .before .before .before .before .before .before .before .before .before .before .before .before .args .ps .now)) _ _ _ (c .before .before .before .before .before .before .before .before .before .before .before .before .before .before .before .before .before .before .before .less .ensures) (c .before .before .before .before .before .before .before .before .before .before .before .before .before .before .before .before .before .before .less2 .ensures) (c .before .before .before .before .before .before .before .before .before .before .before .before .before .before .before .before .before .less3 .ensures)) (omega (arith, (is-count-some (c .before .before .before .before .before .before .before .before .before .before .before .before .before .before .before .before .before .before .before .before .before .before .before .before .before .before .args .width) (c .before .before .before .before .before .before .before .before .before .before .before .before .before .before .before .before .before .before .before .before .before .before .before .before .before .before .args .height) (c .before .before .before .before .before .before .before .before .before .before .before .before .before .before .before .before .before .before .before .before .before .before .before .before .before .before .args .limit) (c .before .before .before .before .before .before .before .before .before .before .before .before .before .before .before .before .before .before .before .before .before .before .before .before .before .before .args .encoding) (c .before .before .before .before .before .before .before .before .before .before .before .before .before .before .before .before .before .before .before .before .before .before .before .before .before .before .args .body .now) (c .before .before .before .before .before .before .before .before .before .before .before .before .before .before .before .before .before .before .before .before .before .before .before .before .before .before .pre) (c .before .before .before .before .before .before .before .before .before .before .before .before .before .before .before .before .before .before .before .before .before .new .result) (c .before .before .before .before .before .before .before .before .before .before .before .before .before .before .before .before .before .before .before .before .before .new .ensures) (c .before .before .before .before .before .before .before .before .before .before .before .before .before .before .before .before .before .before .before .before .limit-window .result) (c .before .before .before .before .before .before .before .before .before .before .before .before .before .before .before .before .before .before .before .before .limit-window .ensures) (c .before .before .before .before .before .before .before .before .before .before .before .before .before .survey .result) (c .before .before .before .before .before .before .before .before .before .before .before .before .before .survey .ensures)), c .before .before .before .before .before .before .before .before .before .before .before .before .if2 .taken)) (c .before .before .before .before .before .before .before .fill2 .ensures .0) (c .before .before .before .before .before .before .before .fill2 .ensures .1)
 
 -- src/lib.rt:140:1
 returns-3 : tie.Need-returns-3
-returns-3 c = ?
+returns-3 c = delivers-none _ _ (omega (arith, (is-count-some (c .before .before .before .before .before .before .before .before .before .before .before .before .before .before .args .width) (c .before .before .before .before .before .before .before .before .before .before .before .before .before .before .args .height) (c .before .before .before .before .before .before .before .before .before .before .before .before .before .before .args .limit) (c .before .before .before .before .before .before .before .before .before .before .before .before .before .before .args .encoding) (c .before .before .before .before .before .before .before .before .before .before .before .before .before .before .args .body .now) (c .before .before .before .before .before .before .before .before .before .before .before .before .before .before .pre) (c .before .before .before .before .before .before .before .before .before .new .result) (c .before .before .before .before .before .before .before .before .before .new .ensures) (c .before .before .before .before .before .before .before .before .limit-window .result) (c .before .before .before .before .before .before .before .before .limit-window .ensures) (c .before .survey .result) (c .before .survey .ensures)), (room-is (length (c .before .before .before .before .before .before .before .before .before .before .before .before .before .before .args .xs .now)) (length (c .before .before .before .before .before .before .before .before .before .before .before .before .before .before .args .ys .now)) (length (c .before .before .before .before .before .before .before .before .before .before .before .before .before .before .args .ts .now)) (length (c .before .before .before .before .before .before .before .before .before .before .before .before .before .before .args .ps .now)) _ _ _ (c .before .before .before .before .before .before .before .less .ensures) (c .before .before .before .before .before .before .less2 .ensures) (c .before .before .before .before .before .less3 .ensures)), c .if2 .left)) (is-count-some (c .before .before .before .before .before .before .before .before .before .before .before .before .before .before .args .width) (c .before .before .before .before .before .before .before .before .before .before .before .before .before .before .args .height) (c .before .before .before .before .before .before .before .before .before .before .before .before .before .before .args .limit) (c .before .before .before .before .before .before .before .before .before .before .before .before .before .before .args .encoding) (c .before .before .before .before .before .before .before .before .before .before .before .before .before .before .args .body .now) (c .before .before .before .before .before .before .before .before .before .before .before .before .before .before .pre) (c .before .before .before .before .before .before .before .before .before .new .result) (c .before .before .before .before .before .before .before .before .before .new .ensures) (c .before .before .before .before .before .before .before .before .limit-window .result) (c .before .before .before .before .before .before .before .before .limit-window .ensures) (c .before .survey .result) (c .before .survey .ensures))
 
 pub deliver-some-spec : {M : Type 1} → statement M
 deliver-some-spec =

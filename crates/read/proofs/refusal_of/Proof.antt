@@ -1,3 +1,5 @@
+use mathlib.Core.Path.{_≡_, refl, sym, ap, _∙_}
+use Rattle.read.specs.Laws.{refusalOf}
 use borrow.Author.Needs.{needs}
 use Rattle.read.proofs.refusal_of.Statement.{statement}
 use Rattle.read.proofs.refusal_of.Tie as tie
@@ -14,11 +16,11 @@ enum-told c = search needs
 
 -- src/lib.rt:280:1
 returns : tie.Need-returns
-returns c = ?
+returns c = sym (ap refusalOf (c .before .answer .given .1))
 
 -- src/lib.rt:280:1
 returns-2 : tie.Need-returns-2
-returns-2 c = ?
+returns-2 c = sym (ap refusalOf (c .enum-told .given .1))
 
 pub refusal-of-spec : {M : Type 1} → statement M
 refusal-of-spec = tie.close (tie.spec enum-known-answer enum-told returns returns-2)

@@ -11,7 +11,7 @@ enum-known-delivered c = search needs
 
 -- src/lib.rt:208:34
 sized-requires : tie.Need-sized-requires
-sized-requires c κs = ?
+sized-requires c κs = rw (c .before .delivered .given .1) at (c .before .before .before .before .before .pre)
 
 -- src/lib.rt:209:27
 enum-known-delivered-2 : tie.Need-enum-known-delivered-2
@@ -19,11 +19,11 @@ enum-known-delivered-2 c = search needs
 
 -- src/lib.rt:197:1
 returns : tie.Need-returns
-returns c = ?
+returns c = rw (c .before .before .delivered .given .1) (c .sized .ensures)
 
 -- src/lib.rt:197:1
 returns-2 : tie.Need-returns-2
-returns-2 c = ?
+returns-2 c = rw (c .before .delivered2 .given .1)
 
 pub settle-spec : {M : Type 1} → statement M
 settle-spec =

@@ -10,7 +10,6 @@ mod step;
 mod text;
 
 use libc::STDIN_FILENO;
-use libc::STDOUT_FILENO;
 
 enum Asked {
     Step,
@@ -28,35 +27,32 @@ fn command(word: &[u8]) -> Asked {
     Asked::Unknown
 }
 
-// What the command of a case answers, put at `at`.
-fn answer(case: &[u8], out: &mut [u8], at: usize) -> usize {
+fn answer(case: &[u8]) {
     match command(text::field(case, b' ', 1)) {
-        Asked::Step => step::words(case, out, at),
-        Asked::Word => step::word(case, out, at),
-        Asked::Unknown => show::bytes(out, at, b"badcase command"),
+        Asked::Step => step::answer(case, true),
+        Asked::Word => step::answer(case, false),
+        Asked::Unknown => show::text(b"badcase command"),
     }
 }
 
-fn replay(case: &[u8], out: &mut [u8]) {
-    let id = text::field(case, b' ', 0);
-    let named = show::bytes(out, 0, id);
-    let apart = show::byte(out, named, b' ');
-    let answered = answer(case, out, apart);
-    let end = show::byte(out, answered, b'\n');
-    io::write_all(STDOUT_FILENO, text::part(out, 0, end));
+fn replay(case: &[u8]) {
+    show::text(text::field(case, b' ', 0));
+    show::byte(b' ');
+    answer(case);
+    show::byte(b'\n');
 }
 
 // The case of the line that starts at `at`; answers where the next line starts.
-fn line(cases: &[u8], at: usize, out: &mut [u8]) -> usize {
+fn line(cases: &[u8], at: usize) -> usize {
     let end = text::seek(cases, at, b'\n');
-    replay(text::part(cases, at, end), out);
+    replay(text::part(cases, at, end));
     text::past(cases, end)
 }
 
-fn lines(cases: &[u8], out: &mut [u8]) {
+fn lines(cases: &[u8]) {
     let mut at = 0;
     while at < cases.len() {
-        let next = line(cases, at, out);
+        let next = line(cases, at);
         if next <= at {
             return;
         }
@@ -74,6 +70,5 @@ fn room() -> [u8; 1048576]
 fn main() {
     let mut cases = room();
     let n = io::read_full(STDIN_FILENO, &mut cases);
-    let mut out = io::large_buffer();
-    lines(&cases[..n], &mut out);
+    lines(&cases[..n]);
 }

@@ -1,38 +1,26 @@
-// Printing into a lent buffer: each function puts its text at `at` and answers the place behind it.
-// What finds no room is left out.
+// Printing to standard output: text, numbers, events, the table's numbers.
 use evt::RawEvent;
 use evt::Refusal;
+use libc::STDOUT_FILENO;
 
-pub fn byte(out: &mut [u8], at: usize, b: u8) -> usize {
-    if at < out.len() {
-        out[at] = b;
-        return at + 1;
-    }
-    at
+pub fn text(s: &[u8]) {
+    io::write_all(STDOUT_FILENO, s);
 }
 
-pub fn bytes(out: &mut [u8], at: usize, s: &[u8]) -> usize {
-    let mut end = at;
-    let mut i = 0;
-    while i < s.len() {
-        end = byte(out, end, crate::text::at(s, i));
-        i += 1;
-    }
-    end
+pub fn byte(b: u8) {
+    let s = [b];
+    io::write_all(STDOUT_FILENO, &s);
 }
 
-pub fn number(out: &mut [u8], at: usize, n: u64) -> usize {
-    let mut digits = [0u8; 20];
-    let k = io::decimal(n, &mut digits);
-    bytes(out, at, &digits[..k])
+pub fn number(n: u64) {
+    io::print_decimal(STDOUT_FILENO, n);
 }
 
-pub fn signed(out: &mut [u8], at: usize, n: i64) -> usize {
+pub fn signed(n: i64) {
     if n < 0 {
-        let sign = byte(out, at, b'-');
-        return number(out, sign, magnitude(n));
+        byte(b'-');
     }
-    number(out, at, magnitude(n))
+    number(magnitude(n));
 }
 
 // For n below 0 this is !n + 1.
@@ -45,89 +33,33 @@ fn magnitude(n: i64) -> u64 {
 }
 
 // A separator and a number.
-pub fn next(out: &mut [u8], at: usize, separator: u8, n: u64) -> usize {
-    let end = byte(out, at, separator);
-    number(out, end, n)
-}
-
-// Numbers with commas between them.
-pub fn list(out: &mut [u8], at: usize, numbers: &[u64]) -> usize {
-    let mut end = at;
-    let mut i = 0;
-    while i < numbers.len() {
-        end = element(out, end, i, numbers[i]);
-        i += 1;
-    }
-    end
-}
-
-// Number i of a list.
-fn element(out: &mut [u8], at: usize, i: usize, n: u64) -> usize {
-    if i == 0 {
-        return number(out, at, n);
-    }
-    next(out, at, b',', n)
+pub fn next(separator: u8, n: u64) {
+    byte(separator);
+    number(n);
 }
 
 // `t,x,y,p`.
-pub fn event(out: &mut [u8], at: usize, e: RawEvent) -> usize {
-    let t = signed(out, at, e.t);
-    let x = next(out, t, b',', e.x as u64);
-    let y = next(out, x, b',', e.y as u64);
-    next(out, y, b',', e.p as u64)
+pub fn event(e: RawEvent) {
+    signed(e.t);
+    next(b',', e.x as u64);
+    next(b',', e.y as u64);
+    next(b',', e.p as u64);
 }
 
-// What a refusal tells: the table's number and, if it goes with one, a count.
-pub struct Told {
-    pub number: u64,
-    pub counts: bool,
-    pub count: u64,
-}
-
-// No refusal.
-pub fn nothing() -> Told {
-    plain(0)
-}
-
-fn plain(number: u64) -> Told {
-    Told {
-        number,
-        counts: false,
-        count: 0,
-    }
-}
-
-fn counted(number: u64, n: usize) -> Told {
-    Told {
-        number,
-        counts: true,
-        count: n as u64,
-    }
-}
-
-pub fn by_table(r: Refusal) -> Told {
+// The table's number.
+pub fn table(r: Refusal) -> u64 {
     match r {
-        Refusal::InvalidSensorSize => plain(1),
-        Refusal::UnknownEncoding => plain(2),
-        Refusal::HeaderNotAscii => plain(3),
-        Refusal::TooLong => plain(4),
-        Refusal::ColumnsTooShort(n) => counted(5, n),
-        Refusal::TimeOrder => plain(6),
-        Refusal::EventOutOfRange => plain(7),
-        Refusal::InvalidSpacing => plain(8),
-        Refusal::TooFewRecords(n) => counted(9, n),
-        Refusal::StateOutOfRange => plain(10),
-        Refusal::OutputTooShort(n) => counted(11, n),
-        Refusal::ColumnLengths => plain(12),
+        Refusal::InvalidSensorSize => 1,
+        Refusal::UnknownEncoding => 2,
+        Refusal::HeaderNotAscii => 3,
+        Refusal::TooLong => 4,
+        Refusal::ColumnsTooShort(_) => 5,
+        Refusal::TimeOrder => 6,
+        Refusal::EventOutOfRange => 7,
+        Refusal::InvalidSpacing => 8,
+        Refusal::TooFewRecords(_) => 9,
+        Refusal::StateOutOfRange => 10,
+        Refusal::OutputTooShort(_) => 11,
+        Refusal::ColumnLengths => 12,
     }
-}
-
-// `refused NUMBER`, or `refused NUMBER COUNT`.
-pub fn refused(out: &mut [u8], at: usize, t: Told) -> usize {
-    let behind = bytes(out, at, b"refused ");
-    let end = number(out, behind, t.number);
-    if t.counts {
-        return next(out, end, b' ', t.count);
-    }
-    end
 }

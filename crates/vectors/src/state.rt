@@ -90,29 +90,28 @@ fn short(n: u64) -> u16 {
     65535
 }
 
-pub fn show(out: &mut [u8], at: usize, codec: Codec) -> usize {
+pub fn show(codec: Codec) {
     match codec {
-        Codec::Evt2(d) => show2(out, at, d),
-        Codec::Evt3(d) => show3(out, at, d),
+        Codec::Evt2(d) => show2(d),
+        Codec::Evt3(d) => show3(d),
     }
 }
 
-fn show2(out: &mut [u8], at: usize, d: Evt2Decoder) -> usize {
-    let n = [d.initialised as u64, d.time_high, d.time, d.high_loops];
-    let kind = show::bytes(out, at, b"2:");
-    show::list(out, kind, &n)
+fn show2(d: Evt2Decoder) {
+    show::text(b"2:");
+    show::number(d.initialised as u64);
+    show::next(b',', d.time_high);
+    show::next(b',', d.time);
+    show::next(b',', d.high_loops);
 }
 
-fn show3(out: &mut [u8], at: usize, d: Decoder) -> usize {
-    let n = [
-        d.initialised as u64,
-        d.time_base,
-        d.time,
-        d.y as u64,
-        d.base_x as u64,
-        d.polarity as u64,
-        d.high_loops,
-    ];
-    let kind = show::bytes(out, at, b"3:");
-    show::list(out, kind, &n)
+fn show3(d: Decoder) {
+    show::text(b"3:");
+    show::number(d.initialised as u64);
+    show::next(b',', d.time_base);
+    show::next(b',', d.time);
+    show::next(b',', d.y as u64);
+    show::next(b',', d.base_x as u64);
+    show::next(b',', d.polarity as u64);
+    show::next(b',', d.high_loops);
 }

@@ -2,7 +2,6 @@
 // `ID word STATE HEX`: one `Codec::step` over all the bytes, which takes the first word alone.
 // Both answer `ok STATE N : events`, or `refused 10` as soon as a step is refused.
 use crate::show;
-use crate::show::Told;
 use crate::state;
 use crate::state::State;
 use crate::text;
@@ -12,106 +11,67 @@ use evt::DecodeAnswer;
 use evt::EventVector;
 use evt::vector::NextEvent;
 
-// How far a run has come: the decoder, what a refusal told (number 0 if there was none), the events
-// so far, and the place behind their text.
+// How far a run has come: the decoder, the number of a refusal (0 if there was none) and of the
+// events so far.
 struct Run {
     codec: Codec,
-    told: Told,
+    refused: u64,
     count: u64,
-    at: usize,
 }
 
-// A vector whose events are being shown: what is left of it, the events so far, and the place
-// behind their text.
-struct Shown {
+// What is left of a vector, and the number of the events so far.
+struct Walk {
     rest: EventVector,
     count: u64,
-    at: usize,
 }
 
-// An answer as a vector and what was told.
-struct Taken {
-    events: EventVector,
-    told: Told,
-}
-
-fn show_next(out: &mut [u8], s: Shown) -> Shown {
-    let rest = s.rest;
-    let NextEvent::Event(e, left) = rest.next() else {
-        return s;
+// The vector's first event is counted and, if asked for, shown.
+fn walk_one(w: Walk, shown: bool) -> Walk {
+    let v = w.rest;
+    let NextEvent::Event(e, rest) = v.next() else {
+        return w;
     };
-    let apart = show::byte(out, s.at, b' ');
-    Shown {
-        rest: left,
-        count: std::num::wrapping_add_u64(s.count, 1),
-        at: show::event(out, apart, e),
+    if shown {
+        show::byte(b' ');
+        show::event(e);
+    }
+    Walk {
+        rest,
+        count: std::num::wrapping_add_u64(w.count, 1),
     }
 }
 
-// A mask has 32 bits.
-fn show_events(out: &mut [u8], from: Shown) -> Shown {
-    let mut s = from;
+// A mask has 32 bits. Answers the number of the events so far.
+fn walk_all(v: EventVector, count: u64, shown: bool) -> u64 {
+    let mut w = Walk { rest: v, count };
     let mut turns: u32 = 32;
     while turns > 0 {
-        s = show_next(out, s);
+        w = walk_one(w, shown);
         turns -= 1;
     }
-    s
-}
-
-fn take(answer: DecodeAnswer) -> Taken {
-    match answer {
-        DecodeAnswer::Events(v) => Taken {
-            events: v,
-            told: show::nothing(),
-        },
-        DecodeAnswer::Refused(why) => Taken {
-            events: EventVector {
-                x: 0,
-                y: 0,
-                t: 0,
-                p: 0,
-                mask: 0,
-            },
-            told: show::by_table(why),
-        },
-    }
+    w.count
 }
 
 // One step over `bytes`, unless an earlier one was refused.
-fn turn(r: Run, bytes: &[u8], out: &mut [u8]) -> Run {
-    if r.told.number != 0 {
+fn turn(r: Run, bytes: &[u8], shown: bool) -> Run {
+    if r.refused != 0 {
         return r;
     }
     let codec = r.codec;
     let stepped = codec.step(bytes);
     let next = stepped.next;
     let answer = stepped.answer;
-    let taken = take(answer);
-    let rest = taken.events;
-    let told = taken.told;
-    let shown = show_events(
-        out,
-        Shown {
-            rest,
-            count: r.count,
-            at: r.at,
+    match answer {
+        DecodeAnswer::Events(v) => Run {
+            codec: next,
+            refused: 0,
+            count: walk_all(v, r.count, shown),
         },
-    );
-    Run {
-        codec: next,
-        told,
-        count: shown.count,
-        at: shown.at,
-    }
-}
-
-fn start(codec: Codec, at: usize) -> Run {
-    Run {
-        codec,
-        told: show::nothing(),
-        count: 0,
-        at,
+        DecodeAnswer::Refused(why) => Run {
+            codec: next,
+            refused: show::table(why),
+            count: r.count,
+        },
     }
 }
 
@@ -132,67 +92,58 @@ fn past_word(bytes: &[u8], at: usize, size: usize) -> usize {
     bytes.len()
 }
 
-fn turns(codec: Codec, bytes: &[u8], out: &mut [u8], at: usize) -> Run {
-    let size = codec.word_size();
-    let mut left = whole_words(bytes.len(), size);
-    let mut r = start(codec, at);
+fn turns(start: Run, bytes: &[u8], size: usize, shown: bool) -> Run {
+    let mut r = start;
     let mut i = 0;
+    let mut left = whole_words(bytes.len(), size);
     while left > 0 {
-        r = turn(r, text::tail(bytes, i), out);
+        r = turn(r, text::tail(bytes, i), shown);
         i = past_word(bytes, i, size);
         left -= 1;
     }
     r
 }
 
-fn pass(codec: Codec, bytes: &[u8], every: bool, out: &mut [u8], at: usize) -> Run {
+// Every whole word, or the first alone.
+fn run_over(codec: Codec, bytes: &[u8], every: bool, shown: bool) -> Run {
+    let start = Run {
+        codec,
+        refused: 0,
+        count: 0,
+    };
     if every {
-        return turns(codec, bytes, out, at);
+        return turns(start, bytes, codec.word_size(), shown);
     }
-    turn(start(codec, at), bytes, out)
+    turn(start, bytes, shown)
 }
 
-// `ok STATE N :`.
-fn head(out: &mut [u8], at: usize, r: Run) -> usize {
-    let codec = r.codec;
-    let ok = show::bytes(out, at, b"ok ");
-    let state = state::show(out, ok, codec);
-    let count = show::next(out, state, b' ', r.count);
-    show::bytes(out, count, b" :")
-}
-
-// State and count stand before the events: a first pass, which finds no room for text, tells them.
-fn answer(codec: Codec, bytes: &[u8], every: bool, out: &mut [u8], at: usize) -> usize {
-    let full = out.len();
-    let r = pass(codec, bytes, every, out, full);
-    let told = r.told;
-    if told.number != 0 {
-        return show::refused(out, at, told);
+// State and count stand before the events, so a first run tells them and a second shows the events.
+fn show_run(codec: Codec, bytes: &[u8], every: bool) {
+    let r = run_over(codec, bytes, every, false);
+    if r.refused != 0 {
+        show::text(b"refused");
+        show::next(b' ', r.refused);
+        return;
     }
-    let behind = head(out, at, r);
-    let shown = pass(codec, bytes, every, out, behind);
-    shown.at
+    show::text(b"ok ");
+    let last = r.codec;
+    state::show(last);
+    show::next(b' ', r.count);
+    show::text(b" :");
+    run_over(codec, bytes, every, true);
 }
 
-fn with_bytes(case: &[u8], codec: Codec, every: bool, out: &mut [u8], at: usize) -> usize {
+fn with_bytes(case: &[u8], codec: Codec, every: bool) {
     let mut buffer = io::buffer();
     match text::read_hex(text::field(case, b' ', 3), &mut buffer) {
-        Bytes::Count(n) => answer(codec, text::part(&buffer, 0, n), every, out, at),
-        Bytes::Bad => show::bytes(out, at, b"badcase bytes"),
+        Bytes::Count(n) => show_run(codec, text::part(&buffer, 0, n), every),
+        Bytes::Bad => show::text(b"badcase bytes"),
     }
 }
 
-fn with_state(case: &[u8], every: bool, out: &mut [u8], at: usize) -> usize {
+pub fn answer(case: &[u8], every: bool) {
     match state::read(text::field(case, b' ', 2)) {
-        State::Of(codec) => with_bytes(case, codec, every, out, at),
-        State::Bad => show::bytes(out, at, b"badcase state"),
+        State::Of(codec) => with_bytes(case, codec, every),
+        State::Bad => show::text(b"badcase state"),
     }
-}
-
-pub fn words(case: &[u8], out: &mut [u8], at: usize) -> usize {
-    with_state(case, true, out, at)
-}
-
-pub fn word(case: &[u8], out: &mut [u8], at: usize) -> usize {
-    with_state(case, false, out, at)
 }

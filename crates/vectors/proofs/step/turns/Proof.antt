@@ -1,25 +1,16 @@
-use Prim.Native.Nat.{_≤_, _<_, _-_}
-use mathlib.Core.Path.{_≡_}
-use native.Mathlib.Omega.{arith}
+-- `vectors::step::turns` is safe and ends. Nothing has to hold from turn to turn. Assumes nothing.
 use borrow.Author.Needs.{needs}
-use lib.ListN.{length}
 use Rattle.vectors.proofs.step.turns.Statement.{statement}
 use Rattle.vectors.proofs.step.turns.Tie as tie
 
 abbrev Inv-loop : tie.InvT-loop
-Inv-loop bytes out₀ at size left₀ r₀ i₀ out left r i = length out ≡ length out₀
+Inv-loop bytes size shown r₀ i₀ left₀ r i left = Unit {0}
 
 abbrev μ-loop : tie.MeasureT-loop
-μ-loop bytes out₀ at size left₀ r₀ i₀ out left r i = left
-
-word-size-requires : tie.Need-word-size-requires Inv-loop μ-loop
-word-size-requires c κs = search needs
+μ-loop bytes size shown r₀ i₀ left₀ r i left = left
 
 whole-words-requires : tie.Need-whole-words-requires Inv-loop μ-loop
 whole-words-requires c κs = search needs
-
-start-requires : tie.Need-start-requires Inv-loop μ-loop
-start-requires c κs = search needs
 
 loop-holds : tie.Need-loop-holds Inv-loop μ-loop
 loop-holds c = search needs
@@ -42,9 +33,6 @@ loop-less c = search needs
 loop-again : tie.Need-loop-again Inv-loop μ-loop
 loop-again c = search needs
 
-same-length : tie.Need-same-length Inv-loop μ-loop
-same-length c = search needs
-
 returns : tie.Need-returns Inv-loop μ-loop
 returns c = search needs
 
@@ -54,9 +42,7 @@ turns-spec =
     (tie.spec
     Inv-loop
     μ-loop
-    word-size-requires
     whole-words-requires
-    start-requires
     loop-holds
     tail-requires
     turn-requires
@@ -64,5 +50,4 @@ turns-spec =
     sub-left
     loop-less
     loop-again
-    same-length
     returns)

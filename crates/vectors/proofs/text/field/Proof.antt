@@ -1,8 +1,5 @@
-use Prim.Native.Nat.{_≤_, _<_, _-_}
-use mathlib.Core.Path.{_≡_}
-use native.Mathlib.Omega.{arith}
+-- `vectors::text::field` is safe and ends. Nothing has to hold from turn to turn. Assumes nothing.
 use borrow.Author.Needs.{needs}
-use lib.ListN.{length}
 use Rattle.vectors.proofs.text.field.Statement.{statement}
 use Rattle.vectors.proofs.text.field.Tie as tie
 

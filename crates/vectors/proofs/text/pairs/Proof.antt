@@ -1,6 +1,6 @@
-use Prim.Native.Nat.{_≤_, _<_, _-_}
+-- `vectors::text::pairs` is safe and ends. The lent slice keeps its length. Assumes nothing.
+use Prim.Native.Nat.{_-_}
 use mathlib.Core.Path.{_≡_}
-use native.Mathlib.Omega.{arith}
 use borrow.Author.Needs.{needs}
 use lib.ListN.{length}
 use Rattle.vectors.proofs.text.pairs.Statement.{statement}

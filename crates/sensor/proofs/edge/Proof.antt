@@ -39,11 +39,8 @@ loop-holds c = (c .pre .0, omega arith)
 sub-rest : tie.Need-sub-rest Inv-loop μ-loop
 sub-rest c = omega (arith, c .loop-test .taken)
 
-cast-column : tie.Need-cast-column Inv-loop μ-loop
-cast-column c = omega (arith, trailing-le 64 (c .before .loop .mask))
-
 column-requires : tie.Need-column-requires Inv-loop μ-loop
-column-requires c κs = omega (arith, trailing-le 64 (c .before .loop .mask))
+column-requires c κs = search needs
 
 inside-requires : tie.Need-inside-requires Inv-loop μ-loop
 inside-requires c κs = search needs
@@ -74,7 +71,6 @@ edge-spec =
     μ-loop
     loop-holds
     sub-rest
-    cast-column
     column-requires
     inside-requires
     add-n

@@ -56,11 +56,8 @@ loop-holds c = (c .before .before .before .before .before .before .pre .mask, go
 sub-rest : tie.Need-sub-rest Inv-loop μ-loop
 sub-rest c = omega (arith, c .loop-test .taken)
 
-cast-column : tie.Need-cast-column Inv-loop μ-loop
-cast-column c = omega (arith, trailing-le 64 (c .before .loop .mask))
-
 column-requires : tie.Need-column-requires Inv-loop μ-loop
-column-requires c κs = omega (arith, trailing-le 64 (c .before .loop .mask))
+column-requires c κs = search needs
 
 inside-requires : tie.Need-inside-requires Inv-loop μ-loop
 inside-requires c κs = search needs
@@ -134,7 +131,6 @@ put-spec =
     cast-p
     loop-holds
     sub-rest
-    cast-column
     column-requires
     inside-requires
     cast-xs

@@ -47,11 +47,8 @@ cast-p c = omega (arith, c .before .before .before .before .before .before .pre 
 loop-holds : tie.Need-loop-holds Inv-loop μ-loop
 loop-holds c = (c .before .before .before .before .before .before .pre .mask, going-start)
 
-cast-column : tie.Need-cast-column Inv-loop μ-loop
-cast-column c = omega (arith, trailing-le 64 (c .before .loop .mask))
-
 column-requires : tie.Need-column-requires Inv-loop μ-loop
-column-requires c κs = omega (arith, trailing-le 64 (c .before .loop .mask))
+column-requires c κs = search needs
 
 cast-xs : tie.Need-cast-xs Inv-loop μ-loop
 cast-xs c = omega (arith, c .column .ensures)
@@ -125,7 +122,6 @@ put-all-spec =
     cast-t
     cast-p
     loop-holds
-    cast-column
     column-requires
     cast-xs
     mul-xs

@@ -8,10 +8,10 @@ use Rattle.evt.specs.Range.{Bounded2, bounded-step2, bounded-sane2}
 use Rattle.decode.specs.Turn.{Counting, counting-start, counting-few, counting-turn, counting-end}
 use Rattle.decode.specs.Loops.{start2, few2, turn2, small2}
 use denote.Ref.{now}
-use Rattle.decode.proofs.evt2.count_all.Statement.{statement}
-use Rattle.decode.proofs.evt2.count_all.Tie as tie
-use Rattle.decode.proofs.evt2.count_all.Reads as reads
-use Rattle.decode.proofs.evt2.count_all.Lts as lts
+use Rattle.decode.proofs.count.evt2.Statement.{statement}
+use Rattle.decode.proofs.count.evt2.Tie as tie
+use Rattle.decode.proofs.count.evt2.Reads as reads
+use Rattle.decode.proofs.count.evt2.Lts as lts
 use Rattle.decode.proofs.words.four.Reads as four-reads
 use Rattle.evt.proofs.evt2.Evt2Decoder.advance.Reads as advance-reads
 use Rattle.sensor.proofs.count1.Reads as count1-reads
@@ -95,8 +95,8 @@ loop-again c = counting-turn (omega arith) bounded-step2 (c .before .before .bef
 returns : tie.Need-returns Inv-loop μ-loop
 returns c = counting-end (omega arith) bounded-step2 (c .before .loop .inv) (omega (arith, c .loop-test .left))
 
-pub count-all-spec : {M : Type 1} → statement M
-count-all-spec =
+pub evt2-spec : {M : Type 1} → statement M
+evt2-spec =
     tie.close
     (tie.spec
     Inv-loop

@@ -8,11 +8,11 @@ use Rattle.evt.specs.Evt3.{reader3, slimmed, widened}
 use Rattle.evt.specs.Range.{Bounded3, bounded-step3, bounded-sane3, bounded-slim3}
 use Rattle.decode.specs.Turn.{Fits, insideAll, Filling, filling-start, filling-room, filling-turn, filling-end}
 use Rattle.decode.specs.Loops.{start3, turn3, small3}
-use Rattle.decode.proofs.evt3.fill_all.Statement.{statement}
-use Rattle.decode.proofs.evt3.fill_all.Tie as tie
-use Rattle.decode.proofs.evt3.fill_all.Reads as reads
-use Rattle.decode.proofs.evt3.fill_all.Lts as lts
-use Rattle.decode.proofs.evt3.clean.Reads as clean-reads
+use Rattle.decode.proofs.fill.evt3.Statement.{statement}
+use Rattle.decode.proofs.fill.evt3.Tie as tie
+use Rattle.decode.proofs.fill.evt3.Reads as reads
+use Rattle.decode.proofs.fill.evt3.Lts as lts
+use Rattle.decode.proofs.words.clean.Reads as clean-reads
 use Rattle.decode.proofs.words.two.Reads as two-reads
 use Rattle.evt.proofs.evt3.Decoder.widen.Reads as widen-reads
 use Rattle.evt.proofs.evt3.WideDecoder.advance.Reads as advance-reads
@@ -107,8 +107,8 @@ same-length-4 c = c .before .before .loop .inv .going .in-p .long
 returns : tie.Need-returns Inv-loop μ-loop
 returns c = let q = rw (c .before .before .before .widen .ensures .0) at (filling-end (omega arith) bounded-step3 (fits-at (c .before .before .before)) (c .before .before .loop .inv) (omega (arith, c .before .loop-test .left))) in rw (c .slim .ensures) ((q .0, q .1), q .2)
 
-pub fill-all-spec : {M : Type 1} → statement M
-fill-all-spec =
+pub evt3-spec : {M : Type 1} → statement M
+evt3-spec =
     tie.close
     (tie.spec
     Inv-loop

@@ -2,11 +2,11 @@ use mathlib.Core.Path.{_≡_, refl, sym, ap, _∙_}
 use Rattle.evt.specs.Evt3.{slimmed}
 use Rattle.decode.specs.Glance.{glance-chosen, glance-step}
 use borrow.Author.Needs.{needs}
-use Rattle.decode.proofs.evt3.glance.Statement.{statement}
-use Rattle.decode.proofs.evt3.glance.Tie as tie
-use Rattle.decode.proofs.evt3.glance.Reads as reads
-use Rattle.decode.proofs.evt3.glance.Lts as lts
-use Rattle.decode.proofs.evt3.chosen.Reads as chosen-reads
+use Rattle.decode.proofs.glance.glance.Statement.{statement}
+use Rattle.decode.proofs.glance.glance.Tie as tie
+use Rattle.decode.proofs.glance.glance.Reads as reads
+use Rattle.decode.proofs.glance.glance.Lts as lts
+use Rattle.decode.proofs.glance.chosen.Reads as chosen-reads
 use Rattle.evt.proofs.evt3.WideDecoder.advance.Reads as advance-reads
 use Rattle.evt.proofs.fields.bits.Reads as bits-reads
 

@@ -8,12 +8,12 @@ use Rattle.evt.specs.Evt3.{reader3, slimmed, widened}
 use Rattle.evt.specs.Range.{Bounded3, bounded-step3, bounded-sane3, bounded-slim3}
 use Rattle.decode.specs.Turn.{Counting, counting-start, counting-few, counting-turn, counting-end}
 use Rattle.decode.specs.Loops.{start3, few3, glance3}
-use Rattle.decode.proofs.evt3.count_all.Statement.{statement}
-use Rattle.decode.proofs.evt3.count_all.Tie as tie
-use Rattle.decode.proofs.evt3.count_all.Reads as reads
-use Rattle.decode.proofs.evt3.count_all.Lts as lts
-use Rattle.decode.proofs.evt3.clean.Reads as clean-reads
-use Rattle.decode.proofs.evt3.glance.Reads as glance-reads
+use Rattle.decode.proofs.count.evt3.Statement.{statement}
+use Rattle.decode.proofs.count.evt3.Tie as tie
+use Rattle.decode.proofs.count.evt3.Reads as reads
+use Rattle.decode.proofs.count.evt3.Lts as lts
+use Rattle.decode.proofs.words.clean.Reads as clean-reads
+use Rattle.decode.proofs.glance.glance.Reads as glance-reads
 use Rattle.decode.proofs.words.two.Reads as two-reads
 use Rattle.evt.proofs.evt3.Decoder.widen.Reads as widen-reads
 use Rattle.evt.proofs.evt3.WideDecoder.slim.Reads as slim-reads
@@ -94,8 +94,8 @@ slim-requires c κs = bounded-slim3 (c .before .loop .inv .stand .inv)
 returns : tie.Need-returns Inv-loop μ-loop
 returns c = rw (c .slim .ensures) (rw (c .before .before .before .widen .ensures .0) at (counting-end (omega arith) bounded-step3 (c .before .before .loop .inv) (omega (arith, c .before .loop-test .left))))
 
-pub count-all-spec : {M : Type 1} → statement M
-count-all-spec =
+pub evt3-spec : {M : Type 1} → statement M
+evt3-spec =
     tie.close
     (tie.spec
     Inv-loop

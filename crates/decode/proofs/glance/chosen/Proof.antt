@@ -4,13 +4,13 @@ use native.Mathlib.Omega.{arith}
 use lib.Dec.{eqb}
 use Rattle.decode.specs.Glance.{cond-le}
 use borrow.Author.Needs.{needs}
-use Rattle.decode.proofs.evt3.chosen.Statement.{statement}
-use Rattle.decode.proofs.evt3.chosen.Tie as tie
-use Rattle.decode.proofs.evt3.chosen.Reads as reads
-use Rattle.decode.proofs.evt3.chosen.Lts as lts
-use Rattle.decode.proofs.evt3.advanced.Reads as advanced-reads
-use Rattle.decode.proofs.evt3.choose.Reads as choose-reads
-use Rattle.decode.proofs.evt3.either.Reads as either-reads
+use Rattle.decode.proofs.glance.chosen.Statement.{statement}
+use Rattle.decode.proofs.glance.chosen.Tie as tie
+use Rattle.decode.proofs.glance.chosen.Reads as reads
+use Rattle.decode.proofs.glance.chosen.Lts as lts
+use Rattle.decode.proofs.glance.advanced.Reads as advanced-reads
+use Rattle.decode.proofs.glance.choose.Reads as choose-reads
+use Rattle.decode.proofs.glance.either.Reads as either-reads
 use Rattle.evt.proofs.fields.bits.Reads as bits-reads
 
 -- src/evt3.rt:120:9

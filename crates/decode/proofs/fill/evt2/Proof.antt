@@ -8,10 +8,10 @@ use Rattle.evt.specs.Range.{Bounded2, bounded-step2, bounded-sane2}
 use Rattle.decode.specs.Turn.{Filling, filling-start, filling-room, filling-turn, filling-end}
 use Rattle.decode.specs.Loops.{start2, turn2, small2}
 use denote.Ref.{now}
-use Rattle.decode.proofs.evt2.fill_all.Statement.{statement}
-use Rattle.decode.proofs.evt2.fill_all.Tie as tie
-use Rattle.decode.proofs.evt2.fill_all.Reads as reads
-use Rattle.decode.proofs.evt2.fill_all.Lts as lts
+use Rattle.decode.proofs.fill.evt2.Statement.{statement}
+use Rattle.decode.proofs.fill.evt2.Tie as tie
+use Rattle.decode.proofs.fill.evt2.Reads as reads
+use Rattle.decode.proofs.fill.evt2.Lts as lts
 use Rattle.decode.proofs.words.four.Reads as four-reads
 use Rattle.evt.proofs.evt2.Evt2Decoder.advance.Reads as advance-reads
 use Rattle.sensor.proofs.put1.Reads as put1-reads
@@ -102,8 +102,8 @@ same-length-4 c = c .before .loop .inv .going .in-p .long
 returns : tie.Need-returns Inv-loop μ-loop
 returns c = let q = filling-end (omega arith) bounded-step2 (c .before .before .before .before .before .before .pre .1) (c .before .loop .inv) (omega (arith, c .loop-test .left)) in ((q .0, q .1), q .2)
 
-pub fill-all-spec : {M : Type 1} → statement M
-fill-all-spec =
+pub evt2-spec : {M : Type 1} → statement M
+evt2-spec =
     tie.close
     (tie.spec
     Inv-loop

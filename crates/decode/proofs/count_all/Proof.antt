@@ -1,33 +1,23 @@
-use mathlib.Core.Path.{_≡_, refl, sym, ap, _∙_}
+-- `decode::count_all` meets its contract. By the codec's case.
 use borrow.Author.Needs.{needs}
 use Rattle.decode.proofs.count_all.Statement.{statement}
 use Rattle.decode.proofs.count_all.Tie as tie
-use Rattle.decode.proofs.count_all.Reads as reads
-use Rattle.decode.proofs.count_all.Lts as lts
-use Rattle.decode.proofs.count.evt2.Reads as evt2-reads
-use Rattle.decode.proofs.count.evt3.Reads as evt3-reads
 
--- src/lib.rt:103:21
 enum-known-codec : tie.Need-enum-known-codec
 enum-known-codec c = search needs
 
--- src/lib.rt:104:17
 evt2-requires : tie.Need-evt2-requires
 evt2-requires c κs = rw (c .before .codec .given .1) at (c .before .before .before .before .pre)
 
--- src/lib.rt:112:21
 enum-known-codec-2 : tie.Need-enum-known-codec-2
 enum-known-codec-2 c = search needs
 
--- src/lib.rt:113:17
 evt3-requires : tie.Need-evt3-requires
 evt3-requires c κs = rw (c .before .codec2 .given .1) at (c .before .before .before .before .pre)
 
--- src/lib.rt:98:1
 returns : tie.Need-returns
 returns c = let e = c .before .evt2 .ensures in rw (c .before .before .before .codec .given .1, e .0, e .1, e .2)
 
--- src/lib.rt:98:1
 returns-2 : tie.Need-returns-2
 returns-2 c = let e = c .before .evt3 .ensures in rw (c .before .before .before .codec2 .given .1, e .0, e .1, e .2)
 

@@ -1,8 +1,7 @@
 -- An EVT3 step without branches, for counting: the decoder after a word, and any vector that has the word's events.
-use mathlib.Core.Path.{_≡_, refl, sym, ap, subst, _∙_}
+use mathlib.Core.Path.{_≡_, refl, sym, ap, subst}
 use mathlib.Core.Bool.{Bool, true, false, cond}
-use mathlib.Core.List.{[], map}
-use Prim.Native.Nat.{ℕ, _+_, _*_, _/_, _%_, _≤_, _<_, _^_, min}
+use Prim.Native.Nat.{ℕ, _+_, _≤_, _<_, _^_, min}
 use native.Mathlib.Omega.{arith}
 use lib.Dec.{eqb}
 use borrow.Author.Tests.{eqb-true, ne-eqb}
@@ -11,9 +10,9 @@ use Rattle.evt.specs.declared.vector.Vector.{Vector}
 use Rattle.evt.specs.declared.evt3.Decoder.{Decoder}
 use Rattle.evt.specs.declared.evt3.WideDecoder.{WideDecoder}
 use Rattle.evt.specs.declared.evt3.WideStep.{WideStep}
-use Rattle.evt.specs.Event.{eventAt, eventsOf}
+use Rattle.evt.specs.Event.{eventsOf}
 use Rattle.evt.specs.Layout.{type3, y3, x3, polarity3, mask12, mask8, time3}
-use Rattle.evt.specs.Evt3.{Kind, firstTime, timeHigh, timeLow, addrY, addrX, baseX, vect12, vect8, skip, kindOn, kindOf, stepAs, vectorAs, step3, vector3, several, number, widened, slimmed, by-kinds}
+use Rattle.evt.specs.Evt3.{Kind, kindOn, kindOf, stepAs, vectorAs, step3, vector3, number, widened, slimmed, by-kinds}
 
 -- r is as good as the step to d by the vector v
 pub record Like (d : Decoder) (v : Vector) (r : WideStep) : Type 0 where

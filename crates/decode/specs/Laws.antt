@@ -1,10 +1,10 @@
 -- What a caller can use of these definitions: bytes in chunks, how many events, decoders that a loop takes, times and coordinates.
-use mathlib.Core.Path.{_≡_, refl, sym, ap, _∙_}
-use mathlib.Core.Bool.{Bool, true}
-use mathlib.Core.List.{List, [], _∷_, _++_, map}
-use Prim.Native.Nat.{ℕ, zero, suc, _+_, _*_, _/_, _≤_, _<_, _^_, min, max}
+use mathlib.Core.Path.{_≡_, refl, ap, _∙_}
+use mathlib.Core.Bool.{true}
+use mathlib.Core.List.{List, [], _∷_, _++_}
+use Prim.Native.Nat.{ℕ, suc, _+_, _*_, _/_, _≤_, _<_, _^_, max}
 use native.Mathlib.Omega.{arith}
-use native.Mathlib.Nat.{add-zero, add-suc, suc-add, zero-add}
+use native.Mathlib.Nat.{suc-add, zero-add}
 use lib.ListN.{length, length-append}
 use borrow.Author.Tests.{lt-ltb}
 use Rattle.stream.specs.Machine.{Machine, All, all-of, all-map, run, emits-all}
@@ -12,18 +12,16 @@ use Rattle.stream.specs.Words.{wordsOf, length-words}
 use Rattle.stream.specs.Mask.{bits}
 use Rattle.stream.specs.Order.{greatest, greatest-append, greatest-le}
 use Rattle.stream.specs.Slice.{sift, sift-append, sift-all, all-sift}
-use Rattle.stream.specs.Stream.{decode, after, decode-append, after-append}
+use Rattle.stream.specs.Stream.{decode-append, after-append}
 use Rattle.evt.specs.declared.Encoding.{Encoding}
 use Rattle.evt.specs.declared.Encoding.the-variants as E
 use Rattle.evt.specs.declared.codec.Codec.{Codec}
 use Rattle.evt.specs.declared.codec.Codec.the-variants.{Evt2, Evt3}
-use Rattle.evt.specs.declared.evt2.Evt2Decoder.{Evt2Decoder}
-use Rattle.evt.specs.declared.evt3.Decoder.{Decoder}
 use Rattle.evt.specs.declared.vector.Vector.{Vector}
 use Rattle.evt.specs.Event.{Event, eventAt, eventsOf, Narrow}
 use Rattle.evt.specs.Codec.{freshC, wordSize, inRangeC}
-use Rattle.evt.specs.Evt2.{vector2, reader2, fresh2}
-use Rattle.evt.specs.Evt3.{vector3, reader3, fresh3}
+use Rattle.evt.specs.Evt2.{vector2, reader2}
+use Rattle.evt.specs.Evt3.{vector3, reader3}
 use Rattle.evt.specs.Range.{Bounded2, Bounded3, bounded-step2, bounded-step3, bounded-narrow2, bounded-narrow3, bounded-range2, bounded-range3, fresh-range2, fresh-range3}
 use Rattle.sensor.specs.Inside.{inside, clock, all-mapped, events-few, sift-few}
 use Rattle.decode.specs.Decode.{eventsFrom, codecAfter, insideEvents, Bounded, Fitting}

@@ -1,23 +1,20 @@
 -- The turns of the two encodings' loops, from what the code has at hand.
-use mathlib.Core.Path.{_≡_, refl, sym, ap, _∙_}
+use mathlib.Core.Path.{_≡_, sym, ap, _∙_}
 use mathlib.Core.List.{List}
-use Prim.Native.Nat.{ℕ, suc, _+_, _*_, _/_, _≤_, _<_, _^_}
+use Prim.Native.Nat.{ℕ, _+_, _*_, _/_, _≤_, _<_}
 use native.Mathlib.Omega.{arith}
-use lib.ListN.{length, getD, drop}
-use Rattle.stream.specs.Machine.{Machine}
-use Rattle.stream.specs.Words.{wordsOf, value-two, value-four, words-next, length-words}
+use lib.ListN.{length, getD}
+use Rattle.stream.specs.Words.{wordsOf, value-two, value-four, length-words}
 use Rattle.stream.specs.Stream.{decode}
 use Rattle.evt.specs.declared.vector.Vector.{Vector}
 use Rattle.evt.specs.declared.evt2.Evt2Decoder.{Evt2Decoder}
 use Rattle.evt.specs.declared.evt2.Evt2Step.{Evt2Step}
 use Rattle.evt.specs.declared.evt3.Decoder.{Decoder}
-use Rattle.evt.specs.declared.evt3.WideDecoder.{WideDecoder}
 use Rattle.evt.specs.declared.evt3.WideStep.{WideStep}
-use Rattle.evt.specs.Event.{Event, eventsOf, Narrow}
-use Rattle.evt.specs.Layout.{type2, type3}
+use Rattle.evt.specs.Event.{eventsOf, Narrow}
+use Rattle.evt.specs.Layout.{type2}
 use Rattle.evt.specs.Evt2 as Evt2
 use Rattle.evt.specs.Evt2.{step2, vector2, reader2}
-use Rattle.evt.specs.Evt3 as Evt3
 use Rattle.evt.specs.Evt3.{step3, vector3, reader3, widened, slimmed}
 use Rattle.evt.specs.Range.{Bounded2, Bounded3, bounded-narrow2, bounded-narrow3}
 use Rattle.sensor.specs.Inside.{inside, events-few, sift-few}

@@ -2,7 +2,7 @@
 -- While columns are filled it is `Filling`, while events are counted `Counting`.
 use mathlib.Core.Path.{_≡_, refl, sym, ap, _∙_}
 use mathlib.Core.List.{List, [], _∷_, _++_}
-use Prim.Native.Nat.{ℕ, suc, _+_, _*_, _≤_, _<_, _^_, max}
+use Prim.Native.Nat.{ℕ, suc, _+_, _*_, _≤_, _<_, max}
 use native.Mathlib.Omega.{arith}
 use native.Mathlib.Nat.{mul-suc}
 use lib.ListN.{length, take, drop, length-append}
@@ -16,7 +16,7 @@ use Rattle.evt.specs.declared.vector.Vector.{Vector}
 use Rattle.evt.specs.Event.{Event, eventsOf, Narrow}
 pub use Rattle.evt.specs.Columns.{Fits}
 use Rattle.evt.specs.Columns.{Going, Room, Wrote, going-start, going-run, going-end}
-use Rattle.sensor.specs.Inside.{inside, insideOf, clock, latestOf, inside-latest, sift-few}
+use Rattle.sensor.specs.Inside.{inside, insideOf, clock, latestOf, inside-latest}
 
 module _ {S : Type 0} (n : ℕ) (M : Machine S ℕ Event) where
   -- all events of the bytes inside the sensor

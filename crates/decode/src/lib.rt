@@ -13,9 +13,10 @@ ghost use Rattle.decode.specs.Turn.{Fits};
 ghost use Rattle.decode.specs.Decode.{Bounded, Fitting, insideEvents, tallyOf, surveyOf};
 use evt::Codec;
 
-pub mod evt2;
-pub mod evt3;
+pub mod count;
 pub mod extent;
+pub mod fill;
+mod glance;
 mod words;
 
 // What filling leaves: how many events were written, and the decoder.
@@ -57,7 +58,7 @@ pub fn fill_all(
 {
     match codec {
         Codec::Evt2(d) => {
-            let t = evt2::fill_all(
+            let t = fill::evt2(
                 bytes,
                 d,
                 width,
@@ -74,7 +75,7 @@ pub fn fill_all(
             }
         }
         Codec::Evt3(d) => {
-            let t = evt3::fill_all(
+            let t = fill::evt3(
                 bytes,
                 d,
                 width,
@@ -100,7 +101,7 @@ pub fn count_all(bytes: &[u8], codec: Codec, width: u64, height: u64) -> Survey
 {
     match codec {
         Codec::Evt2(d) => {
-            let s = evt2::count_all(bytes, d, width, height);
+            let s = count::evt2(bytes, d, width, height);
             let decoder = s.decoder;
             Survey {
                 count: s.count,
@@ -109,7 +110,7 @@ pub fn count_all(bytes: &[u8], codec: Codec, width: u64, height: u64) -> Survey
             }
         }
         Codec::Evt3(d) => {
-            let s = evt3::count_all(bytes, d, width, height);
+            let s = count::evt3(bytes, d, width, height);
             let decoder = s.decoder;
             Survey {
                 count: s.count,

@@ -3,6 +3,7 @@
 ghost use mathlib.Core.Path.{_≡_};
 ghost use mathlib.Core.List.{[]};
 ghost use Prim.Native.Nat.{_+_, _≤_, _<_, _^_, min, max};
+ghost use lib.Count.{trailingZeros};
 ghost use lib.ListN.{length};
 ghost use Rattle.stream.specs.Slice.{onto};
 ghost use Rattle.evt.specs.Event.{eventsOf};
@@ -10,11 +11,11 @@ ghost use Rattle.evt.specs.Columns.{Room, Wrote};
 ghost use Rattle.sensor.specs.Inside.{isInside, insideOf, firstOf, latestOf};
 use evt::vector::Vector;
 
-// Column x + i, held at 65,535.
-fn column(x: u64, i: u64) -> u64
-    requires { ⌜ i ≤ 65535 ⌝ }
-    ensures { λ r. ⌜ r ≡ min (x + i) 65535 ⌝ }
+// The column of the lowest set bit: x plus the bit's number, held at 65,535.
+fn column(x: u64, mask: u64) -> u64
+    ensures { λ r. ⌜ r ≡ min (x + trailingZeros 64 mask) 65535 ⌝ }
 {
+    let i = u64::trailing_zeros(mask) as u64;
     if x <= 65535 - i { x + i } else { 65535 }
 }
 
@@ -43,7 +44,7 @@ pub fn put_all(
     let mut mask = v.mask;
     let mut n = at;
     while mask != 0 {
-        let x = column(v.x, u64::trailing_zeros(mask) as u64);
+        let x = column(v.x, mask);
         xs[n] = x as u16;
         ys[n] = y;
         ts[n] = t;
@@ -96,7 +97,7 @@ pub fn put(
     let mut n = at;
     while mask != 0 {
         let rest = mask & (mask - 1);
-        let x = column(v.x, u64::trailing_zeros(mask) as u64);
+        let x = column(v.x, mask);
         if inside(x, v.y, width, height) {
             xs[n] = x as u16;
             ys[n] = y;
@@ -172,7 +173,7 @@ fn edge(v: Vector, width: u64, height: u64) -> usize
     let mut n: usize = 0;
     while mask != 0 {
         let rest = mask & (mask - 1);
-        let x = column(v.x, u64::trailing_zeros(mask) as u64);
+        let x = column(v.x, mask);
         if inside(x, v.y, width, height) {
             n += 1;
         }

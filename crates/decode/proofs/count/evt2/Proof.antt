@@ -1,21 +1,15 @@
-use mathlib.Core.Path.{_≡_, refl, sym, ap, _∙_}
-use Prim.Native.Nat.{ℕ, _+_, _-_, _≤_, _<_}
+-- `decode::count::evt2` meets its contract. The loop: `Counting`, of Turn.
+use Prim.Native.Nat.{_-_}
 use native.Mathlib.Omega.{arith}
 use borrow.Author.Needs.{needs}
 use lib.ListN.{length}
+use denote.Ref.{now}
 use Rattle.evt.specs.Evt2.{reader2}
 use Rattle.evt.specs.Range.{Bounded2, bounded-step2, bounded-sane2}
 use Rattle.decode.specs.Turn.{Counting, counting-start, counting-few, counting-turn, counting-end}
 use Rattle.decode.specs.Loops.{start2, few2, turn2, small2}
-use denote.Ref.{now}
-use Rattle.decode.proofs.evt2.count_all.Statement.{statement}
-use Rattle.decode.proofs.evt2.count_all.Tie as tie
-use Rattle.decode.proofs.evt2.count_all.Reads as reads
-use Rattle.decode.proofs.evt2.count_all.Lts as lts
-use Rattle.decode.proofs.words.four.Reads as four-reads
-use Rattle.evt.proofs.evt2.Evt2Decoder.advance.Reads as advance-reads
-use Rattle.sensor.proofs.count1.Reads as count1-reads
-use Rattle.sensor.proofs.later.Reads as later-reads
+use Rattle.decode.proofs.count.evt2.Statement.{statement}
+use Rattle.decode.proofs.count.evt2.Tie as tie
 
 abbrev Inv-loop : tie.InvT-loop
 Inv-loop bytes width height s₀ n₀ top₀ i₀ s n top i = Counting 4 reader2 Bounded2 width height s₀ bytes s n top i
@@ -23,80 +17,62 @@ Inv-loop bytes width height s₀ n₀ top₀ i₀ s n top i = Counting 4 reader2
 abbrev μ-loop : tie.MeasureT-loop
 μ-loop bytes width height s₀ n₀ top₀ i₀ s n top i = length bytes - i
 
--- src/evt2.rt:64:5
 loop-holds : tie.Need-loop-holds Inv-loop μ-loop
 loop-holds c = counting-start (omega arith) bounded-step2 (start2 (now (c .before .args .bytes)) (c .before .pre))
 
--- src/evt2.rt:64:11
 add-loop : tie.Need-add-loop Inv-loop μ-loop
 add-loop c = omega (arith, c .loop .inv .stand .within, c .before .before .pre .loops)
 
--- src/evt2.rt:65:29
 shared-slice-read-four : tie.Need-shared-slice-read-four Inv-loop μ-loop
 shared-slice-read-four c = omega arith
 
--- src/evt2.rt:65:45
 add-four : tie.Need-add-four Inv-loop μ-loop
 add-four c = omega arith
 
--- src/evt2.rt:65:39
 shared-slice-read-four-2 : tie.Need-shared-slice-read-four-2 Inv-loop μ-loop
 shared-slice-read-four-2 c = omega arith
 
--- src/evt2.rt:65:59
 add-four-2 : tie.Need-add-four-2 Inv-loop μ-loop
 add-four-2 c = omega arith
 
--- src/evt2.rt:65:53
 shared-slice-read-four-3 : tie.Need-shared-slice-read-four-3 Inv-loop μ-loop
 shared-slice-read-four-3 c = omega arith
 
--- src/evt2.rt:65:73
 add-four-3 : tie.Need-add-four-3 Inv-loop μ-loop
 add-four-3 c = omega arith
 
--- src/evt2.rt:65:67
 shared-slice-read-four-4 : tie.Need-shared-slice-read-four-4 Inv-loop μ-loop
 shared-slice-read-four-4 c = omega arith
 
--- src/evt2.rt:65:13
 four-requires : tie.Need-four-requires Inv-loop μ-loop
 four-requires c κs = search needs
 
--- src/evt2.rt:66:13
 advance-requires : tie.Need-advance-requires Inv-loop μ-loop
 advance-requires c κs = bounded-sane2 (c .before .before .before .before .before .before .loop .inv .stand .inv)
 
--- src/evt2.rt:69:9
 add-i : tie.Need-add-i Inv-loop μ-loop
 add-i c = omega (arith, c .before .before .before .before .before .before .before .before .before .loop .inv .stand .within, c .before .before .before .before .before .before .before .before .loop-test .taken, c .before .before .before .before .before .before .before .before .before .before .before .pre .loops)
 
--- src/evt2.rt:70:13
 count1-requires : tie.Need-count1-requires Inv-loop μ-loop
 count1-requires c κs = let q = small2 (c .before .before .before .before .before .before .before .before .before .loop .inv .stand .inv) (c .before .before .before .four .result) (c .before .before .advance .result .events) (c .before .before .advance .ensures .1) in (q .1, q .0 .x<)
 
--- src/evt2.rt:71:9
 add-n : tie.Need-add-n Inv-loop μ-loop
 add-n c = omega (arith, c .count1 .ensures, counting-few (omega arith) bounded-step2 (c .before .before .before .before .before .before .before .before .before .before .loop .inv) (turn2 (c .before .before .before .before .before .before .before .before .before .loop-test .taken) (c .before .before .before .before .four .result) (c .before .before .before .before .four .ensures) (c .before .before .before .advance .result) (c .before .before .before .advance .ensures)), few2 (c .before .before .before .before .before .before .before .before .before .before .before .before .args .width) (c .before .before .before .before .before .before .before .before .before .before .before .before .args .height) (c .before .before .before .before .before .before .before .before .before .before .before .before .args .d) (now (c .before .before .before .before .before .before .before .before .before .before .before .before .args .bytes)), c .before .before .before .before .before .before .before .before .before .before .before .before .pre .loops)
 
--- src/evt2.rt:72:9
 later-requires : tie.Need-later-requires Inv-loop μ-loop
 later-requires c κs = search needs
 
--- src/evt2.rt:64:5
 loop-less : tie.Need-loop-less Inv-loop μ-loop
 loop-less c = omega (arith, c .before .before .before .before .before .before .before .before .before .before .loop-test .taken)
 
--- src/evt2.rt:64:5
 loop-again : tie.Need-loop-again Inv-loop μ-loop
 loop-again c = counting-turn (omega arith) bounded-step2 (c .before .before .before .before .before .before .before .before .before .before .before .loop .inv) (turn2 (c .before .before .before .before .before .before .before .before .before .before .loop-test .taken) (c .before .before .before .before .before .four .result) (c .before .before .before .before .before .four .ensures) (c .before .before .before .before .advance .result) (c .before .before .before .before .advance .ensures)) (c .before .count1 .result) (c .before .count1 .ensures) (c .later .result) (c .later .ensures)
 
--- src/evt2.rt:56:1
 returns : tie.Need-returns Inv-loop μ-loop
 returns c = counting-end (omega arith) bounded-step2 (c .before .loop .inv) (omega (arith, c .loop-test .left))
 
-pub count-all-spec : {M : Type 1} → statement M
-count-all-spec =
+pub evt2-spec : {M : Type 1} → statement M
+evt2-spec =
     tie.close
     (tie.spec
     Inv-loop

@@ -1,20 +1,15 @@
-use mathlib.Core.Path.{_≡_, refl, sym, ap, _∙_}
-use Prim.Native.Nat.{ℕ, _+_, _-_, _≤_, _<_}
+-- `decode::fill::evt2` meets its contract. The loop: `Filling`, of Turn.
+use Prim.Native.Nat.{_-_}
 use native.Mathlib.Omega.{arith}
 use borrow.Author.Needs.{needs}
 use lib.ListN.{length}
+use denote.Ref.{now}
 use Rattle.evt.specs.Evt2.{reader2}
 use Rattle.evt.specs.Range.{Bounded2, bounded-step2, bounded-sane2}
 use Rattle.decode.specs.Turn.{Filling, filling-start, filling-room, filling-turn, filling-end}
 use Rattle.decode.specs.Loops.{start2, turn2, small2}
-use denote.Ref.{now}
-use Rattle.decode.proofs.evt2.fill_all.Statement.{statement}
-use Rattle.decode.proofs.evt2.fill_all.Tie as tie
-use Rattle.decode.proofs.evt2.fill_all.Reads as reads
-use Rattle.decode.proofs.evt2.fill_all.Lts as lts
-use Rattle.decode.proofs.words.four.Reads as four-reads
-use Rattle.evt.proofs.evt2.Evt2Decoder.advance.Reads as advance-reads
-use Rattle.sensor.proofs.put1.Reads as put1-reads
+use Rattle.decode.proofs.fill.evt2.Statement.{statement}
+use Rattle.decode.proofs.fill.evt2.Tie as tie
 
 abbrev Inv-loop : tie.InvT-loop
 Inv-loop bytes width height xs₀ ys₀ ts₀ ps₀ s₀ n₀ i₀ xs ys ts ps s n i = Filling 4 reader2 Bounded2 width height s₀ bytes xs₀ ys₀ ts₀ ps₀ xs ys ts ps s n i
@@ -22,88 +17,68 @@ Inv-loop bytes width height xs₀ ys₀ ts₀ ps₀ s₀ n₀ i₀ xs ys ts ps s
 abbrev μ-loop : tie.MeasureT-loop
 μ-loop bytes width height xs₀ ys₀ ts₀ ps₀ s₀ n₀ i₀ xs ys ts ps s n i = length bytes - i
 
--- src/evt2.rt:42:5
 loop-holds : tie.Need-loop-holds Inv-loop μ-loop
 loop-holds c = filling-start (omega arith) bounded-step2 (start2 (now (c .before .before .before .before .args .bytes)) (c .before .before .before .before .pre .0))
 
--- src/evt2.rt:42:11
 add-loop : tie.Need-add-loop Inv-loop μ-loop
 add-loop c = omega (arith, c .loop .inv .stand .within, c .before .before .before .before .before .pre .0 .loops)
 
--- src/evt2.rt:43:29
 shared-slice-read-four : tie.Need-shared-slice-read-four Inv-loop μ-loop
 shared-slice-read-four c = omega arith
 
--- src/evt2.rt:43:45
 add-four : tie.Need-add-four Inv-loop μ-loop
 add-four c = omega arith
 
--- src/evt2.rt:43:39
 shared-slice-read-four-2 : tie.Need-shared-slice-read-four-2 Inv-loop μ-loop
 shared-slice-read-four-2 c = omega arith
 
--- src/evt2.rt:43:59
 add-four-2 : tie.Need-add-four-2 Inv-loop μ-loop
 add-four-2 c = omega arith
 
--- src/evt2.rt:43:53
 shared-slice-read-four-3 : tie.Need-shared-slice-read-four-3 Inv-loop μ-loop
 shared-slice-read-four-3 c = omega arith
 
--- src/evt2.rt:43:73
 add-four-3 : tie.Need-add-four-3 Inv-loop μ-loop
 add-four-3 c = omega arith
 
--- src/evt2.rt:43:67
 shared-slice-read-four-4 : tie.Need-shared-slice-read-four-4 Inv-loop μ-loop
 shared-slice-read-four-4 c = omega arith
 
--- src/evt2.rt:43:13
 four-requires : tie.Need-four-requires Inv-loop μ-loop
 four-requires c κs = search needs
 
--- src/evt2.rt:44:13
 advance-requires : tie.Need-advance-requires Inv-loop μ-loop
 advance-requires c κs = bounded-sane2 (c .before .before .before .before .before .before .loop .inv .stand .inv)
 
--- src/evt2.rt:47:9
 add-i : tie.Need-add-i Inv-loop μ-loop
 add-i c = omega (arith, c .before .before .before .before .before .before .before .before .before .loop .inv .stand .within, c .before .before .before .before .before .before .before .before .loop-test .taken, c .before .before .before .before .before .before .before .before .before .before .before .before .before .before .pre .0 .loops)
 
--- src/evt2.rt:48:9
 put1-requires : tie.Need-put1-requires Inv-loop μ-loop
 put1-requires c κs = let q = small2 (c .before .before .before .before .before .before .before .before .before .before .before .before .before .loop .inv .stand .inv) (c .before .before .before .before .before .before .before .four .result) (c .before .before .before .before .before .before .advance .result .events) (c .before .before .before .before .before .before .advance .ensures .1) in (filling-room (omega arith) bounded-step2 (c .before .before .before .before .before .before .before .before .before .before .before .before .before .before .before .before .before .before .pre .1) (c .before .before .before .before .before .before .before .before .before .before .before .before .before .loop .inv) (turn2 (c .before .before .before .before .before .before .before .before .before .before .before .before .loop-test .taken) (c .before .before .before .before .before .before .before .four .result) (c .before .before .before .before .before .before .before .four .ensures) (c .before .before .before .before .before .before .advance .result) (c .before .before .before .before .before .before .advance .ensures)) (q .0), q .1)
 
--- src/evt2.rt:42:5
 loop-less : tie.Need-loop-less Inv-loop μ-loop
 loop-less c = omega (arith, c .before .before .before .before .before .before .before .before .before .before .before .before .before .before .before .before .before .before .before .before .loop-test .taken)
 
--- src/evt2.rt:42:5
 loop-again : tie.Need-loop-again Inv-loop μ-loop
 loop-again c = let q = small2 (c .before .before .before .before .before .before .before .before .before .before .before .before .before .before .before .before .before .before .before .before .before .loop .inv .stand .inv) (c .before .before .before .before .before .before .before .before .before .before .before .before .before .before .before .four .result) (c .before .before .before .before .before .before .before .before .before .before .before .before .before .before .advance .result .events) (c .before .before .before .before .before .before .before .before .before .before .before .before .before .before .advance .ensures .1) in rw (c .before .before .before .before .before .before .before .put1 .ensures .0) (filling-turn (omega arith) bounded-step2 (c .before .before .before .before .before .before .before .before .before .before .before .before .before .before .before .before .before .before .before .before .before .before .before .before .before .before .pre .1) (c .before .before .before .before .before .before .before .before .before .before .before .before .before .before .before .before .before .before .before .before .before .loop .inv) (turn2 (c .before .before .before .before .before .before .before .before .before .before .before .before .before .before .before .before .before .before .before .before .loop-test .taken) (c .before .before .before .before .before .before .before .before .before .before .before .before .before .before .before .four .result) (c .before .before .before .before .before .before .before .before .before .before .before .before .before .before .before .four .ensures) (c .before .before .before .before .before .before .before .before .before .before .before .before .before .before .advance .result) (c .before .before .before .before .before .before .before .before .before .before .before .before .before .before .advance .ensures)) (q .0) (c .before .before .before .before .before .before .before .put1 .ensures .1))
 
--- src/evt2.rt:26:1
 same-length : tie.Need-same-length Inv-loop μ-loop
 same-length c = c .before .loop .inv .going .in-x .long
 
--- src/evt2.rt:26:1
 same-length-2 : tie.Need-same-length-2 Inv-loop μ-loop
 same-length-2 c = c .before .loop .inv .going .in-y .long
 
--- src/evt2.rt:26:1
 same-length-3 : tie.Need-same-length-3 Inv-loop μ-loop
 same-length-3 c = c .before .loop .inv .going .in-t .long
 
--- src/evt2.rt:26:1
 same-length-4 : tie.Need-same-length-4 Inv-loop μ-loop
 same-length-4 c = c .before .loop .inv .going .in-p .long
 
--- src/evt2.rt:26:1
 returns : tie.Need-returns Inv-loop μ-loop
 returns c = let q = filling-end (omega arith) bounded-step2 (c .before .before .before .before .before .before .pre .1) (c .before .loop .inv) (omega (arith, c .loop-test .left)) in ((q .0, q .1), q .2)
 
-pub fill-all-spec : {M : Type 1} → statement M
-fill-all-spec =
+pub evt2-spec : {M : Type 1} → statement M
+evt2-spec =
     tie.close
     (tie.spec
     Inv-loop

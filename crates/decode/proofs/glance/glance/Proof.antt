@@ -1,32 +1,23 @@
-use mathlib.Core.Path.{_≡_, refl, sym, ap, _∙_}
+-- `decode::glance::glance` meets its contract.
+use mathlib.Core.Path.{_∙_}
+use borrow.Author.Needs.{needs}
 use Rattle.evt.specs.Evt3.{slimmed}
 use Rattle.decode.specs.Glance.{glance-chosen, glance-step}
-use borrow.Author.Needs.{needs}
-use Rattle.decode.proofs.evt3.glance.Statement.{statement}
-use Rattle.decode.proofs.evt3.glance.Tie as tie
-use Rattle.decode.proofs.evt3.glance.Reads as reads
-use Rattle.decode.proofs.evt3.glance.Lts as lts
-use Rattle.decode.proofs.evt3.chosen.Reads as chosen-reads
-use Rattle.evt.proofs.evt3.WideDecoder.advance.Reads as advance-reads
-use Rattle.evt.proofs.fields.bits.Reads as bits-reads
+use Rattle.decode.proofs.glance.glance.Statement.{statement}
+use Rattle.decode.proofs.glance.glance.Tie as tie
 
--- src/evt3.rt:108:12
 bits-requires : tie.Need-bits-requires
 bits-requires c κs = search needs
 
--- src/evt3.rt:109:13
 chosen-requires : tie.Need-chosen-requires
 chosen-requires c κs = search needs
 
--- src/evt3.rt:109:13
 returns : tie.Need-returns
 returns c = rw (c .chosen .ensures) (glance-chosen (c .before .before .before .before .args .d) (c .before .before .before .before .args .word) (c .before .before .before .before .pre .1 .column) (c .before .before .before .if1 .taken) (λ e. c .before .if2 .taken (c .before .before .bits .ensures ∙ e)))
 
--- src/evt3.rt:112:5
 advance-requires : tie.Need-advance-requires
 advance-requires c κs = search needs
 
--- src/evt3.rt:103:1
 returns-2 : tie.Need-returns-2
 returns-2 c = glance-step (slimmed (c .before .before .args .d)) (c .before .before .args .word) (c .before .before .pre .1 .column) (c .advance .result) (c .advance .ensures .0) (c .advance .ensures .1)
 

@@ -7,13 +7,13 @@ ghost use Rattle.evt.specs.Columns.{Wrote};
 ghost use Rattle.select.specs.Pass.{Ready, Fits, handedOver, surveyed, filled};
 use crate::Filled;
 use crate::Tally;
-use crate::Window;
-use crate::extent;
-use crate::extent::Extent;
-use crate::trim;
 use evt::Codec;
 use evt::Evt2Decoder;
 use evt::vector::Vector;
+use window::Window;
+use window::extent;
+use window::extent::Extent;
+use window::trim;
 
 fn word4(a: u8, b: u8, c: u8, d: u8) -> u64
     ensures { λ r. ⌜ r ≡ a + b * 256 + c * 65536 + d * 16777216 ⌝ }

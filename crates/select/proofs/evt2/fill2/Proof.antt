@@ -4,8 +4,8 @@ use Rattle.select.proofs.evt2.fill2.Reads as reads
 use Rattle.select.proofs.evt2.fill2.Lts as lts
 use Rattle.evt.proofs.evt2.Evt2Decoder.advance.Reads as advance-reads
 use Rattle.select.proofs.evt2.word4.Reads as word4-reads
-use Rattle.select.proofs.trim.stopped.Reads as stopped-reads
-use Rattle.select.proofs.trim.trim.Reads as trim-reads
+use Rattle.window.proofs.trim.stopped.Reads as stopped-reads
+use Rattle.window.proofs.trim.trim.Reads as trim-reads
 use Rattle.sensor.proofs.put_all.Reads as put-all-reads
 use mathlib.Core.Path.{_≡_, refl, sym, ap, _∙_}
 use mathlib.Core.Logic.{⊎-elim}
@@ -19,7 +19,7 @@ use Rattle.evt.specs.Event.{Narrow, eventsOf}
 use Rattle.evt.specs.Columns.{Room}
 use Rattle.evt.specs.Range.{bounded-sane2}
 use Rattle.evt.specs.Evt2.{step2, vector2}
-use Rattle.select.specs.Trim.{masked, events-few}
+use Rattle.window.specs.Trim.{masked, events-few}
 use Rattle.select.specs.Pass.{Fits}
 use Rattle.select.specs.Turn.{all, narrow-here, number-here}
 use Rattle.select.specs.Fill.{Fills, FillsIf, Full, fills-start, fills-on, fills-stop, full, full-wrote, fills-end, fills-turn, fills-quiet, room-here}

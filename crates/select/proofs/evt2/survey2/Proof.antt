@@ -4,9 +4,9 @@ use Rattle.select.proofs.evt2.survey2.Reads as reads
 use Rattle.select.proofs.evt2.survey2.Lts as lts
 use Rattle.evt.proofs.evt2.Evt2Decoder.advance.Reads as advance-reads
 use Rattle.select.proofs.evt2.word4.Reads as word4-reads
-use Rattle.select.proofs.extent.see.Reads as see-reads
-use Rattle.select.proofs.trim.stopped.Reads as stopped-reads
-use Rattle.select.proofs.trim.trim.Reads as trim-reads
+use Rattle.window.proofs.extent.see.Reads as see-reads
+use Rattle.window.proofs.trim.stopped.Reads as stopped-reads
+use Rattle.window.proofs.trim.trim.Reads as trim-reads
 use mathlib.Core.Path.{_≡_, refl, sym, ap, _∙_}
 use mathlib.Core.Logic.{⊎-elim}
 use native.Mathlib.Omega.{arith}
@@ -19,8 +19,8 @@ use Rattle.stream.specs.Words.{value, value-four}
 use Rattle.evt.specs.Event.{Narrow}
 use Rattle.evt.specs.Range.{bounded-sane2}
 use Rattle.evt.specs.Evt2.{step2, vector2}
-use Rattle.select.specs.Extent.{noExtent}
-use Rattle.select.specs.Trim.{narrow-masked, masked-count}
+use Rattle.window.specs.Extent.{noExtent}
+use Rattle.window.specs.Trim.{narrow-masked, masked-count}
 use Rattle.select.specs.Turn.{narrow-here, number-here}
 use Rattle.select.specs.Count.{Counts, CountsIf, Counted, counts-start, counts-on, counts-stop, counted, counts-end, counts-turn, counts-quiet}
 use Rattle.select.specs.Sources.{source2, laws2, inv2}

@@ -3,11 +3,11 @@ use native.Mathlib.Omega.{arith}
 use borrow.Author.Tests.{lt-ltb, le-ltb, le-leb, lt-leb}
 use Prim.Native.Nat.{ℕ, suc, _+_, _-_, _*_, _/_, _%_, _^_, _<_, _≤_}
 use borrow.Author.Needs.{needs}
-use Rattle.select.proofs.trim.spans.Statement.{statement}
-use Rattle.select.proofs.trim.spans.Tie as tie
-use Rattle.select.proofs.trim.spans.Reads as reads
-use Rattle.select.proofs.trim.spans.Lts as lts
-use Rattle.select.proofs.trim.within.Reads as within-reads
+use Rattle.window.proofs.trim.spans.Statement.{statement}
+use Rattle.window.proofs.trim.spans.Tie as tie
+use Rattle.window.proofs.trim.spans.Reads as reads
+use Rattle.window.proofs.trim.spans.Lts as lts
+use Rattle.window.proofs.trim.within.Reads as within-reads
 
 -- src/trim.rt:39:25
 within-requires : tie.Need-within-requires

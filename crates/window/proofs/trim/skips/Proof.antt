@@ -3,11 +3,11 @@ use native.Mathlib.Omega.{arith}
 use borrow.Author.Tests.{lt-ltb, le-ltb, le-leb, lt-leb}
 use Prim.Native.Nat.{ℕ, suc, _+_, _-_, _*_, _/_, _%_, _^_, _<_, _≤_}
 use borrow.Author.Needs.{needs}
-use Rattle.select.proofs.trim.skips.Statement.{statement}
-use Rattle.select.proofs.trim.skips.Tie as tie
-use Rattle.select.proofs.trim.skips.Reads as reads
-use Rattle.select.proofs.trim.skips.Lts as lts
-use Rattle.select.proofs.trim.within.Reads as within-reads
+use Rattle.window.proofs.trim.skips.Statement.{statement}
+use Rattle.window.proofs.trim.skips.Tie as tie
+use Rattle.window.proofs.trim.skips.Reads as reads
+use Rattle.window.proofs.trim.skips.Lts as lts
+use Rattle.window.proofs.trim.within.Reads as within-reads
 
 -- src/trim.rt:74:8
 add-if1 : tie.Need-add-if1

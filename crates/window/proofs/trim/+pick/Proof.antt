@@ -3,18 +3,18 @@ use native.Mathlib.Omega.{arith}
 use borrow.Author.Needs.{needs}
 use native.Mathlib.Numerals.{add-one}
 use lib.Count.{ones-le}
-use Rattle.select.specs.Trim.{pickable-rest, picked-none, picked-out, picked-skipped, picked-even, picked-beyond, picked-keep, picked-pass}
+use Rattle.window.specs.Trim.{pickable-rest, picked-none, picked-out, picked-skipped, picked-even, picked-beyond, picked-keep, picked-pass}
 use Prim.Native.Nat.{ℕ, _+_, _<_}
 use borrow.Fn.Kinds.{In}
 use borrow.Fn.PlainCycle.{Measures, is, falls, and}
-use Rattle.select.proofs.trim.pick.Reads as pick
-use Rattle.select.proofs.trim.pick.Kinds as pick-kinds
-use Rattle.select.proofs.trim.+pick.Lts-pick as pick-lts
-use Rattle.select.proofs.trim.held.Reads as held-reads
-use Rattle.select.proofs.trim.skips.Reads as skips-reads
-use Rattle.select.proofs.trim.spans.Reads as spans-reads
-use Rattle.select.proofs.trim.+pick.{statement}
-use Rattle.select.proofs.trim.+pick.Tie.{close}
+use Rattle.window.proofs.trim.pick.Reads as pick
+use Rattle.window.proofs.trim.pick.Kinds as pick-kinds
+use Rattle.window.proofs.trim.+pick.Lts-pick as pick-lts
+use Rattle.window.proofs.trim.held.Reads as held-reads
+use Rattle.window.proofs.trim.skips.Reads as skips-reads
+use Rattle.window.proofs.trim.spans.Reads as spans-reads
+use Rattle.window.proofs.trim.+pick.{statement}
+use Rattle.window.proofs.trim.+pick.Tie.{close}
 
 abbrev μ-pick : Measures 0 pick-kinds.ps ℕ
 μ-pick κs a = a .0 .mask

@@ -2,10 +2,10 @@ use mathlib.Core.Path.{_≡_, refl, sym, ap, _∙_}
 use native.Mathlib.Omega.{arith}
 use borrow.Author.Tests.{lt-ltb, le-ltb, le-leb, lt-leb}
 use Prim.Native.Nat.{ℕ, suc, _+_, _-_, _*_, _/_, _%_, _^_, _<_, _≤_}
-use Rattle.select.proofs.trim.inside.Statement.{statement}
-use Rattle.select.proofs.trim.inside.Tie as tie
-use Rattle.select.proofs.trim.inside.Reads as reads
-use Rattle.select.proofs.trim.inside.Lts as lts
+use Rattle.window.proofs.trim.inside.Statement.{statement}
+use Rattle.window.proofs.trim.inside.Tie as tie
+use Rattle.window.proofs.trim.inside.Reads as reads
+use Rattle.window.proofs.trim.inside.Lts as lts
 
 -- src/trim.rt:23:1
 returns : tie.Need-returns

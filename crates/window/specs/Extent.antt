@@ -8,7 +8,7 @@ use Rattle.stream.specs.Order.{greatest, greatest-append, greatest-map}
 use Rattle.stream.specs.Mask.{bits, bits-zero, greatest-leading}
 use Rattle.evt.specs.declared.vector.Vector.{Vector}
 use Rattle.evt.specs.Event.{Event, eventAt, eventsOf}
-use Rattle.select.specs.declared.extent.Extent.{Extent}
+use Rattle.window.specs.declared.extent.Extent.{Extent}
 
 -- of events: the greatest time, the greatest column plus 1, the greatest row plus 1, each 0 of none
 abbrev pub extentOf : List Event → Extent

@@ -1,12 +1,12 @@
 use mathlib.Core.Path.{_≡_, refl, sym, ap, _∙_}
-use Rattle.select.specs.Trim.{single-in, single-numbered, single-out}
+use Rattle.window.specs.Trim.{single-in, single-numbered, single-out}
 use borrow.Author.Needs.{needs}
-use Rattle.select.proofs.trim.single.Statement.{statement}
-use Rattle.select.proofs.trim.single.Tie as tie
-use Rattle.select.proofs.trim.single.Reads as reads
-use Rattle.select.proofs.trim.single.Lts as lts
-use Rattle.select.proofs.trim.inside.Reads as inside-reads
-use Rattle.select.proofs.trim.spans.Reads as spans-reads
+use Rattle.window.proofs.trim.single.Statement.{statement}
+use Rattle.window.proofs.trim.single.Tie as tie
+use Rattle.window.proofs.trim.single.Reads as reads
+use Rattle.window.proofs.trim.single.Lts as lts
+use Rattle.window.proofs.trim.inside.Reads as inside-reads
+use Rattle.window.proofs.trim.spans.Reads as spans-reads
 
 -- src/trim.rt:143:8
 inside-requires : tie.Need-inside-requires

@@ -2,7 +2,7 @@
 ghost use mathlib.Core.Path.{_≡_};
 ghost use Prim.Native.Nat.{max};
 ghost use Rattle.evt.specs.Event.{Narrow, eventsOf};
-ghost use Rattle.select.specs.Extent.{extentWith};
+ghost use Rattle.window.specs.Extent.{extentWith};
 use crate::trim::held;
 use evt::vector::Vector;
 

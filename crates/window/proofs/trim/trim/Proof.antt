@@ -1,13 +1,13 @@
 use mathlib.Core.Path.{_≡_, refl, sym, ap, _∙_}
-use Rattle.select.specs.Trim.{picked-whole}
+use Rattle.window.specs.Trim.{picked-whole}
 use borrow.Author.Needs.{needs}
-use Rattle.select.proofs.trim.trim.Statement.{statement}
-use Rattle.select.proofs.trim.trim.Tie as tie
-use Rattle.select.proofs.trim.trim.Reads as reads
-use Rattle.select.proofs.trim.trim.Lts as lts
-use Rattle.select.proofs.trim.pick.Reads as pick-reads
-use Rattle.select.proofs.trim.single.Reads as single-reads
-use Rattle.select.proofs.trim.whole.Reads as whole-reads
+use Rattle.window.proofs.trim.trim.Statement.{statement}
+use Rattle.window.proofs.trim.trim.Tie as tie
+use Rattle.window.proofs.trim.trim.Reads as reads
+use Rattle.window.proofs.trim.trim.Lts as lts
+use Rattle.window.proofs.trim.pick.Reads as pick-reads
+use Rattle.window.proofs.trim.single.Reads as single-reads
+use Rattle.window.proofs.trim.whole.Reads as whole-reads
 
 -- src/trim.rt:160:9
 single-requires : tie.Need-single-requires

@@ -13,7 +13,7 @@ use Rattle.evt.specs.declared.evt3.Decoder.{Decoder}
 use Rattle.evt.specs.Evt2.{reader2}
 use Rattle.evt.specs.Evt3.{reader3}
 use Rattle.sensor.specs.Inside.{inside, clock}
-use Rattle.select.specs.declared.Window.{Window}
+use Rattle.window.specs.declared.Window.{Window}
 
 -- numbers n0 to before n1, times t0 to before t1
 abbrev pub spanOf : Window → Select.Window

@@ -1,8 +1,8 @@
 use borrow.Author.Tests.{le-leb, lt-leb}
-use Rattle.select.proofs.trim.stopped.Statement.{statement}
-use Rattle.select.proofs.trim.stopped.Tie as tie
-use Rattle.select.proofs.trim.stopped.Reads as reads
-use Rattle.select.proofs.trim.stopped.Lts as lts
+use Rattle.window.proofs.trim.stopped.Statement.{statement}
+use Rattle.window.proofs.trim.stopped.Tie as tie
+use Rattle.window.proofs.trim.stopped.Reads as reads
+use Rattle.window.proofs.trim.stopped.Lts as lts
 
 -- src/trim.rt:52:9
 returns : tie.Need-returns

@@ -3,8 +3,8 @@ ghost use mathlib.Core.Path.{_≡_};
 ghost use Prim.Native.Nat.{_+_, _≤_, _<_, _^_, min};
 ghost use Rattle.evt.specs.Event.{Narrow};
 ghost use Rattle.sensor.specs.Inside.{isInside};
-ghost use Rattle.select.specs.Window.{isWithin, isSpanned, isStopped};
-ghost use Rattle.select.specs.Trim.{Pickable, Picked, isWhole, isSkipped};
+ghost use Rattle.window.specs.Window.{isWithin, isSpanned, isStopped};
+ghost use Rattle.window.specs.Trim.{Pickable, Picked, isWhole, isSkipped};
 use crate::Window;
 use evt::vector::Vector;
 

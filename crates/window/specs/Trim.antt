@@ -15,9 +15,9 @@ use Rattle.stream.specs.Select as Select
 use Rattle.evt.specs.declared.vector.Vector.{Vector}
 use Rattle.evt.specs.Event.{Event, eventAt, eventsOf, Narrow}
 use Rattle.sensor.specs.Inside.{isInside, inside}
-use Rattle.select.specs.declared.Window.{Window}
-use Rattle.select.specs.declared.trim.Trimmed.{Trimmed}
-use Rattle.select.specs.Window.{isWithin, isSpanned, spanOf, anyReading, choose}
+use Rattle.window.specs.declared.Window.{Window}
+use Rattle.window.specs.declared.trim.Trimmed.{Trimmed}
+use Rattle.window.specs.Window.{isWithin, isSpanned, spanOf, anyReading, choose}
 
 -- a word's events, with n bits of the mask looked at
 abbrev pub eventsIn : ℕ → Vector → List Event

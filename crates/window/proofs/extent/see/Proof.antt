@@ -3,14 +3,14 @@ use native.Mathlib.Omega.{arith}
 use borrow.Author.Tests.{lt-ltb, le-ltb, le-leb, lt-leb}
 use Prim.Native.Nat.{ℕ, suc, _+_, _-_, _*_, _/_, _%_, _^_, _<_, _≤_}
 use lib.Count.{leading-le}
-use Rattle.select.specs.Extent.{extent-quiet, zeros-lt, extent-top}
+use Rattle.window.specs.Extent.{extent-quiet, zeros-lt, extent-top}
 use borrow.Author.Needs.{needs}
-use Rattle.select.proofs.extent.see.Statement.{statement}
-use Rattle.select.proofs.extent.see.Tie as tie
-use Rattle.select.proofs.extent.see.Reads as reads
-use Rattle.select.proofs.extent.see.Lts as lts
-use Rattle.select.proofs.extent.greater.Reads as greater-reads
-use Rattle.select.proofs.trim.held.Reads as held-reads
+use Rattle.window.proofs.extent.see.Statement.{statement}
+use Rattle.window.proofs.extent.see.Tie as tie
+use Rattle.window.proofs.extent.see.Reads as reads
+use Rattle.window.proofs.extent.see.Lts as lts
+use Rattle.window.proofs.extent.greater.Reads as greater-reads
+use Rattle.window.proofs.trim.held.Reads as held-reads
 
 -- src/extent.rt:29:9
 returns : tie.Need-returns

@@ -41,7 +41,7 @@ pub fn survey2(bytes: &[u8], d: Evt2Decoder, win: Window, number: u64) -> Tally
         s = step.next;
         i += 4;
         if v.mask != 0 {
-            let r = trim::trim(v, win, k);
+            let r = trim::single(v, win, k);
             let kept = Vector {
                 x: v.x,
                 y: v.y,
@@ -93,7 +93,7 @@ pub fn fill2(
         s = step.next;
         i += 4;
         if v.mask != 0 {
-            let r = trim::trim(v, win, k);
+            let r = trim::single(v, win, k);
             let kept = Vector {
                 x: v.x,
                 y: v.y,

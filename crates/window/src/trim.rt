@@ -147,8 +147,22 @@ fn pick(v: Vector, win: Window, k: u64) -> Trimmed
     }
 }
 
-// Where the lowest bit alone is set.
-fn single(v: Vector, win: Window, k: u64) -> Trimmed
+// Several bits.
+fn several(v: Vector, win: Window, k: u64) -> Trimmed
+    requires { ⌜ Pickable v k ⌝ }
+    ensures { λ r. ⌜ Picked v win k r ⌝ }
+{
+    if whole(v, win, k) {
+        return Trimmed {
+            mask: v.mask,
+            extra: 0,
+        };
+    }
+    pick(v, win, k)
+}
+
+// `trim` where the lowest bit alone is set, as in EVT2.
+pub fn single(v: Vector, win: Window, k: u64) -> Trimmed
     requires { ⌜ (v .mask ≡ 1) × (v .x < 65536) ⌝ }
     ensures { λ r. ⌜ Picked v win k r ⌝ }
 {
@@ -163,19 +177,15 @@ fn single(v: Vector, win: Window, k: u64) -> Trimmed
     }
 }
 
-// The events of v are numbered from k on. The loops keep all numbers small enough that no sum wraps.
+// What the window leaves of v, whose events are numbered from k on. The loops keep all numbers small
+// enough that no sum wraps.
 pub fn trim(v: Vector, win: Window, k: u64) -> Trimmed
     requires { ⌜ Narrow v ⌝ ∗ ⌜ k < 2 ^ 62 + 2 ^ 61 ⌝ }
     ensures { λ r. ⌜ Picked v win k r ⌝ }
 {
     if v.mask == 1 {
-        return single(v, win, k);
+        single(v, win, k)
+    } else {
+        several(v, win, k)
     }
-    if whole(v, win, k) {
-        return Trimmed {
-            mask: v.mask,
-            extra: 0,
-        };
-    }
-    pick(v, win, k)
 }

@@ -10,12 +10,12 @@ use Rattle.stream.specs.Words.{wordsOf, value}
 use Rattle.stream.specs.Select.{End}
 use Rattle.evt.specs.declared.vector.Vector.{Vector}
 use Rattle.evt.specs.Event.{Event, eventsOf}
-use Rattle.select.specs.declared.Window.{Window}
-use Rattle.select.specs.declared.trim.Trimmed.{Trimmed}
-use Rattle.select.specs.declared.extent.Extent.{Extent}
+use Rattle.window.specs.declared.Window.{Window}
+use Rattle.window.specs.declared.trim.Trimmed.{Trimmed}
+use Rattle.window.specs.declared.extent.Extent.{Extent}
 use Rattle.select.specs.declared.Tally.{Tally}
-use Rattle.select.specs.Trim.{Picked, masked}
-use Rattle.select.specs.Extent.{extentOf, extentWith, noExtent, extent-none, extent-start, extent-append}
+use Rattle.window.specs.Trim.{Picked, masked}
+use Rattle.window.specs.Extent.{extentOf, extentWith, noExtent, extent-none, extent-start, extent-append}
 use Rattle.select.specs.Pass.{endOf, tallyOf}
 use Rattle.select.specs.Turn.{Source, Laws, At, Stand, Pend, Done, all, left, last, leftIf, lastIf, stops, stand-start, stand-end, none-left, pend-on, pend-end, given-left, pend-turn, quiet-left, pend-quiet, done-end, done-count}
 

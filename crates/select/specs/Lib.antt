@@ -1,7 +1,4 @@
 -- What each file is stands at its head.
-pub mod Window
-pub mod Trim
-pub mod Extent
 pub mod Pass
 pub mod Turn
 pub mod Count

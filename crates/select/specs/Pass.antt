@@ -10,11 +10,11 @@ use Rattle.evt.specs.declared.codec.Codec.the-variants.{Evt2, Evt3}
 pub use Rattle.evt.specs.Columns.{Fits}
 use Rattle.evt.specs.Event.{Event}
 use Rattle.evt.specs.Range.{Bounded2, Regular3}
-use Rattle.select.specs.declared.Window.{Window}
+use Rattle.window.specs.declared.Window.{Window}
 use Rattle.select.specs.declared.Tally.{Tally}
 use Rattle.select.specs.declared.Filled.{Filled}
-use Rattle.select.specs.Window.{spanOf, reading2, reading3}
-use Rattle.select.specs.Extent.{extentOf}
+use Rattle.window.specs.Window.{spanOf, reading2, reading3}
+use Rattle.window.specs.Extent.{extentOf}
 
 -- the events handed over, where the next event has the number k
 abbrev pub handedOver : Window → ℕ → Codec → List ℕ → List Event

@@ -1,14 +1,15 @@
 -- The two decoders as sources of a pass.
 use mathlib.Core.Path.{_≡_, refl}
 use mathlib.Core.List.{List}
-use Prim.Native.Nat.{ℕ, _<_, _^_}
+use Prim.Native.Nat.{ℕ, _≤_, _<_, _^_}
 use native.Mathlib.Omega.{arith}
 use lib.ListN.{length}
 use Rattle.stream.specs.Words.{wordsOf, length-words}
 use Rattle.evt.specs.declared.evt2.Evt2Decoder.{Evt2Decoder}
 use Rattle.evt.specs.declared.evt3.Decoder.{Decoder}
 use Rattle.evt.specs.declared.codec.Codec.the-variants.{Evt2, Evt3}
-use Rattle.evt.specs.Evt2.{reader2, vector2}
+use Rattle.evt.specs.Layout.{type2}
+use Rattle.evt.specs.Evt2.{reader2, vector2, vectorAs, by-kinds}
 use Rattle.evt.specs.Evt3.{reader3, vector3}
 use Rattle.evt.specs.Range.{Bounded2, Bounded3, bounded-step2, bounded-step3, bounded-narrow2, bounded-narrow3}
 use Rattle.select.specs.Pass.{Ready}
@@ -50,3 +51,8 @@ inv2 d l r = rw (length-words 4 l) (r .able)
 
 pub inv3 : {number : ℕ} (d : Decoder) (l : List ℕ) → Ready (Evt3 d) number (length l) → d .«base_x» < 2 ^ 16 → Bounded3 (length (wordsOf 2 l)) d
 inv3 d l r x = rw (length-words 2 l) (record { regular = r .able .regular; loops = r .able .loops; column = x })
+
+-- an EVT2 word has one event at most
+pub mask2 : (d : Evt2Decoder) (w : ℕ) → vector2 d w .mask ≤ 1
+unfolding vector2
+mask2 d w = by-kinds (λ k. vectorAs k d w .mask ≤ 1) (type2 w) (d .initialised) (omega arith) (λ on q. omega arith) (omega arith)

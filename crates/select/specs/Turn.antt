@@ -16,10 +16,10 @@ use Rattle.evt.specs.declared.vector.Vector.{Vector}
 use Rattle.evt.specs.declared.codec.Codec.{Codec}
 use Rattle.evt.specs.Event.{Event, eventAt, eventsOf, Narrow}
 use Rattle.sensor.specs.Inside.{inside, sift-few}
-use Rattle.select.specs.declared.Window.{Window}
-use Rattle.select.specs.declared.trim.Trimmed.{Trimmed}
-use Rattle.select.specs.Window.{spanOf, reading, choose, chosen-choose}
-use Rattle.select.specs.Trim.{Picked, masked, eventsIn, insideIn, events-few, picked-none}
+use Rattle.window.specs.declared.Window.{Window}
+use Rattle.window.specs.declared.trim.Trimmed.{Trimmed}
+use Rattle.window.specs.Window.{spanOf, reading, choose, chosen-choose}
+use Rattle.window.specs.Trim.{Picked, masked, eventsIn, insideIn, events-few, picked-none}
 
 -- a decoder: its machine over words of `size` bytes, the vector that a word carries, and what holds of a state that takes n words more
 pub record Source : Type 1 where

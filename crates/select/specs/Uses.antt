@@ -25,9 +25,9 @@ use Rattle.evt.specs.Evt3.{reader3, step3, vector3, period3, threshold3}
 use Rattle.evt.specs.Codec.{inRangeC}
 use Rattle.evt.specs.Range.{Bounded2, Bounded3, Regular2, Regular3, bounded-range2, bounded-step2, bounded-narrow2, regular-range3, regular-step3}
 use Rattle.sensor.specs.Inside.{inside, clock}
-use Rattle.select.specs.declared.Window.{Window}
-use Rattle.select.specs.Window.{spanOf, reading, reading2, reading3}
-use Rattle.select.specs.Trim.{all-mapped}
+use Rattle.window.specs.declared.Window.{Window}
+use Rattle.window.specs.Window.{spanOf, reading, reading2, reading3}
+use Rattle.window.specs.Trim.{all-mapped}
 use Rattle.select.specs.Pass.{handedOver, endOver, endOf, Paced3, Able}
 
 -- ---- a decoder in range is able

@@ -7,13 +7,13 @@ ghost use Rattle.evt.specs.Columns.{Wrote};
 ghost use Rattle.select.specs.Pass.{Ready, Fits, handedOver, surveyed, filled};
 use crate::Filled;
 use crate::Tally;
-use crate::Window;
-use crate::extent;
-use crate::extent::Extent;
-use crate::trim;
 use evt::Codec;
 use evt::Evt2Decoder;
 use evt::vector::Vector;
+use window::Window;
+use window::extent;
+use window::extent::Extent;
+use window::trim;
 
 fn word4(a: u8, b: u8, c: u8, d: u8) -> u64
     ensures { λ r. ⌜ r ≡ a + b * 256 + c * 65536 + d * 16777216 ⌝ }
@@ -41,7 +41,7 @@ pub fn survey2(bytes: &[u8], d: Evt2Decoder, win: Window, number: u64) -> Tally
         s = step.next;
         i += 4;
         if v.mask != 0 {
-            let r = trim::trim(v, win, k);
+            let r = trim::single(v, win, k);
             let kept = Vector {
                 x: v.x,
                 y: v.y,
@@ -93,7 +93,7 @@ pub fn fill2(
         s = step.next;
         i += 4;
         if v.mask != 0 {
-            let r = trim::trim(v, win, k);
+            let r = trim::single(v, win, k);
             let kept = Vector {
                 x: v.x,
                 y: v.y,

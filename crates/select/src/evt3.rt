@@ -7,13 +7,13 @@ ghost use Rattle.evt.specs.Columns.{Wrote};
 ghost use Rattle.select.specs.Pass.{Ready, Fits, handedOver, surveyed, filled};
 use crate::Filled;
 use crate::Tally;
-use crate::Window;
-use crate::extent;
-use crate::extent::Extent;
-use crate::trim;
 use evt::Codec;
 use evt::Decoder;
 use evt::vector::Vector;
+use window::Window;
+use window::extent;
+use window::extent::Extent;
+use window::trim;
 
 fn word2(lo: u8, hi: u8) -> u64
     ensures { λ r. ⌜ r ≡ lo + hi * 256 ⌝ }

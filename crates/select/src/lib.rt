@@ -9,17 +9,7 @@ ghost use Rattle.evt.specs.Columns.{Wrote};
 ghost use Rattle.select.specs.Pass.{Ready, Fits, handedOver, surveyed, filled};
 use evt::Codec;
 
-// Events inside width x height are numbered. Handed over are those with n0 <= number < n1 and
-// t0 <= t < t1. A pass stops after the first word at which the next number reaches n1, or the
-// decoder is started and its time reaches t1.
-pub struct Window {
-    pub width: u64,
-    pub height: u64,
-    pub n0: u64,
-    pub n1: u64,
-    pub t0: u64,
-    pub t1: u64,
-}
+pub use window::Window;
 
 // What a survey tells: the next event's number, how many events were handed over, their greatest
 // time, column plus 1 and row plus 1 (0 of no events), the words consumed, and the decoder.
@@ -43,8 +33,6 @@ pub struct Filled {
 
 pub mod evt2;
 pub mod evt3;
-pub mod extent;
-pub mod trim;
 
 // Counts what a pass hands over, from a decoder and the next event's number, and alters nothing.
 // `Ready` is every caller's to show: it refuses a decoder out of range (10) and more than 2^30

@@ -4,9 +4,9 @@ use Rattle.select.proofs.evt2.fill2.Reads as reads
 use Rattle.select.proofs.evt2.fill2.Lts as lts
 use Rattle.evt.proofs.evt2.Evt2Decoder.advance.Reads as advance-reads
 use Rattle.select.proofs.evt2.word4.Reads as word4-reads
-use Rattle.select.proofs.trim.stopped.Reads as stopped-reads
-use Rattle.select.proofs.trim.trim.Reads as trim-reads
 use Rattle.sensor.proofs.put_all.Reads as put-all-reads
+use Rattle.window.proofs.trim.single.Reads as single-reads
+use Rattle.window.proofs.trim.stopped.Reads as stopped-reads
 use mathlib.Core.Path.{_≡_, refl, sym, ap, _∙_}
 use mathlib.Core.Logic.{⊎-elim}
 use native.Mathlib.Omega.{arith}
@@ -17,13 +17,14 @@ use lib.ListN.{length, take, drop}
 use Rattle.stream.specs.Words.{value, value-four}
 use Rattle.evt.specs.Event.{Narrow, eventsOf}
 use Rattle.evt.specs.Columns.{Room}
+use Rattle.evt.specs.declared.vector.Vector.{Vector}
 use Rattle.evt.specs.Range.{bounded-sane2}
 use Rattle.evt.specs.Evt2.{step2, vector2}
-use Rattle.select.specs.Trim.{masked, events-few}
+use Rattle.window.specs.Trim.{masked, events-few}
 use Rattle.select.specs.Pass.{Fits}
 use Rattle.select.specs.Turn.{all, narrow-here, number-here}
 use Rattle.select.specs.Fill.{Fills, FillsIf, Full, fills-start, fills-on, fills-stop, full, full-wrote, fills-end, fills-turn, fills-quiet, room-here}
-use Rattle.select.specs.Sources.{source2, laws2, inv2}
+use Rattle.select.specs.Sources.{source2, laws2, inv2, mask2}
 
 abbrev Inv-loop : tie.InvT-loop
 Inv-loop bytes win number xs₀ ys₀ ts₀ ps₀ s₀ k₀ n₀ i₀ xs ys ts ps s k n i = Fills source2 win number s₀ bytes xs₀ ys₀ ts₀ ps₀ xs ys ts ps s k n i
@@ -54,11 +55,14 @@ narrow-at c = narrow-here laws2 (c .before .before .before .before .before .befo
 number-at : (c : tie.After-struct-known Inv-loop μ-loop) → c .before .before .before .before .before .before .before .before .before .before .loop .k < 2 ^ 62 + 2 ^ 61
 number-at c = number-here laws2 (c .before .before .before .before .before .before .before .before .before .before .loop .inv .at) (h-at c) (c .before .before .before .before .word4 .result) (word-at c) (c .before .before .before .advance .result .next) (next-at c) (c .before .before .before .advance .result .events) (events-at c)
 
-room-at : (c : tie.After-trim Inv-loop μ-loop) → Room (length (eventsOf (masked (c .before .before .before .before .before .advance .result .events) (c .trim .result .mask)))) (masked (c .before .before .before .before .before .advance .result .events) (c .trim .result .mask)) (c .before .before .before .before .before .before .before .before .before .before .before .before .loop .n) (length (c .before .before .before .before .before .before .before .before .before .before .before .before .loop .xs)) (length (c .before .before .before .before .before .before .before .before .before .before .before .before .loop .ys)) (length (c .before .before .before .before .before .before .before .before .before .before .before .before .loop .ts)) (length (c .before .before .before .before .before .before .before .before .before .before .before .before .loop .ps))
-room-at c = room-here laws2 (c .before .before .before .before .before .before .before .before .before .before .before .before .loop .inv) (h-at (c .before .before)) (c .before .before .before .before .before .before .word4 .result) (word-at (c .before .before)) (c .before .before .before .before .before .advance .result .next) (next-at (c .before .before)) (c .before .before .before .before .before .advance .result .events) (events-at (c .before .before)) (fits-at (c .before .before .before .before .before .before .before .before .before .before .before .before .before)) (c .trim .result) (c .trim .ensures)
+one-at : (c : tie.Then1 Inv-loop μ-loop) → c .before .before .before .before .advance .result .events .mask ≡ 1
+one-at c = omega (arith, c .if1 .taken, ap (λ (v : Vector). v .mask) (c .before .before .before .before .advance .ensures .1), mask2 (c .before .before .before .before .before .before .before .before .before .before .before .loop .s) (c .before .before .before .before .before .word4 .result))
 
-few-at : (c : tie.After-trim Inv-loop μ-loop) → length (eventsOf (masked (c .before .before .before .before .before .advance .result .events) (c .trim .result .mask))) ≤ 32
-few-at c = events-few 32 32 (masked (c .before .before .before .before .before .advance .result .events) (c .trim .result .mask)) (room-at c .mask)
+room-at : (c : tie.After-single Inv-loop μ-loop) → Room (length (eventsOf (masked (c .before .before .before .before .before .advance .result .events) (c .single .result .mask)))) (masked (c .before .before .before .before .before .advance .result .events) (c .single .result .mask)) (c .before .before .before .before .before .before .before .before .before .before .before .before .loop .n) (length (c .before .before .before .before .before .before .before .before .before .before .before .before .loop .xs)) (length (c .before .before .before .before .before .before .before .before .before .before .before .before .loop .ys)) (length (c .before .before .before .before .before .before .before .before .before .before .before .before .loop .ts)) (length (c .before .before .before .before .before .before .before .before .before .before .before .before .loop .ps))
+room-at c = room-here laws2 (c .before .before .before .before .before .before .before .before .before .before .before .before .loop .inv) (h-at (c .before .before)) (c .before .before .before .before .before .before .word4 .result) (word-at (c .before .before)) (c .before .before .before .before .before .advance .result .next) (next-at (c .before .before)) (c .before .before .before .before .before .advance .result .events) (events-at (c .before .before)) (fits-at (c .before .before .before .before .before .before .before .before .before .before .before .before .before)) (c .single .result) (c .single .ensures)
+
+few-at : (c : tie.After-single Inv-loop μ-loop) → length (eventsOf (masked (c .before .before .before .before .before .advance .result .events) (c .single .result .mask))) ≤ 32
+few-at c = events-few 32 32 (masked (c .before .before .before .before .before .advance .result .events) (c .single .result .mask)) (room-at c .mask)
 
 pend : (c : tie.Joined1 Inv-loop μ-loop) → FillsIf source2 (c .before .before .before .before .before .before .before .before .before .before .before .before .before .before .before .before .args .win) (c .before .before .before .before .before .before .before .before .before .before .before .before .before .before .before .before .args .number) (c .before .before .before .before .before .before .before .before .before .before .before .before .before .before .before .before .args .d) (now (c .before .before .before .before .before .before .before .before .before .before .before .before .before .before .before .before .args .bytes)) (now (c .before .before .before .before .before .before .before .before .before .before .before .before .before .before .before .before .args .xs)) (now (c .before .before .before .before .before .before .before .before .before .before .before .before .before .before .before .before .args .ys)) (now (c .before .before .before .before .before .before .before .before .before .before .before .before .before .before .before .before .args .ts)) (now (c .before .before .before .before .before .before .before .before .before .before .before .before .before .before .before .before .args .ps)) (c .if1 .xs) (c .if1 .ys) (c .if1 .ts) (c .if1 .ps) (c .before .before .before .before .advance .result .next) (c .if1 .k) (c .if1 .n) (c .before .before .before .before .before .before .before .before .before .before .before .loop .i + 4)
 pend c =
@@ -123,8 +127,8 @@ add-i : tie.Need-add-i Inv-loop μ-loop
 add-i c = omega (arith, c .before .before .before .before .before .before .before .before .before .loop .inv .at .within, c .before .before .before .before .before .before .before .before .before .loop .inv .at .long)
 
 -- src/evt2.rt:96:17
-trim-requires : tie.Need-trim-requires Inv-loop μ-loop
-trim-requires c κs = (narrow-at (c .before), number-at (c .before))
+single-requires : tie.Need-single-requires Inv-loop μ-loop
+single-requires c κs = (one-at c, narrow-at (c .before) .x<)
 
 -- src/evt2.rt:105:13
 put-all-requires : tie.Need-put-all-requires Inv-loop μ-loop
@@ -140,7 +144,7 @@ add-k c = omega (arith, c .before .before .before .before .before .before .befor
 
 -- src/evt2.rt:106:17
 add-k-2 : tie.Need-add-k-2 Inv-loop μ-loop
-add-k-2 c = omega (arith, c .before .before .before .before .before .before .before .before .put-all .ensures .0, few-at (c .before .before .before .before .before .before .before .before .before .before .before .before .before), number-at (c .before .before .before .before .before .before .before .before .before .before .before .before .before .before .before), narrow-at (c .before .before .before .before .before .before .before .before .before .before .before .before .before .before .before) .mask<, c .before .before .before .before .before .before .before .before .before .before .before .before .before .trim .ensures .few)
+add-k-2 c = omega (arith, c .before .before .before .before .before .before .before .before .put-all .ensures .0, few-at (c .before .before .before .before .before .before .before .before .before .before .before .before .before), number-at (c .before .before .before .before .before .before .before .before .before .before .before .before .before .before .before), narrow-at (c .before .before .before .before .before .before .before .before .before .before .before .before .before .before .before) .mask<, c .before .before .before .before .before .before .before .before .before .before .before .before .before .single .ensures .few)
 
 -- src/evt2.rt:108:12
 stopped-requires : tie.Need-stopped-requires Inv-loop μ-loop
@@ -192,7 +196,7 @@ fill2-spec =
     word4-requires
     advance-requires
     add-i
-    trim-requires
+    single-requires
     put-all-requires
     sub-k
     add-k

@@ -4,9 +4,9 @@ use Rattle.select.proofs.evt2.survey2.Reads as reads
 use Rattle.select.proofs.evt2.survey2.Lts as lts
 use Rattle.evt.proofs.evt2.Evt2Decoder.advance.Reads as advance-reads
 use Rattle.select.proofs.evt2.word4.Reads as word4-reads
-use Rattle.select.proofs.extent.see.Reads as see-reads
-use Rattle.select.proofs.trim.stopped.Reads as stopped-reads
-use Rattle.select.proofs.trim.trim.Reads as trim-reads
+use Rattle.window.proofs.extent.see.Reads as see-reads
+use Rattle.window.proofs.trim.single.Reads as single-reads
+use Rattle.window.proofs.trim.stopped.Reads as stopped-reads
 use mathlib.Core.Path.{_≡_, refl, sym, ap, _∙_}
 use mathlib.Core.Logic.{⊎-elim}
 use native.Mathlib.Omega.{arith}
@@ -17,13 +17,14 @@ use lib.ListN.{length, take, drop}
 use lib.Count.{ones, ones-le}
 use Rattle.stream.specs.Words.{value, value-four}
 use Rattle.evt.specs.Event.{Narrow}
+use Rattle.evt.specs.declared.vector.Vector.{Vector}
 use Rattle.evt.specs.Range.{bounded-sane2}
 use Rattle.evt.specs.Evt2.{step2, vector2}
-use Rattle.select.specs.Extent.{noExtent}
-use Rattle.select.specs.Trim.{narrow-masked, masked-count}
+use Rattle.window.specs.Extent.{noExtent}
+use Rattle.window.specs.Trim.{narrow-masked, masked-count}
 use Rattle.select.specs.Turn.{narrow-here, number-here}
 use Rattle.select.specs.Count.{Counts, CountsIf, Counted, counts-start, counts-on, counts-stop, counted, counts-end, counts-turn, counts-quiet}
-use Rattle.select.specs.Sources.{source2, laws2, inv2}
+use Rattle.select.specs.Sources.{source2, laws2, inv2, mask2}
 
 abbrev Inv-loop : tie.InvT-loop
 Inv-loop bytes win number s₀ k₀ n₀ seen₀ i₀ s k n seen i = Counts source2 win number s₀ bytes s k n seen i
@@ -50,8 +51,11 @@ narrow-at c = narrow-here laws2 (c .before .before .before .before .before .befo
 number-at : (c : tie.After-struct-known Inv-loop μ-loop) → c .before .before .before .before .before .before .before .before .before .before .loop .k < 2 ^ 62 + 2 ^ 61
 number-at c = number-here laws2 (c .before .before .before .before .before .before .before .before .before .before .loop .inv .at) (h-at c) (c .before .before .before .before .word4 .result) (word-at c) (c .before .before .before .advance .result .next) (next-at c) (c .before .before .before .advance .result .events) (events-at c)
 
-few-at : (c : tie.After-see Inv-loop μ-loop) → ones (c .before .before .trim .result .mask) ≤ 32
-few-at c = ones-le 32 (c .before .before .trim .result .mask) (omega (arith, c .before .before .trim .ensures .low, narrow-at (c .before .before .before .before) .mask<))
+one-at : (c : tie.Then1 Inv-loop μ-loop) → c .before .before .before .before .advance .result .events .mask ≡ 1
+one-at c = omega (arith, c .if1 .taken, ap (λ (v : Vector). v .mask) (c .before .before .before .before .advance .ensures .1), mask2 (c .before .before .before .before .before .before .before .before .before .before .before .loop .s) (c .before .before .before .before .before .word4 .result))
+
+few-at : (c : tie.After-see Inv-loop μ-loop) → ones (c .before .before .single .result .mask) ≤ 32
+few-at c = ones-le 32 (c .before .before .single .result .mask) (omega (arith, c .before .before .single .ensures .low, narrow-at (c .before .before .before .before) .mask<))
 
 pend : (c : tie.Joined1 Inv-loop μ-loop) → CountsIf source2 (c .before .before .before .before .before .before .before .before .before .before .before .before .before .args .win) (c .before .before .before .before .before .before .before .before .before .before .before .before .before .args .number) (c .before .before .before .before .before .before .before .before .before .before .before .before .before .args .d) (now (c .before .before .before .before .before .before .before .before .before .before .before .before .before .args .bytes)) (c .before .before .before .before .advance .result .next) (c .if1 .k) (c .if1 .n) (c .if1 .seen) (c .before .before .before .before .before .before .before .before .before .before .before .loop .i + 4)
 pend c =
@@ -118,12 +122,12 @@ add-i : tie.Need-add-i Inv-loop μ-loop
 add-i c = omega (arith, c .before .before .before .before .before .before .before .before .before .loop .inv .at .within, c .before .before .before .before .before .before .before .before .before .loop .inv .at .long)
 
 -- src/evt2.rt:44:17
-trim-requires : tie.Need-trim-requires Inv-loop μ-loop
-trim-requires c κs = (narrow-at (c .before), number-at (c .before))
+single-requires : tie.Need-single-requires Inv-loop μ-loop
+single-requires c κs = (one-at c, narrow-at (c .before) .x<)
 
 -- src/evt2.rt:53:13
 see-requires : tie.Need-see-requires Inv-loop μ-loop
-see-requires c κs = narrow-masked (c .before .before .before .before .before .before .advance .result .events) (c .before .trim .result .mask) (narrow-at (c .before .before .before)) (c .before .trim .ensures .low)
+see-requires c κs = narrow-masked (c .before .before .before .before .before .before .advance .result .events) (c .before .single .result .mask) (narrow-at (c .before .before .before)) (c .before .single .ensures .low)
 
 -- src/evt2.rt:54:18
 cast-n : tie.Need-cast-n Inv-loop μ-loop
@@ -143,7 +147,7 @@ add-k c = omega (arith, few-at c, number-at (c .before .before .before .before))
 
 -- src/evt2.rt:55:17
 add-k-2 : tie.Need-add-k-2 Inv-loop μ-loop
-add-k-2 c = omega (arith, few-at (c .before), number-at (c .before .before .before .before .before), narrow-at (c .before .before .before .before .before) .mask<, c .before .before .before .trim .ensures .few)
+add-k-2 c = omega (arith, few-at (c .before), number-at (c .before .before .before .before .before), narrow-at (c .before .before .before .before .before) .mask<, c .before .before .before .single .ensures .few)
 
 -- src/evt2.rt:57:12
 stopped-requires : tie.Need-stopped-requires Inv-loop μ-loop
@@ -179,7 +183,7 @@ survey2-spec =
     word4-requires
     advance-requires
     add-i
-    trim-requires
+    single-requires
     see-requires
     cast-n
     add-n

@@ -6,8 +6,8 @@ use Rattle.evt.proofs.evt3.Decoder.widen.Reads as widen-reads
 use Rattle.evt.proofs.evt3.WideDecoder.advance.Reads as advance-reads
 use Rattle.evt.proofs.evt3.WideDecoder.slim.Reads as slim-reads
 use Rattle.select.proofs.evt3.word2.Reads as word2-reads
-use Rattle.select.proofs.trim.stopped.Reads as stopped-reads
-use Rattle.select.proofs.trim.trim.Reads as trim-reads
+use Rattle.window.proofs.trim.stopped.Reads as stopped-reads
+use Rattle.window.proofs.trim.trim.Reads as trim-reads
 use Rattle.sensor.proofs.put_all.Reads as put-all-reads
 use mathlib.Core.Path.{_≡_, refl, sym, ap, _∙_}
 use mathlib.Core.Logic.{⊎-elim}
@@ -22,7 +22,7 @@ use Rattle.evt.specs.Columns.{Room}
 use Rattle.evt.specs.Evt3.{widened, slimmed, Slim}
 use Rattle.evt.specs.Range.{bounded-sane3, bounded-slim3}
 use Rattle.evt.specs.Evt3.{step3, vector3}
-use Rattle.select.specs.Trim.{masked, events-few}
+use Rattle.window.specs.Trim.{masked, events-few}
 use Rattle.select.specs.Pass.{Fits}
 use Rattle.select.specs.Turn.{all, narrow-here, number-here}
 use Rattle.select.specs.Fill.{Fills, FillsIf, Full, fills-start, fills-on, fills-stop, full, full-wrote, fills-end, fills-turn, fills-quiet, room-here}

@@ -6,9 +6,9 @@ use Rattle.evt.proofs.evt3.Decoder.widen.Reads as widen-reads
 use Rattle.evt.proofs.evt3.WideDecoder.advance.Reads as advance-reads
 use Rattle.evt.proofs.evt3.WideDecoder.slim.Reads as slim-reads
 use Rattle.select.proofs.evt3.word2.Reads as word2-reads
-use Rattle.select.proofs.extent.see.Reads as see-reads
-use Rattle.select.proofs.trim.stopped.Reads as stopped-reads
-use Rattle.select.proofs.trim.trim.Reads as trim-reads
+use Rattle.window.proofs.extent.see.Reads as see-reads
+use Rattle.window.proofs.trim.stopped.Reads as stopped-reads
+use Rattle.window.proofs.trim.trim.Reads as trim-reads
 use mathlib.Core.Path.{_≡_, refl, sym, ap, _∙_}
 use mathlib.Core.Logic.{⊎-elim}
 use native.Mathlib.Omega.{arith}
@@ -22,8 +22,8 @@ use Rattle.evt.specs.Event.{Narrow}
 use Rattle.evt.specs.Evt3.{widened, slimmed, Slim}
 use Rattle.evt.specs.Range.{bounded-sane3, bounded-slim3}
 use Rattle.evt.specs.Evt3.{step3, vector3}
-use Rattle.select.specs.Extent.{noExtent}
-use Rattle.select.specs.Trim.{narrow-masked, masked-count}
+use Rattle.window.specs.Extent.{noExtent}
+use Rattle.window.specs.Trim.{narrow-masked, masked-count}
 use Rattle.select.specs.Turn.{narrow-here, number-here}
 use Rattle.select.specs.Count.{Counts, CountsIf, Counted, counts-start, counts-on, counts-stop, counted, counts-end, counts-turn, counts-quiet}
 use Rattle.select.specs.Sources.{source3, laws3, inv3}

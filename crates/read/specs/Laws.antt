@@ -44,7 +44,7 @@ use Rattle.header.specs.declared.HeaderAnswer.{HeaderAnswer}
 use Rattle.header.specs.declared.HeaderAnswer.the-variants.{Header, Refused as NoHeader}
 use Rattle.decode.specs.Laws.{bounded-fresh, range-fresh, all-inside}
 use Rattle.sensor.specs.Inside.{inside}
-use Rattle.select.specs.declared.Window.{Window}
+use Rattle.window.specs.declared.Window.{Window}
 use Rattle.select.specs.declared.Tally.{Tally as SelectTally}
 use Rattle.select.specs.declared.Filled.{Filled}
 use Rattle.select.specs.Pass.{Ready, handedOver, surveyed, filled}

@@ -1,5 +1,8 @@
 // The events of one word: written to four columns or counted, all of them or those inside a sensor
 // of width x height. specs/Inside.antt says which these are.
+//
+// What they require is that the vector's numbers are as small as every step yields them, and that
+// there is room for what is written: the loops above count before they write.
 ghost use mathlib.Core.Path.{_≡_};
 ghost use mathlib.Core.List.{[]};
 ghost use Prim.Native.Nat.{_+_, _≤_, _<_, _^_, min, max};
@@ -25,8 +28,7 @@ fn inside(x: u64, y: u64, width: u64, height: u64) -> bool
     if x < width { y < height } else { false }
 }
 
-// Writes all events of v from index `at` on, and answers the next index. The caller has made sure
-// of the room, as it counts before it writes.
+// Writes all events of v from index `at` on, and answers the next index.
 pub fn put_all(
     v: Vector,
     at: usize,
@@ -55,7 +57,8 @@ pub fn put_all(
     n
 }
 
-// Writes the events inside the sensor, with a shorter way for a single event.
+// Writes the events of v inside the sensor from index `at` on, and answers the next index. A single
+// event goes a shorter way.
 pub fn place(
     v: Vector,
     width: u64,

@@ -5,7 +5,9 @@ use crate::show;
 use evt::RawEvent;
 
 const SHORT: u16 = 43981;
+
 const LONG: i64 = 7777777777777777;
+
 const BYTE: u8 = 171;
 
 // Each `ensures` keeps the array itself out of its callers' proofs.

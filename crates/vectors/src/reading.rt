@@ -81,7 +81,15 @@ fn lend(
     let y = at_most(room.y, ys.len());
     let t = at_most(room.t, ts.len());
     let p = at_most(room.p, ps.len());
-    dispatch(entry, options, bytes, &mut xs[..x], &mut ys[..y], &mut ts[..t], &mut ps[..p])
+    dispatch(
+        entry,
+        options,
+        bytes,
+        &mut xs[..x],
+        &mut ys[..y],
+        &mut ts[..t],
+        &mut ps[..p],
+    )
 }
 
 fn show_reading(r: Reading) {

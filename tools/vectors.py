@@ -307,6 +307,11 @@ def rooms(room):
     return (room,) * 4 if isinstance(room, int) else room
 
 
+def call(data, size, limit, room):
+    assert max(rooms(room)) <= COLUMNS
+    return f'{shown(size)} {shown(limit)} {room if isinstance(room, int) else ",".join(map(str, room))} {data.hex() or "-"}'
+
+
 def header_end(data):
     """Document 01: while the next byte is `%`, a line runs through its newline, or to the end of the file."""
     at = 0
@@ -337,14 +342,13 @@ def expected(expect, r, *case):
 
 
 def hdr(group, data, size=None, expect=None):
-    words = f'hdr {shown(size)} {data.hex() or "-"}'
-    return Case(group, words, [f'hdr data={data.hex()} size={shown(size)}'], lambda a: expected(expect, by_table(data, a[0]), words))
+    line = f'hdr {shown(size)} {data.hex() or "-"}'
+    return Case(group, line, [f'hdr data={data.hex()} size={shown(size)}'], lambda a: expected(expect, by_table(data, a[0]), line))
 
 
 def read(group, data, size=None, limit=None, room=COLUMNS, expect=None):
-    assert max(rooms(room)) <= COLUMNS
-    words = f'read {shown(size)} {shown(limit)} {",".join(map(str, rooms(room))) if isinstance(room, tuple) else room} {data.hex() or "-"}'
-    return Case(group, words, [f'read data={data.hex()} size={shown(size)} limit={shown(limit)}'], lambda a: expected(expect, by_table(data, a[0], room), words))
+    line = f'read {call(data, size, limit, room)}'
+    return Case(group, line, [f'read data={data.hex()} size={shown(size)} limit={shown(limit)}'], lambda a: expected(expect, by_table(data, a[0], room), line))
 
 
 def kept(enc, stepped, size, limit):
@@ -362,8 +366,7 @@ def kept(enc, stepped, size, limit):
 def words(group, enc, data, size=None, limit=None, room=COLUMNS, expect=None):
     """The reference is the Rust's `decode_words` where it has this call, and its `read_raw` behind a header of the encoding alone unless
     the words begin with `%`. In every case the rule for reading, over the Rust's events of all words, has to give the same."""
-    assert max(rooms(room)) <= COLUMNS
-    text_ = f'words {enc} {shown(size)} {shown(limit)} {",".join(map(str, rooms(room))) if isinstance(room, tuple) else room} {data.hex() or "-"}'
+    line = f'words {enc} {call(data, size, limit, room)}'
     asked = [f'step enc={enc} data={data.hex()}']
     if size and limit is None:
         asked.append(f'decode enc={enc} size={shown(size)} data={data.hex()}')
@@ -374,10 +377,10 @@ def words(group, enc, data, size=None, limit=None, room=COLUMNS, expect=None):
         rule = kept(enc, answers[0], size, limit)
         for a in answers[1:]:
             r = numbered(a)
-            assert rule in (r, r.replace('ok ', f'ok EVT{enc} ', 1)), (text_, rule, r)
-        return expected(expect, lent(rule, room), text_)
+            assert rule in (r, r.replace('ok ', f'ok EVT{enc} ', 1)), (line, rule, r)
+        return expected(expect, lent(rule, room), line)
 
-    return Case(group, text_, asked, judge)
+    return Case(group, line, asked, judge)
 
 
 def head(enc, size=None, more=b''):

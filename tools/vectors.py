@@ -291,7 +291,294 @@ def decoding():
         yield from part()
 
 
-LAYERS = [decoding]
+# ---- headers and reading: `hdr SIZE HEX`, `read SIZE LIMIT ROOM HEX`, `words ENC SIZE LIMIT ROOM HEX`
+
+COLUMNS = 4096      # the entries of the program's columns
+ONE = {2: [0x80000001, 0x19002807], 3: [0x8001, 0x6001, 0x0007, 0x2805]}
+MORE = {2: [0x80000001, 0x19002807, 0x00001001, 0x1FC01002, 0x80000002, 0x10000803], 3: [0x8001, 0x6001, 0x0007, 0x300A, 0x4A0F, 0x2805, 0x8002, 0x58FF]}
+WIDE = 2**64 - 1
+
+
+def shown(v):
+    return '-' if v is None else 'x'.join(map(str, v)) if isinstance(v, tuple) else str(v)
+
+
+def rooms(room):
+    return (room,) * 4 if isinstance(room, int) else room
+
+
+def call(data, size, limit, room):
+    assert max(rooms(room)) <= COLUMNS
+    return f'{shown(size)} {shown(limit)} {room if isinstance(room, int) else ",".join(map(str, room))} {data.hex() or "-"}'
+
+
+def header_end(data):
+    """Document 01: while the next byte is `%`, a line runs through its newline, or to the end of the file."""
+    at = 0
+    while data[at:at + 1] == b'%':
+        at = data.find(b'\n', at) + 1 or len(data)
+    return at
+
+
+def numbered(answer):
+    return {'err size': 'refused 1', 'err encoding': 'refused 2'}.get(answer, answer)
+
+
+def by_table(data, answer, room=COLUMNS):
+    """What the Rust lacks: 3, which comes before its own refusals, and 5, which comes after them."""
+    if any(b > 127 for b in data[:header_end(data)]):
+        return 'refused 3'
+    return lent(numbered(answer), room)
+
+
+def lent(answer, room):
+    n = int(answer.split()[4]) if answer.startswith('ok') and ' : ' in answer + ' ' else 0
+    return f'refused 5 {n}' if n > min(rooms(room)) else answer
+
+
+def expected(expect, r, *case):
+    assert expect is None or (r + ' ').startswith(expect + ' '), (case, expect, r)
+    return r
+
+
+def hdr(group, data, size=None, expect=None):
+    line = f'hdr {shown(size)} {data.hex() or "-"}'
+    return Case(group, line, [f'hdr data={data.hex()} size={shown(size)}'], lambda a: expected(expect, by_table(data, a[0]), line))
+
+
+def read(group, data, size=None, limit=None, room=COLUMNS, expect=None):
+    line = f'read {call(data, size, limit, room)}'
+    return Case(group, line, [f'read data={data.hex()} size={shown(size)} limit={shown(limit)}'], lambda a: expected(expect, by_table(data, a[0], room), line))
+
+
+def kept(enc, stepped, size, limit):
+    """Document 01, 'Limited reading', over the events of all words."""
+    if size and 0 in size:
+        return 'refused 1'
+    events = [tuple(map(int, e.split(','))) for e in stepped.split(':')[-1].split()]
+    events = [e for e in events if not size or (e[1] < size[0] and e[2] < size[1])][:limit]
+    if not size and not events:
+        return 'refused 1'
+    w, h = size or (max(e[1] for e in events) + 1, max(e[2] for e in events) + 1)
+    return ' '.join([f'ok EVT{enc} {w} {h} {len(events)} :'] + [','.join(map(str, e)) for e in events])
+
+
+def words(group, enc, data, size=None, limit=None, room=COLUMNS, expect=None):
+    """The reference is the Rust's `decode_words` where it has this call, and its `read_raw` behind a header of the encoding alone unless
+    the words begin with `%`. In every case the rule for reading, over the Rust's events of all words, has to give the same."""
+    line = f'words {enc} {call(data, size, limit, room)}'
+    asked = [f'step enc={enc} data={data.hex()}']
+    if size and limit is None:
+        asked.append(f'decode enc={enc} size={shown(size)} data={data.hex()}')
+    if data[:1] != b'%':
+        asked.append(f'read data={"+".join([f"h{enc}"] + [data.hex()] * bool(data))} size={shown(size)} limit={shown(limit)}')
+
+    def judge(answers):
+        rule = kept(enc, answers[0], size, limit)
+        for a in answers[1:]:
+            r = numbered(a)
+            assert rule in (r, r.replace('ok ', f'ok EVT{enc} ', 1)), (line, rule, r)
+        return expected(expect, lent(rule, room), line)
+
+    return Case(group, line, asked, judge)
+
+
+def head(enc, size=None, more=b''):
+    return f'% format EVT{enc}\n'.encode() + (f'% geometry {size[0]}x{size[1]}\n'.encode() if size else b'') + more
+
+
+def table():
+    """The table's own examples, and the listing of document 01."""
+    three = [0x8001, 0x6001, 0x0007, 0x300A, 0x400B]
+    for enc in 2, 3:
+        one = joined(enc, ONE[enc])
+        yield read('table', head(enc) + one, (0, 5), None, 8, 'refused 1')
+        yield words('table', enc, one, (0, 5), None, 8, 'refused 1')
+        yield read('table', head(enc) + one, None, None, 0, 'refused 5 1')
+        yield words('table', enc, one, None, None, 0, 'refused 5 1')
+        yield hdr('table', head(enc), (0, 5), 'refused 1')
+        yield read('table', head(enc) + one, None, None, 1, f'ok EVT{enc} 6 8 1 :')
+    yield hdr('table', b'', None, 'refused 2')
+    yield hdr('table', b'\x25\x80', None, 'refused 3')
+    yield read('table', b'', None, None, 8, 'refused 2')
+    yield read('table', b'\x25\x80', None, None, 8, 'refused 3')
+    yield read('table', head(3, (64, 48)) + joined(3, three), None, None, 3, 'ok EVT3 64 48 3 : 4097,10,7,0 4097,11,7,0 4097,13,7,0')
+    for cut in range(len(head(3, (64, 48)) + joined(3, three)) + 1):
+        yield read('table', (head(3, (64, 48)) + joined(3, three))[:cut])
+
+
+def order():
+    """Every meeting of 3, 2, 1 (zero size) and 1 (no event) or 5: the first in that order is given."""
+    for line, mark, geometry, size, body, room in itertools.product((b'% date x\n', b'% evt 3\n'), (b'', b'% \xC3\xA9\n'), (None, (5, 0), (64, 48)), (None, (0, 5), (64, 48)), ([], ONE[3]), (0, 1)):
+        data = line + mark + (f'% geometry {shown(geometry)}\n'.encode() if geometry else b'')
+        holds = size or geometry
+        expect = ('refused 3' if mark else 'refused 2' if b'evt' not in line else 'refused 1' if holds and 0 in holds or not holds and not body
+                  else 'refused 5 1' if body and not room else 'ok')
+        yield read('order', data + joined(3, body), size, None, room, expect)
+        if room:
+            yield hdr('order', data + joined(3, body), size, None if expect == 'refused 1' else expect)
+    for size, body, room in itertools.product((None, (0, 5), (5, 0), (64, 48)), ([], ONE[2]), (0, 1)):
+        expect = 'refused 1' if size and 0 in size or not size and not body else 'refused 5 1' if body and not room else 'ok'
+        yield words('order', 2, joined(2, body), size, None, room, expect)
+
+
+def room_cases():
+    """Limits 0, within and past; columns of no entry, one short, exact and longer; columns of different lengths."""
+    for enc in 2, 3:
+        data = joined(enc, MORE[enc])
+        n = {2: 4, 3: 15}[enc]
+        for limit in None, 0, 1, 2, n - 1, n, n + 1, WIDE:
+            given = n if limit is None else min(n, limit)
+            for room in sorted({0, 1, max(given - 1, 0), given, given + 1, COLUMNS}):
+                expect = f'refused 5 {given}' if given > room else 'ok' if given else None
+                yield read(f'room{enc}', head(enc) + data, None, limit, room, expect)
+                yield words(f'room{enc}', enc, data, (2048, 2048), limit, room, expect)
+            yield read(f'room{enc}', head(enc, (2048, 2048)) + data, None, limit, given, 'ok')
+            yield words(f'room{enc}', enc, data, None, limit, given, 'ok' if given else 'refused 1')
+        for lengths in [tuple(n - (j == k) + 3 * (j != k) for j in range(4)) for k in range(4)] + [tuple(n + 3 * (j != k) for j in range(4)) for k in range(4)] + \
+                [tuple(COLUMNS * (j != k) for j in range(4)) for k in range(4)] + [(n, n + 1, n + 2, n + 3), (n + 3, n + 2, n + 1, n - 1), (0, 1, 2, 3)]:
+            expect = f'refused 5 {n}' if min(lengths) < n else 'ok'
+            yield read(f'room{enc}', head(enc) + data, None, None, lengths, expect)
+            yield words(f'room{enc}', enc, data, None, None, lengths, expect)
+            yield words(f'room{enc}', enc, data, (2048, 2048), 3, lengths)
+
+
+def vector_limits():
+    """A limit inside a vector word, with and without a size that drops some of its events."""
+    data = joined(3, [0x8001, 0x0007, 0x300A, 0x4FFF, 0x50FF])
+    for limit in range(22):
+        yield read('within', head(3) + data, None, limit, min(limit, 20))
+        yield words('within', 3, data, (15, 48), limit, 20)
+        yield words('within', 3, data, (2048, 8), limit, max(limit - 1, 0), f'refused 5 {min(limit, 20)}' if limit and limit - 1 < 20 else None)
+
+
+def cuts():
+    """A recording of each encoding cut at every byte: broken lines, broken words."""
+    for enc in 2, 3:
+        data = head(enc, (2048, 48)) + joined(enc, MORE[enc])
+        for cut in range(len(data)):
+            yield read(f'cut{enc}', data[:cut])
+            yield hdr(f'cut{enc}', data[:cut])
+        body = joined(enc, MORE[enc])
+        for cut in range(len(body)):
+            yield words(f'cut{enc}', enc, body[:cut])
+
+
+def percent():
+    """Words that begin with `%`: no header in `words`, a header line in `read` (the Rust's rule)."""
+    for enc, firsts in (2, [0x80000025, 0x80000A25, 0x80002025]), (3, [0x8025, 0x0A25, 0x8A25, 0x2025]):
+        for first in firsts:
+            for rest in [], ONE[enc], MORE[enc]:
+                data = joined(enc, [first] + rest)
+                for size, limit in itertools.product((None, (2048, 2048), (12, 8), (0, 1)), (None, 0, 2)):
+                    yield words('percent', enc, data, size, limit)
+                yield words('percent', enc, data, None, None, 0)
+                yield read('percent', data)
+                yield read('percent', head(enc) + data)
+                yield hdr('percent', head(enc) + data)
+
+
+def sizes():
+    """Derived sizes, events just inside and outside the sensor, columns past 2047 and the greatest sizes."""
+    for enc in 2, 3:
+        for x, y in itertools.product((0, 1, 63, 2046, 2047), (0, 1, 47, 2047)):
+            w = [0x80000001, 0x10000000 | x << 11 | y] if enc == 2 else [0x8001, y, 0x2800 | x]
+            yield words(f'size{enc}', enc, joined(enc, w), None, None, 1, f'ok EVT{enc} {x + 1} {y + 1} 1 :')
+            for size in (x, y + 1), (x + 1, y), (x + 1, y + 1), (64, 48):
+                yield read(f'size{enc}', head(enc, (3, 3)) + joined(enc, w), size, None, 1)
+        data = joined(enc, MORE[enc])
+        for size in (1, 1), (6, 8), (10, 8), (11, 8), (65536, 65536), (WIDE, 1), (1, WIDE), (WIDE, WIDE), (2**32, 2**32), (14, 2), (3, 2048):
+            for limit in None, 1, 3:
+                yield read(f'size{enc}', head(enc, size) + data, None, limit)
+                yield words(f'size{enc}', enc, data, size, limit)
+    far = [0x8001, 0x0007, 0x3FFF] + [0x4000] * 40 + [0x4801, 0x5081]
+    for size in None, (2048, 48), (2527, 48), (2528, 48), (2529, 48), (65536, 8):
+        yield words('size3', 3, joined(3, far), size)
+        yield read('size3', head(3) + joined(3, far), size, 2)
+
+
+def headers():
+    """Each rule for header lines by itself, behind and before others."""
+    formats = ['EVT3', 'evt3', 'EvT3', 'EVT2', 'evt2;x', 'EVT3;height=720;width=1280', 'EVT2.1', 'EVT21', 'EVT', 'EVT1', 'EVT4', ' \t EVT3 \v', '', ' ', 'x EVT3', '3', '2', 'EVT 3', 'evt3evt2', '"EVT3"']
+    for v in formats:
+        yield hdr('format', f'% format {v}\n'.encode())
+        yield hdr('format', f'% format {v}'.encode(), (7, 9))
+        yield hdr('format', f'% evt 2.0\n% format {v}\n'.encode())
+    for v in '3', '3.0', '2', '2.0', '2.1', '30', '23', '32', 'EVT3', '', ' ', ' \t3\f', '-3', '+3', '03', 'v3':
+        for before in '', '% format EVT2\n', '% format EVT3\n', '% format none\n':
+            yield hdr('format', f'{before}% evt {v}\n'.encode())
+    for a, b in itertools.product(('EVT2', 'EVT3', 'none', ''), repeat=2):
+        yield hdr('format', f'% format {a}\n% format {b}\n'.encode(), None)
+        yield hdr('format', f'% evt {a[3:]}\n% evt {b[3:]}\n'.encode(), None)
+        yield hdr('format', f'% evt {a[3:]}\n% format {b}\n'.encode(), None)
+    lines = ['%format EVT3', '%% format EVT3', '% %format EVT3', '%%%\tformat\tEVT3', '% format\vEVT3', '% format\fEVT3', '% format\rEVT3', '% FORMAT EVT3', '% Format EVT3\r', '% formats EVT3', '% forma EVT3', '%format',
+             '% format', '% formatEVT3', '%EVT 3', '%\tevt\t3', '% evt3', '% evt  3', '%  evt 3 %', '% format % EVT3', '% for%mat EVT3', 'format EVT3', ' % format EVT3', '%', '%%', '% ', '% end', '%\x1cformat EVT3', '% format\x1cEVT3',
+             '% format\0EVT3', '%\0evt 3', '% format \x1f EVT3', '% \x0b\x0c\x0d\x09 evt \x0b\x0c\x0d\x09 3']
+    for line in lines:
+        for end in '', '\n', '\r\n', '\n\n':
+            yield hdr('line', (line + end).encode())
+        yield hdr('line', f'% evt 2\n{line}\n% end\n'.encode())
+    numbers = ['64x48', '64X48', '64x48x', 'x', 'X', '64x', 'x48', '64', '', '64 x 48', ' 64x48 ', '64\tx\t48', '64xx48', '64x48x3', '64XX48', '64X48X3', '64X48x3', '6Xx4', '64xX48', '64*48', '+64x+48', '++64x48', '+x48', '64x+', '-64x48',
+               '064x0048', '0x48', '64x0', '0x0', '00x1', '6 4x48', '64.0x48', '0x40x48', '64,48', '64 48', '6_4x48', '64x48;', '64x48 %', 'ax48', '64xb', '+0x5', '5x+0', '+ 4x5', '0064x+0048', '64x48\r', '1e1x2',
+               f'{WIDE}x1', f'{WIDE + 1}x1', f'1x{WIDE}', f'1x{WIDE + 1}', f'+{WIDE}x000{WIDE}', f'{10 * WIDE}x1', f'1x{2**65}', '9' * 19 + 'x' + '9' * 20, '99999999999999999999x1', '18446744073709551614x1', '18446744073709551620x1',
+               '0' * 40 + '7x8', '1' + '0' * 19 + 'x1', '2' + '0' * 19 + 'x1', '18446744073709551609x18446744073709551619']
+    for v in numbers:
+        yield hdr('geometry', f'% evt 3\n% geometry {v}\n'.encode())
+        yield hdr('geometry', f'% evt 3\n% geometry 7x8\n% geometry {v}\n'.encode())
+        yield hdr('geometry', f'% geometry {v}\n% evt 2'.encode(), (9, 5))
+    for key in 'Geometry', 'GEOMETRY', 'geometrY', 'geometr', 'geometry:', 'geometryy', '%geometry', '\tgeometry\t', 'width':
+        yield hdr('geometry', f'% evt 3\n% {key} 7x8\n'.encode())
+    for a, b in itertools.product(('7x8', '0x8', 'ax8', '7*8', '9X5'), repeat=2):
+        yield hdr('geometry', f'%evt 3\n%geometry {a}\n%geometry {b}\n'.encode())
+    for size in (0, 0), (0, 5), (5, 0), (1, 1), (WIDE, WIDE), (1280, 720):
+        for given in None, (0, 8), (7, 8):
+            yield hdr('given', head(3, given), size)
+            yield hdr('given', head(3, given).replace(b'EVT3', b'EVT5'), size)
+    for b in range(128):
+        if b != 10:
+            yield hdr('byte', b'%evt' + bytes([b]) + b'3\n')
+    for b in (127, 128, 129, 160, 192, 255):
+        for data in b'%evt 3' + bytes([b]), b'%evt 3\n' + bytes([b]), b'%evt 3\n%' + bytes([b]) + b'\nab', b'%' + bytes([b]) + b'\n', b'%evt 3\n%\n' + bytes([b]), bytes([b]) + b'%evt 3\n':
+            yield hdr('byte', data)
+
+
+def short_headers():
+    """Every text of few bytes from a small alphabet behind the start of a header."""
+    for start, letters, most in (b'% format EVT3\n%', b'% \n\t3e\x80', 3), (b'%evt ', b'23\n% ', 3), (b'%evt 3\n%geometry 7x8\n%geometry ', b'1xX+ ', 4), (b'%', b'evt 3%', 3):
+        for n in range(most + 1):
+            for tail in itertools.product(letters, repeat=n):
+                yield hdr('short', start + bytes(tail))
+
+
+def recordings():
+    """Random recordings of both encodings, whole and cut, with random sizes, limits and columns."""
+    r = random.Random(2047)
+
+    def stream(enc):
+        if enc == 2:
+            one = lambda: r.choice([0x80000000 | r.randrange(1 << 28), r.randrange(1 << 29), r.randrange(1 << 29), r.randrange(1 << 29), r.randrange(1 << 32)])
+            return [0x80000000 | r.randrange(1 << 28)] * r.randrange(2) + [one() for _ in range(r.randrange(1, 20))]
+        one = lambda: r.choice([0, 2, 2, 3, 4, 5, 6, 8, r.randrange(16)]) << 12 | r.choice([r.randrange(1 << 12), 1 << r.randrange(12), r.randrange(64)])
+        return [0x8000 | r.randrange(1 << 12)] * r.randrange(2) + [one() for _ in range(r.randrange(1, 30))]
+
+    side = lambda: r.choice([r.randrange(1, 64), r.randrange(1, 2049), 2048, 2048])
+    size = lambda: r.choice([None, None, (side(), side()), (2048, 2048)])
+    limit = lambda: r.choice([None, None, r.randrange(3), r.randrange(30), 10**6])
+    room = lambda: r.choice([COLUMNS, COLUMNS, r.randrange(12), r.randrange(40), tuple(r.randrange(60) for _ in range(4))])
+    for enc, count in (2, 130), (3, 150):
+        for _ in range(count):
+            data = r.choice([b'', b'% date 2024-01-01\n']) + head(enc, size(), r.choice([b'', b'% end\n'])) + joined(enc, stream(enc))
+            yield read(f'recording{enc}', data[:r.choice([None, None, len(data) - r.randrange(1, 9)])], size(), limit(), room())
+            data = joined(enc, stream(enc))
+            yield words(f'recording{enc}', enc, data[:r.choice([None, None, len(data) - r.randrange(1, 4)])], size(), limit(), room())
+
+
+def reading():
+    for part in table, order, room_cases, vector_limits, cuts, percent, sizes, headers, short_headers, recordings:
+        yield from part()
+
+
+LAYERS = [decoding, reading]
 
 
 def answers_of(oracle, cases):

@@ -4,6 +4,10 @@
 ghost use mathlib.Core.Path.{_≡_};
 ghost use lib.ListN.{length};
 
+mod columns;
+mod hdr;
+mod options;
+mod reading;
 mod show;
 mod state;
 mod step;
@@ -14,6 +18,9 @@ use libc::STDIN_FILENO;
 enum Asked {
     Step,
     Word,
+    Hdr,
+    Read,
+    Words,
     Unknown,
 }
 
@@ -24,6 +31,15 @@ fn command(word: &[u8]) -> Asked {
     if text::is(word, b"word") {
         return Asked::Word;
     }
+    if text::is(word, b"hdr") {
+        return Asked::Hdr;
+    }
+    if text::is(word, b"read") {
+        return Asked::Read;
+    }
+    if text::is(word, b"words") {
+        return Asked::Words;
+    }
     Asked::Unknown
 }
 
@@ -31,6 +47,9 @@ fn answer(case: &[u8]) {
     match command(text::field(case, b' ', 1)) {
         Asked::Step => step::answer(case, true),
         Asked::Word => step::answer(case, false),
+        Asked::Hdr => hdr::answer(case),
+        Asked::Read => reading::raw(case),
+        Asked::Words => reading::words(case),
         Asked::Unknown => show::text(b"badcase command"),
     }
 }

@@ -1,4 +1,5 @@
-// Printing to standard output: text, numbers, events, the table's numbers.
+// Printing to standard output: text, numbers, events, encodings, refusals.
+use evt::Encoding;
 use evt::RawEvent;
 use evt::Refusal;
 use libc::STDOUT_FILENO;
@@ -61,5 +62,29 @@ pub fn table(r: Refusal) -> u64 {
         Refusal::StateOutOfRange => 10,
         Refusal::OutputTooShort(_) => 11,
         Refusal::ColumnLengths => 12,
+    }
+}
+
+// What a refusal tells besides its number.
+fn told(r: Refusal) {
+    match r {
+        Refusal::ColumnsTooShort(n) => next(b' ', n as u64),
+        Refusal::TooFewRecords(n) => next(b' ', n as u64),
+        Refusal::OutputTooShort(n) => next(b' ', n as u64),
+        _ => {}
+    }
+}
+
+// `refused`, the table's number, and the count that the refusal tells.
+pub fn refusal(r: Refusal) {
+    text(b"refused");
+    next(b' ', table(r));
+    told(r);
+}
+
+pub fn encoding(e: Encoding) {
+    match e {
+        Encoding::Evt2 => text(b"EVT2"),
+        Encoding::Evt3 => text(b"EVT3"),
     }
 }

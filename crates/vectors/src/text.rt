@@ -53,16 +53,21 @@ pub fn past(s: &[u8], at: usize) -> usize {
     s.len()
 }
 
-// Field k of those that single separators part, counted from 0; empty if there are fewer.
-pub fn field(s: &[u8], separator: u8, k: usize) -> &[u8] {
+// What follows the first k of the fields that single separators part.
+pub fn from_field(s: &[u8], separator: u8, k: usize) -> &[u8] {
     let mut at = 0;
     let mut left = k;
     while left > 0 {
         at = past(s, seek(s, at, separator));
         left -= 1;
     }
-    let end = seek(s, at, separator);
-    part(s, at, end)
+    tail(s, at)
+}
+
+// Field k, counted from 0; empty if there are fewer.
+pub fn field(s: &[u8], separator: u8, k: usize) -> &[u8] {
+    let rest = from_field(s, separator, k);
+    part(rest, 0, seek(rest, 0, separator))
 }
 
 pub fn is(s: &[u8], word: &[u8]) -> bool {

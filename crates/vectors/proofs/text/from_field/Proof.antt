@@ -1,7 +1,7 @@
--- `vectors::text::field` is safe and ends. Nothing has to hold from turn to turn. Assumes nothing.
+-- `vectors::text::from_field` is safe and ends. Nothing has to hold from turn to turn. Assumes nothing.
 use borrow.Author.Needs.{needs}
-use Rattle.vectors.proofs.text.field.Statement.{statement}
-use Rattle.vectors.proofs.text.field.Tie as tie
+use Rattle.vectors.proofs.text.from_field.Statement.{statement}
+use Rattle.vectors.proofs.text.from_field.Tie as tie
 
 abbrev Inv-loop : tie.InvT-loop
 Inv-loop s separator k at₀ left₀ at left = Unit {0}
@@ -27,17 +27,14 @@ loop-less c = search needs
 loop-again : tie.Need-loop-again Inv-loop μ-loop
 loop-again c = search needs
 
-seek-requires-2 : tie.Need-seek-requires-2 Inv-loop μ-loop
-seek-requires-2 c κs = search needs
-
-part-requires : tie.Need-part-requires Inv-loop μ-loop
-part-requires c κs = search needs
+tail-requires : tie.Need-tail-requires Inv-loop μ-loop
+tail-requires c κs = search needs
 
 returns : tie.Need-returns Inv-loop μ-loop
 returns c = search needs
 
-pub field-spec : {M : Type 1} → statement M
-field-spec =
+pub from-field-spec : {M : Type 1} → statement M
+from-field-spec =
     tie.close
     (tie.spec
     Inv-loop
@@ -48,6 +45,5 @@ field-spec =
     sub-left
     loop-less
     loop-again
-    seek-requires-2
-    part-requires
+    tail-requires
     returns)

@@ -5,3 +5,5 @@ pub mod Count
 pub mod Fill
 pub mod Sources
 pub mod Uses
+pub mod Most
+pub mod Parts

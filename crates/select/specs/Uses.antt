@@ -52,7 +52,7 @@ pub record Timed {S : Type 0} (M : Machine S ℕ Event) (time : S → ℕ) (Inv 
 stamped : (v : Vector) → v .t < 2 ^ 63 → All (λ e. e .t < 2 ^ 63) (eventsOf v)
 stamped v h = all-mapped (λ e. e .t < 2 ^ 63) (eventAt v) (bits 32 (v .x) (v .mask)) (all-of _ (λ c. h) (bits 32 (v .x) (v .mask)))
 
-timed2 : Timed reader2 (λ d. d .time) Bounded2
+pub timed2 : Timed reader2 (λ d. d .time) Bounded2
 timed2 = record { keeps = bounded-step2; state = state; events = λ n d w b. stamped (vector2 d w) (bounded-narrow2 w b .t<) }
   where
     state : (n : ℕ) (d : Evt2Decoder) → Bounded2 n d → d .time < 2 ^ 63
@@ -82,7 +82,7 @@ unfolding vector3
 stamp3 d w h = Evt3.by-kinds (λ k. Evt3.vectorAs k d w .t < 2 ^ 63) (type3 w) (d .initialised)
     (λ o. omega arith) (λ o. omega arith) (λ o. omega arith) (λ o. omega arith) (λ o. h) (λ o. omega arith) (λ o. h) (λ o. h) (omega arith)
 
-timed3 : Timed reader3 (λ d. d .time) Paced3
+pub timed3 : Timed reader3 (λ d. d .time) Paced3
 timed3 = record {
   keeps = λ n d w b. record { regular = regular-step3 d w (b .regular); loops = omega (arith, b .loops, loops3 d w) };
   state = time3-lt;

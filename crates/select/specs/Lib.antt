@@ -7,3 +7,4 @@ pub mod Sources
 pub mod Uses
 pub mod Most
 pub mod Parts
+pub mod Unsized

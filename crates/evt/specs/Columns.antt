@@ -33,6 +33,13 @@ pub record Room (n : ℕ) (v : Vector) (at xs ys ts ps : ℕ) : Type 0 where
   pub room-t : at + n ≤ ts
   pub room-p : at + n ≤ ps
 
+-- columns of these lengths hold n events
+pub record Fits (n xs ys ts ps : ℕ) : Type 0 where
+  pub fit-x : n ≤ xs
+  pub fit-y : n ≤ ys
+  pub fit-t : n ≤ ts
+  pub fit-p : n ≤ ps
+
 -- the columns hold the events from `at` on, and are else what they were
 pub record Wrote (es : List Event) (at : ℕ) (xs₀ ys₀ : List ℕ) (ts₀ : List ℤ) (ps₀ xs ys : List ℕ) (ts : List ℤ) (ps : List ℕ) : Type 0 where
   pub is-x : xs ≡ written xs₀ at (map colX es)

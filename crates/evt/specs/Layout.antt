@@ -1,5 +1,7 @@
 -- The public word layouts of EVT 2.0 and EVT 3.0: a type in the top four bits, and fields by bit position.
-use Prim.Native.Nat.{ℕ, suc, _+_, _-_, _*_, _/_, _%_, _^_}
+use mathlib.Core.Path.{_≡_}
+use Prim.Native.Nat.{ℕ, suc, _+_, _-_, _*_, _/_, _%_, _^_, _<_}
+use native.Mathlib.Omega.{arith}
 
 -- bits hi down to lo of a word
 abbrev pub field : (hi lo : ℕ) → ℕ → ℕ
@@ -50,3 +52,83 @@ mask8 = field 7 0
 -- EVT_TIME_LOW (6), EVT_TIME_HIGH (8): bits 11..0 and 23..12 of the time
 abbrev pub time3 : ℕ → ℕ
 time3 = field 11 0
+
+-- ---- words, built of their fields
+
+abbrev pub eventWord2 : (p low x y : ℕ) → ℕ
+eventWord2 p low x y = p * 2 ^ 28 + low * 2 ^ 22 + x * 2 ^ 11 + y
+
+abbrev pub timeWord2 : (high : ℕ) → ℕ
+timeWord2 high = 8 * 2 ^ 28 + high
+
+-- a word of EVT 3.0 whose twelve low bits are one field
+abbrev pub word3 : (type v : ℕ) → ℕ
+word3 type v = type * 2 ^ 12 + v
+
+-- EVT_ADDR_X and VECT_BASE_X
+abbrev pub columnWord3 : (type p x : ℕ) → ℕ
+columnWord3 type p x = type * 2 ^ 12 + p * 2 ^ 11 + x
+
+-- ---- a word reads back to its fields, fits its width, and has its unused bits 0
+
+module _ (p low x y : ℕ) (p< : p < 2) (low< : low < 64) (x< : x < 2048) (y< : y < 2048) where
+  pub event-type2 : type2 (eventWord2 p low x y) ≡ p
+  event-type2 = omega arith
+
+  pub event-low2 : timeLow2 (eventWord2 p low x y) ≡ low
+  event-low2 = omega arith
+
+  pub event-x2 : x2 (eventWord2 p low x y) ≡ x
+  event-x2 = omega arith
+
+  pub event-y2 : y2 (eventWord2 p low x y) ≡ y
+  event-y2 = omega arith
+
+  pub event-fits2 : eventWord2 p low x y < 2 ^ 32
+  event-fits2 = omega arith
+
+module _ (high : ℕ) (high< : high < 2 ^ 28) where
+  pub time-type2 : type2 (timeWord2 high) ≡ 8
+  time-type2 = omega arith
+
+  pub time-high2 : timeHigh2 (timeWord2 high) ≡ high
+  time-high2 = omega arith
+
+  pub time-fits2 : timeWord2 high < 2 ^ 32
+  time-fits2 = omega arith
+
+module _ (type v : ℕ) (type< : type < 16) where
+  pub word-type3 : v < 4096 → type3 (word3 type v) ≡ type
+  word-type3 v< = omega arith
+
+  pub word-time3 : v < 4096 → time3 (word3 type v) ≡ v
+  word-time3 v< = omega arith
+
+  pub word-mask12 : v < 4096 → mask12 (word3 type v) ≡ v
+  word-mask12 v< = omega arith
+
+  pub word-mask8 : v < 256 → mask8 (word3 type v) ≡ v
+  word-mask8 v< = omega arith
+
+  -- a row leaves bit 11 at 0, a mask of 8 bits the bits 11 to 8
+  pub word-y3 : v < 2048 → (y3 (word3 type v) ≡ v) × (field 11 11 (word3 type v) ≡ 0)
+  word-y3 v< = (omega arith, omega arith)
+
+  pub word-unused8 : v < 256 → field 11 8 (word3 type v) ≡ 0
+  word-unused8 v< = omega arith
+
+  pub word-fits3 : v < 4096 → word3 type v < 2 ^ 16
+  word-fits3 v< = omega arith
+
+module _ (type p x : ℕ) (type< : type < 16) (p< : p < 2) (x< : x < 2048) where
+  pub column-type3 : type3 (columnWord3 type p x) ≡ type
+  column-type3 = omega arith
+
+  pub column-polarity3 : polarity3 (columnWord3 type p x) ≡ p
+  column-polarity3 = omega arith
+
+  pub column-x3 : x3 (columnWord3 type p x) ≡ x
+  column-x3 = omega arith
+
+  pub column-fits3 : columnWord3 type p x < 2 ^ 16
+  column-fits3 = omega arith

@@ -3,7 +3,8 @@
 use mathlib.Core.Path.{_≡_, refl, sym, ap, _∙_}
 use mathlib.Core.Bool.{cond}
 use mathlib.Core.List.{List, [], _∷_, map}
-use Prim.Native.Nat.{ℕ}
+use Prim.Native.Nat.{ℕ, _<_}
+use native.Mathlib.Omega.{arith}
 use lib.Dec.{eqb}
 use lib.IntN.{ℤ, pos, negsuc}
 use Rattle.evt.specs.declared.Refusal.{Refusal}
@@ -70,3 +71,28 @@ meant-told ColumnLengths = refl
 
 pub told-apart : (a b : Refusal) → told a ≡ told b → a ≡ b
 told-apart a b e = sym (meant-told a) ∙ ap meant e ∙ meant-told b
+
+-- a refusal's number is not 0
+pub told-numbered : (r : Refusal) → 0 < told r .number
+told-numbered InvalidSensorSize = omega arith
+told-numbered UnknownEncoding = omega arith
+told-numbered HeaderNotAscii = omega arith
+told-numbered TooLong = omega arith
+told-numbered (ColumnsTooShort n) = omega arith
+told-numbered TimeOrder = omega arith
+told-numbered EventOutOfRange = omega arith
+told-numbered InvalidSpacing = omega arith
+told-numbered (TooFewRecords n) = omega arith
+told-numbered StateOutOfRange = omega arith
+told-numbered (OutputTooShort n) = omega arith
+told-numbered ColumnLengths = omega arith
+
+-- the values of an acceptance, back
+abbrev pub naturals : List ℤ → List ℕ
+naturals [] = []
+naturals (pos n ∷ vs) = n ∷ naturals vs
+naturals (negsuc n ∷ vs) = 0 ∷ naturals vs
+
+pub accepted-naturals : (vs : List ℕ) → naturals (accepted vs .values) ≡ vs
+accepted-naturals [] = refl
+accepted-naturals (v ∷ vs) = ap (λ (l : List ℕ). v ∷ l) (accepted-naturals vs)

@@ -1,7 +1,7 @@
 // EVT2: words of 32 bits. An event word carries its own coordinates and the low six bits of its time.
 ghost use mathlib.Core.Path.{_≡_};
 ghost use Rattle.evt.specs.Evt2.{fresh2, step2, vector2, Sane2, inRange2};
-ghost use Rattle.evt.specs.Decode.{Decoded2};
+ghost use Rattle.evt.specs.Decode.{Decoded2, Owed};
 use crate::DecodeAnswer;
 use crate::Refusal;
 use crate::clock;
@@ -30,8 +30,11 @@ pub struct Evt2Decoded {
 
 impl Evt2Decoder {
     pub const WORD_SIZE: usize = 4;
+
     pub const PERIOD: u64 = 17179869184;
+
     pub const THRESHOLD: u64 = 16106127360;
+
     pub const MOST_LOOPS: u64 = 134217728;
 
     pub fn new() -> Self
@@ -98,7 +101,13 @@ impl Evt2Decoder {
         match kind {
             8 => {
                 let raw = bits(word, 0, 28) * 64;
-                let c = clock::after(Self::PERIOD, Self::THRESHOLD, d.time_high, d.high_loops, raw);
+                let c = clock::after(
+                    Self::PERIOD,
+                    Self::THRESHOLD,
+                    d.time_high,
+                    d.high_loops,
+                    raw,
+                );
                 d.initialised = true;
                 d.time_high = c.coarse;
                 d.time = c.coarse;
@@ -121,5 +130,14 @@ impl Evt2Decoder {
             _ => {}
         }
         Evt2Step { next: d, events: v }
+    }
+
+    // One word, into a lent decoder. Out of range, it is refused and left as it was.
+    pub fn decode(&mut self, word: u32) -> DecodeAnswer
+        ensures { λ r. ⌜ Owed (inRange2 (now (self .entry))) (now (self .entry)) (step2 (now (self .entry)) word) (vector2 (now (self .entry)) word) (now (self .exit)) r ⌝ }
+    {
+        let s = (*self).step(word);
+        *self = s.next;
+        s.answer
     }
 }

@@ -2,7 +2,7 @@
 ghost use mathlib.Core.Path.{_≡_};
 ghost use Prim.Native.Nat.{_+_, _≤_, min};
 ghost use Rattle.evt.specs.Evt3.{fresh3, step3, vector3, Sane3, Slim, widened, slimmed, inRange3, isZero, single, several};
-ghost use Rattle.evt.specs.Decode.{Decoded3};
+ghost use Rattle.evt.specs.Decode.{Decoded3, Owed};
 use crate::DecodeAnswer;
 use crate::Refusal;
 use crate::clock;
@@ -45,8 +45,11 @@ pub struct Decoded {
 
 impl Decoder {
     pub const WORD_SIZE: usize = 2;
+
     pub const PERIOD: u64 = 16777216;
+
     pub const THRESHOLD: u64 = 16732160;
+
     pub const MOST_LOOPS: u64 = 268435456;
 
     pub fn new() -> Self
@@ -137,6 +140,15 @@ impl Decoder {
             polarity: self.polarity,
             high_loops: self.high_loops,
         }
+    }
+
+    // One word, into a lent decoder. Out of range, it is refused and left as it was.
+    pub fn decode(&mut self, word: u16) -> DecodeAnswer
+        ensures { λ r. ⌜ Owed (inRange3 (now (self .entry))) (now (self .entry)) (step3 (now (self .entry)) word) (vector3 (now (self .entry)) word) (now (self .exit)) r ⌝ }
+    {
+        let s = (*self).step(word);
+        *self = s.next;
+        s.answer
     }
 }
 

@@ -7,6 +7,7 @@ use Rattle.stream.specs.Select.{End, handed, ended}
 use Rattle.evt.specs.declared.evt3.Decoder.{Decoder}
 use Rattle.evt.specs.declared.codec.Codec.{Codec}
 use Rattle.evt.specs.declared.codec.Codec.the-variants.{Evt2, Evt3}
+pub use Rattle.evt.specs.Columns.{Fits}
 use Rattle.evt.specs.Event.{Event}
 use Rattle.evt.specs.Range.{Bounded2, Regular3}
 use Rattle.window.specs.declared.Window.{Window}
@@ -65,10 +66,3 @@ pub record Ready (c : Codec) (number bytes : ℕ) : Type 0 where
   pub able : Able bytes c
   pub long : bytes ≤ 2 ^ 30
   pub low : number ≤ 2 ^ 62
-
--- columns that n events fit
-pub record Fits (n xs ys ts ps : ℕ) : Type 0 where
-  pub fit-x : n ≤ xs
-  pub fit-y : n ≤ ys
-  pub fit-t : n ≤ ts
-  pub fit-p : n ≤ ps

@@ -1,5 +1,5 @@
 -- The events of a word that lie inside a sensor of width x height: those with x < width and y < height.
-use mathlib.Core.Path.{_≡_, refl, sym, ap, _∙_}
+use mathlib.Core.Path.{_≡_, refl, ap, _∙_}
 use mathlib.Core.Bool.{Bool, true, false, _&&_, and-false}
 use mathlib.Core.List.{List, [], _∷_, map}
 use Prim.Native.Nat.{ℕ, zero, suc, _+_, _-_, _≤_, _<_, _^_, min, max}
@@ -47,7 +47,7 @@ module _ (v : Vector) where
   pub events-next : (m : ℕ) → 0 < m → m < 2 ^ 32 → eventsAt v m ≡ eventAt v (v .x + trailingZeros 64 m) ∷ eventsAt v (bitAnd m (m - 1))
   events-next m h l = ap (map (eventAt v)) (low-bit 32 (v .x) m h l) ∙ rw (trailing-wide 32 64 m h l (omega arith))
 
-all-mapped : {A B : Type 0} (P : B → Type 0) (f : A → B) (l : List A) → All (λ a. P (f a)) l → All P (map f l)
+pub all-mapped : {A B : Type 0} (P : B → Type 0) (f : A → B) (l : List A) → All (λ a. P (f a)) l → All P (map f l)
 all-mapped P f [] h = tt
 all-mapped P f (a ∷ l) h = (h .0, all-mapped P f l (h .1))
 

@@ -1,8 +1,12 @@
 // The events of one word: written to four columns or counted, all of them or those inside a sensor
 // of width x height. specs/Inside.antt says which these are.
+//
+// What they require is that the vector's numbers are as small as every step yields them, and that
+// there is room for what is written: the loops above count before they write.
 ghost use mathlib.Core.Path.{_≡_};
 ghost use mathlib.Core.List.{[]};
 ghost use Prim.Native.Nat.{_+_, _≤_, _<_, _^_, min, max};
+ghost use lib.Count.{trailingZeros};
 ghost use lib.ListN.{length};
 ghost use Rattle.stream.specs.Slice.{onto};
 ghost use Rattle.evt.specs.Event.{eventsOf};
@@ -10,11 +14,11 @@ ghost use Rattle.evt.specs.Columns.{Room, Wrote};
 ghost use Rattle.sensor.specs.Inside.{isInside, insideOf, firstOf, latestOf};
 use evt::vector::Vector;
 
-// Column x + i, held at 65,535.
-fn column(x: u64, i: u64) -> u64
-    requires { ⌜ i ≤ 65535 ⌝ }
-    ensures { λ r. ⌜ r ≡ min (x + i) 65535 ⌝ }
+// The column of the lowest set bit: x plus the bit's number, held at 65,535.
+fn column(x: u64, mask: u64) -> u64
+    ensures { λ r. ⌜ r ≡ min (x + trailingZeros 64 mask) 65535 ⌝ }
 {
+    let i = u64::trailing_zeros(mask) as u64;
     if x <= 65535 - i { x + i } else { 65535 }
 }
 
@@ -24,8 +28,7 @@ fn inside(x: u64, y: u64, width: u64, height: u64) -> bool
     if x < width { y < height } else { false }
 }
 
-// Writes all events of v from index `at` on, and answers the next index. The caller has made sure
-// of the room, as it counts before it writes.
+// Writes all events of v from index `at` on, and answers the next index.
 pub fn put_all(
     v: Vector,
     at: usize,
@@ -43,7 +46,7 @@ pub fn put_all(
     let mut mask = v.mask;
     let mut n = at;
     while mask != 0 {
-        let x = column(v.x, u64::trailing_zeros(mask) as u64);
+        let x = column(v.x, mask);
         xs[n] = x as u16;
         ys[n] = y;
         ts[n] = t;
@@ -54,7 +57,8 @@ pub fn put_all(
     n
 }
 
-// Writes the events inside the sensor, with a shorter way for a single event.
+// Writes the events of v inside the sensor from index `at` on, and answers the next index. A single
+// event goes a shorter way.
 pub fn place(
     v: Vector,
     width: u64,
@@ -96,7 +100,7 @@ pub fn put(
     let mut n = at;
     while mask != 0 {
         let rest = mask & (mask - 1);
-        let x = column(v.x, u64::trailing_zeros(mask) as u64);
+        let x = column(v.x, mask);
         if inside(x, v.y, width, height) {
             xs[n] = x as u16;
             ys[n] = y;
@@ -172,7 +176,7 @@ fn edge(v: Vector, width: u64, height: u64) -> usize
     let mut n: usize = 0;
     while mask != 0 {
         let rest = mask & (mask - 1);
-        let x = column(v.x, u64::trailing_zeros(mask) as u64);
+        let x = column(v.x, mask);
         if inside(x, v.y, width, height) {
             n += 1;
         }

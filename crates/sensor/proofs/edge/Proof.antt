@@ -1,25 +1,16 @@
 -- `sensor::edge` meets its contract. The loop: the events inside of the bits that are left are still to be counted.
-use Rattle.sensor.proofs.edge.Statement.{statement}
-use Rattle.sensor.proofs.edge.Tie as tie
-use Rattle.sensor.proofs.edge.Reads as reads
-use Rattle.sensor.proofs.edge.Lts as lts
-use Rattle.sensor.proofs.inside.Reads as inside-reads
-use Rattle.sensor.proofs.column.Reads as column-reads
-use mathlib.Core.Path.{_≡_, refl, sym, ap, _∙_}
-use mathlib.Core.Bool.{true, false}
-use mathlib.Core.List.{List, [], _∷_}
+use mathlib.Core.Path.{_≡_, ap, _∙_}
+use Prim.Native.Nat.{_+_, _-_, _^_, _<_}
 use native.Mathlib.Omega.{arith}
 use borrow.Author.Needs.{needs}
-use borrow.Author.Tests.{lt-ltb, le-ltb, le-leb, lt-leb}
-use Prim.Native.Nat.{ℕ, suc, _+_, _-_, _*_, _/_, _%_, _^_, _<_, _≤_}
-use lib.ListN.{length, length-set}
+use lib.ListN.{length}
 use lib.Bits.{bitAnd, and-le-l, and-le-r}
-use lib.Count.{trailingZeros, trailing-le, ones, ones-le}
-use denote.Ref.{now}
+use lib.Count.{trailingZeros}
 use Rattle.stream.specs.Slice.{onto}
-use Rattle.evt.specs.Event.{Event, eventAt}
-use Rattle.evt.specs.Columns.{Going, going-start, going-one, going-end}
-use Rattle.sensor.specs.Inside.{insideOf, insideAt, latestOf, inside-none, inside-next, inside-one, inside-out, inside-count, inside-few}
+use Rattle.evt.specs.Event.{eventAt}
+use Rattle.sensor.specs.Inside.{insideOf, insideAt, inside-none, inside-next, inside-few}
+use Rattle.sensor.proofs.edge.Statement.{statement}
+use Rattle.sensor.proofs.edge.Tie as tie
 
 abbrev Inv-loop : tie.InvT-loop
 Inv-loop v width height mask₀ n₀ mask n = (mask < 2 ^ 32) × (n + length (insideAt width height v mask) ≡ length (insideOf width height v))
@@ -39,11 +30,8 @@ loop-holds c = (c .pre .0, omega arith)
 sub-rest : tie.Need-sub-rest Inv-loop μ-loop
 sub-rest c = omega (arith, c .loop-test .taken)
 
-cast-column : tie.Need-cast-column Inv-loop μ-loop
-cast-column c = omega (arith, trailing-le 64 (c .before .loop .mask))
-
 column-requires : tie.Need-column-requires Inv-loop μ-loop
-column-requires c κs = omega (arith, trailing-le 64 (c .before .loop .mask))
+column-requires c κs = search needs
 
 inside-requires : tie.Need-inside-requires Inv-loop μ-loop
 inside-requires c κs = search needs
@@ -74,7 +62,6 @@ edge-spec =
     μ-loop
     loop-holds
     sub-rest
-    cast-column
     column-requires
     inside-requires
     add-n

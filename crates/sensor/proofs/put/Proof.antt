@@ -1,27 +1,20 @@
 -- `sensor::put` meets its contract. The loop: the events inside of the bits that are left are still to be written.
-use Rattle.sensor.proofs.put.Statement.{statement}
-use Rattle.sensor.proofs.put.Tie as tie
-use Rattle.sensor.proofs.put.Reads as reads
-use Rattle.sensor.proofs.put.Lts as lts
-use Rattle.sensor.proofs.inside.Reads as inside-reads
-use Rattle.sensor.proofs.column.Reads as column-reads
-use mathlib.Core.Path.{_≡_, refl, sym, ap, _∙_}
-use mathlib.Core.Bool.{true, false}
-use mathlib.Core.List.{List, [], _∷_}
+use mathlib.Core.Path.{_≡_, _∙_}
+use mathlib.Core.List.{[], _∷_}
+use Prim.Native.Nat.{_+_, _-_, _^_, _<_}
 use native.Mathlib.Omega.{arith}
 use borrow.Author.Needs.{needs}
-use borrow.Author.Tests.{lt-ltb, le-ltb, le-leb, lt-leb}
-use Prim.Native.Nat.{ℕ, suc, _+_, _-_, _*_, _/_, _%_, _^_, _<_, _≤_}
-use lib.ListN.{length, length-set}
 use lib.Bits.{bitAnd, and-le-l, and-le-r}
-use lib.Count.{trailingZeros, trailing-le, ones, ones-le}
+use lib.Count.{trailingZeros}
 use denote.Ref.{now}
-use Rattle.stream.specs.Slice.{onto}
-use Rattle.evt.specs.Event.{Event, eventAt}
-use Rattle.evt.specs.Columns.{Going, going-start, going-one, going-end}
-use Rattle.sensor.specs.Inside.{insideOf, insideAt, latestOf, inside-none, inside-next, inside-one, inside-out, inside-count, inside-few}
 use mir.ValLaws.{toZ-pos}
 use mir.Syntax.{w64}
+use Rattle.stream.specs.Slice.{onto}
+use Rattle.evt.specs.Event.{eventAt}
+use Rattle.evt.specs.Columns.{Going, going-start, going-one, going-end}
+use Rattle.sensor.specs.Inside.{insideOf, insideAt, inside-none, inside-next}
+use Rattle.sensor.proofs.put.Statement.{statement}
+use Rattle.sensor.proofs.put.Tie as tie
 
 abbrev Inv-loop : tie.InvT-loop
 Inv-loop v width height at xs₀ ys₀ ts₀ ps₀ y t p mask₀ n₀ xs ys ts ps mask n = (mask < 2 ^ 32) × Going (insideOf width height v) at xs₀ ys₀ ts₀ ps₀ (insideAt width height v mask) n xs ys ts ps
@@ -56,11 +49,8 @@ loop-holds c = (c .before .before .before .before .before .before .pre .mask, go
 sub-rest : tie.Need-sub-rest Inv-loop μ-loop
 sub-rest c = omega (arith, c .loop-test .taken)
 
-cast-column : tie.Need-cast-column Inv-loop μ-loop
-cast-column c = omega (arith, trailing-le 64 (c .before .loop .mask))
-
 column-requires : tie.Need-column-requires Inv-loop μ-loop
-column-requires c κs = omega (arith, trailing-le 64 (c .before .loop .mask))
+column-requires c κs = search needs
 
 inside-requires : tie.Need-inside-requires Inv-loop μ-loop
 inside-requires c κs = search needs
@@ -134,7 +124,6 @@ put-spec =
     cast-p
     loop-holds
     sub-rest
-    cast-column
     column-requires
     inside-requires
     cast-xs

@@ -1,26 +1,15 @@
 -- `sensor::put1` meets its contract.
-use borrow.Author.Needs.{needs}
-use Rattle.sensor.proofs.put1.Statement.{statement}
-use Rattle.sensor.proofs.put1.Tie as tie
-use Rattle.sensor.proofs.put1.Reads as reads
-use Rattle.sensor.proofs.put1.Lts as lts
-use Rattle.sensor.proofs.sees.Reads as sees-reads
-use mathlib.Core.Path.{_≡_, refl, sym, ap, _∙_}
-use mathlib.Core.Bool.{true, false}
-use mathlib.Core.List.{List, [], _∷_}
+use mathlib.Core.Path.{_≡_, ap}
+use mathlib.Core.List.{[], _∷_}
 use native.Mathlib.Omega.{arith}
-use borrow.Author.Tests.{lt-ltb, le-ltb, le-leb, lt-leb}
-use Prim.Native.Nat.{ℕ, suc, _+_, _-_, _*_, _/_, _%_, _^_, _<_, _≤_}
-use lib.ListN.{length, length-set}
-use lib.Bits.{bitAnd, and-le-l, and-le-r}
-use lib.Count.{trailingZeros, trailing-le, ones, ones-le}
-use denote.Ref.{now}
-use Rattle.stream.specs.Slice.{onto}
-use Rattle.evt.specs.Event.{Event, eventAt}
-use Rattle.evt.specs.Columns.{Going, going-start, going-one, going-end}
-use Rattle.sensor.specs.Inside.{firstOf, insideOf, insideAt, latestOf, latest-some, inside-none, inside-next, inside-one, inside-out, inside-count, inside-few}
+use borrow.Author.Needs.{needs}
+use lib.ListN.{length}
 use mir.ValLaws.{toZ-pos}
 use mir.Syntax.{w64}
+use Rattle.evt.specs.Columns.{going-start, going-one, going-end}
+use Rattle.sensor.specs.Inside.{firstOf, insideOf}
+use Rattle.sensor.proofs.put1.Statement.{statement}
+use Rattle.sensor.proofs.put1.Tie as tie
 
 one : (c : tie.Then1) → insideOf (c .before .before .before .before .before .args .width) (c .before .before .before .before .before .args .height) (c .before .before .before .before .before .args .v) ≡ firstOf (c .before .before .before .before .before .args .v) ∷ []
 one c = rw (c .if1 .taken) at (c .before .sees .ensures)

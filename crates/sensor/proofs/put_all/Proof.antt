@@ -1,23 +1,18 @@
 -- `sensor::put_all` meets its contract. The loop: the events of the bits that are left are still to be written.
-use Rattle.sensor.proofs.put_all.Statement.{statement}
-use Rattle.sensor.proofs.put_all.Tie as tie
-use Rattle.sensor.proofs.put_all.Reads as reads
-use Rattle.sensor.proofs.put_all.Lts as lts
-use Rattle.sensor.proofs.column.Reads as column-reads
+use mathlib.Core.List.{[], _∷_}
+use Prim.Native.Nat.{_+_, _-_, _<_, _^_}
+use native.Mathlib.Omega.{arith}
 use mir.ValLaws.{toZ-pos}
 use mir.Syntax.{w64}
-use mathlib.Core.Path.{_≡_, refl, sym, ap, _∙_}
-use mathlib.Core.List.{[], _∷_}
-use Prim.Native.Nat.{ℕ, _+_, _-_, _<_, _≤_, _^_, min}
 use denote.Ref.{now}
 use lib.Bits.{bitAnd, and-le-l, and-le-r}
-use lib.Count.{trailingZeros, trailing-le}
-use lib.ListN.{length, length-set}
-use native.Mathlib.Omega.{arith}
+use lib.Count.{trailingZeros}
 use borrow.Author.Needs.{needs}
 use Rattle.evt.specs.Event.{eventAt, eventsOf}
 use Rattle.evt.specs.Columns.{Going, going-start, going-one, going-end}
 use Rattle.sensor.specs.Inside.{eventsAt, events-next, events-none}
+use Rattle.sensor.proofs.put_all.Statement.{statement}
+use Rattle.sensor.proofs.put_all.Tie as tie
 
 abbrev Inv-loop : tie.InvT-loop
 Inv-loop v at xs₀ ys₀ ts₀ ps₀ y t p mask₀ n₀ xs ys ts ps mask n = (mask < 2 ^ 32) × Going (eventsOf v) at xs₀ ys₀ ts₀ ps₀ (eventsAt v mask) n xs ys ts ps
@@ -47,11 +42,8 @@ cast-p c = omega (arith, c .before .before .before .before .before .before .pre 
 loop-holds : tie.Need-loop-holds Inv-loop μ-loop
 loop-holds c = (c .before .before .before .before .before .before .pre .mask, going-start)
 
-cast-column : tie.Need-cast-column Inv-loop μ-loop
-cast-column c = omega (arith, trailing-le 64 (c .before .loop .mask))
-
 column-requires : tie.Need-column-requires Inv-loop μ-loop
-column-requires c κs = omega (arith, trailing-le 64 (c .before .loop .mask))
+column-requires c κs = search needs
 
 cast-xs : tie.Need-cast-xs Inv-loop μ-loop
 cast-xs c = omega (arith, c .column .ensures)
@@ -125,7 +117,6 @@ put-all-spec =
     cast-t
     cast-p
     loop-holds
-    cast-column
     column-requires
     cast-xs
     mul-xs

@@ -1,24 +1,10 @@
 -- `sensor::sees` meets its contract.
+use mathlib.Core.Path.{ap, _∙_}
+use native.Mathlib.Omega.{arith}
 use borrow.Author.Needs.{needs}
+use Rattle.sensor.specs.Inside.{insideAt, inside-none, inside-one}
 use Rattle.sensor.proofs.sees.Statement.{statement}
 use Rattle.sensor.proofs.sees.Tie as tie
-use Rattle.sensor.proofs.sees.Reads as reads
-use Rattle.sensor.proofs.sees.Lts as lts
-use Rattle.sensor.proofs.inside.Reads as inside-reads
-use mathlib.Core.Path.{_≡_, refl, sym, ap, _∙_}
-use mathlib.Core.Bool.{true, false}
-use mathlib.Core.List.{List, [], _∷_}
-use native.Mathlib.Omega.{arith}
-use borrow.Author.Tests.{lt-ltb, le-ltb, le-leb, lt-leb}
-use Prim.Native.Nat.{ℕ, suc, _+_, _-_, _*_, _/_, _%_, _^_, _<_, _≤_}
-use lib.ListN.{length, length-set}
-use lib.Bits.{bitAnd, and-le-l, and-le-r}
-use lib.Count.{trailingZeros, trailing-le, ones, ones-le}
-use denote.Ref.{now}
-use Rattle.stream.specs.Slice.{onto}
-use Rattle.evt.specs.Event.{Event, eventAt}
-use Rattle.evt.specs.Columns.{Going, going-start, going-one, going-end}
-use Rattle.sensor.specs.Inside.{insideOf, insideAt, latestOf, latest-some, inside-none, inside-next, inside-one, inside-out, inside-count, inside-few}
 
 inside-requires : tie.Need-inside-requires
 inside-requires c κs = search needs

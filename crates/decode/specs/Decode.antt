@@ -1,0 +1,39 @@
+-- What the bytes of a part of a recording yield from a decoder of either encoding: the events, the decoder after them, and what a loop tells.
+use mathlib.Core.List.{List}
+use Prim.Native.Nat.{ℕ, _/_, _<_, _^_}
+use lib.ListN.{length}
+use Rattle.stream.specs.Order.{greatest}
+use Rattle.stream.specs.Slice.{sift}
+use Rattle.evt.specs.declared.codec.Codec.{Codec}
+use Rattle.evt.specs.declared.codec.Codec.the-variants.{Evt2, Evt3}
+use Rattle.evt.specs.Event.{Event}
+pub use Rattle.evt.specs.Codec.{eventsFrom, codecAfter}
+use Rattle.evt.specs.Range.{Bounded2, Bounded3}
+use Rattle.sensor.specs.Inside.{inside, clock}
+use Rattle.decode.specs.declared.Tally.{Tally}
+use Rattle.decode.specs.declared.Survey.{Survey}
+
+-- events with x ≥ width or y ≥ height are dropped
+abbrev pub insideEvents : (width height : ℕ) → Codec → List ℕ → List Event
+insideEvents width height c l = sift (inside width height) (eventsFrom c l)
+
+abbrev pub tallyOf : (width height : ℕ) → Codec → List ℕ → Tally
+tallyOf width height c l = record { count = length (insideEvents width height c l); codec = codecAfter c l }
+
+-- the greatest time of no event is 0
+abbrev pub surveyOf : (width height : ℕ) → Codec → List ℕ → Survey
+surveyOf width height c l = record {
+  count = length (insideEvents width height c l);
+  latest = greatest clock (insideEvents width height c l);
+  codec = codecAfter c l;
+}
+
+-- the decoder can take n bytes more, and no sum wraps
+abbrev pub Bounded : ℕ → Codec → Type 0
+Bounded n (Evt2 d) = Bounded2 (n / 4) d
+Bounded n (Evt3 d) = Bounded3 (n / 2) d
+
+-- a column that is 16 bits wide, as the decoder's is
+abbrev pub Fitting : Codec → Type 0
+Fitting (Evt2 d) = Unit
+Fitting (Evt3 d) = d .«base_x» < 2 ^ 16

@@ -1,0 +1,7 @@
+-- What each file is stands at its head.
+pub mod Decode
+pub mod Turn
+pub mod Glance
+pub mod Loops
+pub mod Extent
+pub mod Laws

@@ -1,0 +1,65 @@
+-- The turns of the two encodings' loops, from what the code has at hand.
+use mathlib.Core.Path.{_≡_, sym, ap, _∙_}
+use mathlib.Core.List.{List}
+use Prim.Native.Nat.{ℕ, _+_, _*_, _/_, _≤_, _<_}
+use native.Mathlib.Omega.{arith}
+use lib.ListN.{length, getD}
+use Rattle.stream.specs.Words.{wordsOf, value-two, value-four, length-words}
+use Rattle.stream.specs.Stream.{decode}
+use Rattle.evt.specs.declared.vector.Vector.{Vector}
+use Rattle.evt.specs.declared.evt2.Evt2Decoder.{Evt2Decoder}
+use Rattle.evt.specs.declared.evt2.Evt2Step.{Evt2Step}
+use Rattle.evt.specs.declared.evt3.Decoder.{Decoder}
+use Rattle.evt.specs.declared.evt3.WideStep.{WideStep}
+use Rattle.evt.specs.Event.{eventsOf, Narrow}
+use Rattle.evt.specs.Layout.{type2}
+use Rattle.evt.specs.Evt2 as Evt2
+use Rattle.evt.specs.Evt2.{step2, vector2, reader2}
+use Rattle.evt.specs.Evt3.{step3, vector3, reader3, widened, slimmed}
+use Rattle.evt.specs.Range.{Bounded2, Bounded3, bounded-narrow2, bounded-narrow3}
+use Rattle.sensor.specs.Inside.{inside, events-few, sift-few}
+use Rattle.decode.specs.Turn.{Turn, insideAll, decode-few}
+use Rattle.decode.specs.Glance.{Glanced, small-mask3}
+
+-- ---- EVT2
+
+pub small-mask2 : (d : Evt2Decoder) (w : ℕ) → vector2 d w .mask ≤ 1
+unfolding vector2
+small-mask2 d w = Evt2.by-kinds (λ k. Evt2.vectorAs k d w .mask ≤ 1) (type2 w) (d .initialised) (omega arith) (λ on q. omega arith) (omega arith)
+
+pub start2 : {d : Evt2Decoder} (l : List ℕ) → Bounded2 (length l / 4) d → Bounded2 (length (wordsOf 4 l)) d
+start2 l b = rw (length-words 4 l) b
+
+pub few2 : (width height : ℕ) (d : Evt2Decoder) (l : List ℕ) → length (insideAll 4 reader2 width height d l) ≤ length l / 4
+few2 width height d l =
+    let one : (s : Evt2Decoder) (w : ℕ) → length (eventsOf (vector2 s w)) ≤ 1 = λ s w. events-few (vector2 s w) 1 (omega (arith, small-mask2 s w)) in
+    omega (arith, sift-few (inside width height) (decode 4 reader2 d l), decode-few 4 reader2 1 one d (wordsOf 4 l), length-words 4 l)
+
+module _ {bytes : List ℕ} {s : Evt2Decoder} {i : ℕ} (h : i + 3 < length bytes) (w : ℕ)
+    (is-word : w ≡ getD bytes i 0 + getD bytes (i + 1) 0 * 256 + getD bytes (i + 2) 0 * 65536 + getD bytes (i + 3) 0 * 16777216)
+    (r : Evt2Step) (is : (r .next ≡ step2 s w) × (r .events ≡ vector2 s w)) where
+  pub turn2 : Turn 4 reader2 bytes s i (r .next) (r .events)
+  turn2 = record { word = w; more = omega arith; is-word = is-word ∙ sym (value-four bytes i (omega arith)); is-next = is .0; is-events = ap eventsOf (sym (is .1)) }
+
+pub small2 : {k : ℕ} {s : Evt2Decoder} → Bounded2 k s → (w : ℕ) (v : Vector) → v ≡ vector2 s w → Narrow v × (v .mask ≤ 1)
+small2 {k} {s} b w v is = rw is (bounded-narrow2 w b, small-mask2 s w)
+
+-- ---- EVT3
+
+pub start3 : {d : Decoder} (l : List ℕ) → Bounded3 (length l / 2) d → Bounded3 (length (wordsOf 2 l)) d
+start3 l b = rw (length-words 2 l) b
+
+pub few3 : (width height : ℕ) (d : Decoder) (l : List ℕ) → length (insideAll 2 reader3 width height d l) ≤ 12 * (length l / 2)
+few3 width height d l =
+    let most : (s : Decoder) (w : ℕ) → length (eventsOf (vector3 s w)) ≤ 12 = λ s w. events-few (vector3 s w) 12 (small-mask3 s w) in
+    omega (arith, sift-few (inside width height) (decode 2 reader3 d l), decode-few 2 reader3 12 most d (wordsOf 2 l), length-words 2 l)
+
+module _ {bytes : List ℕ} {s : Decoder} {i : ℕ} (h : i + 1 < length bytes) (w : ℕ) (is-word : w ≡ getD bytes i 0 + getD bytes (i + 1) 0 * 256) (r : WideStep) where
+  pub turn3 : (r .next ≡ widened (step3 s w)) × (r .events ≡ vector3 s w) → Turn 2 reader3 bytes s i (slimmed (r .next)) (r .events)
+  turn3 is = record { word = w; more = omega arith; is-word = is-word ∙ sym (value-two bytes i (omega arith)); is-next = ap slimmed (is .0); is-events = ap eventsOf (sym (is .1)) }
+
+  pub glance3 : Glanced s w r → Turn 2 reader3 bytes s i (slimmed (r .next)) (r .events)
+  glance3 g = record { word = w; more = omega arith; is-word = is-word ∙ sym (value-two bytes i (omega arith)); is-next = ap slimmed (g .next); is-events = g .same }
+
+pub small3 : {k : ℕ} {s : Decoder} → Bounded3 k s → (w : ℕ) (v : Vector) → v ≡ vector3 s w → Narrow v
+small3 b w v is = rw is (bounded-narrow3 w b)

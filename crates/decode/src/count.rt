@@ -1,0 +1,78 @@
+// Counting events and their greatest time: a loop for each encoding.
+ghost use mathlib.Core.Path.{_≡_};
+ghost use Prim.Native.Nat.{_/_};
+ghost use lib.ListN.{length};
+ghost use Rattle.stream.specs.Order.{greatest};
+ghost use Rattle.stream.specs.Stream.{after};
+ghost use Rattle.evt.specs.Evt2.{reader2};
+ghost use Rattle.evt.specs.Evt3.{reader3};
+ghost use Rattle.evt.specs.Range.{Bounded2, Bounded3};
+ghost use Rattle.sensor.specs.Inside.{clock};
+ghost use Rattle.decode.specs.Turn.{insideAll};
+use crate::glance;
+use crate::words;
+use evt::Decoder;
+use evt::Evt2Decoder;
+
+pub struct Evt2Survey {
+    pub count: usize,
+    pub latest: u64,
+    pub decoder: Evt2Decoder,
+}
+
+pub struct Evt3Survey {
+    pub count: usize,
+    pub latest: u64,
+    pub decoder: Decoder,
+}
+
+pub fn evt2(bytes: &[u8], d: Evt2Decoder, width: u64, height: u64) -> Evt2Survey
+    requires { ⌜ Bounded2 (length (now bytes) / 4) d ⌝ }
+    ensures { λ r. ⌜ (r .count ≡ length (insideAll 4 reader2 width height d (now (bytes .entry)))) × (r .latest ≡ greatest clock (insideAll 4 reader2 width height d (now (bytes .entry)))) × (r .decoder ≡ after 4 reader2 d (now (bytes .entry))) ⌝ }
+{
+    let mut s = d;
+    let mut n: usize = 0;
+    let mut top: u64 = 0;
+    let mut i: usize = 0;
+    while i + 3 < bytes.len() {
+        let w = words::four(bytes[i], bytes[i + 1], bytes[i + 2], bytes[i + 3]);
+        let step = s.advance(w);
+        let v = step.events;
+        s = step.next;
+        i += 4;
+        let m = sensor::count1(v, width, height);
+        n += m;
+        top = sensor::later(top, m, v.t);
+    }
+    Evt2Survey {
+        count: n,
+        latest: top,
+        decoder: s,
+    }
+}
+
+pub fn evt3(bytes: &[u8], d: Decoder, width: u64, height: u64) -> Evt3Survey
+    requires { ⌜ Bounded3 (length (now bytes) / 2) d ⌝ }
+    ensures { λ r. ⌜ (r .count ≡ length (insideAll 2 reader3 width height d (now (bytes .entry)))) × (r .latest ≡ greatest clock (insideAll 2 reader3 width height d (now (bytes .entry)))) × (r .decoder ≡ after 2 reader3 d (now (bytes .entry))) ⌝ }
+{
+    let mut s = d.widen();
+    let mut n: usize = 0;
+    let mut top: u64 = 0;
+    let mut i: usize = 0;
+    while i + 1 < bytes.len() {
+        let w = words::two(bytes[i], bytes[i + 1]);
+        let step = glance::glance(s, w);
+        let v = step.events;
+        s = words::clean(step.next);
+        i += 2;
+        let m = sensor::count(v, width, height);
+        n += m;
+        top = sensor::later(top, m, v.t);
+    }
+    let decoder = s.slim();
+    Evt3Survey {
+        count: n,
+        latest: top,
+        decoder,
+    }
+}

@@ -1,0 +1,4 @@
+-- Proofs that belong to no one function.
+pub mod Lent
+pub mod LentWord
+pub mod LentBytes

@@ -1,0 +1,103 @@
+-- What the code keeps is what the lines say; and the answer, way by way.
+use Prim.Native.Nat.{ℕ, _^_, _<_, _≤_}
+use mathlib.Core.Path.{_≡_, refl, sym, _∙_, ap}
+use mathlib.Core.List.{List, [], _∷_}
+use mathlib.Core.Bool.{Bool, true, false, cond, _||_}
+use native.Mathlib.Omega.{arith}
+use lib.ListN.{length, take}
+use lib.Dec.{eqb}
+use borrow.Author.Tests.{lt-ltb, le-ltb}
+use Rattle.evt.specs.declared.SensorSize.{SensorSize}
+use Rattle.evt.specs.declared.Encoding.{Encoding}
+use Rattle.evt.specs.declared.Encoding.the-variants.{Evt2, Evt3}
+use Rattle.evt.specs.declared.Refusal.the-variants.{InvalidSensorSize, UnknownEncoding, HeaderNotAscii, TooLong}
+use Rattle.header.specs.declared.Scan.{Scan}
+use Rattle.header.specs.declared.Named.the-variants.{As, Nothing}
+use Rattle.header.specs.declared.HeaderAnswer.{HeaderAnswer}
+use Rattle.header.specs.declared.HeaderAnswer.the-variants.{Header, Refused}
+use Rattle.header.specs.Text.{notAscii, any, begins, same}
+use Rattle.header.specs.Lines.{headerLines, headerBytes, bodyStart, keyOf}
+use Rattle.header.specs.Header.{geometryName, formatName, evtName, evt2, evt3, two, three, Said, readLine, readAll, nothing, saidBy, encodingOf, sizeThatHolds, hasZero, withEncoding, toldHeader, headerOf, Parsed}
+use Rattle.header.specs.Notes.{versionOf, seenOf, noteLine, noteAll, blankNote, scanOf, nameOf}
+use Rattle.header.specs.Laws.{by-bool, header-part, body-within, verdict-of}
+
+note-read : (said : Said) (l : List ℕ) → noteLine (seenOf said) l ≡ seenOf (readLine said l)
+unfolding noteLine readLine
+note-read said l =
+    by-bool (same geometryName (keyOf l)) (λ e. rw e)
+    (λ e. by-bool (same formatName (keyOf l)) (λ f. rw (e, f))
+    (λ f. by-bool (same evtName (keyOf l)) (λ g. rw (e, f, g)) (λ g. rw (e, f, g))))
+
+note-all : (said : Said) (ls : List (List ℕ)) → noteAll (seenOf said) ls ≡ seenOf (readAll said ls)
+unfolding noteAll readAll
+note-all said [] = refl
+note-all said (l ∷ ls) = rw (note-read said l) (note-all (readLine said l) ls)
+
+pub note-start : (ls : List (List ℕ)) → noteAll blankNote ls ≡ seenOf (readAll nothing ls)
+unfolding versionOf begins
+note-start ls = note-all nothing ls
+
+named-by : (a b c d : Bool)
+    → cond (eqb (cond a 3 (cond b 2 0)) 3 || eqb (cond c 3 (cond d 2 0)) 3) (As Evt3) (cond (eqb (cond a 3 (cond b 2 0)) 2 || eqb (cond c 3 (cond d 2 0)) 2) (As Evt2) Nothing)
+    ≡ cond (a || c) (As Evt3) (cond (b || d) (As Evt2) Nothing)
+named-by true b c d = refl
+named-by false true true d = refl
+named-by false true false true = refl
+named-by false true false false = refl
+named-by false false true d = refl
+named-by false false false true = refl
+named-by false false false false = refl
+
+pub named : (said : Said) → nameOf (seenOf said) ≡ encodingOf said
+unfolding nameOf encodingOf versionOf
+named said = named-by (begins evt3 (said .format)) (begins evt2 (said .format)) (begins three (said .evt)) (begins two (said .evt))
+
+-- ---- the answer
+
+module _ (s : List ℕ) (given : SensorSize) where
+  pub parsed : (r : HeaderAnswer) → r ≡ headerOf s given → Parsed s given r
+  parsed r e = record { verdict = ap toldHeader e ∙ verdict-of s given; answer = e }
+
+  pub answer-long : 2 ^ 30 < length s → Refused TooLong ≡ headerOf s given
+  unfolding headerOf
+  answer-long h = rw (lt-ltb (2 ^ 30) (length s) h)
+
+  module _ (h : length s ≤ 2 ^ 30) (sc : Scan) (e : sc ≡ scanOf s) where
+    scan-at : sc .at ≡ bodyStart s
+    unfolding scanOf
+    scan-at = rw e
+
+    scan-seen : sc .seen ≡ seenOf (saidBy s)
+    unfolding scanOf saidBy
+    scan-seen = rw e (note-start (headerLines s))
+
+    pub scan-within : sc .at ≤ length s
+    scan-within = omega (arith, scan-at, body-within s)
+
+    scan-part : take (sc .at) s ≡ headerBytes s
+    scan-part = rw scan-at (header-part s)
+
+    pub answer-high : any notAscii (take (sc .at) s) ≡ true → Refused HeaderNotAscii ≡ headerOf s given
+    unfolding headerOf
+    answer-high q = rw (le-ltb (2 ^ 30) (length s) h, sym (ap (any notAscii) scan-part) ∙ q)
+
+    module _ (q : any notAscii (take (sc .at) s) ≡ false) where
+      answer-from : withEncoding (sc .at) (sizeThatHolds given (sc .seen .size)) (nameOf (sc .seen)) ≡ headerOf s given
+      unfolding headerOf
+      answer-from = rw (le-ltb (2 ^ 30) (length s) h, sym (ap (any notAscii) scan-part) ∙ q, scan-at, scan-seen, named (saidBy s))
+
+      pub answer-none : nameOf (sc .seen) ≡ Nothing → Refused UnknownEncoding ≡ headerOf s given
+      unfolding withEncoding
+      answer-none d = sym (ap (withEncoding (sc .at) (sizeThatHolds given (sc .seen .size))) d) ∙ answer-from
+
+      module _ (n : Encoding) (d : nameOf (sc .seen) ≡ As n) (size : SensorSize) (f : size ≡ sizeThatHolds given (sc .seen .size)) where
+        answer-named : withEncoding (sc .at) size (As n) ≡ headerOf s given
+        answer-named = rw (f, ← d) answer-from
+
+        pub answer-zero : hasZero size ≡ true → Refused InvalidSensorSize ≡ headerOf s given
+        unfolding withEncoding
+        answer-zero z = rw z at answer-named
+
+        pub answer-header : hasZero size ≡ false → Header (record { «data_offset» = sc .at; «sensor_size» = size; encoding = n }) ≡ headerOf s given
+        unfolding withEncoding
+        answer-header z = rw z at answer-named

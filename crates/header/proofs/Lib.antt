@@ -1,0 +1,5 @@
+pub mod TextLaws
+pub mod SizeLaws
+pub mod LineLaws
+pub mod AnswerLaws
+pub mod Examples

@@ -1,0 +1,137 @@
+-- What the header says, and the answer for a whole recording: the verdict by the table's numbers, and the answer itself.
+use Prim.Native.Nat.{ℕ, _^_}
+use mathlib.Core.Path.{_≡_}
+use mathlib.Core.List.{List, [], _∷_}
+use mathlib.Core.Bool.{Bool, false, cond, _||_}
+use lib.ListN.{length}
+use lib.Dec.{ltb, eqb}
+use Rattle.evt.specs.declared.SensorSize.{SensorSize}
+use Rattle.evt.specs.declared.SensorSize.the-variants.{Unknown, Known}
+use Rattle.evt.specs.declared.Encoding.{Encoding}
+use Rattle.evt.specs.declared.Encoding.the-variants.{Evt2, Evt3}
+use Rattle.evt.specs.declared.Refusal.the-variants.{InvalidSensorSize, UnknownEncoding, HeaderNotAscii, TooLong}
+use Rattle.evt.specs.Told.{Told, accepted, refused, told}
+use Rattle.header.specs.declared.Named.{Named}
+use Rattle.header.specs.declared.Named.the-variants.{As, Nothing}
+use Rattle.header.specs.declared.HeaderAnswer.{HeaderAnswer}
+use Rattle.header.specs.declared.HeaderAnswer.the-variants.{Header, Refused}
+use Rattle.header.specs.Text.{notAscii, any, begins, same}
+use Rattle.header.specs.Size.{geometryOf}
+use Rattle.header.specs.Lines.{headerLines, headerBytes, bodyStart, keyOf, valueOf}
+
+-- ---- the keys, and what their values begin with
+
+abbrev pub geometryName : List ℕ
+geometryName = 103 ∷ 101 ∷ 111 ∷ 109 ∷ 101 ∷ 116 ∷ 114 ∷ 121 ∷ []
+
+abbrev pub formatName : List ℕ
+formatName = 102 ∷ 111 ∷ 114 ∷ 109 ∷ 97 ∷ 116 ∷ []
+
+abbrev pub evtName : List ℕ
+evtName = 101 ∷ 118 ∷ 116 ∷ []
+
+abbrev pub evt2 : List ℕ
+evt2 = 101 ∷ 118 ∷ 116 ∷ 50 ∷ []
+
+abbrev pub evt3 : List ℕ
+evt3 = 101 ∷ 118 ∷ 116 ∷ 51 ∷ []
+
+abbrev pub two : List ℕ
+two = 50 ∷ []
+
+abbrev pub three : List ℕ
+three = 51 ∷ []
+
+-- ---- what the lines say
+
+-- the values of the last `format` and `evt` line, empty where there is none, and the size
+pub record Said : Type 0 where
+  pub format : List ℕ
+  pub evt : List ℕ
+  pub size : SensorSize
+
+abbrev pub nothing : Said
+nothing = record { format = []; evt = []; size = Unknown }
+
+-- after one more line: its value takes the place of what an earlier line said
+unfoldable pub readLine : Said → List ℕ → Said
+readLine said l =
+    cond (same geometryName (keyOf l))
+    (record { format = said .format; evt = said .evt; size = geometryOf (valueOf l) (said .size) })
+    (cond (same formatName (keyOf l))
+    (record { format = valueOf l; evt = said .evt; size = said .size })
+    (cond (same evtName (keyOf l))
+    (record { format = said .format; evt = valueOf l; size = said .size })
+    said))
+
+-- line after line
+unfoldable pub readAll : Said → List (List ℕ) → Said
+readAll said [] = said
+readAll said (l ∷ ls) = readAll (readLine said l) ls
+
+unfoldable pub saidBy : List ℕ → Said
+saidBy s = readAll nothing (headerLines s)
+
+-- EVT3 if the format begins `evt3` or the evt value begins `3`; else EVT2 for `evt2` or `2`
+unfoldable pub encodingOf : Said → Named
+encodingOf said =
+    cond (begins evt3 (said .format) || begins three (said .evt)) (As Evt3)
+    (cond (begins evt2 (said .format) || begins two (said .evt)) (As Evt2) Nothing)
+
+-- the size that holds: the caller's, or without one the header's
+unfoldable pub sizeThatHolds : SensorSize → SensorSize → SensorSize
+sizeThatHolds Unknown read = read
+sizeThatHolds (Known w h) read = Known w h
+
+unfoldable pub hasZero : SensorSize → Bool
+hasZero Unknown = false
+hasZero (Known w h) = eqb w 0 || eqb h 0
+
+-- ---- the verdict by the table, in numbers and values
+
+-- an encoding's number
+abbrev pub encodingNumber : Encoding → ℕ
+encodingNumber Evt2 = 2
+encodingNumber Evt3 = 3
+
+-- the same for what a header names: 0 where it names none
+abbrev pub namedNumber : Named → ℕ
+namedNumber Nothing = 0
+namedNumber (As e) = encodingNumber e
+
+-- whether a size is known (0 or 1), its width and its height
+abbrev pub sizeValues : SensorSize → List ℕ
+sizeValues Unknown = 0 ∷ 0 ∷ 0 ∷ []
+sizeValues (Known w h) = 1 ∷ w ∷ h ∷ []
+
+-- what an answer tells: an acceptance the body start, the encoding and the size
+abbrev pub toldHeader : HeaderAnswer → Told
+toldHeader (Header h) = accepted (h .«data_offset» ∷ encodingNumber (h .encoding) ∷ sizeValues (h .«sensor_size»))
+toldHeader (Refused r) = told r
+
+-- 4 over 2^30 bytes, 3 a header byte from 128, 2 no known encoding, 1 a zero in the size that holds: the first of them that applies
+unfoldable pub headerVerdict : List ℕ → SensorSize → Told
+headerVerdict s given =
+    cond (ltb (2 ^ 30) (length s)) (refused 4)
+    (cond (any notAscii (headerBytes s)) (refused 3)
+    (cond (eqb (namedNumber (encodingOf (saidBy s))) 0) (refused 2)
+    (cond (hasZero (sizeThatHolds given (saidBy s .size))) (refused 1)
+    (accepted (bodyStart s ∷ namedNumber (encodingOf (saidBy s)) ∷ sizeValues (sizeThatHolds given (saidBy s .size)))))))
+
+-- ---- the answer itself, for callers
+
+unfoldable pub withEncoding : ℕ → SensorSize → Named → HeaderAnswer
+withEncoding at size Nothing = Refused UnknownEncoding
+withEncoding at size (As e) =
+    cond (hasZero size) (Refused InvalidSensorSize) (Header (record { «data_offset» = at; «sensor_size» = size; encoding = e }))
+
+unfoldable pub headerOf : List ℕ → SensorSize → HeaderAnswer
+headerOf s given =
+    cond (ltb (2 ^ 30) (length s)) (Refused TooLong)
+    (cond (any notAscii (headerBytes s)) (Refused HeaderNotAscii)
+    (withEncoding (bodyStart s) (sizeThatHolds given (saidBy s .size)) (encodingOf (saidBy s))))
+
+-- what `parse_header` promises of its answer r
+pub record Parsed (s : List ℕ) (given : SensorSize) (r : HeaderAnswer) : Type 0 where
+  pub verdict : toldHeader r ≡ headerVerdict s given
+  pub answer : r ≡ headerOf s given

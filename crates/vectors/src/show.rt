@@ -1,0 +1,65 @@
+// Printing to standard output: text, numbers, events, the table's numbers.
+use evt::RawEvent;
+use evt::Refusal;
+use libc::STDOUT_FILENO;
+
+pub fn text(s: &[u8]) {
+    io::write_all(STDOUT_FILENO, s);
+}
+
+pub fn byte(b: u8) {
+    let s = [b];
+    io::write_all(STDOUT_FILENO, &s);
+}
+
+pub fn number(n: u64) {
+    io::print_decimal(STDOUT_FILENO, n);
+}
+
+pub fn signed(n: i64) {
+    if n < 0 {
+        byte(b'-');
+    }
+    number(magnitude(n));
+}
+
+// For n below 0 this is !n + 1.
+fn magnitude(n: i64) -> u64 {
+    if n < 0 {
+        let less = !n;
+        return less as u64 + 1;
+    }
+    n as u64
+}
+
+// A separator and a number.
+pub fn next(separator: u8, n: u64) {
+    byte(separator);
+    number(n);
+}
+
+// `t,x,y,p`.
+pub fn event(e: RawEvent) {
+    signed(e.t);
+    next(b',', e.x as u64);
+    next(b',', e.y as u64);
+    next(b',', e.p as u64);
+}
+
+// The table's number.
+pub fn table(r: Refusal) -> u64 {
+    match r {
+        Refusal::InvalidSensorSize => 1,
+        Refusal::UnknownEncoding => 2,
+        Refusal::HeaderNotAscii => 3,
+        Refusal::TooLong => 4,
+        Refusal::ColumnsTooShort(_) => 5,
+        Refusal::TimeOrder => 6,
+        Refusal::EventOutOfRange => 7,
+        Refusal::InvalidSpacing => 8,
+        Refusal::TooFewRecords(_) => 9,
+        Refusal::StateOutOfRange => 10,
+        Refusal::OutputTooShort(_) => 11,
+        Refusal::ColumnLengths => 12,
+    }
+}

@@ -5,6 +5,4 @@ pub mod Count
 pub mod Fill
 pub mod Sources
 pub mod Uses
-pub mod Most
 pub mod Parts
-pub mod Unsized

@@ -1,56 +1,29 @@
 -- A pass over the rest of a recording, from the decoder and the number that its first part leaves.
 use mathlib.Core.Path.{_≡_, refl, sym, ap, _∙_}
 use mathlib.Core.Bool.{false}
-use mathlib.Core.List.{List, [], _∷_, _++_}
-use Prim.Native.Nat.{ℕ, suc, _+_, _-_, _*_, _/_, _^_, _≤_, _<_}
+use mathlib.Core.List.{List, _++_}
+use Prim.Native.Nat.{ℕ, _+_, _-_, _*_, _^_, _≤_, _<_}
 use native.Mathlib.Omega.{arith}
-use native.Mathlib.Nat.{zero-add, suc-add}
-use lib.ListN.{length, take, drop, length-append}
-use Rattle.stream.specs.Machine.{Machine, All, run}
-use Rattle.stream.specs.Words.{wordsOf, wordsOf-append, length-words}
-use Rattle.stream.specs.Slice.{sift, until, andThen, Past}
+use lib.ListN.{length, take, drop}
+use Rattle.stream.specs.Machine.{All}
+use Rattle.stream.specs.Words.{wordsOf, wordsOf-append}
+use Rattle.stream.specs.Slice.{sift}
 use Rattle.stream.specs.Select as Select
 use Rattle.stream.specs.Select.{byNumber}
 use Rattle.evt.specs.declared.codec.Codec.{Codec}
 use Rattle.evt.specs.declared.codec.Codec.the-variants.{Evt2, Evt3}
-use Rattle.evt.specs.Event.{Event}
-use Rattle.evt.specs.Evt2.{reader2}
-use Rattle.evt.specs.Evt3.{reader3}
-use Rattle.evt.specs.Codec.{wordSize}
-use Rattle.evt.specs.Range.{Bounded2}
+use Rattle.evt.specs.Codec.{wordSize, codecAfter}
 use Rattle.window.specs.declared.Window.{Window}
 use Rattle.window.specs.Window.{spanOf, reading2, reading3}
-use Rattle.select.specs.Pass.{handedOver, Paced3, Able}
-use Rattle.select.specs.Uses.{Timed, timed2, timed3, numberedOver, isTimely, untilOver, PastOver, over-by-number, over-by-time}
-
--- the decoder after some bytes
-abbrev pub codecAfter : Codec → List ℕ → Codec
-codecAfter (Evt2 d) l = Evt2 (run reader2 d (wordsOf 4 l))
-codecAfter (Evt3 d) l = Evt3 (run reader3 d (wordsOf 2 l))
-
-inv-run : {S : Type 0} {M : Machine S ℕ Event} {time : S → ℕ} {Inv : ℕ → S → Type 0} → Timed M time Inv → (n : ℕ) (s : S) (ws : List ℕ) → Inv (length ws + n) s → Inv n (run M s ws)
-inv-run T n s [] i = rw zero-add at i
-inv-run T n s (w ∷ ws) i = inv-run T n _ ws (T .keeps (length ws + n) s w (rw suc-add at i))
+use Rattle.select.specs.Pass.{handedOver, Able}
+use Rattle.select.specs.Uses.{numberedOver, isTimely, untilOver, PastOver, over-by-number, over-by-time}
 
 module _ (a b : List ℕ) (j : ℕ) where
   -- the first part is a whole number of words
   abbrev pub Whole : Codec → Type 0
   Whole c = length a ≡ j * wordSize c
 
-  words-count : (n : ℕ) → 0 < n → length a ≡ j * n → length (a ++ b) / n ≡ length (wordsOf n a) + length b / n
-  words-count n pos h =
-      sym (length-words n (a ++ b)) ∙ ap length (wordsOf-append n pos j a b h) ∙ length-append (wordsOf n a) (wordsOf n b)
-      ∙ ap (λ (m : ℕ). length (wordsOf n a) + m) (length-words n b)
-
-  pub able-after : (c : Codec) → Whole c → Able (length (a ++ b)) c → Able (length b) (codecAfter c a)
-  able-after (Evt2 d) h i = inv-run timed2 (length b / 4) d (wordsOf 4 a) (rw (words-count 4 (omega arith) h) at i)
-  able-after (Evt3 d) h i = inv-run timed3 (length b / 2) d (wordsOf 2 a) (rw (words-count 2 (omega arith) h) at i)
-
   module _ (win : Window) where
-    pub numbered-after : (c : Codec) → Whole c → numberedOver win c (a ++ b) ≡ numberedOver win c a ++ numberedOver win (codecAfter c a) b
-    numbered-after (Evt2 d) h = ap (Select.numbered (reading2 win) d) (wordsOf-append 4 (omega arith) j a b h) ∙ Select.numbered-append (reading2 win) d (wordsOf 4 a) (wordsOf 4 b)
-    numbered-after (Evt3 d) h = ap (Select.numbered (reading3 win) d) (wordsOf-append 2 (omega arith) j a b h) ∙ Select.numbered-append (reading3 win) d (wordsOf 2 a) (wordsOf 2 b)
-
     -- BY NUMBER: no event of the first part has a number from n0 on
     number-from : (c : Codec) → Whole c → length (numberedOver win c a) ≤ win .n0
         → byNumber (win .n0) (win .n1) (length (numberedOver win c a)) (numberedOver win (codecAfter c a) b) ≡ take (win .n1 - win .n0) (drop (win .n0) (numberedOver win c (a ++ b)))
@@ -61,10 +34,10 @@ module _ (a b : List ℕ) (j : ℕ) where
         Select.by-number-from (reading3 win) (spanOf win) d (wordsOf 2 a) (wordsOf 2 b) l
         ∙ ap (λ (ws : List ℕ). take (win .n1 - win .n0) (drop (win .n0) (Select.numbered (reading3 win) d ws))) (sym (wordsOf-append 2 (omega arith) j a b h))
 
-    pub handed-number-from : (c : Codec) → Whole c → Able (length (a ++ b)) c → win .t0 ≡ 0 → 2 ^ 63 ≤ win .t1 → length (numberedOver win c a) ≤ win .n0
+    pub handed-number-from : (c : Codec) → Whole c → Able (length b) (codecAfter c a) → win .t0 ≡ 0 → 2 ^ 63 ≤ win .t1 → length (numberedOver win c a) ≤ win .n0
         → handedOver win (length (numberedOver win c a)) (codecAfter c a) b ≡ take (win .n1 - win .n0) (drop (win .n0) (numberedOver win c (a ++ b)))
     handed-number-from c h i z no-end l =
-        over-by-number win (codecAfter c a) b (able-after c h i) z no-end (length (numberedOver win c a)) ∙ number-from c h l
+        over-by-number win (codecAfter c a) b i z no-end (length (numberedOver win c a)) ∙ number-from c h l
 
     -- BY TIME: no event of the first part is in time, and none that is follows the stop
     pub time-from : (c : Codec) → Whole c → All (λ e. isTimely win e ≡ false) (numberedOver win c a) → PastOver win c (a ++ b)

@@ -96,7 +96,7 @@ module _ {S : Type 0} {M : Machine S ℕ Event} {time : S → ℕ} {Inv : ℕ �
 
   in-window : win .t0 ≡ 0 → All (λ e. Select.inTime (reading M live time win) (spanOf win) e ≡ true) (Select.numbered (reading M live time win) s ws)
   in-window z = all-sift (inside (win .width) (win .height)) _ (emits M s ws)
-    (emits-all M Inv (T .keeps) _ (λ n u w i. all-timely (M .emit u w) (T .events n u w i)) s ws inv)
+      (emits-all M Inv (T .keeps) _ (λ n u w i. all-timely (M .emit u w) (T .events n u w i)) s ws inv)
     where
       all-timely : (es : List Event) → All (λ e. e .t < 2 ^ 63) es → All (λ e. Select.inTime (reading M live time win) (spanOf win) e ≡ true) es
       all-timely [] h = tt

@@ -5,3 +5,4 @@ pub mod Count
 pub mod Fill
 pub mod Sources
 pub mod Uses
+pub mod Parts

@@ -1,15 +1,15 @@
 -- What a pass comes to in each use: by number, with a limit, by time, and of all events. One law for either encoding.
 use mathlib.Core.Path.{_≡_, refl, sym, ap, _∙_}
 use mathlib.Core.Bool.{Bool, true, false}
-use mathlib.Core.List.{List, [], _∷_, map}
+use mathlib.Core.List.{List, [], _∷_, _++_}
 use Prim.Native.Nat.{ℕ, suc, _+_, _*_, _/_, _^_, _≤_, _<_}
 use native.Mathlib.Omega.{arith}
-use lib.ListN.{length, take}
-use Rattle.stream.specs.Machine.{Machine, All, all-of, emits, emits-all}
+use lib.ListN.{length, take, drop, length-append, take-append-drop}
+use Rattle.stream.specs.Machine.{Machine, All, all-of, run, emits, emits-all}
 use Rattle.stream.specs.Words.{wordsOf, length-words}
 use Rattle.stream.specs.Loop.{loops-one}
 use Rattle.stream.specs.Mask.{bits}
-use Rattle.stream.specs.Slice.{sift, all-sift, andThen, until, Past, timely}
+use Rattle.stream.specs.Slice.{sift, all-sift, andThen, until, Past, within, timely}
 use Rattle.stream.specs.Select as Select
 use Rattle.stream.specs.Select.{End, byNumber}
 use Rattle.evt.specs.declared.evt2.Evt2Decoder.{Evt2Decoder}
@@ -22,7 +22,7 @@ use Rattle.evt.specs.Layout.{type3, time3}
 use Rattle.evt.specs.Evt2.{reader2, vector2}
 use Rattle.evt.specs.Evt3 as Evt3
 use Rattle.evt.specs.Evt3.{reader3, step3, vector3, period3, threshold3}
-use Rattle.evt.specs.Codec.{inRangeC}
+use Rattle.evt.specs.Codec.{inRangeC, wordSize, eventsFrom, codecAfter}
 use Rattle.evt.specs.Range.{Bounded2, Bounded3, Regular2, Regular3, bounded-range2, bounded-step2, bounded-narrow2, regular-range3, regular-step3}
 use Rattle.sensor.specs.Inside.{inside, clock}
 use Rattle.window.specs.declared.Window.{Window}
@@ -96,7 +96,7 @@ module _ {S : Type 0} {M : Machine S ℕ Event} {time : S → ℕ} {Inv : ℕ �
 
   in-window : win .t0 ≡ 0 → All (λ e. Select.inTime (reading M live time win) (spanOf win) e ≡ true) (Select.numbered (reading M live time win) s ws)
   in-window z = all-sift (inside (win .width) (win .height)) _ (emits M s ws)
-    (emits-all M Inv (T .keeps) _ (λ n u w i. all-timely (M .emit u w) (T .events n u w i)) s ws inv)
+      (emits-all M Inv (T .keeps) _ (λ n u w i. all-timely (M .emit u w) (T .events n u w i)) s ws inv)
     where
       all-timely : (es : List Event) → All (λ e. e .t < 2 ^ 63) es → All (λ e. Select.inTime (reading M live time win) (spanOf win) e ≡ true) es
       all-timely [] h = tt
@@ -106,11 +106,11 @@ module _ {S : Type 0} {M : Machine S ℕ Event} {time : S → ℕ} {Inv : ℕ �
 
 -- the events that have a number: those inside width x height
 abbrev pub numberedOver : Window → Codec → List ℕ → List Event
-numberedOver win (Evt2 d) l = Select.numbered (reading2 win) d (wordsOf 4 l)
-numberedOver win (Evt3 d) l = Select.numbered (reading3 win) d (wordsOf 2 l)
+numberedOver win c l = sift (inside (win .width) (win .height)) (eventsFrom c l)
 
+-- t0 ≤ t < t1
 abbrev pub isTimely : Window → Event → Bool
-isTimely win = Select.inTime (reading2 win) (spanOf win)
+isTimely win = within clock (win .t0) (win .t1)
 
 -- those up to the first word after which the decoder is started and its time is t1 or more
 abbrev pub untilOver : Window → Codec → List ℕ → List Event
@@ -124,8 +124,7 @@ PastOver win (Evt3 d) l = Past reader3 (andThen (inside (win .width) (win .heigh
 
 -- after all words
 abbrev pub endAfterAll : Window → ℕ → Codec → List ℕ → End Codec
-endAfterAll win k (Evt2 d) l = endOf Evt2 (Select.endAfter (reading2 win) k d (wordsOf 4 l))
-endAfterAll win k (Evt3 d) l = endOf Evt3 (Select.endAfter (reading3 win) k d (wordsOf 2 l))
+endAfterAll win k c l = record { number = k + length (numberedOver win c l); state = codecAfter c l; consumed = length l / wordSize c }
 
 module _ (win : Window) where
   abbrev Calm2 : Evt2Decoder → List ℕ → Type 0
@@ -176,8 +175,10 @@ module _ (win : Window) where
   -- nothing stops it
   pub over-all-end : (c : Codec) (l : List ℕ) → Able (length l) c → 2 ^ 63 ≤ win .t1 → (k : ℕ) → k + length (numberedOver win c l) < win .n1
       → endOver win k c l ≡ endAfterAll win k c l
-  over-all-end (Evt2 d) l a no-end k hi = ap (endOf Evt2) (Select.ended-all (reading2 win) (spanOf win) k d (wordsOf 4 l) hi (calm2 no-end d l a))
-  over-all-end (Evt3 d) l a no-end k hi = ap (endOf Evt3) (Select.ended-all (reading3 win) (spanOf win) k d (wordsOf 2 l) hi (calm3 no-end d l a))
+  over-all-end (Evt2 d) l a no-end k hi =
+      ap (endOf Evt2) (Select.ended-all (reading2 win) (spanOf win) k d (wordsOf 4 l) hi (calm2 no-end d l a)) ∙ rw (length-words 4 l)
+  over-all-end (Evt3 d) l a no-end k hi =
+      ap (endOf Evt3) (Select.ended-all (reading3 win) (spanOf win) k d (wordsOf 2 l) hi (calm3 no-end d l a)) ∙ rw (length-words 2 l)
 
   -- ---- BY TIME: where the window has all numbers
 
@@ -191,3 +192,18 @@ module _ (win : Window) where
       → handedOver win k c l ≡ sift (isTimely win) (numberedOver win c l)
   over-in-time k (Evt2 d) l lo hi p = Select.handed-in-time (reading2 win) (spanOf win) k d (wordsOf 4 l) lo hi p
   over-in-time k (Evt3 d) l lo hi p = Select.handed-in-time (reading3 win) (spanOf win) k d (wordsOf 2 l) lo hi p
+
+-- ---- no more are handed over than have a number
+
+module _ {S : Type 0} (R : Select.Reading S ℕ Event) (span : Select.Window) where
+  handed-most : (k : ℕ) (s : S) (ws : List ℕ) → length (Select.handed R span k s ws) ≤ length (Select.numbered R s ws)
+  handed-most k s ws =
+      let n = Select.ended R span k s ws .consumed in
+      let a = Select.numbered R s (take n ws) in
+      let b = Select.numbered R (run (R .machine) s (take n ws)) (drop n ws) in
+      let e : Select.numbered R s ws ≡ a ++ b = ap (Select.numbered R s) (sym (take-append-drop n ws)) ∙ Select.numbered-append R s (take n ws) (drop n ws) in
+      rw Select.handed-after (omega (arith, Select.chosen-few R span k a, ap length e, length-append a b))
+
+pub over-few : (win : Window) (k : ℕ) (c : Codec) (l : List ℕ) → length (handedOver win k c l) ≤ length (numberedOver win c l)
+over-few win k (Evt2 d) l = handed-most (reading2 win) (spanOf win) k d (wordsOf 4 l)
+over-few win k (Evt3 d) l = handed-most (reading3 win) (spanOf win) k d (wordsOf 2 l)

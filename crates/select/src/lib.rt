@@ -8,7 +8,6 @@ ghost use lib.ListN.{length};
 ghost use Rattle.evt.specs.Columns.{Wrote};
 ghost use Rattle.select.specs.Pass.{Ready, Fits, handedOver, surveyed, filled};
 use evt::Codec;
-
 pub use window::Window;
 
 // What a survey tells: the next event's number, how many events were handed over, their greatest
@@ -64,10 +63,28 @@ pub fn fill(
 {
     match codec {
         Codec::Evt2(d) => {
-            evt2::fill2(bytes, d, win, number, &mut *xs, &mut *ys, &mut *ts, &mut *ps)
+            evt2::fill2(
+                bytes,
+                d,
+                win,
+                number,
+                &mut *xs,
+                &mut *ys,
+                &mut *ts,
+                &mut *ps,
+            )
         }
         Codec::Evt3(d) => {
-            evt3::fill3(bytes, d, win, number, &mut *xs, &mut *ys, &mut *ts, &mut *ps)
+            evt3::fill3(
+                bytes,
+                d,
+                win,
+                number,
+                &mut *xs,
+                &mut *ys,
+                &mut *ts,
+                &mut *ps,
+            )
         }
     }
 }

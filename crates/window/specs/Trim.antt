@@ -132,13 +132,13 @@ module _ (v : Vector) (win : Window) (k : ℕ) where
 
   pub picked-out : win .height ≤ v .y → Picked v win k (record { mask = 0; extra = 0 })
   picked-out h = no-inside (λ n. sift-none (inside (win .width) (win .height)) (eventsIn n v) (all-mapped _ (eventAt v) (bits n (v .x) (v .mask))
-    (all-of _ (λ c. outside (ltb (min c 65535) (win .width)) (le-ltb (v .y) (win .height) h)) (bits n (v .x) (v .mask)))))
+      (all-of _ (λ c. outside (ltb (min c 65535) (win .width)) (le-ltb (v .y) (win .height) h)) (bits n (v .x) (v .mask)))))
 
   -- ---- every event is inside
 
   all-inside : v .mask < 2 ^ 32 → v .y < win .height → v .x + 32 ≤ win .width → (n : ℕ) → insideIn n v win ≡ eventsIn n v
   all-inside h y x n = sift-all (inside (win .width) (win .height)) (eventsIn n v) (all-mapped _ (eventAt v) (bits n (v .x) (v .mask))
-    (all-map (λ c. (v .x ≤ c) × (c < v .x + 32)) (λ c. inside (win .width) (win .height) (eventAt v c) ≡ true) (λ c q. rw (lt-ltb (min c 65535) (win .width) (omega (arith, q .1)), lt-ltb (v .y) (win .height) y)) (bits n (v .x) (v .mask)) (bits-in n 32 (v .x) (v .mask) h)))
+      (all-map (λ c. (v .x ≤ c) × (c < v .x + 32)) (λ c. inside (win .width) (win .height) (eventAt v c) ≡ true) (λ c q. rw (lt-ltb (min c 65535) (win .width) (omega (arith, q .1)), lt-ltb (v .y) (win .height) y)) (bits n (v .x) (v .mask)) (bits-in n 32 (v .x) (v .mask) h)))
 
   all-timed : (b : Bool) → isWithin win (v .t) ≡ b → (n : ℕ) → All (λ e. isWithin win (e .t) ≡ b) (eventsIn n v)
   all-timed b e n = all-mapped _ (eventAt v) (bits n (v .x) (v .mask)) (all-of _ (λ c. e) (bits n (v .x) (v .mask)))

@@ -1,4 +1,4 @@
-// Four columns to be lent, filled with a mark, so that a store to any entry shows.
+// Four columns to lend, filled with a mark, so that a store to any entry shows.
 ghost use mathlib.Core.Path.{_≡_};
 ghost use lib.ListN.{length};
 use crate::show;

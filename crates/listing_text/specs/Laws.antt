@@ -25,7 +25,7 @@ use lib.Seq.{sets, length-sets}
 use Rattle.header.specs.declared.Header as header
 use Rattle.header.specs.declared.HeaderAnswer.{HeaderAnswer}
 use Rattle.header.specs.declared.HeaderAnswer.the-variants.{Header, Refused as NoHeader}
-use Rattle.header.specs.Header.{headerOf, headerVerdict, toldHeader, namedNumber, encodingOf, saidBy, hasZero, sizeThatHolds, sizeValues}
+use Rattle.header.specs.Header.{headerOf, headerVerdict, toldHeader, namedNumber, encodingOf, saidBy, hasZero, sizeThatHolds, sizeValues, encodingNumber}
 use Rattle.header.specs.Laws.{verdict-of}
 use Rattle.header.specs.Text.{any, notAscii}
 use Rattle.header.specs.Lines.{headerBytes, bodyStart}
@@ -36,7 +36,7 @@ use Rattle.read.specs.Read.{toldRead, bodyEvents, sizeless, widthOf, heightOf, 
 use Rattle.read.specs.Laws.{spanOf, mostEvents, few-events, body-all}
 use Rattle.listing_text.specs.declared.Begun.{Begun}
 use Rattle.listing_text.specs.Listing.{field, space, newline, tooLong, refusedLine, readLine, eventLine, eventLines, mostBytes, listOptions, listRoom, answerText, listingOf}
-use Rattle.listing_text.specs.Store.{Stored, stored-then}
+use Rattle.listing_text.specs.Store.{Stored, stored-then, stored-weaken}
 
 -- ---- rows of columns
 
@@ -56,8 +56,9 @@ unfoldable pub rowsFrom : List ℕ → List ℕ → List ℤ → List ℕ → (i
 rowsFrom xs ys ts ps i zero = []
 rowsFrom xs ys ts ps i (suc n) = rowAt xs ys ts ps i ∷ rowsFrom xs ys ts ps (suc i) n
 
--- the columns reach so far
+-- the columns reach so far, and the lines' length is a number
 pub record Rows (xs ys : List ℕ) (ts : List ℤ) (ps : List ℕ) (i n : ℕ) : Type 0 where
+  pub small : i + n ≤ 2 ^ 30
   pub reach-x : i + n ≤ length xs
   pub reach-y : i + n ≤ length ys
   pub reach-t : i + n ≤ length ts
@@ -206,6 +207,25 @@ module _ (recording : List ℕ) {out₀ out : List ℕ} (n : ℕ) where
       let p : a ≡ rawAnswer recording listOptions listRoom = r .is-answer ∙ ap (rawAnswer recording listOptions) room in
       let hands : Handed (rawHanded recording listOptions listRoom) _ _ _ _ _ _ _ _ = rw room at (r .columns) in
       rw is (begins-go a (rawHanded recording listOptions listRoom) h p refl (rw p (lists-raw recording h)) (rows-handed hands) s)
+
+-- ---- lines by their fields
+
+module _ {out₀ : List ℕ} {at : ℕ} {o₁ o₂ o₃ o₄ : List ℕ} {r₁ r₂ r₃ r₄ : ℕ} where
+  pub stored-event : (t x y p : ℕ) → Stored 21 out₀ at (field t space) r₁ o₁ → Stored 21 o₁ r₁ (field x space) r₂ o₂ → Stored 21 o₂ r₂ (field y space) r₃ o₃
+      → Stored 21 o₃ r₃ (field p newline) r₄ o₄ → Stored 84 out₀ at (eventLine (event t x y p)) r₄ o₄
+  unfolding eventLine
+  stored-event t x y p a b c d = stored-then (stored-then (stored-then a b) c) d
+
+  pub stored-reading : {o₀ : List ℕ} {r₀ : ℕ} (r : Reading) (n : ℕ) → n ≡ encodingNumber (r .encoding) → Stored 3 out₀ at (69 ∷ 86 ∷ 84 ∷ []) r₀ o₀ → Stored 21 o₀ r₀ (field n space) r₁ o₁
+      → Stored 21 o₁ r₁ (field (r .width) space) r₂ o₂ → Stored 21 o₂ r₂ (field (r .height) space) r₃ o₃ → Stored 21 o₃ r₃ (field (r .count) newline) r₄ o₄
+      → Stored 96 out₀ at (readLine r) r₄ o₄
+  unfolding readLine
+  stored-reading r n is e a b c d = stored-weaken (omega arith) (stored-then (stored-then (stored-then (stored-then e (rw is at a)) b) c) d)
+
+pub stored-refused : {out₀ : List ℕ} {at : ℕ} {o₁ o₂ : List ℕ} {r₁ r₂ : ℕ} (r : Refusal) (n : ℕ) → n ≡ told r .number → Stored 8 out₀ at (114 ∷ 101 ∷ 102 ∷ 117 ∷ 115 ∷ 101 ∷ 100 ∷ 32 ∷ []) r₁ o₁ → Stored 21 o₁ r₁ (field n newline) r₂ o₂
+    → Stored 96 out₀ at (refusedLine r) r₂ o₂
+unfolding refusedLine
+stored-refused r n is e a = stored-weaken (omega arith) (stored-then e (rw is at a))
 
 -- ---- lines stored row by row: `left` rows from i on are to come
 

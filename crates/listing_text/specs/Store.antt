@@ -19,8 +19,8 @@ pub record Stored (most : ℕ) (out₀ : List ℕ) (at : ℕ) (text : List ℕ) 
   pub few : length text ≤ most
   pub stores : out ≡ sets out₀ at text
 
-pub stored-none : (most : ℕ) {out : List ℕ} {at : ℕ} → Stored most out at [] at out
-stored-none most {out} {at} = record { ends = sym (add-zero at); few = omega arith; stores = refl }
+pub stored-weaken : {m n : ℕ} {out₀ : List ℕ} {at : ℕ} {text : List ℕ} {r : ℕ} {out : List ℕ} → m ≤ n → Stored m out₀ at text r out → Stored n out₀ at text r out
+stored-weaken h s = record { ends = s .ends; few = omega (arith, s .few); stores = s .stores }
 
 -- one behind the other
 pub stored-then : {m n : ℕ} {out₀ : List ℕ} {at : ℕ} {a : List ℕ} {r₁ : ℕ} {o₁ : List ℕ} {b : List ℕ} {r₂ : ℕ} {o₂ : List ℕ}

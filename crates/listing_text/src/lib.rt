@@ -109,8 +109,9 @@ fn refused_line(r: Refusal, out: &mut [u8]) -> usize
 fn read_line(r: Reading, out: &mut [u8]) -> usize
     ensures { λ n. ⌜ Stored 96 (now (out .entry)) 0 (readLine r) n (now (out .exit)) ⌝ }
 {
+    let encoding = r.encoding;
     let a = text(&mut *out, 0, b"EVT");
-    let b = field(&mut *out, a, encoding_number(r.encoding), b' ');
+    let b = field(&mut *out, a, encoding_number(encoding), b' ');
     let c = field(&mut *out, b, r.width as u64, b' ');
     let d = field(&mut *out, c, r.height as u64, b' ');
     field(&mut *out, d, r.count as u64, b'\n')
@@ -160,7 +161,7 @@ pub fn lines_text(
     n: usize,
     out: &mut [u8],
 ) -> usize
-    requires { ⌜ (n ≤ 2 ^ 30) × Rows (now xs) (now ys) (now ts) (now ps) from n ⌝ }
+    requires { ⌜ Rows (now xs) (now ys) (now ts) (now ps) from n ⌝ }
     ensures { λ r. ⌜ Stored (84 * n) (now (out .entry)) 0 (eventLines (rowsFrom (now (xs .entry)) (now (ys .entry)) (now (ts .entry)) (now (ps .entry)) from n)) r (now (out .exit)) ⌝ }
 {
     let mut at: usize = 0;

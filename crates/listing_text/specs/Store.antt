@@ -9,7 +9,7 @@ use native.Mathlib.Numerals.{add-one}
 use borrow.Author.Tests.{ltb-true, ltb-false, lt-ltb, le-ltb}
 use lib.Dec.{ltb}
 use lib.ListN.{length, drop, take, set, getD, length-append, length-set, drop-of-length-le}
-use lib.Seq.{sets, sets-eq, drop-cons, take-at}
+use lib.Seq.{sets, sets-eq, length-sets, drop-cons, take-at}
 use Rattle.stream.specs.Columns.{sets-append}
 use Rattle.listing_text.specs.Listing.{digit, decimalWithin, decimal, field}
 
@@ -30,6 +30,12 @@ stored-then {m} {n} {out₀} {at} {a} {r₁} {o₁} {b} s t = record {
   few = omega (arith, length-append a b, s .few, t .few);
   stores = t .stores ∙ rw (s .stores, s .ends) (sym (sets-append out₀ at a b));
 }
+
+pub stored-length : {most : ℕ} {out₀ : List ℕ} {at : ℕ} {text : List ℕ} {r : ℕ} {out : List ℕ} → Stored most out₀ at text r out → length out ≡ length out₀
+stored-length {most} {out₀} {at} {text} s = ap length (s .stores) ∙ length-sets out₀ at text
+
+pub stored-within : {most : ℕ} {out₀ : List ℕ} {text : List ℕ} {r : ℕ} {out : List ℕ} → most ≤ length out₀ → Stored most out₀ 0 text r out → r ≤ length out
+stored-within h s = omega (arith, s .ends, s .few, stored-length s)
 
 -- a text that fits stands there
 pub stored-front : {most : ℕ} {out₀ : List ℕ} {text : List ℕ} {r : ℕ} {out : List ℕ} → most ≤ length out₀ → Stored most out₀ 0 text r out → take r out ≡ text

@@ -1,0 +1,42 @@
+use Rattle.listing_text.specs.Laws.{stored-event}
+use borrow.Author.Needs.{needs}
+use Rattle.listing_text.proofs.event_at.Statement.{statement}
+use Rattle.listing_text.proofs.event_at.Tie as tie
+use Rattle.listing_text.proofs.event_at.Reads as reads
+use Rattle.listing_text.proofs.event_at.Lts as lts
+use Rattle.listing_text.proofs.field.Reads as field-reads
+
+-- src/lib.rt:134:9
+field-requires : tie.Need-field-requires
+field-requires c κs = search needs
+
+-- src/lib.rt:135:9
+field-requires-2 : tie.Need-field-requires-2
+field-requires-2 c κs = search needs
+
+-- src/lib.rt:136:9
+field-requires-3 : tie.Need-field-requires-3
+field-requires-3 c κs = search needs
+
+-- src/lib.rt:137:5
+field-requires-4 : tie.Need-field-requires-4
+field-requires-4 c κs = search needs
+
+-- src/lib.rt:130:1
+same-length : tie.Need-same-length
+same-length c = search needs
+
+-- src/lib.rt:130:1
+returns : tie.Need-returns
+returns c = stored-event _ _ _ _ (c .before .before .before .before .before .before .before .before .before .before .before .before .before .before .field .ensures) (c .before .before .before .before .before .before .before .before .before .before .field2 .ensures) (c .before .before .before .before .before .before .field3 .ensures) (c .before .before .field4 .ensures)
+
+pub event-at-spec : {M : Type 1} → statement M
+event-at-spec =
+    tie.close
+    (tie.spec
+    field-requires
+    field-requires-2
+    field-requires-3
+    field-requires-4
+    same-length
+    returns)

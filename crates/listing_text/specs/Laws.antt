@@ -1,0 +1,267 @@
+-- The listing, piece by piece: the first line, and the lines of the rows of four columns.
+use mathlib.Core.Path.{_≡_, refl, sym, ap, _∙_}
+use mathlib.Core.Bool.{Bool, true, false, cond}
+use mathlib.Core.List.{List, [], _∷_, _++_, map, append-nil, append-assoc}
+use Prim.Native.Nat.{ℕ, zero, suc, _+_, _-_, _*_, _/_, _^_, _≤_, _<_, min}
+use native.Mathlib.Omega.{arith}
+use native.Mathlib.Nat.{add-zero, zero-add, add-suc, suc-add}
+use native.Mathlib.Numerals.{add-one}
+use borrow.Author.Tests.{lt-ltb, le-ltb}
+use lib.Dec.{ltb, eqb}
+use lib.IntN.{ℤ, pos, negsuc}
+use lib.ListN.{length, getD, drop, length-append, length-drop}
+use Rattle.evt.specs.declared.Encoding.{Encoding}
+use Rattle.evt.specs.declared.Encoding.the-variants.{Evt2, Evt3}
+use Rattle.evt.specs.declared.Limit.the-variants.{Unlimited}
+use Rattle.evt.specs.declared.Refusal.{Refusal}
+use Rattle.evt.specs.declared.Refusal.the-variants.{InvalidSensorSize, ColumnsTooShort}
+use Rattle.evt.specs.declared.SensorSize.{SensorSize}
+use Rattle.evt.specs.declared.SensorSize.the-variants.{Unknown, Known}
+use Rattle.evt.specs.Event.{Event}
+use Rattle.evt.specs.Columns.{colX, colY, colT, colP}
+use Rattle.evt.specs.Told.{told, accepted, refused}
+use Rattle.stream.specs.Columns.{sets-append}
+use lib.Seq.{sets, length-sets}
+use Rattle.header.specs.declared.Header as header
+use Rattle.header.specs.declared.HeaderAnswer.{HeaderAnswer}
+use Rattle.header.specs.declared.HeaderAnswer.the-variants.{Header, Refused as NoHeader}
+use Rattle.header.specs.Header.{headerOf, headerVerdict, toldHeader, namedNumber, encodingOf, saidBy, hasZero, sizeThatHolds, sizeValues, encodingNumber}
+use Rattle.header.specs.Laws.{verdict-of}
+use Rattle.header.specs.Text.{any, notAscii}
+use Rattle.header.specs.Lines.{headerBytes, bodyStart}
+use Rattle.read.specs.declared.Reading.{Reading}
+use Rattle.read.specs.declared.ReadAnswer.{ReadAnswer}
+use Rattle.read.specs.declared.ReadAnswer.the-variants.{Read, Refused}
+use Rattle.read.specs.Read.{toldRead, bodyEvents, sizeless, widthOf, heightOf, answerOf, handedOf, answerAfter, handedAfter, rawAnswer, rawHanded, shortest, Handed, ReadsRaw}
+use Rattle.read.specs.Laws.{spanOf, mostEvents, few-events, body-all}
+use Rattle.listing_text.specs.declared.Begun.{Begun}
+use Rattle.listing_text.specs.Listing.{field, space, newline, tooLong, refusedLine, readLine, eventLine, eventLines, mostBytes, listOptions, listRoom, answerText, listingOf}
+use Rattle.listing_text.specs.Store.{Stored, stored-then, stored-weaken}
+
+-- ---- rows of columns
+
+-- a time is never negative
+abbrev pub natural : ℤ → ℕ
+natural (pos n) = n
+natural (negsuc n) = 0
+
+abbrev pub event : (t x y p : ℕ) → Event
+event t x y p = record { t = t; x = x; y = y; p = p }
+
+abbrev pub rowAt : List ℕ → List ℕ → List ℤ → List ℕ → ℕ → Event
+rowAt xs ys ts ps i = event (natural (getD ts i (pos 0))) (getD xs i 0) (getD ys i 0) (getD ps i 0)
+
+-- n rows from i on
+unfoldable pub rowsFrom : List ℕ → List ℕ → List ℤ → List ℕ → (i n : ℕ) → List Event
+rowsFrom xs ys ts ps i zero = []
+rowsFrom xs ys ts ps i (suc n) = rowAt xs ys ts ps i ∷ rowsFrom xs ys ts ps (suc i) n
+
+-- the columns reach so far, and the lines' length is a number
+pub record Rows (xs ys : List ℕ) (ts : List ℤ) (ps : List ℕ) (i n : ℕ) : Type 0 where
+  pub small : i + n ≤ 2 ^ 30
+  pub reach-x : i + n ≤ length xs
+  pub reach-y : i + n ≤ length ys
+  pub reach-t : i + n ≤ length ts
+  pub reach-p : i + n ≤ length ps
+
+rows-tail : (x y : ℕ) (t : ℤ) (p : ℕ) (xs ys : List ℕ) (ts : List ℤ) (ps : List ℕ) (i n : ℕ) → rowsFrom (x ∷ xs) (y ∷ ys) (t ∷ ts) (p ∷ ps) (suc i) n ≡ rowsFrom xs ys ts ps i n
+unfolding rowsFrom
+rows-tail x y t p xs ys ts ps i zero = refl
+rows-tail x y t p xs ys ts ps i (suc n) = ap (λ (l : List Event). rowAt xs ys ts ps i ∷ l) (rows-tail x y t p xs ys ts ps (suc i) n)
+
+-- the rows of columns that events were handed over in
+rows-events : (es : List Event) (a b : List ℕ) (c : List ℤ) (d : List ℕ) → rowsFrom (map colX es ++ a) (map colY es ++ b) (map colT es ++ c) (map colP es ++ d) 0 (length es) ≡ es
+unfolding rowsFrom
+rows-events [] a b c d = refl
+rows-events (e ∷ es) a b c d = ap (λ (l : List Event). e ∷ l) (rows-tail _ _ _ _ (map colX es ++ a) (map colY es ++ b) (map colT es ++ c) (map colP es ++ d) 0 (length es) ∙ rows-events es a b c d)
+
+pub rows-handed : {es : List Event} {xs₀ ys₀ : List ℕ} {ts₀ : List ℤ} {ps₀ xs ys : List ℕ} {ts : List ℤ} {ps : List ℕ} → Handed es xs₀ ys₀ ts₀ ps₀ xs ys ts ps → rowsFrom xs ys ts ps 0 (length es) ≡ es
+rows-handed {es} {xs₀} {ys₀} {ts₀} {ps₀} h =
+    rw (h .column-x, h .column-y, h .column-t, h .column-p) (rows-events es (drop (length es) xs₀) (drop (length es) ys₀) (drop (length es) ts₀) (drop (length es) ps₀))
+
+-- rows that are listed one part after another
+module _ (xs ys : List ℕ) (ts : List ℤ) (ps : List ℕ) where
+  pub rows-first : (i n : ℕ) → 0 < n → rowsFrom xs ys ts ps i n ≡ rowAt xs ys ts ps i ∷ rowsFrom xs ys ts ps (i + 1) (n - 1)
+  unfolding rowsFrom
+  rows-first i zero h = absurd (omega arith)
+  rows-first i (suc n) h = let e : suc n - 1 ≡ n = omega arith in rw (add-one, e)
+
+  lines-first : (i left : ℕ) → 0 < left → eventLines (rowsFrom xs ys ts ps i left) ≡ eventLine (rowAt xs ys ts ps i) ++ eventLines (rowsFrom xs ys ts ps (i + 1) (left - 1))
+  unfolding eventLines
+  lines-first i left h = ap eventLines (rows-first i left h)
+
+  pub rows-parts : (i n m : ℕ) → eventLines (rowsFrom xs ys ts ps i (n + m)) ≡ eventLines (rowsFrom xs ys ts ps i n) ++ eventLines (rowsFrom xs ys ts ps (i + n) m)
+  unfolding rowsFrom eventLines
+  rows-parts i zero m = rw (zero-add, add-zero)
+  rows-parts i (suc n) m =
+      rw (suc-add, append-assoc, add-suc) (ap (λ (l : List ℕ). eventLine (rowAt xs ys ts ps i) ++ l) (rows-parts (suc i) n m ∙ rw suc-add))
+
+-- ---- the answer
+
+-- how many events are listed
+abbrev pub countOf : ReadAnswer → ℕ
+countOf (Read r) = r .count
+countOf (Refused r) = 0
+
+-- the first line
+abbrev pub headLine : ReadAnswer → List ℕ
+headLine (Read r) = readLine r
+headLine (Refused r) = refusedLine r
+
+unfoldable pub headOf : List ℕ → List ℕ
+headOf recording = cond (ltb mostBytes (length recording)) tooLong (headLine (rawAnswer recording listOptions listRoom))
+
+-- at most 12 events for each word
+body-few : (size : SensorSize) (e : Encoding) (body : List ℕ) → length body ≤ mostBytes → length (bodyEvents e size Unlimited body) ≤ listRoom
+body-few size e body h = rw (body-all size e body (omega arith)) (go e (few-events (spanOf size .width) (spanOf size .height) e body))
+  where
+    go : (e : Encoding) {n : ℕ} → n ≤ mostEvents e (length body) → n ≤ listRoom
+    go Evt2 k = omega arith
+    go Evt3 k = omega arith
+
+-- an answer in such room, and the events that it hands over
+pub record Lists (a : ReadAnswer) (es : List Event) : Type 0 where
+  pub counts : countOf a ≡ length es
+  pub small : length es ≤ listRoom
+  pub never-5 : toldRead a .number ≡ 5 → ⊥
+  pub parts : answerText a es ≡ headLine a ++ eventLines es
+
+lists-refused : (r : Refusal) → told r .number ≤ 4 → Lists (Refused r) []
+unfolding eventLines
+lists-refused r h = record { counts = refl; small = omega arith; never-5 = λ e. omega (arith, e); parts = sym (append-nil (refusedLine r)) }
+
+lists-read : (r : Reading) (es : List Event) → r .count ≡ length es → length es ≤ listRoom → Lists (Read r) es
+lists-read r es e h = record { counts = e; small = h; never-5 = λ q. omega (arith, q); parts = refl }
+
+lists-body : (e : Encoding) (size : SensorSize) (es : List Event) → length es ≤ listRoom → Lists (answerOf e size es listRoom) (handedOf size es listRoom)
+lists-body e size es h = rw (le-ltb listRoom (length es) h) (go (sizeless size es))
+  where
+    reading : Reading
+    reading = record { encoding = e; width = widthOf size es; height = heightOf size es; count = length es }
+    go : (b : Bool) → Lists (cond b (Refused InvalidSensorSize) (Read reading)) (cond b [] es)
+    go true = lists-refused InvalidSensorSize (omega arith)
+    go false = lists-read reading es refl h
+
+lists-after : (a : HeaderAnswer) (recording : List ℕ) → toldHeader a .number ≤ 4 → length recording ≤ mostBytes
+    → Lists (answerAfter a recording Unlimited listRoom) (handedAfter a recording Unlimited listRoom)
+lists-after (NoHeader r) recording h k = lists-refused r h
+lists-after (Header g) recording h k =
+    lists-body (g .encoding) (g .«sensor_size») (bodyEvents (g .encoding) (g .«sensor_size») Unlimited (drop (g .«data_offset») recording))
+    (body-few (g .«sensor_size») (g .encoding) (drop (g .«data_offset») recording) (rw length-drop (omega arith)))
+
+-- a header is refused by 1 to 4
+header-four : (s : List ℕ) (given : SensorSize) → toldHeader (headerOf s given) .number ≤ 4
+unfolding headerVerdict
+header-four s given = rw (verdict-of s given) (go (ltb (2 ^ 30) (length s)) (any notAscii (headerBytes s)) (eqb (namedNumber (encodingOf (saidBy s))) 0) (hasZero (sizeThatHolds given (saidBy s .size))) (bodyStart s ∷ namedNumber (encodingOf (saidBy s)) ∷ sizeValues (sizeThatHolds given (saidBy s .size))))
+  where
+    go : (a b c d : Bool) (vs : List ℕ) → cond a (refused 4) (cond b (refused 3) (cond c (refused 2) (cond d (refused 1) (accepted vs)))) .number ≤ 4
+    go true b c d vs = omega arith
+    go false true c d vs = omega arith
+    go false false true d vs = omega arith
+    go false false false true vs = omega arith
+    go false false false false vs = omega arith
+
+pub lists-raw : (recording : List ℕ) → length recording ≤ mostBytes → Lists (rawAnswer recording listOptions listRoom) (rawHanded recording listOptions listRoom)
+unfolding rawAnswer rawHanded
+lists-raw recording h = lists-after (headerOf recording Unknown) recording (header-four recording Unknown) h
+
+-- ---- the listing, in pieces
+
+-- columns that always suffice
+pub record Wide (xs ys : List ℕ) (ts : List ℤ) (ps : List ℕ) : Type 0 where
+  pub wide-x : length xs ≡ listRoom
+  pub wide-y : length ys ≡ listRoom
+  pub wide-t : length ts ≡ listRoom
+  pub wide-p : length ps ≡ listRoom
+
+-- the first line is stored, and the lines of the first rows make the listing with it
+pub record Begins (recording : List ℕ) (r : Begun) (out₀ out xs ys : List ℕ) (ts : List ℤ) (ps : List ℕ) : Type 0 where
+  pub head : Stored 96 out₀ 0 (headOf recording) (r .written) out
+  pub small : r .count ≤ listRoom
+  pub listing : listingOf recording ≡ headOf recording ++ eventLines (rowsFrom xs ys ts ps 0 (r .count))
+
+module _ (recording : List ℕ) {out₀ out : List ℕ} (n : ℕ) where
+  pub begins-long : {xs ys : List ℕ} {ts : List ℤ} {ps : List ℕ} → mostBytes < length recording → Stored 9 out₀ 0 tooLong n out
+      → Begins recording (record { written = n; count = 0 }) out₀ out xs ys ts ps
+  unfolding headOf listingOf rowsFrom eventLines
+  begins-long h s =
+      let lt : ltb mostBytes (length recording) ≡ true = lt-ltb mostBytes (length recording) h in
+      record { head = rw lt (record { ends = s .ends; few = omega (arith, s .few); stores = s .stores }); small = omega arith; listing = rw lt (sym (append-nil tooLong)) }
+
+  begins-go : {xs ys : List ℕ} {ts : List ℤ} {ps : List ℕ} (a : ReadAnswer) (es : List Event) → length recording ≤ mostBytes → a ≡ rawAnswer recording listOptions listRoom → es ≡ rawHanded recording listOptions listRoom
+      → Lists a es → rowsFrom xs ys ts ps 0 (length es) ≡ es → Stored 96 out₀ 0 (headLine a) n out → Begins recording (record { written = n; count = countOf a }) out₀ out xs ys ts ps
+  unfolding headOf listingOf
+  begins-go a es h p q l rows s =
+      let le : ltb mostBytes (length recording) ≡ false = le-ltb mostBytes (length recording) h in
+      record {
+        head = rw (le, ← p) s;
+        small = omega (arith, l .counts, l .small);
+        listing = rw (le, ← p, ← q, l .counts, rows) (l .parts);
+      }
+
+  pub begins-read : {xs₀ ys₀ : List ℕ} {ts₀ : List ℤ} {ps₀ xs ys : List ℕ} {ts : List ℤ} {ps : List ℕ} (a : ReadAnswer) → length recording ≤ mostBytes → Wide xs₀ ys₀ ts₀ ps₀
+      → ReadsRaw recording listOptions a xs₀ ys₀ ts₀ ps₀ xs ys ts ps → Stored 96 out₀ 0 (headLine a) n out → (k : ℕ) → k ≡ countOf a
+      → Begins recording (record { written = n; count = k }) out₀ out xs ys ts ps
+  begins-read {xs₀} {ys₀} {ts₀} {ps₀} a h w r s k is =
+      let room : shortest xs₀ ys₀ ts₀ ps₀ ≡ listRoom = omega (arith, w .wide-x, w .wide-y, w .wide-t, w .wide-p) in
+      let p : a ≡ rawAnswer recording listOptions listRoom = r .is-answer ∙ ap (rawAnswer recording listOptions) room in
+      let hands : Handed (rawHanded recording listOptions listRoom) _ _ _ _ _ _ _ _ = rw room at (r .columns) in
+      rw is (begins-go a (rawHanded recording listOptions listRoom) h p refl (rw p (lists-raw recording h)) (rows-handed hands) s)
+
+-- ---- lines by their fields
+
+module _ {out₀ : List ℕ} {at : ℕ} {o₁ o₂ o₃ o₄ : List ℕ} {r₁ r₂ r₃ r₄ : ℕ} where
+  pub stored-event : (t x y p : ℕ) → Stored 21 out₀ at (field t space) r₁ o₁ → Stored 21 o₁ r₁ (field x space) r₂ o₂ → Stored 21 o₂ r₂ (field y space) r₃ o₃
+      → Stored 21 o₃ r₃ (field p newline) r₄ o₄ → Stored 84 out₀ at (eventLine (event t x y p)) r₄ o₄
+  unfolding eventLine
+  stored-event t x y p a b c d = stored-then (stored-then (stored-then a b) c) d
+
+  pub stored-reading : {o₀ : List ℕ} {r₀ : ℕ} (r : Reading) (n : ℕ) → n ≡ encodingNumber (r .encoding) → Stored 3 out₀ at (69 ∷ 86 ∷ 84 ∷ []) r₀ o₀ → Stored 21 o₀ r₀ (field n space) r₁ o₁
+      → Stored 21 o₁ r₁ (field (r .width) space) r₂ o₂ → Stored 21 o₂ r₂ (field (r .height) space) r₃ o₃ → Stored 21 o₃ r₃ (field (r .count) newline) r₄ o₄
+      → Stored 96 out₀ at (readLine r) r₄ o₄
+  unfolding readLine
+  stored-reading r n is e a b c d = stored-weaken (omega arith) (stored-then (stored-then (stored-then (stored-then e (rw is at a)) b) c) d)
+
+pub stored-refused : {out₀ : List ℕ} {at : ℕ} {o₁ o₂ : List ℕ} {r₁ r₂ : ℕ} (r : Refusal) (n : ℕ) → n ≡ told r .number → Stored 8 out₀ at (114 ∷ 101 ∷ 102 ∷ 117 ∷ 115 ∷ 101 ∷ 100 ∷ 32 ∷ []) r₁ o₁ → Stored 21 o₁ r₁ (field n newline) r₂ o₂
+    → Stored 96 out₀ at (refusedLine r) r₂ o₂
+unfolding refusedLine
+stored-refused r n is e a = stored-weaken (omega arith) (stored-then e (rw is at a))
+
+-- ---- lines stored row by row: `left` rows from i on are to come
+
+pub record Listing (xs ys : List ℕ) (ts : List ℤ) (ps : List ℕ) (from n : ℕ) (out₀ : List ℕ) (at i left : ℕ) (out : List ℕ) : Type 0 where
+  pub count : i + left ≡ from + n
+  pub fewer : left ≤ n
+  pub long : length out ≡ length out₀
+  pub small : at + 84 * left ≤ 84 * n
+  pub ends : at + length (eventLines (rowsFrom xs ys ts ps i left)) ≡ length (eventLines (rowsFrom xs ys ts ps from n))
+  pub stores : sets out at (eventLines (rowsFrom xs ys ts ps i left)) ≡ sets out₀ 0 (eventLines (rowsFrom xs ys ts ps from n))
+
+module _ {xs ys : List ℕ} {ts : List ℤ} {ps : List ℕ} {from n : ℕ} {out₀ : List ℕ} where
+  pub listing-start : Listing xs ys ts ps from n out₀ 0 from n out₀
+  listing-start = record { count = refl; fewer = omega arith; long = refl; small = omega arith; ends = zero-add _; stores = refl }
+
+  pub listing-turn : {at i left : ℕ} {out : List ℕ} (r : ℕ) (out′ : List ℕ) → 0 < left → Stored 84 out at (eventLine (rowAt xs ys ts ps i)) r out′
+      → Listing xs ys ts ps from n out₀ at i left out → Listing xs ys ts ps from n out₀ r (i + 1) (left - 1) out′
+  listing-turn {at} {i} {left} {out} r out′ h s l =
+      let line = eventLine (rowAt xs ys ts ps i) in
+      let rest = eventLines (rowsFrom xs ys ts ps (i + 1) (left - 1)) in
+      let is : eventLines (rowsFrom xs ys ts ps i left) ≡ line ++ rest = lines-first xs ys ts ps i left h in
+      record {
+        count = omega (arith, l .count);
+        fewer = omega (arith, l .fewer);
+        long = ap length (s .stores) ∙ length-sets out at line ∙ l .long;
+        small = omega (arith, l .small, s .ends, s .few);
+        ends = omega (arith, l .ends, s .ends, ap length is, length-append line rest);
+        stores = rw (s .stores, s .ends) (sym (sets-append out at line rest) ∙ ap (sets out at) (sym is) ∙ l .stores);
+      }
+
+  pub listing-end : {at i left : ℕ} {out : List ℕ} → left ≤ 0 → Listing xs ys ts ps from n out₀ at i left out
+      → Stored (84 * n) out₀ 0 (eventLines (rowsFrom xs ys ts ps from n)) at out
+  unfolding rowsFrom eventLines
+  listing-end {at} {i} {left} {out} h l = none (rw (z) at l)
+    where
+      z : left ≡ 0
+      z = omega arith
+      none : Listing xs ys ts ps from n out₀ at i 0 out → Stored (84 * n) out₀ 0 (eventLines (rowsFrom xs ys ts ps from n)) at out
+      none l = record { ends = sym (add-zero at) ∙ l .ends ∙ sym (zero-add _); few = omega (arith, l .small, l .ends, add-zero at); stores = l .stores }

@@ -1,0 +1,86 @@
+-- What the listing program prints for the bytes of a recording. A text is its bytes in ASCII.
+use mathlib.Core.Path.{_≡_}
+use mathlib.Core.Bool.{cond}
+use mathlib.Core.List.{List, [], _∷_, _++_}
+use Prim.Native.Nat.{ℕ, zero, suc, _+_, _/_, _%_, _*_}
+use lib.Dec.{ltb}
+use lib.ListN.{length}
+use Rattle.evt.specs.declared.Limit.the-variants.{Unlimited}
+use Rattle.evt.specs.declared.SensorSize.the-variants.{Unknown}
+use Rattle.evt.specs.declared.Refusal.{Refusal}
+use Rattle.evt.specs.Event.{Event}
+use Rattle.evt.specs.Told.{told}
+use Rattle.header.specs.Header.{encodingNumber}
+use Rattle.read.specs.declared.LoadOptions.{LoadOptions}
+use Rattle.read.specs.declared.Reading.{Reading}
+use Rattle.read.specs.declared.ReadAnswer.{ReadAnswer}
+use Rattle.read.specs.declared.ReadAnswer.the-variants.{Read, Refused}
+use Rattle.read.specs.Read.{rawAnswer, rawHanded}
+
+-- ---- numbers
+
+-- `0` to `9`
+abbrev pub digit : ℕ → ℕ
+digit d = 48 + d
+
+-- n in decimal, if it has at most k digits
+unfoldable pub decimalWithin : (k : ℕ) → ℕ → List ℕ
+decimalWithin zero n = []
+decimalWithin (suc k) n = cond (ltb n 10) (digit n ∷ []) (decimalWithin k (n / 10) ++ (digit (n % 10) ∷ []))
+
+-- n in decimal without leading zeros, `0` for 0; n has at most n + 1 digits
+unfoldable pub decimal : ℕ → List ℕ
+decimal n = decimalWithin (suc n) n
+
+-- ---- lines
+
+abbrev pub space : ℕ
+space = 32
+
+abbrev pub newline : ℕ
+newline = 10
+
+-- a number, and the byte that ends it
+unfoldable pub field : ℕ → (end : ℕ) → List ℕ
+field n end = decimal n ++ (end ∷ [])
+
+-- `too long`
+unfoldable pub tooLong : List ℕ
+tooLong = 116 ∷ 111 ∷ 111 ∷ 32 ∷ 108 ∷ 111 ∷ 110 ∷ 103 ∷ newline ∷ []
+
+-- `refused N`, N the table's number
+unfoldable pub refusedLine : Refusal → List ℕ
+refusedLine r = (114 ∷ 101 ∷ 102 ∷ 117 ∷ 115 ∷ 101 ∷ 100 ∷ 32 ∷ []) ++ field (told r .number) newline
+
+-- `EVT3 64 48 3`: encoding, width, height, count
+unfoldable pub readLine : Reading → List ℕ
+readLine r = (69 ∷ 86 ∷ 84 ∷ []) ++ field (encodingNumber (r .encoding)) space ++ field (r .width) space ++ field (r .height) space ++ field (r .count) newline
+
+-- `t x y p`
+unfoldable pub eventLine : Event → List ℕ
+eventLine e = field (e .t) space ++ field (e .x) space ++ field (e .y) space ++ field (e .p) newline
+
+unfoldable pub eventLines : List Event → List ℕ
+eventLines [] = []
+eventLines (e ∷ es) = eventLine e ++ eventLines es
+
+-- ---- the listing
+
+abbrev pub mostBytes : ℕ
+mostBytes = 65536
+
+-- no size and no limit
+abbrev pub listOptions : LoadOptions
+listOptions = record { «sensor_size» = Unknown; «max_events» = Unlimited }
+
+-- columns that always suffice: 12 events for each word of 2 bytes
+abbrev pub listRoom : ℕ
+listRoom = mostBytes / 2 * 12
+
+abbrev pub answerText : ReadAnswer → List Event → List ℕ
+answerText (Refused r) es = refusedLine r
+answerText (Read r) es = readLine r ++ eventLines es
+
+unfoldable pub listingOf : List ℕ → List ℕ
+listingOf recording =
+    cond (ltb mostBytes (length recording)) tooLong (answerText (rawAnswer recording listOptions listRoom) (rawHanded recording listOptions listRoom))

@@ -1,10 +1,8 @@
 -- The loop that counts: what is noted of the events handed over, beside what `Turn` has.
-use mathlib.Core.Path.{_≡_, refl, sym, ap, _∙_}
+use mathlib.Core.Path.{_≡_, sym, ap, _∙_}
 use mathlib.Core.Bool.{true, false}
-use mathlib.Core.List.{List, [], _++_}
+use mathlib.Core.List.{List, []}
 use Prim.Native.Nat.{ℕ, _+_, _/_, _≤_, _<_, _^_}
-use native.Mathlib.Omega.{arith}
-use native.Mathlib.Nat.{add-zero}
 use lib.ListN.{length, take, drop}
 use Rattle.stream.specs.Words.{wordsOf, value}
 use Rattle.stream.specs.Select.{End}
@@ -13,11 +11,10 @@ use Rattle.evt.specs.Event.{Event, eventsOf}
 use Rattle.window.specs.declared.Window.{Window}
 use Rattle.window.specs.declared.trim.Trimmed.{Trimmed}
 use Rattle.window.specs.declared.extent.Extent.{Extent}
-use Rattle.select.specs.declared.Tally.{Tally}
 use Rattle.window.specs.Trim.{Picked, masked}
 use Rattle.window.specs.Extent.{extentOf, extentWith, noExtent, extent-none, extent-start, extent-append}
 use Rattle.select.specs.Pass.{endOf, tallyOf}
-use Rattle.select.specs.Turn.{Source, Laws, At, Stand, Pend, Done, all, left, last, leftIf, lastIf, stops, stand-start, stand-end, none-left, pend-on, pend-end, given-left, pend-turn, quiet-left, pend-quiet, done-end, done-count}
+use Rattle.select.specs.Turn.{Source, Laws, At, all, left, last, leftIf, lastIf, stops, stand-start, stand-end, none-left, given-left, pend-turn, quiet-left, pend-quiet, done-end, done-count}
 
 module _ (Q : Source) (win : Window) (number : ℕ) (s₀ : Q .State) (bytes : List ℕ) where
   -- `seen` is noted, and `es` are still to be handed over

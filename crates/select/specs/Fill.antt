@@ -13,7 +13,6 @@ use Rattle.evt.specs.Event.{Event, eventsOf}
 use Rattle.evt.specs.Columns.{Going, Room, Wrote, going-start, going-run, going-end}
 use Rattle.window.specs.declared.Window.{Window}
 use Rattle.window.specs.declared.trim.Trimmed.{Trimmed}
-use Rattle.select.specs.declared.Filled.{Filled}
 use Rattle.window.specs.Trim.{Picked, masked}
 use Rattle.select.specs.Pass.{Fits, endOf, filledOf}
 use Rattle.select.specs.Turn.{Source, Laws, At, all, left, last, leftIf, lastIf, stops, stand-start, stand-end, none-left, narrow-here, given-left, pend-turn, quiet-left, pend-quiet, done-end, done-count}

@@ -23,7 +23,7 @@ use Rattle.evt.specs.Evt2.{reader2, vector2}
 use Rattle.evt.specs.Evt3 as Evt3
 use Rattle.evt.specs.Evt3.{reader3, step3, vector3, period3, threshold3}
 use Rattle.evt.specs.Codec.{inRangeC, wordSize, eventsFrom, codecAfter}
-use Rattle.evt.specs.Range.{Bounded2, Bounded3, Regular2, Regular3, bounded-range2, bounded-step2, bounded-narrow2, regular-range3, regular-step3}
+use Rattle.evt.specs.Range.{Bounded2, Bounded3, bounded-range2, bounded-step2, bounded-narrow2, regular-range3, regular-step3}
 use Rattle.sensor.specs.Inside.{inside, clock}
 use Rattle.window.specs.declared.Window.{Window}
 use Rattle.window.specs.Window.{spanOf, reading, reading2, reading3}

@@ -1,4 +1,4 @@
-// The passes over EVT2 words.
+// The passes over EVT2 words, for `survey` and `fill` alone, which say what is required and why.
 ghost use mathlib.Core.Path.{_≡_};
 ghost use Prim.Native.Nat.{_+_, _*_};
 ghost use lib.ListN.{length};
@@ -21,6 +21,7 @@ fn word4(a: u8, b: u8, c: u8, d: u8) -> u64
     a as u64 + b as u64 * 256 + c as u64 * 65536 + d as u64 * 16777216
 }
 
+// Counts the events that the window leaves of each word.
 pub fn survey2(bytes: &[u8], d: Evt2Decoder, win: Window, number: u64) -> Tally
     requires { ⌜ Ready (Evt2 d) number (length (now bytes)) ⌝ }
     ensures { λ r. ⌜ r ≡ surveyed win number (Evt2 d) (now (bytes .entry)) ⌝ }
@@ -69,6 +70,7 @@ pub fn survey2(bytes: &[u8], d: Evt2Decoder, win: Window, number: u64) -> Tally
     }
 }
 
+// Writes them.
 pub fn fill2(
     bytes: &[u8],
     d: Evt2Decoder,

@@ -1,4 +1,4 @@
-// The passes over EVT3 words.
+// The passes over EVT3 words, for `survey` and `fill` alone, which say what is required and why.
 ghost use mathlib.Core.Path.{_≡_};
 ghost use Prim.Native.Nat.{_+_, _*_};
 ghost use lib.ListN.{length};
@@ -21,6 +21,7 @@ fn word2(lo: u8, hi: u8) -> u64
     lo as u64 + hi as u64 * 256
 }
 
+// Counts the events that the window leaves of each word.
 pub fn survey3(bytes: &[u8], d: Decoder, win: Window, number: u64) -> Tally
     requires { ⌜ Ready (Evt3 d) number (length (now bytes)) ⌝ }
     ensures { λ r. ⌜ r ≡ surveyed win number (Evt3 d) (now (bytes .entry)) ⌝ }
@@ -70,6 +71,7 @@ pub fn survey3(bytes: &[u8], d: Decoder, win: Window, number: u64) -> Tally
     }
 }
 
+// Writes them.
 pub fn fill3(
     bytes: &[u8],
     d: Decoder,

@@ -30,8 +30,8 @@ pub struct Filled {
     pub codec: Codec,
 }
 
-pub mod evt2;
-pub mod evt3;
+mod evt2;
+mod evt3;
 
 // Counts what a pass hands over, from a decoder and the next event's number, and alters nothing.
 // `Ready` is every caller's to show: it refuses a decoder out of range (10) and more than 2^30

@@ -9,8 +9,8 @@ use lib.Count.{ones, ones-step, ones-le}
 use lib.Dec.{leb, ltb}
 use borrow.Author.Tests.{leb-true, ltb-true, ltb-false, lt-leb, lt-ltb, le-ltb}
 use Rattle.stream.specs.Machine.{All, all-of, all-map, and-both}
-use Rattle.stream.specs.Mask.{bits, bits-zero, bits-one, bits-even, bits-odd, bits-in, bits-few, bits-count}
-use Rattle.stream.specs.Slice.{sift, sift-all, sift-none, onto}
+use Rattle.stream.specs.Mask.{bits, bits-zero, bits-even, bits-odd, bits-in, bits-few, bits-count}
+use Rattle.stream.specs.Slice.{sift, sift-all, sift-none}
 use Rattle.stream.specs.Select as Select
 use Rattle.evt.specs.declared.vector.Vector.{Vector}
 use Rattle.evt.specs.Event.{Event, eventAt, eventsOf, Narrow}

@@ -5,7 +5,7 @@ use mathlib.Core.List.{List, [], _∷_}
 use Prim.Native.Nat.{ℕ, suc}
 use lib.Dec.{leb, ltb}
 use Rattle.stream.specs.Machine.{Machine}
-use Rattle.stream.specs.Slice.{onto, within}
+use Rattle.stream.specs.Slice.{onto}
 use Rattle.stream.specs.Select as Select
 use Rattle.evt.specs.Event.{Event}
 use Rattle.evt.specs.declared.evt2.Evt2Decoder.{Evt2Decoder}

@@ -1,33 +1,24 @@
-use mathlib.Core.Path.{_≡_, refl, sym, ap, _∙_}
+-- `survey` goes by the encoding.
+use mathlib.Core.Path.{sym}
 use borrow.Author.Needs.{needs}
 use Rattle.select.proofs.survey.Statement.{statement}
 use Rattle.select.proofs.survey.Tie as tie
-use Rattle.select.proofs.survey.Reads as reads
-use Rattle.select.proofs.survey.Lts as lts
-use Rattle.select.proofs.evt2.survey2.Reads as survey2-reads
-use Rattle.select.proofs.evt3.survey3.Reads as survey3-reads
 
--- src/lib.rt:57:21
 enum-known-codec : tie.Need-enum-known-codec
 enum-known-codec c = search needs
 
--- src/lib.rt:57:27
 survey2-requires : tie.Need-survey2-requires
 survey2-requires c κs = rw (sym (c .before .codec .given .1)) (c .before .before .before .before .pre)
 
--- src/lib.rt:58:21
 enum-known-codec-2 : tie.Need-enum-known-codec-2
 enum-known-codec-2 c = search needs
 
--- src/lib.rt:58:27
 survey3-requires : tie.Need-survey3-requires
 survey3-requires c κs = rw (sym (c .before .codec2 .given .1)) (c .before .before .before .before .pre)
 
--- src/lib.rt:52:1
 returns : tie.Need-returns
 returns c = rw (c .before .before .codec .given .1) (c .survey2 .ensures)
 
--- src/lib.rt:52:1
 returns-2 : tie.Need-returns-2
 returns-2 c = rw (c .before .before .codec2 .given .1) (c .survey3 .ensures)
 

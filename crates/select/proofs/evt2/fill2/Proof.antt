@@ -1,17 +1,11 @@
+-- The loop's invariant is `Fills` at EVT2; what a turn keeps is in specs/Turn.antt and specs/Fill.antt.
 use Rattle.select.proofs.evt2.fill2.Statement.{statement}
 use Rattle.select.proofs.evt2.fill2.Tie as tie
-use Rattle.select.proofs.evt2.fill2.Reads as reads
-use Rattle.select.proofs.evt2.fill2.Lts as lts
-use Rattle.evt.proofs.evt2.Evt2Decoder.advance.Reads as advance-reads
-use Rattle.select.proofs.evt2.word4.Reads as word4-reads
-use Rattle.sensor.proofs.put_all.Reads as put-all-reads
-use Rattle.window.proofs.trim.single.Reads as single-reads
-use Rattle.window.proofs.trim.stopped.Reads as stopped-reads
-use mathlib.Core.Path.{_≡_, refl, sym, ap, _∙_}
+use mathlib.Core.Path.{_≡_, sym, ap, _∙_}
 use mathlib.Core.Logic.{⊎-elim}
 use native.Mathlib.Omega.{arith}
 use borrow.Author.Needs.{needs}
-use Prim.Native.Nat.{ℕ, _+_, _-_, _/_, _≤_, _<_, _^_}
+use Prim.Native.Nat.{_+_, _-_, _≤_, _<_, _^_}
 use denote.Ref.{now}
 use lib.ListN.{length, take, drop}
 use Rattle.stream.specs.Words.{value, value-four}
@@ -78,103 +72,78 @@ done c =
     (λ w. rw (w .13, w .14, w .15, w .16, w .17, w .18, w .19, w .20) (fills-stop laws2 (sym (w .11 .ensures) ∙ w .12 .taken) (pend (record { before = record { before = record { before = record { before = record { before = record { before = record { before = record { before = record { before = record { before = record { before = c .before; loop-test = w .0 }; shared-slice-known2 = w .1 }; shared-slice-known3 = w .2 }; shared-slice-known4 = w .3 }; shared-slice-known5 = w .4 }; word4 = w .5 }; advance = w .6 }; v = w .7 }; s = w .8 }; struct-known = w .9 }; if1 = w .10 }))))
     (c .loop-test .came)
 
--- src/evt2.rt:89:5
 loop-holds : tie.Need-loop-holds Inv-loop μ-loop
 loop-holds c = fills-start laws2 (inv2 (c .before .before .before .before .args .d) (now (c .before .before .before .before .args .bytes)) (c .before .before .before .before .pre .0)) (c .before .before .before .before .pre .0 .long) (c .before .before .before .before .pre .0 .low)
 
--- src/evt2.rt:89:11
 add-loop : tie.Need-add-loop Inv-loop μ-loop
 add-loop c = omega (arith, c .loop .inv .at .within, c .loop .inv .at .long)
 
--- src/evt2.rt:90:23
 shared-slice-read-word4 : tie.Need-shared-slice-read-word4 Inv-loop μ-loop
 shared-slice-read-word4 c = omega (arith, c .before .loop-test .taken)
 
--- src/evt2.rt:90:39
 add-word4 : tie.Need-add-word4 Inv-loop μ-loop
 add-word4 c = omega (arith, c .before .loop-test .taken)
 
--- src/evt2.rt:90:33
 shared-slice-read-word4-2 : tie.Need-shared-slice-read-word4-2 Inv-loop μ-loop
 shared-slice-read-word4-2 c = omega (arith, c .before .before .loop-test .taken)
 
--- src/evt2.rt:90:53
 add-word4-2 : tie.Need-add-word4-2 Inv-loop μ-loop
 add-word4-2 c = omega (arith, c .before .before .loop-test .taken)
 
--- src/evt2.rt:90:47
 shared-slice-read-word4-3 : tie.Need-shared-slice-read-word4-3 Inv-loop μ-loop
 shared-slice-read-word4-3 c = omega (arith, c .before .before .before .loop-test .taken)
 
--- src/evt2.rt:90:67
 add-word4-3 : tie.Need-add-word4-3 Inv-loop μ-loop
 add-word4-3 c = omega (arith, c .before .before .before .loop-test .taken)
 
--- src/evt2.rt:90:61
 shared-slice-read-word4-4 : tie.Need-shared-slice-read-word4-4 Inv-loop μ-loop
 shared-slice-read-word4-4 c = omega (arith, c .before .before .before .before .loop-test .taken)
 
--- src/evt2.rt:90:13
 word4-requires : tie.Need-word4-requires Inv-loop μ-loop
 word4-requires c κs = search needs
 
--- src/evt2.rt:91:13
 advance-requires : tie.Need-advance-requires Inv-loop μ-loop
 advance-requires c κs = bounded-sane2 (c .before .before .before .before .before .before .loop .inv .at .inv)
 
--- src/evt2.rt:94:9
 add-i : tie.Need-add-i Inv-loop μ-loop
 add-i c = omega (arith, c .before .before .before .before .before .before .before .before .before .loop .inv .at .within, c .before .before .before .before .before .before .before .before .before .loop .inv .at .long)
 
--- src/evt2.rt:96:17
 single-requires : tie.Need-single-requires Inv-loop μ-loop
 single-requires c κs = (one-at c, narrow-at (c .before) .x<)
 
--- src/evt2.rt:105:13
 put-all-requires : tie.Need-put-all-requires Inv-loop μ-loop
 put-all-requires c κs = room-at (c .before .before .before .before)
 
--- src/evt2.rt:106:22
 sub-k : tie.Need-sub-k Inv-loop μ-loop
 sub-k c = omega (arith, c .before .before .before .before .before .before .before .put-all .ensures .0)
 
--- src/evt2.rt:106:17
 add-k : tie.Need-add-k Inv-loop μ-loop
 add-k c = omega (arith, c .before .before .before .before .before .before .before .put-all .ensures .0, few-at (c .before .before .before .before .before .before .before .before .before .before .before .before), number-at (c .before .before .before .before .before .before .before .before .before .before .before .before .before .before))
 
--- src/evt2.rt:106:17
 add-k-2 : tie.Need-add-k-2 Inv-loop μ-loop
 add-k-2 c = omega (arith, c .before .before .before .before .before .before .before .before .put-all .ensures .0, few-at (c .before .before .before .before .before .before .before .before .before .before .before .before .before), number-at (c .before .before .before .before .before .before .before .before .before .before .before .before .before .before .before), narrow-at (c .before .before .before .before .before .before .before .before .before .before .before .before .before .before .before) .mask<, c .before .before .before .before .before .before .before .before .before .before .before .before .before .single .ensures .few)
 
--- src/evt2.rt:108:12
 stopped-requires : tie.Need-stopped-requires Inv-loop μ-loop
 stopped-requires c κs = search needs
 
--- src/evt2.rt:89:5
 loop-less : tie.Need-loop-less Inv-loop μ-loop
 loop-less c = omega (arith, c .before .before .before .before .before .before .before .before .before .before .before .before .loop-test .taken)
 
--- src/evt2.rt:89:5
 loop-again : tie.Need-loop-again Inv-loop μ-loop
 loop-again c = fills-on laws2 (sym (c .before .stopped .ensures) ∙ c .if2 .left) (pend (c .before .before))
 
--- src/evt2.rt:72:1
 same-length : tie.Need-same-length Inv-loop μ-loop
 same-length c = done (c .before) .going .in-x .long
 
--- src/evt2.rt:72:1
 same-length-2 : tie.Need-same-length-2 Inv-loop μ-loop
 same-length-2 c = done (c .before) .going .in-y .long
 
--- src/evt2.rt:72:1
 same-length-3 : tie.Need-same-length-3 Inv-loop μ-loop
 same-length-3 c = done (c .before) .going .in-t .long
 
--- src/evt2.rt:72:1
 same-length-4 : tie.Need-same-length-4 Inv-loop μ-loop
 same-length-4 c = done (c .before) .going .in-p .long
 
--- src/evt2.rt:72:1
 returns : tie.Need-returns Inv-loop μ-loop
 returns c = (full laws2 (done (c .before)), full-wrote laws2 (fits-at (c .before .before .before)) (done (c .before)))
 

@@ -1,17 +1,11 @@
+-- The loop's invariant is `Counts` at EVT2; what a turn keeps is in specs/Turn.antt and specs/Count.antt.
 use Rattle.select.proofs.evt2.survey2.Statement.{statement}
 use Rattle.select.proofs.evt2.survey2.Tie as tie
-use Rattle.select.proofs.evt2.survey2.Reads as reads
-use Rattle.select.proofs.evt2.survey2.Lts as lts
-use Rattle.evt.proofs.evt2.Evt2Decoder.advance.Reads as advance-reads
-use Rattle.select.proofs.evt2.word4.Reads as word4-reads
-use Rattle.window.proofs.extent.see.Reads as see-reads
-use Rattle.window.proofs.trim.single.Reads as single-reads
-use Rattle.window.proofs.trim.stopped.Reads as stopped-reads
-use mathlib.Core.Path.{_≡_, refl, sym, ap, _∙_}
+use mathlib.Core.Path.{_≡_, sym, ap, _∙_}
 use mathlib.Core.Logic.{⊎-elim}
 use native.Mathlib.Omega.{arith}
 use borrow.Author.Needs.{needs}
-use Prim.Native.Nat.{ℕ, _+_, _-_, _/_, _≤_, _<_, _^_}
+use Prim.Native.Nat.{_+_, _-_, _≤_, _<_, _^_}
 use denote.Ref.{now}
 use lib.ListN.{length, take, drop}
 use lib.Count.{ones, ones-le}
@@ -20,7 +14,6 @@ use Rattle.evt.specs.Event.{Narrow}
 use Rattle.evt.specs.declared.vector.Vector.{Vector}
 use Rattle.evt.specs.Range.{bounded-sane2}
 use Rattle.evt.specs.Evt2.{step2, vector2}
-use Rattle.window.specs.Extent.{noExtent}
 use Rattle.window.specs.Trim.{narrow-masked, masked-count}
 use Rattle.select.specs.Turn.{narrow-here, number-here}
 use Rattle.select.specs.Count.{Counts, CountsIf, Counted, counts-start, counts-on, counts-stop, counted, counts-end, counts-turn, counts-quiet}
@@ -73,95 +66,72 @@ done c =
     (λ w. rw (w .13, w .14, w .15, w .16, w .17) (counts-stop laws2 (sym (w .11 .ensures) ∙ w .12 .taken) (pend (record { before = record { before = record { before = record { before = record { before = record { before = record { before = record { before = record { before = record { before = record { before = c .before; loop-test = w .0 }; shared-slice-known2 = w .1 }; shared-slice-known3 = w .2 }; shared-slice-known4 = w .3 }; shared-slice-known5 = w .4 }; word4 = w .5 }; advance = w .6 }; v = w .7 }; s = w .8 }; struct-known = w .9 }; if1 = w .10 }))))
     (c .loop-test .came)
 
--- src/evt2.rt:37:5
 loop-holds : tie.Need-loop-holds Inv-loop μ-loop
 loop-holds c = counts-start laws2 (inv2 (c .before .args .d) (now (c .before .args .bytes)) (c .before .pre)) (c .before .pre .long) (c .before .pre .low)
 
--- src/evt2.rt:37:11
 add-loop : tie.Need-add-loop Inv-loop μ-loop
 add-loop c = omega (arith, c .loop .inv .at .within, c .loop .inv .at .long)
 
--- src/evt2.rt:38:23
 shared-slice-read-word4 : tie.Need-shared-slice-read-word4 Inv-loop μ-loop
 shared-slice-read-word4 c = omega (arith, c .before .loop-test .taken)
 
--- src/evt2.rt:38:39
 add-word4 : tie.Need-add-word4 Inv-loop μ-loop
 add-word4 c = omega (arith, c .before .loop-test .taken)
 
--- src/evt2.rt:38:33
 shared-slice-read-word4-2 : tie.Need-shared-slice-read-word4-2 Inv-loop μ-loop
 shared-slice-read-word4-2 c = omega (arith, c .before .before .loop-test .taken)
 
--- src/evt2.rt:38:53
 add-word4-2 : tie.Need-add-word4-2 Inv-loop μ-loop
 add-word4-2 c = omega (arith, c .before .before .loop-test .taken)
 
--- src/evt2.rt:38:47
 shared-slice-read-word4-3 : tie.Need-shared-slice-read-word4-3 Inv-loop μ-loop
 shared-slice-read-word4-3 c = omega (arith, c .before .before .before .loop-test .taken)
 
--- src/evt2.rt:38:67
 add-word4-3 : tie.Need-add-word4-3 Inv-loop μ-loop
 add-word4-3 c = omega (arith, c .before .before .before .loop-test .taken)
 
--- src/evt2.rt:38:61
 shared-slice-read-word4-4 : tie.Need-shared-slice-read-word4-4 Inv-loop μ-loop
 shared-slice-read-word4-4 c = omega (arith, c .before .before .before .before .loop-test .taken)
 
--- src/evt2.rt:38:13
 word4-requires : tie.Need-word4-requires Inv-loop μ-loop
 word4-requires c κs = search needs
 
--- src/evt2.rt:39:13
 advance-requires : tie.Need-advance-requires Inv-loop μ-loop
 advance-requires c κs = bounded-sane2 (c .before .before .before .before .before .before .loop .inv .at .inv)
 
--- src/evt2.rt:42:9
 add-i : tie.Need-add-i Inv-loop μ-loop
 add-i c = omega (arith, c .before .before .before .before .before .before .before .before .before .loop .inv .at .within, c .before .before .before .before .before .before .before .before .before .loop .inv .at .long)
 
--- src/evt2.rt:44:17
 single-requires : tie.Need-single-requires Inv-loop μ-loop
 single-requires c κs = (one-at c, narrow-at (c .before) .x<)
 
--- src/evt2.rt:53:13
 see-requires : tie.Need-see-requires Inv-loop μ-loop
 see-requires c κs = narrow-masked (c .before .before .before .before .before .before .advance .result .events) (c .before .single .result .mask) (narrow-at (c .before .before .before)) (c .before .single .ensures .low)
 
--- src/evt2.rt:54:18
 cast-n : tie.Need-cast-n Inv-loop μ-loop
 cast-n c = omega (arith, few-at c)
 
--- src/evt2.rt:54:13
 add-n : tie.Need-add-n Inv-loop μ-loop
 add-n c = omega (arith, few-at c, c .before .before .before .before .before .before .before .before .before .before .before .before .before .before .loop .inv .at .few, c .before .before .before .before .before .before .before .before .before .before .before .before .before .before .loop .inv .at .within, c .before .before .before .before .before .before .before .before .before .before .before .before .before .before .loop .inv .at .long)
 
--- src/evt2.rt:55:21
 cast-k : tie.Need-cast-k Inv-loop μ-loop
 cast-k c = omega (arith, few-at c)
 
--- src/evt2.rt:55:17
 add-k : tie.Need-add-k Inv-loop μ-loop
 add-k c = omega (arith, few-at c, number-at (c .before .before .before .before))
 
--- src/evt2.rt:55:17
 add-k-2 : tie.Need-add-k-2 Inv-loop μ-loop
 add-k-2 c = omega (arith, few-at (c .before), number-at (c .before .before .before .before .before), narrow-at (c .before .before .before .before .before) .mask<, c .before .before .before .single .ensures .few)
 
--- src/evt2.rt:57:12
 stopped-requires : tie.Need-stopped-requires Inv-loop μ-loop
 stopped-requires c κs = search needs
 
--- src/evt2.rt:37:5
 loop-less : tie.Need-loop-less Inv-loop μ-loop
 loop-less c = omega (arith, c .before .before .before .before .before .before .before .before .before .before .before .before .loop-test .taken)
 
--- src/evt2.rt:37:5
 loop-again : tie.Need-loop-again Inv-loop μ-loop
 loop-again c = counts-on laws2 (sym (c .before .stopped .ensures) ∙ c .if2 .left) (pend (c .before .before))
 
--- src/evt2.rt:24:1
 returns : tie.Need-returns Inv-loop μ-loop
 returns c = counted laws2 (done (c .before))
 

@@ -1,25 +1,17 @@
+-- The loop's invariant is `Fills` at EVT3; what a turn keeps is in specs/Turn.antt and specs/Fill.antt.
 use Rattle.select.proofs.evt3.fill3.Statement.{statement}
 use Rattle.select.proofs.evt3.fill3.Tie as tie
-use Rattle.select.proofs.evt3.fill3.Reads as reads
-use Rattle.select.proofs.evt3.fill3.Lts as lts
-use Rattle.evt.proofs.evt3.Decoder.widen.Reads as widen-reads
-use Rattle.evt.proofs.evt3.WideDecoder.advance.Reads as advance-reads
-use Rattle.evt.proofs.evt3.WideDecoder.slim.Reads as slim-reads
-use Rattle.select.proofs.evt3.word2.Reads as word2-reads
-use Rattle.window.proofs.trim.stopped.Reads as stopped-reads
-use Rattle.window.proofs.trim.trim.Reads as trim-reads
-use Rattle.sensor.proofs.put_all.Reads as put-all-reads
-use mathlib.Core.Path.{_≡_, refl, sym, ap, _∙_}
+use mathlib.Core.Path.{_≡_, sym, ap, _∙_}
 use mathlib.Core.Logic.{⊎-elim}
 use native.Mathlib.Omega.{arith}
 use borrow.Author.Needs.{needs}
-use Prim.Native.Nat.{ℕ, _+_, _-_, _/_, _≤_, _<_, _^_}
+use Prim.Native.Nat.{_+_, _-_, _≤_, _<_, _^_}
 use denote.Ref.{now}
 use lib.ListN.{length, take, drop}
 use Rattle.stream.specs.Words.{value, value-two}
 use Rattle.evt.specs.Event.{Narrow, eventsOf}
 use Rattle.evt.specs.Columns.{Room}
-use Rattle.evt.specs.Evt3.{widened, slimmed, Slim}
+use Rattle.evt.specs.Evt3.{slimmed}
 use Rattle.evt.specs.Range.{bounded-sane3, bounded-slim3}
 use Rattle.evt.specs.Evt3.{step3, vector3}
 use Rattle.window.specs.Trim.{masked, events-few}
@@ -77,95 +69,72 @@ done c =
     (λ w. rw (w .11, w .12, w .13, w .14, w .15, w .16, w .17, w .18) (fills-stop laws3 (sym (w .9 .ensures) ∙ w .10 .taken) (pend (record { before = record { before = record { before = record { before = record { before = record { before = record { before = record { before = record { before = c .before; loop-test = w .0 }; shared-slice-known2 = w .1 }; shared-slice-known3 = w .2 }; word2 = w .3 }; advance = w .4 }; v = w .5 }; s = w .6 }; struct-known = w .7 }; if1 = w .8 }))))
     (c .loop-test .came)
 
--- src/evt3.rt:86:9
 widen-requires : tie.Need-widen-requires Inv-loop μ-loop
 widen-requires c κs = search needs
 
--- src/evt3.rt:90:5
 loop-holds : tie.Need-loop-holds Inv-loop μ-loop
 loop-holds c = rw (c .widen .ensures .0) (fills-start laws3 (inv3 (c .before .before .before .before .before .args .d) (now (c .before .before .before .before .before .args .bytes)) (c .before .before .before .before .before .pre .0) (c .widen .ensures .1 .column)) (c .before .before .before .before .before .pre .0 .long) (c .before .before .before .before .before .pre .0 .low))
 
--- src/evt3.rt:90:11
 add-loop : tie.Need-add-loop Inv-loop μ-loop
 add-loop c = omega (arith, c .loop .inv .at .within, c .loop .inv .at .long)
 
--- src/evt3.rt:91:23
 shared-slice-read-word2 : tie.Need-shared-slice-read-word2 Inv-loop μ-loop
 shared-slice-read-word2 c = omega (arith, c .before .loop-test .taken)
 
--- src/evt3.rt:91:39
 add-word2 : tie.Need-add-word2 Inv-loop μ-loop
 add-word2 c = omega (arith, c .before .loop-test .taken)
 
--- src/evt3.rt:91:33
 shared-slice-read-word2-2 : tie.Need-shared-slice-read-word2-2 Inv-loop μ-loop
 shared-slice-read-word2-2 c = omega (arith, c .before .before .loop-test .taken)
 
--- src/evt3.rt:91:13
 word2-requires : tie.Need-word2-requires Inv-loop μ-loop
 word2-requires c κs = search needs
 
--- src/evt3.rt:92:13
 advance-requires : tie.Need-advance-requires Inv-loop μ-loop
 advance-requires c κs = bounded-sane3 (c .before .before .before .before .loop .inv .at .inv)
 
--- src/evt3.rt:95:9
 add-i : tie.Need-add-i Inv-loop μ-loop
 add-i c = omega (arith, c .before .before .before .before .before .before .before .loop .inv .at .within, c .before .before .before .before .before .before .before .loop .inv .at .long)
 
--- src/evt3.rt:97:17
 trim-requires : tie.Need-trim-requires Inv-loop μ-loop
 trim-requires c κs = (narrow-at (c .before), number-at (c .before))
 
--- src/evt3.rt:106:13
 put-all-requires : tie.Need-put-all-requires Inv-loop μ-loop
 put-all-requires c κs = room-at (c .before .before .before .before)
 
--- src/evt3.rt:107:22
 sub-k : tie.Need-sub-k Inv-loop μ-loop
 sub-k c = omega (arith, c .before .before .before .before .before .before .before .put-all .ensures .0)
 
--- src/evt3.rt:107:17
 add-k : tie.Need-add-k Inv-loop μ-loop
 add-k c = omega (arith, c .before .before .before .before .before .before .before .put-all .ensures .0, few-at (c .before .before .before .before .before .before .before .before .before .before .before .before), number-at (c .before .before .before .before .before .before .before .before .before .before .before .before .before .before))
 
--- src/evt3.rt:107:17
 add-k-2 : tie.Need-add-k-2 Inv-loop μ-loop
 add-k-2 c = omega (arith, c .before .before .before .before .before .before .before .before .put-all .ensures .0, few-at (c .before .before .before .before .before .before .before .before .before .before .before .before .before), number-at (c .before .before .before .before .before .before .before .before .before .before .before .before .before .before .before), narrow-at (c .before .before .before .before .before .before .before .before .before .before .before .before .before .before .before) .mask<, c .before .before .before .before .before .before .before .before .before .before .before .before .before .trim .ensures .few)
 
--- src/evt3.rt:109:12
 stopped-requires : tie.Need-stopped-requires Inv-loop μ-loop
 stopped-requires c κs = search needs
 
--- src/evt3.rt:90:5
 loop-less : tie.Need-loop-less Inv-loop μ-loop
 loop-less c = omega (arith, c .before .before .before .before .before .before .before .before .before .before .loop-test .taken)
 
--- src/evt3.rt:90:5
 loop-again : tie.Need-loop-again Inv-loop μ-loop
 loop-again c = fills-on laws3 (sym (c .before .stopped .ensures) ∙ c .if2 .left) (pend (c .before .before))
 
--- src/evt3.rt:113:9
 slim-requires : tie.Need-slim-requires Inv-loop μ-loop
 slim-requires c κs = bounded-slim3 (done c .at .inv)
 
--- src/evt3.rt:73:1
 same-length : tie.Need-same-length Inv-loop μ-loop
 same-length c = done (c .before .before) .going .in-x .long
 
--- src/evt3.rt:73:1
 same-length-2 : tie.Need-same-length-2 Inv-loop μ-loop
 same-length-2 c = done (c .before .before) .going .in-y .long
 
--- src/evt3.rt:73:1
 same-length-3 : tie.Need-same-length-3 Inv-loop μ-loop
 same-length-3 c = done (c .before .before) .going .in-t .long
 
--- src/evt3.rt:73:1
 same-length-4 : tie.Need-same-length-4 Inv-loop μ-loop
 same-length-4 c = done (c .before .before) .going .in-p .long
 
--- src/evt3.rt:73:1
 returns : tie.Need-returns Inv-loop μ-loop
 returns c = (rw (c .before .slim .ensures) (rw (c .before .before .before .before .widen .ensures .0) at (full laws3 (done (c .before .before)))), rw (c .before .before .before .before .widen .ensures .0) at (full-wrote laws3 (fits-at (c .before .before .before .before)) (done (c .before .before))))
 

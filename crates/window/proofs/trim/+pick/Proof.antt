@@ -1,4 +1,5 @@
-use mathlib.Core.Path.{_≡_, refl, sym, ap, _∙_}
+-- `pick` picks bit by bit; the mask falls with each call.
+use mathlib.Core.Path.{sym, _∙_}
 use native.Mathlib.Omega.{arith}
 use borrow.Author.Needs.{needs}
 use native.Mathlib.Numerals.{add-one}
@@ -25,7 +26,6 @@ pick-at t = and 0 pick-kinds.ps (is 0 pick-kinds.ps μ-pick t) pick.Pre
 abbrev pick-below : ℕ → In 0 pick-kinds.ps
 pick-below t = and 0 pick-kinds.ps (falls 0 pick-kinds.ps _<_ μ-pick t) pick.Pre
 
--- src/trim.rt:92:9
 pick-returns : (t : ℕ) → pick-lts.Need-returns (
   skips-reads.Asked,
   skips-reads.Learnt,
@@ -38,7 +38,6 @@ pick-returns : (t : ℕ) → pick-lts.Need-returns (
 ) (pick-at t) pick.Post
 pick-returns t c = picked-none (c .before .args .v) (c .before .args .win) (c .before .args .k) (c .if1 .taken)
 
--- src/trim.rt:95:9
 pick-returns-2 : (t : ℕ) → pick-lts.Need-returns-2 (
   skips-reads.Asked,
   skips-reads.Learnt,
@@ -51,7 +50,6 @@ pick-returns-2 : (t : ℕ) → pick-lts.Need-returns-2 (
 ) (pick-at t) pick.Post
 pick-returns-2 t c = picked-out (c .before .before .before .before .args .v) (c .before .before .before .before .args .win) (c .before .before .before .before .args .k) (c .if2 .taken)
 
--- src/trim.rt:97:8
 pick-skips-requires : (t : ℕ) → pick-lts.Need-skips-requires (
   skips-reads.Asked,
   skips-reads.Learnt,
@@ -64,7 +62,6 @@ pick-skips-requires : (t : ℕ) → pick-lts.Need-skips-requires (
 ) (pick-at t) pick.Post
 pick-skips-requires t c κs = c .before .before .before .before .pre .1
 
--- src/trim.rt:100:20
 pick-cast-t12 : (t : ℕ) → pick-lts.Need-cast-t12 (
   skips-reads.Asked,
   skips-reads.Learnt,
@@ -77,7 +74,6 @@ pick-cast-t12 : (t : ℕ) → pick-lts.Need-cast-t12 (
 ) (pick-at t) pick.Post
 pick-cast-t12 t c = omega (arith, ones-le 32 (c .before .before .before .before .before .before .args .v .mask) (c .before .before .before .before .before .before .pre .1 .mask))
 
--- src/trim.rt:98:9
 pick-returns-3 : (t : ℕ) → pick-lts.Need-returns-3 (
   skips-reads.Asked,
   skips-reads.Learnt,
@@ -90,7 +86,6 @@ pick-returns-3 : (t : ℕ) → pick-lts.Need-returns-3 (
 ) (pick-at t) pick.Post
 pick-returns-3 t c = picked-skipped (c .before .before .before .before .before .before .args .v) (c .before .before .before .before .before .before .args .win) (c .before .before .before .before .before .before .args .k) (c .before .before .before .before .before .before .pre .1 .mask) (c .before .before .if2 .left) (sym (c .before .skips .ensures) ∙ c .if3 .taken)
 
--- src/trim.rt:104:12
 pick-add-if4 : (t : ℕ) → pick-lts.Need-add-if4 (
   skips-reads.Asked,
   skips-reads.Learnt,
@@ -103,7 +98,6 @@ pick-add-if4 : (t : ℕ) → pick-lts.Need-add-if4 (
 ) (pick-at t) pick.Post
 pick-add-if4 t c = omega (arith, c .before .before .before .before .before .before .before .pre .1 .column, c .before .before .before .before .before .before .before .pre .1 .mask)
 
--- src/trim.rt:111:13
 pick-pick-requires : (t : ℕ) → pick-lts.Need-pick-requires (
   skips-reads.Asked,
   skips-reads.Learnt,
@@ -116,7 +110,6 @@ pick-pick-requires : (t : ℕ) → pick-lts.Need-pick-requires (
 ) (pick-at t) pick.Post
 pick-pick-requires t c κs = (omega (arith, c .before .before .before .before .before .before .before .before .pre .0, c .before .before .before .before .before .before .before .if1 .left), pickable-rest (c .before .before .before .before .before .before .before .before .args .v) (c .before .before .before .before .before .before .before .before .args .k) (c .before .before .before .before .before .before .before .before .args .k) (c .before .before .before .before .before .before .before .before .pre .1) (c .before .before .before .before .before .before .before .if1 .left) (omega arith))
 
--- src/trim.rt:113:19
 pick-mul-t15 : (t : ℕ) → pick-lts.Need-mul-t15 (
   skips-reads.Asked,
   skips-reads.Learnt,
@@ -129,7 +122,6 @@ pick-mul-t15 : (t : ℕ) → pick-lts.Need-mul-t15 (
 ) (pick-at t) pick.Post
 pick-mul-t15 t c = omega (arith, c .before .pick .ensures .low, c .before .before .before .before .before .before .before .before .before .before .pre .1 .mask)
 
--- src/trim.rt:112:9
 pick-returns-4 : (t : ℕ) → pick-lts.Need-returns-4 (
   skips-reads.Asked,
   skips-reads.Learnt,
@@ -142,7 +134,6 @@ pick-returns-4 : (t : ℕ) → pick-lts.Need-returns-4 (
 ) (pick-at t) pick.Post
 pick-returns-4 t c = picked-even (c .before .before .before .before .before .before .before .before .before .before .args .v) (c .before .before .before .before .before .before .before .before .before .before .args .win) (c .before .before .before .before .before .before .before .before .before .before .args .k) (c .before .pick .result) (omega (arith, c .before .before .before .before .before .before .before .before .before .if1 .left)) (c .before .before .if4 .taken) (rw (add-one (c .before .before .before .before .before .before .before .before .before .before .args .v .x)) at (c .before .pick .ensures))
 
--- src/trim.rt:117:21
 pick-held-requires : (t : ℕ) → pick-lts.Need-held-requires (
   skips-reads.Asked,
   skips-reads.Learnt,
@@ -155,7 +146,6 @@ pick-held-requires : (t : ℕ) → pick-lts.Need-held-requires (
 ) (pick-at t) pick.Post
 pick-held-requires t c κs = search needs
 
--- src/trim.rt:118:13
 pick-pick-requires-2 : (t : ℕ) → pick-lts.Need-pick-requires-2 (
   skips-reads.Asked,
   skips-reads.Learnt,
@@ -168,7 +158,6 @@ pick-pick-requires-2 : (t : ℕ) → pick-lts.Need-pick-requires-2 (
 ) (pick-at t) pick.Post
 pick-pick-requires-2 t c κs = (omega (arith, c .before .before .before .before .before .before .before .before .before .before .before .pre .0, c .before .before .before .before .before .before .before .before .before .before .if1 .left), pickable-rest (c .before .before .before .before .before .before .before .before .before .before .before .args .v) (c .before .before .before .before .before .before .before .before .before .before .before .args .k) (c .before .before .before .before .before .before .before .before .before .before .before .args .k) (c .before .before .before .before .before .before .before .before .before .before .before .pre .1) (c .before .before .before .before .before .before .before .before .before .before .if1 .left) (omega arith))
 
--- src/trim.rt:120:19
 pick-mul-t16 : (t : ℕ) → pick-lts.Need-mul-t16 (
   skips-reads.Asked,
   skips-reads.Learnt,
@@ -181,7 +170,6 @@ pick-mul-t16 : (t : ℕ) → pick-lts.Need-mul-t16 (
 ) (pick-at t) pick.Post
 pick-mul-t16 t c = omega (arith, c .before .pick2 .ensures .low, c .before .before .before .before .before .before .before .before .before .before .before .before .before .pre .1 .mask)
 
--- src/trim.rt:119:9
 pick-returns-5 : (t : ℕ) → pick-lts.Need-returns-5 (
   skips-reads.Asked,
   skips-reads.Learnt,
@@ -194,7 +182,6 @@ pick-returns-5 : (t : ℕ) → pick-lts.Need-returns-5 (
 ) (pick-at t) pick.Post
 pick-returns-5 t c = picked-beyond (c .before .before .before .before .before .before .before .before .before .before .before .before .before .args .v) (c .before .before .before .before .before .before .before .before .before .before .before .before .before .args .win) (c .before .before .before .before .before .before .before .before .before .before .before .before .before .args .k) (c .before .pick2 .result) (omega (arith, c .before .before .before .before .before .before .before .before .before .before .before .before .if1 .left)) (omega (arith, c .before .before .before .before .before .if4 .left)) (omega (arith, c .before .before .before .before .held .ensures, c .before .before .if5 .taken)) (rw (add-one (c .before .before .before .before .before .before .before .before .before .before .before .before .before .args .v .x)) at (c .before .pick2 .ensures))
 
--- src/trim.rt:124:29
 pick-add-pick : (t : ℕ) → pick-lts.Need-add-pick (
   skips-reads.Asked,
   skips-reads.Learnt,
@@ -207,7 +194,6 @@ pick-add-pick : (t : ℕ) → pick-lts.Need-add-pick (
 ) (pick-at t) pick.Post
 pick-add-pick t c = omega (arith, c .before .before .before .before .before .before .before .before .before .before .before .pre .1 .number)
 
--- src/trim.rt:124:9
 pick-pick-requires-3 : (t : ℕ) → pick-lts.Need-pick-requires-3 (
   skips-reads.Asked,
   skips-reads.Learnt,
@@ -220,7 +206,6 @@ pick-pick-requires-3 : (t : ℕ) → pick-lts.Need-pick-requires-3 (
 ) (pick-at t) pick.Post
 pick-pick-requires-3 t c κs = (omega (arith, c .before .before .before .before .before .before .before .before .before .before .before .pre .0, c .before .before .before .before .before .before .before .before .before .before .if1 .left), pickable-rest (c .before .before .before .before .before .before .before .before .before .before .before .args .v) (c .before .before .before .before .before .before .before .before .before .before .before .args .k) (c .before .before .before .before .before .before .before .before .before .before .before .args .k + 1) (c .before .before .before .before .before .before .before .before .before .before .before .pre .1) (c .before .before .before .before .before .before .before .before .before .before .if1 .left) (omega arith))
 
--- src/trim.rt:125:8
 pick-spans-requires : (t : ℕ) → pick-lts.Need-spans-requires (
   skips-reads.Asked,
   skips-reads.Learnt,
@@ -233,7 +218,6 @@ pick-spans-requires : (t : ℕ) → pick-lts.Need-spans-requires (
 ) (pick-at t) pick.Post
 pick-spans-requires t c κs = search needs
 
--- src/trim.rt:127:19
 pick-mul-t19 : (t : ℕ) → pick-lts.Need-mul-t19 (
   skips-reads.Asked,
   skips-reads.Learnt,
@@ -246,7 +230,6 @@ pick-mul-t19 : (t : ℕ) → pick-lts.Need-mul-t19 (
 ) (pick-at t) pick.Post
 pick-mul-t19 t c = omega (arith, c .before .before .before .pick3 .ensures .low, c .before .before .before .before .before .before .before .before .before .before .before .before .before .before .before .pre .1 .mask)
 
--- src/trim.rt:127:19
 pick-add-t20 : (t : ℕ) → pick-lts.Need-add-t20 (
   skips-reads.Asked,
   skips-reads.Learnt,
@@ -259,7 +242,6 @@ pick-add-t20 : (t : ℕ) → pick-lts.Need-add-t20 (
 ) (pick-at t) pick.Post
 pick-add-t20 t c = omega (arith, c .before .before .before .pick3 .ensures .low, c .before .before .before .before .before .before .before .before .before .before .before .before .before .before .before .pre .1 .mask)
 
--- src/trim.rt:132:19
 pick-mul-t21 : (t : ℕ) → pick-lts.Need-mul-t21 (
   skips-reads.Asked,
   skips-reads.Learnt,
@@ -272,7 +254,6 @@ pick-mul-t21 : (t : ℕ) → pick-lts.Need-mul-t21 (
 ) (pick-at t) pick.Post
 pick-mul-t21 t c = omega (arith, c .before .before .before .pick3 .ensures .low, c .before .before .before .before .before .before .before .before .before .before .before .before .before .before .before .pre .1 .mask)
 
--- src/trim.rt:133:20
 pick-add-t22 : (t : ℕ) → pick-lts.Need-add-t22 (
   skips-reads.Asked,
   skips-reads.Learnt,
@@ -285,7 +266,6 @@ pick-add-t22 : (t : ℕ) → pick-lts.Need-add-t22 (
 ) (pick-at t) pick.Post
 pick-add-t22 t c = omega (arith, c .before .before .before .before .pick3 .ensures .few, c .before .before .before .before .before .before .before .before .before .before .before .before .before .before .before .before .pre .1 .mask)
 
--- src/trim.rt:86:1
 pick-returns-6 : (t : ℕ) → pick-lts.Need-returns-6 (
   skips-reads.Asked,
   skips-reads.Learnt,
@@ -298,7 +278,6 @@ pick-returns-6 : (t : ℕ) → pick-lts.Need-returns-6 (
 ) (pick-at t) pick.Post
 pick-returns-6 t c = picked-keep (c .before .before .before .before .before .before .before .before .before .before .before .before .before .before .before .args .v) (c .before .before .before .before .before .before .before .before .before .before .before .before .before .before .before .args .win) (c .before .before .before .before .before .before .before .before .before .before .before .before .before .before .before .args .k) (c .before .before .before .pick3 .result) (omega (arith, c .before .before .before .before .before .before .before .before .before .before .before .before .before .before .if1 .left)) (omega (arith, c .before .before .before .before .before .before .before .if4 .left)) (omega (arith, c .before .before .before .before .before .before .held .ensures, c .before .before .before .before .if5 .left)) (c .before .before .before .before .before .before .before .before .before .before .before .if2 .left) (rw (add-one (c .before .before .before .before .before .before .before .before .before .before .before .before .before .before .before .args .v .x), add-one (c .before .before .before .before .before .before .before .before .before .before .before .before .before .before .before .args .k)) at (c .before .before .before .pick3 .ensures)) (sym (c .before .before .spans .ensures) ∙ c .before .if6 .taken)
 
--- src/trim.rt:86:1
 pick-returns-7 : (t : ℕ) → pick-lts.Need-returns-7 (
   skips-reads.Asked,
   skips-reads.Learnt,

@@ -1,17 +1,12 @@
-use mathlib.Core.Path.{_≡_, refl, sym, ap, _∙_}
-use native.Mathlib.Omega.{arith}
-use borrow.Author.Tests.{lt-ltb, le-ltb, le-leb, lt-leb}
-use Prim.Native.Nat.{ℕ, suc, _+_, _-_, _*_, _/_, _%_, _^_, _<_, _≤_}
+-- `inside` tells whether a place is inside the sensor.
+use borrow.Author.Tests.{lt-ltb, le-ltb}
+use Prim.Native.Nat.{_-_}
 use Rattle.window.proofs.trim.inside.Statement.{statement}
 use Rattle.window.proofs.trim.inside.Tie as tie
-use Rattle.window.proofs.trim.inside.Reads as reads
-use Rattle.window.proofs.trim.inside.Lts as lts
 
--- src/trim.rt:23:1
 returns : tie.Need-returns
 returns c = simp (lt-ltb _ _ (c .before .if1 .taken))
 
--- src/trim.rt:23:1
 returns-2 : tie.Need-returns-2
 returns-2 c = simp (le-ltb _ _ (c .if1 .left))
 

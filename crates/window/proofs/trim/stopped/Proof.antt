@@ -1,18 +1,14 @@
+-- `stopped` tells whether a pass stops.
 use borrow.Author.Tests.{le-leb, lt-leb}
 use Rattle.window.proofs.trim.stopped.Statement.{statement}
 use Rattle.window.proofs.trim.stopped.Tie as tie
-use Rattle.window.proofs.trim.stopped.Reads as reads
-use Rattle.window.proofs.trim.stopped.Lts as lts
 
--- src/trim.rt:52:9
 returns : tie.Need-returns
 returns c = simp (le-leb _ _ (c .if1 .taken))
 
--- src/trim.rt:48:1
 returns-2 : tie.Need-returns-2
 returns-2 c = simp (lt-leb _ _ (c .before .before .if1 .left), c .before .if2 .taken)
 
--- src/trim.rt:48:1
 returns-3 : tie.Need-returns-3
 returns-3 c = simp (lt-leb _ _ (c .before .if1 .left), c .if2 .left)
 

@@ -1,17 +1,12 @@
-use mathlib.Core.Path.{_≡_, refl, sym, ap, _∙_}
-use native.Mathlib.Omega.{arith}
-use borrow.Author.Tests.{lt-ltb, le-ltb, le-leb, lt-leb}
-use Prim.Native.Nat.{ℕ, suc, _+_, _-_, _*_, _/_, _%_, _^_, _<_, _≤_}
+-- `within` tells whether a time is in the window.
+use borrow.Author.Tests.{le-leb, lt-leb}
+use Prim.Native.Nat.{_-_}
 use Rattle.window.proofs.trim.within.Statement.{statement}
 use Rattle.window.proofs.trim.within.Tie as tie
-use Rattle.window.proofs.trim.within.Reads as reads
-use Rattle.window.proofs.trim.within.Lts as lts
 
--- src/trim.rt:29:1
 returns : tie.Need-returns
 returns c = simp (le-leb _ _ (c .before .if1 .taken))
 
--- src/trim.rt:29:1
 returns-2 : tie.Need-returns-2
 returns-2 c = simp (lt-leb _ _ (c .if1 .left))
 

@@ -4,7 +4,6 @@ ghost use mathlib.Core.Path.{_≡_};
 ghost use Prim.Native.Nat.{_≤_};
 ghost use lib.ListN.{length};
 ghost use Rattle.listing_text.specs.Laws.{Rows};
-
 use libc::STDIN_FILENO;
 use libc::STDOUT_FILENO;
 
@@ -65,7 +64,14 @@ fn main() {
     let mut ps = polarities();
     let mut out = io::large_buffer();
     let n = io::read_full(STDIN_FILENO, &mut recording);
-    let begun = listing_text::begin(&recording[..n], &mut xs, &mut ys, &mut ts, &mut ps, &mut out);
+    let begun = listing_text::begin(
+        &recording[..n],
+        &mut xs,
+        &mut ys,
+        &mut ts,
+        &mut ps,
+        &mut out,
+    );
     let written = begun.written;
     let count = begun.count;
     if io::write_all(STDOUT_FILENO, &out[..written]) {

@@ -138,6 +138,7 @@ lists-body e size es h = rw (le-ltb listRoom (length es) h) (go (sizeless size e
   where
     reading : Reading
     reading = record { encoding = e; width = widthOf size es; height = heightOf size es; count = length es }
+
     go : (b : Bool) → Lists (cond b (Refused InvalidSensorSize) (Read reading)) (cond b [] es)
     go true = lists-refused InvalidSensorSize (omega arith)
     go false = lists-read reading es refl h
@@ -263,5 +264,6 @@ module _ {xs ys : List ℕ} {ts : List ℤ} {ps : List ℕ} {from n : ℕ} {out�
     where
       z : left ≡ 0
       z = omega arith
+
       none : Listing xs ys ts ps from n out₀ at i 0 out → Stored (84 * n) out₀ 0 (eventLines (rowsFrom xs ys ts ps from n)) at out
       none l = record { ends = sym (add-zero at) ∙ l .ends ∙ sym (zero-add _); few = omega (arith, l .small, l .ends, add-zero at); stores = l .stores }

@@ -228,10 +228,29 @@ fn deliver(
     let height = span.height;
     match limit {
         Limit::Unlimited => {
-            deliver_all(body, encoding, width, height, &mut *xs, &mut *ys, &mut *ts, &mut *ps)
+            deliver_all(
+                body,
+                encoding,
+                width,
+                height,
+                &mut *xs,
+                &mut *ys,
+                &mut *ts,
+                &mut *ps,
+            )
         }
         Limit::AtMost(n) => {
-            deliver_some(body, encoding, width, height, n, &mut *xs, &mut *ys, &mut *ts, &mut *ps)
+            deliver_some(
+                body,
+                encoding,
+                width,
+                height,
+                n,
+                &mut *xs,
+                &mut *ys,
+                &mut *ts,
+                &mut *ps,
+            )
         }
     }
 }
@@ -250,7 +269,16 @@ fn read_body(
     requires { ⌜ length (now body) ≤ 2 ^ 30 ⌝ }
     ensures { λ r. ⌜ ReadsBody encoding size (bodyEvents encoding size limit (now (body .entry))) r (now (xs .entry)) (now (ys .entry)) (now (ts .entry)) (now (ps .entry)) (now (xs .exit)) (now (ys .exit)) (now (ts .exit)) (now (ps .exit)) ⌝ }
 {
-    let d = deliver(body, encoding, size, limit, &mut *xs, &mut *ys, &mut *ts, &mut *ps);
+    let d = deliver(
+        body,
+        encoding,
+        size,
+        limit,
+        &mut *xs,
+        &mut *ys,
+        &mut *ts,
+        &mut *ps,
+    );
     settle(encoding, size, d, xs, ys)
 }
 
@@ -273,7 +301,16 @@ pub fn decode_words(
     if header::has_zero(size) {
         return ReadAnswer::Refused(Refusal::InvalidSensorSize);
     }
-    read_body(words, encoding, size, limit, &mut *xs, &mut *ys, &mut *ts, &mut *ps)
+    read_body(
+        words,
+        encoding,
+        size,
+        limit,
+        &mut *xs,
+        &mut *ys,
+        &mut *ts,
+        &mut *ps,
+    )
 }
 
 // The refusal of a header that was not accepted.
@@ -307,5 +344,14 @@ pub fn read_raw(
     let encoding = h.encoding;
     let sensor = h.sensor_size;
     let body = &recording[at..];
-    read_body(body, encoding, sensor, limit, &mut *xs, &mut *ys, &mut *ts, &mut *ps)
+    read_body(
+        body,
+        encoding,
+        sensor,
+        limit,
+        &mut *xs,
+        &mut *ys,
+        &mut *ts,
+        &mut *ps,
+    )
 }

@@ -1,0 +1,40 @@
+// The words of events, stored in a buffer that the caller lends, as far as it reaches: a pass into
+// no bytes measures, and a pass into enough writes. specs/Evt2.antt and specs/Evt3.antt say which
+// words a writer sends, each with a note of the events that it carries, and specs/Encode.antt
+// which bytes.
+ghost use mathlib.Core.Path.{_≡_};
+ghost use Rattle.encode.specs.Columns.{natural};
+ghost use Rattle.encode.specs.Sent.{sentIs};
+use evt::Sent;
+
+pub mod evt2;
+pub mod store;
+
+// What the writer has sent: the halves of the time, and the row.
+pub struct EncoderState {
+    pub time_high: Sent,
+    pub time_low: Sent,
+    pub y: Sent,
+}
+
+// The state after some words, and where the next go.
+pub struct Put {
+    pub state: EncoderState,
+    pub at: usize,
+}
+
+pub fn is_sent(s: Sent, q: u64) -> bool
+    ensures { λ r. ⌜ r ≡ sentIs s q ⌝ }
+{
+    match s {
+        Sent::Nothing => false,
+        Sent::Value(g) => g == q,
+    }
+}
+
+// A time as a natural number: 0 where it is negative.
+pub fn time_of(t: i64) -> u64
+    ensures { λ r. ⌜ r ≡ natural t ⌝ }
+{
+    if t < 0 { 0 } else { t as u64 }
+}

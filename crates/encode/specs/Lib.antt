@@ -7,6 +7,6 @@ pub mod Evt3
 pub mod Encode
 pub mod Storing
 pub mod Pass2
--- pub mod Parts
--- pub mod Loops
--- pub mod Pass3
+pub mod Parts
+pub mod Loops
+pub mod Pass3

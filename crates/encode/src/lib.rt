@@ -8,6 +8,7 @@ ghost use Rattle.encode.specs.Sent.{sentIs};
 use evt::Sent;
 
 pub mod evt2;
+pub mod evt3;
 pub mod store;
 
 // What the writer has sent: the halves of the time, and the row.

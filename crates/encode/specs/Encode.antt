@@ -1,12 +1,14 @@
 -- The words of events in either encoding: what the writer's contracts cite.
 use mathlib.Core.List.{List}
-use Prim.Native.Nat.{ℕ}
+use Prim.Native.Nat.{ℕ, _+_}
+use lib.ListN.{length}
 use Rattle.stream.specs.Machine.{Note, run, emits, words}
 use Rattle.stream.specs.Words.{stream}
 use Rattle.evt.specs.Event.{Event}
 use Rattle.evt.specs.declared.Encoding.{Encoding}
 use Rattle.evt.specs.declared.Encoding.the-variants.{Evt2, Evt3}
 use Rattle.encode.specs.declared.EncoderState.{EncoderState}
+use Rattle.encode.specs.declared.Put.{Put}
 use Rattle.encode.specs.Evt2.{writer2}
 use Rattle.encode.specs.Runs.{runs}
 use Rattle.encode.specs.Evt3.{writer3}
@@ -28,3 +30,7 @@ encodeSize Evt3 = 2
 
 unfoldable pub encodeBytes : Encoding → EncoderState → List Event → List ℕ
 encodeBytes e v es = stream (encodeSize e) (words (encodeNotes e v es))
+
+-- after a pass whose words go from `at` on
+abbrev pub passed : Encoding → EncoderState → List Event → (at : ℕ) → Put
+passed e v es at = record { state = encodeState e v es; at = at + length (encodeBytes e v es) }

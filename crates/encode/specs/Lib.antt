@@ -10,3 +10,4 @@ pub mod Pass2
 pub mod Parts
 pub mod Loops
 pub mod Pass3
+pub mod Laws

@@ -3,8 +3,12 @@
 // words a writer sends, each with a note of the events that it carries, and specs/Encode.antt
 // which bytes.
 ghost use mathlib.Core.Path.{_≡_};
-ghost use Rattle.encode.specs.Columns.{natural};
+ghost use Prim.Native.Nat.{_^_, _≤_};
+ghost use lib.Seq.{sets};
+ghost use Rattle.encode.specs.Columns.{natural, Sized, eventsIn};
+ghost use Rattle.encode.specs.Encode.{encodeBytes, passed};
 ghost use Rattle.encode.specs.Sent.{sentIs};
+use evt::Encoding;
 use evt::Sent;
 
 pub mod evt2;
@@ -38,4 +42,15 @@ pub fn time_of(t: i64) -> u64
     ensures { λ r. ⌜ r ≡ natural t ⌝ }
 {
     if t < 0 { 0 } else { t as u64 }
+}
+
+// The words of all events, from `start` on. The bounds keep the place from wrapping.
+pub fn pass(version: Encoding, state: EncoderState, xs: &[u16], ys: &[u16], ts: &[i64], ps: &[u8], out: &mut [u8], start: usize) -> Put
+    requires { ⌜ Sized (now xs) (now ys) (now ts) (now ps) × (start ≤ 2 ^ 32) ⌝ }
+    ensures { λ r. ⌜ r ≡ passed version state (eventsIn (now (xs .entry)) (now (ys .entry)) (now (ts .entry)) (now (ps .entry))) start ⌝ ∗ ⌜ now (out .exit) ≡ sets (now (out .entry)) start (encodeBytes version state (eventsIn (now (xs .entry)) (now (ys .entry)) (now (ts .entry)) (now (ps .entry)))) ⌝ }
+{
+    match version {
+        Encoding::Evt2 => evt2::pass(state, xs, ys, ts, ps, &mut *out, start),
+        Encoding::Evt3 => evt3::pass(state, xs, ys, ts, ps, &mut *out, start),
+    }
 }

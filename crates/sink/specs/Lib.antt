@@ -1,6 +1,6 @@
 -- The root of the writer's definitions and laws: what each file is stands at its head.
 pub mod Range
 pub mod Header
--- pub mod Append
+pub mod Append
 -- pub mod Checks
--- pub mod Ends
+pub mod Ends

@@ -2,5 +2,6 @@
 pub mod Range
 pub mod Header
 pub mod Append
--- pub mod Checks
+
 pub mod Ends
+pub mod Checks

@@ -8,6 +8,9 @@ use evt::Encoding;
 use evt::Refusal;
 use evt::Sent;
 
+mod columns;
+mod range;
+
 pub enum LastTime {
     Never,
     At(i64),

@@ -72,6 +72,10 @@ pub decimal-few : (n : ℕ) → n < 2 ^ 64 → length (decimal n) ≤ 20
 unfolding decimal
 decimal-few n h = digits-few 19 (suc n) n (omega arith)
 
+pub format-few : (e : Encoding) → length (formatLine e) ≤ 20
+format-few Evt2 = omega arith
+format-few Evt3 = omega arith
+
 pub header-few : (e : Encoding) (w h : ℕ) → w < 2 ^ 64 → h < 2 ^ 64 → length (headerText e w h) ≤ 96
 unfolding headerText
 header-few e w h wl hl = go e

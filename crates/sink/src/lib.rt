@@ -9,6 +9,7 @@ use evt::Refusal;
 use evt::Sent;
 
 mod columns;
+mod header;
 mod range;
 
 pub enum LastTime {

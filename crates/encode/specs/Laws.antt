@@ -1,11 +1,11 @@
--- The words of events carry them in order, and fit their width.
+-- The words of events carry them in order, fit their width, and are at most 8 bytes for each event.
 use mathlib.Core.Path.{_≡_, refl, ap, _∙_}
 use mathlib.Core.Bool.{Bool, true, false, cond}
 use mathlib.Core.List.{List, [], _∷_, _++_}
 use Prim.Native.Nat.{ℕ, zero, suc, _+_, _*_, _%_, _^_, _≤_, _<_}
 use native.Mathlib.Omega.{arith}
 use lib.Dec.{ltb}
-use lib.ListN.{length}
+use lib.ListN.{length, length-append, length-map}
 use borrow.Author.Tests.{ltb-true, ltb-false}
 use Rattle.stream.specs.Machine.{Note, All, all-append, emits, words, words-append, notes, notes-append}
 use Rattle.stream.specs.Mask.{Inc, mask}
@@ -16,10 +16,13 @@ use Rattle.evt.specs.declared.Encoding.the-variants.{Evt2, Evt3}
 use Rattle.encode.specs.declared.EncoderState.{EncoderState}
 use Rattle.encode.specs.Columns.{event}
 use Rattle.encode.specs.Sent.{due}
-use Rattle.encode.specs.Evt2.{notes2, fits2}
+use Rattle.encode.specs.Evt2.{encoded2, writer2, notes2, fits2}
 use Rattle.encode.specs.Runs.{Run, runs, runs-are, given, givenBy, spread, Rising, Valid, firstX, lastX}
 use Rattle.encode.specs.Evt3.{highWord3, lowWord3, rowWord3, highSent3, lowSent3, rowSent3, leads3, singleWord3, baseWord3, maskWord3, nearby, beyond, windows, vectored, singles, masks, vectors, body3, encode3, encoded3, writer3}
-use Rattle.encode.specs.Encode.{encodeNotes, encodeSize}
+use Rattle.encode.specs.Encode.{encodeNotes, encodeSize, encodeBytes}
+use Rattle.encode.specs.Storing.{bytesFrom, bytes-cons}
+use Rattle.encode.specs.Pass2.{bytes2, few2}
+use Rattle.encode.specs.Parts.{bytes3, few3}
 
 -- ---- the windows of a run hold all of it
 
@@ -151,3 +154,27 @@ fits3 v (r ∷ rs) = rw words-append (all-append (Fits 2) (words (encode3 v r)) 
 pub encode-fits : (e : Encoding) (v : EncoderState) (es : List Event) → All (Fits (encodeSize e)) (words (encodeNotes e v es))
 encode-fits Evt2 v es = fits2 v es
 encode-fits Evt3 v es = fits3 v (runs es)
+
+-- ---- how many bytes
+
+few-events : (v : EncoderState) (es : List Event) → length (bytesFrom 4 writer2 v es) ≤ 8 * length es
+unfolding bytesFrom
+few-events v [] = omega arith
+few-events v (e ∷ es) =
+    let a = bytes2 v e in
+    let b = bytesFrom 4 writer2 (encoded2 v e) es in
+    omega (arith, ap length (bytes-cons 4 writer2 v e es), length-append a b, few2 v e, few-events (encoded2 v e) es)
+
+few-runs : (v : EncoderState) (rs : List Run) → All Valid rs → length (bytesFrom 2 writer3 v rs) ≤ 8 * length (givenBy rs)
+unfolding bytesFrom
+few-runs v [] va = omega arith
+few-runs v (r ∷ rs) va =
+    let a = bytes3 v r in
+    let b = bytesFrom 2 writer3 (encoded3 v r) rs in
+    let n : length (given r) ≡ length (r .xs) = length-map (r .xs) (λ x. event x (r .y) (r .t) (r .p)) in
+    omega (arith, ap length (bytes-cons 2 writer3 v r rs), length-append a b, few3 v r (va .0 .some), few-runs (encoded3 v r) rs (va .1), length-append (given r) (givenBy rs), n)
+
+pub encode-few : (e : Encoding) (v : EncoderState) (es : List Event) → length (encodeBytes e v es) ≤ 8 * length es
+unfolding encodeBytes bytesFrom
+encode-few Evt2 v es = few-events v es
+encode-few Evt3 v es = let r = runs-are es in omega (arith, few-runs v (runs es) (r .0), ap length (r .1))

@@ -15,7 +15,7 @@ use Rattle.evt.specs.declared.Refusal.{Refusal}
 use Rattle.evt.specs.declared.Refusal.the-variants.{InvalidSensorSize, UnknownEncoding, HeaderNotAscii, TooLong, ColumnsTooShort, TimeOrder, EventOutOfRange, InvalidSpacing, TooFewRecords, StateOutOfRange, OutputTooShort, ColumnLengths}
 use Rattle.encode.specs.declared.Put.{Put}
 use Rattle.encode.specs.Columns.{eventsIn}
-use Rattle.encode.specs.Encode.{passed}
+use Rattle.encode.specs.Encode.{encodeState}
 use Rattle.sink.specs.declared.Check.{Check}
 use Rattle.sink.specs.declared.Check.the-variants.{Passed, Failed}
 use Rattle.sink.specs.declared.LastTime.{LastTime}
@@ -134,3 +134,9 @@ module _ (s : RawEventSink) (width height : ℕ) (xs ys : List ℕ) (ts : List �
           is-sink = q ∙ rw yes;
           is-output = o ∙ sets-eq all out 0 (omega arith) ∙ rw (yes, zero-add);
         }
+
+-- ---- the functions on the way
+
+module _ (s : RawEventSink) (width height : ℕ) (xs ys : List ℕ) (ts : List ℤ) (ps : List ℕ) where
+  abbrev pub wrote : Put
+  wrote = record { state = encodeState (s .version) (s .state) (eventsIn xs ys ts ps); at = length (sends s width height xs ys ts ps) }

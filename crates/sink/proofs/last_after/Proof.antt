@@ -1,0 +1,28 @@
+use borrow.Author.Needs.{needs}
+use Rattle.sink.proofs.last_after.Statement.{statement}
+use Rattle.sink.proofs.last_after.Tie as tie
+use Rattle.sink.proofs.last_after.Reads as reads
+use Rattle.sink.proofs.last_after.Lts as lts
+
+-- src/lib.rt:135:25
+sub-t6 : tie.Need-sub-t6
+sub-t6 c = search needs
+
+-- src/lib.rt:135:22
+mul-t7 : tie.Need-mul-t7
+mul-t7 c = search needs
+
+-- src/lib.rt:135:22
+shared-slice-copy-out-t9 : tie.Need-shared-slice-copy-out-t9
+shared-slice-copy-out-t9 c = search needs
+
+-- src/lib.rt:130:1
+returns : tie.Need-returns
+returns c = ?
+
+-- src/lib.rt:130:1
+returns-2 : tie.Need-returns-2
+returns-2 c = ?
+
+pub last-after-spec : {M : Type 1} → statement M
+last-after-spec = tie.close (tie.spec sub-t6 mul-t7 shared-slice-copy-out-t9 returns returns-2)

@@ -2,20 +2,24 @@
 use mathlib.Core.Path.{_≡_, refl, sym, ap, _∙_}
 use mathlib.Core.Bool.{Bool, true, false, cond, not, _&&_, _||_}
 use mathlib.Core.List.{List, [], _∷_, _++_}
-use Prim.Native.Nat.{ℕ, suc, _+_, _-_, _^_, _≤_, _<_}
+use Prim.Native.Nat.{ℕ, suc, _+_, _-_, _*_, _^_, _≤_, _<_}
 use native.Mathlib.Omega.{arith}
 use native.Mathlib.Nat.{zero-add}
-use lib.Dec.{eqb, leb}
-use borrow.Author.Tests.{le-leb, lt-leb}
-use lib.ListN.{length, getD, drop}
+use lib.Dec.{eqb, ltb, leb}
+use borrow.Author.Tests.{le-leb, lt-leb, lt-ltb, leb-true, leb-false}
+use lib.ListN.{length, getD, drop, length-append}
 use lib.Seq.{sets, sets-eq}
 use lib.IntN.{ℤ, pos}
 use Rattle.evt.specs.Told.{Told, told, accepted, refused, short}
 use Rattle.evt.specs.declared.Refusal.{Refusal}
 use Rattle.evt.specs.declared.Refusal.the-variants.{InvalidSensorSize, UnknownEncoding, HeaderNotAscii, TooLong, ColumnsTooShort, TimeOrder, EventOutOfRange, InvalidSpacing, TooFewRecords, StateOutOfRange, OutputTooShort, ColumnLengths}
 use Rattle.encode.specs.declared.Put.{Put}
-use Rattle.encode.specs.Columns.{eventsIn}
-use Rattle.encode.specs.Encode.{encodeState}
+use Rattle.encode.specs.Columns.{eventsIn, Sized, events-length}
+use Rattle.encode.specs.Laws.{encode-few}
+use Rattle.encode.specs.Storing.{stored-both}
+use Rattle.encode.specs.Encode.{encodeState, passed}
+use Rattle.evt.specs.declared.Encoding.{Encoding}
+use Rattle.sink.specs.Header.{headerText, header-few}
 use Rattle.sink.specs.declared.Check.{Check}
 use Rattle.sink.specs.declared.Check.the-variants.{Passed, Failed}
 use Rattle.sink.specs.declared.LastTime.{LastTime}
@@ -25,7 +29,7 @@ use Rattle.sink.specs.declared.AppendAnswer.{AppendAnswer}
 use Rattle.sink.specs.declared.AppendAnswer.the-variants.{Written, Refused}
 use Rattle.sink.specs.declared.Appended.{Appended}
 use Rattle.sink.specs.Range.{eventsInRange, fallsAfter, sameLengths, sinkInRange}
-use Rattle.sink.specs.Append.{toldAppend, some, lastAfter, sends, byRules, appendVerdict, appendAnswer, accepts, handedOver, nextSink, sinkAfter, AppendOwed}
+use Rattle.sink.specs.Append.{toldAppend, some, headerDue, headerBytes, wordBytes, lastAfter, sends, byRules, appendVerdict, appendAnswer, accepts, handedOver, nextSink, sinkAfter, AppendOwed}
 
 -- ---- the last time
 
@@ -137,6 +141,46 @@ module _ (s : RawEventSink) (width height : ℕ) (xs ys : List ℕ) (ts : List �
 
 -- ---- the functions on the way
 
+pub some-is : {A : Type 0} (l : List A) → ltb 0 (length l) ≡ some l
+some-is [] = refl
+some-is (a ∷ l) = lt-ltb 0 (suc (length l)) (omega arith)
+
+pub due-few : (b : Bool) (e : Encoding) (w h : ℕ) → w < 2 ^ 64 → h < 2 ^ 64 → length (cond b (headerText e w h) []) ≤ 96
+due-few true e w h lw lh = header-few e w h lw lh
+due-few false e w h lw lh = omega arith
+
 module _ (s : RawEventSink) (width height : ℕ) (xs ys : List ℕ) (ts : List ℤ) (ps : List ℕ) where
   abbrev pub wrote : Put
   wrote = record { state = encodeState (s .version) (s .state) (eventsIn xs ys ts ps); at = length (sends s width height xs ys ts ps) }
+
+  -- the header and the words, one after the other
+  pub wrote-is : (out : List ℕ) {due : Bool} {at : ℕ} {o₁ o₂ : List ℕ} {put : Put} → due ≡ headerDue s xs
+      → at ≡ length (cond due (headerText (s .version) width height) []) → o₁ ≡ sets out 0 (cond due (headerText (s .version) width height) [])
+      → put ≡ passed (s .version) (s .state) (eventsIn xs ys ts ps) at → o₂ ≡ sets o₁ at (wordBytes s xs ys ts ps)
+      → (put ≡ wrote) × (o₂ ≡ sets out 0 (sends s width height xs ys ts ps))
+  wrote-is out {due} {at} d a u q v =
+      let h = cond due (headerText (s .version) width height) [] in
+      let w = wordBytes s xs ys ts ps in
+      let both = stored-both out 0 h w (a ∙ sym (zero-add (length h))) u refl v in
+      let n : at + length w ≡ length (h ++ w) = both .0 ∙ zero-add (length (h ++ w)) in
+      rw (← d) (q ∙ rw n, both .1)
+
+  pub sends-few : Sized xs ys ts ps → width < 2 ^ 64 → height < 2 ^ 64 → length (sends s width height xs ys ts ps) ≤ 96 + 8 * length xs
+  sends-few z lw lh =
+      let h = headerBytes s width height xs ys ts ps in
+      let w = wordBytes s xs ys ts ps in
+      omega (arith, length-append h w, due-few (headerDue s xs) (s .version) width height lw lh, encode-few (s .version) (s .state) (eventsIn xs ys ts ps), events-length xs ys ts ps z 0)
+
+-- what is missing, or 0
+pub short-fits : (n room : ℕ) → n ≤ room → 0 ≡ cond (leb n room) 0 n
+short-fits n room h = rw (le-leb n room h)
+
+pub short-lacks : (n room : ℕ) → room < n → n ≡ cond (leb n room) 0 n
+short-lacks n room h = rw (lt-leb n room h)
+
+short-as : (b : Bool) (n room r : ℕ) → leb n room ≡ b → r ≡ cond b 0 n → (r ≡ 0 → n ≤ room) × ((r ≡ 0 → ⊥) → (r ≡ n) × (room < n))
+short-as true n room r q e = ((λ z. leb-true n room q), (λ z. absurd (z e)))
+short-as false n room r q e = let lt = leb-false n room q in ((λ z. omega arith), (λ z. (e, lt)))
+
+pub short-cases : (n room r : ℕ) → r ≡ cond (leb n room) 0 n → (r ≡ 0 → n ≤ room) × ((r ≡ 0 → ⊥) → (r ≡ n) × (room < n))
+short-cases n room r = short-as (leb n room) n room r refl

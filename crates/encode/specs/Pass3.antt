@@ -45,7 +45,7 @@ module _ {xs ys : List ℕ} {ts : List ℤ} {ps : List ℕ} (sized : Sized xs ys
       let n = goOn xs ys ts ps i in
       let m : e - (i + 1) ≡ n = omega arith in
       let part : between xs i e ≡ a .x ∷ map colX (take n es) =
-          between-at xs i e (omega arith) (end-within i e h q) ∙ ap (λ (l : List ℕ). a .x ∷ l) (ap (λ (k : ℕ). take k (drop (i + 1) xs)) m ∙ sym (map-take colX n es ∙ ap (take n) (events-x xs ys ts ps sized (i + 1)))) in
+      between-at xs i e (omega arith) (end-within i e h q) ∙ ap (λ (l : List ℕ). a .x ∷ l) (ap (λ (k : ℕ). take k (drop (i + 1) xs)) m ∙ sym (map-take colX n es ∙ ap (take n) (events-x xs ys ts ps sized (i + 1)))) in
       let left : drop n es ≡ eventsPast xs ys ts ps e = events-drop xs ys ts ps sized (i + 1) n ∙ ap (eventsPast xs ys ts ps) (sym q) in
       ap runs (events-at xs ys ts ps sized i h) ∙ runs-at a es ∙ rw (part, left)
 

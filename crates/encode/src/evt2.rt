@@ -21,7 +21,10 @@ fn high_word(t: u64) -> u32
 fn event_word(x: u16, y: u16, t: u64, p: u8) -> u32
     ensures { λ r. ⌜ r ≡ wordOf2 (event x y t p) ⌝ }
 {
-    (p % 2) as u32 * 268435456 + (t % 64) as u32 * 4194304 + (x % 2048) as u32 * 2048 + (y % 2048) as u32
+    (p % 2) as u32 * 268435456
+        + (t % 64) as u32 * 4194304
+        + (x % 2048) as u32 * 2048
+        + (y % 2048) as u32
 }
 
 // The words of one event, at `at`.
@@ -56,7 +59,15 @@ fn put_event(state: EncoderState, x: u16, y: u16, t: u64, p: u8, out: &mut [u8],
 }
 
 // The words of all events, from `at` on. The bounds keep `at` from wrapping.
-pub fn pass(state: EncoderState, xs: &[u16], ys: &[u16], ts: &[i64], ps: &[u8], out: &mut [u8], start: usize) -> Put
+pub fn pass(
+    state: EncoderState,
+    xs: &[u16],
+    ys: &[u16],
+    ts: &[i64],
+    ps: &[u8],
+    out: &mut [u8],
+    start: usize,
+) -> Put
     requires { ⌜ Sized (now xs) (now ys) (now ts) (now ps) × (start ≤ 2 ^ 32) ⌝ }
     ensures { λ r. ⌜ r ≡ passed2 state (eventsIn (now (xs .entry)) (now (ys .entry)) (now (ts .entry)) (now (ps .entry))) start ⌝ ∗ ⌜ now (out .exit) ≡ sets (now (out .entry)) start (stream2 state (eventsIn (now (xs .entry)) (now (ys .entry)) (now (ts .entry)) (now (ps .entry)))) ⌝ }
 {

@@ -162,7 +162,15 @@ fn next_window(xs: &[u16], from: usize, end: usize, base: u64) -> Window
 }
 
 // The masks of k windows from base on.
-fn put_masks(xs: &[u16], i: usize, end: usize, base: u64, k: u64, out: &mut [u8], at: usize) -> usize
+fn put_masks(
+    xs: &[u16],
+    i: usize,
+    end: usize,
+    base: u64,
+    k: u64,
+    out: &mut [u8],
+    at: usize,
+) -> usize
     requires { ⌜ Part (now xs) i end at × (base + 12 * k ≤ 2 ^ 20) ⌝ }
     ensures { λ r. ⌜ r ≡ at + length (stream 2 (maskWords k base (between (now (xs .entry)) i end))) ⌝ ∗ ⌜ now (out .exit) ≡ sets (now (out .entry)) at (stream 2 (maskWords k base (between (now (xs .entry)) i end))) ⌝ }
 {
@@ -207,7 +215,17 @@ fn put_body(p: u8, xs: &[u16], i: usize, end: usize, out: &mut [u8], at: usize) 
 }
 
 // The words of the run from i up to end.
-fn put_run(state: EncoderState, t: u64, y: u16, p: u8, xs: &[u16], i: usize, end: usize, out: &mut [u8], at: usize) -> Put
+fn put_run(
+    state: EncoderState,
+    t: u64,
+    y: u16,
+    p: u8,
+    xs: &[u16],
+    i: usize,
+    end: usize,
+    out: &mut [u8],
+    at: usize,
+) -> Put
     requires { ⌜ Part (now xs) i end (at + 8) × (i < end) ⌝ }
     ensures { λ r. ⌜ r ≡ put3 state (runOf t y p (between (now (xs .entry)) i end)) at ⌝ ∗ ⌜ now (out .exit) ≡ sets (now (out .entry)) at (bytes3 state (runOf t y p (between (now (xs .entry)) i end))) ⌝ }
 {
@@ -222,7 +240,15 @@ fn put_run(state: EncoderState, t: u64, y: u16, p: u8, xs: &[u16], i: usize, end
 }
 
 // The words of all events, from `start` on. The bounds keep `at` from wrapping.
-pub fn pass(state: EncoderState, xs: &[u16], ys: &[u16], ts: &[i64], ps: &[u8], out: &mut [u8], start: usize) -> Put
+pub fn pass(
+    state: EncoderState,
+    xs: &[u16],
+    ys: &[u16],
+    ts: &[i64],
+    ps: &[u8],
+    out: &mut [u8],
+    start: usize,
+) -> Put
     requires { ⌜ Sized (now xs) (now ys) (now ts) (now ps) × (start ≤ 2 ^ 32) ⌝ }
     ensures { λ r. ⌜ r ≡ passed3 state (eventsIn (now (xs .entry)) (now (ys .entry)) (now (ts .entry)) (now (ps .entry))) start ⌝ ∗ ⌜ now (out .exit) ≡ sets (now (out .entry)) start (stream3 state (eventsIn (now (xs .entry)) (now (ys .entry)) (now (ts .entry)) (now (ps .entry)))) ⌝ }
 {

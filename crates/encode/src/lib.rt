@@ -45,7 +45,16 @@ pub fn time_of(t: i64) -> u64
 }
 
 // The words of all events, from `start` on. The bounds keep the place from wrapping.
-pub fn pass(version: Encoding, state: EncoderState, xs: &[u16], ys: &[u16], ts: &[i64], ps: &[u8], out: &mut [u8], start: usize) -> Put
+pub fn pass(
+    version: Encoding,
+    state: EncoderState,
+    xs: &[u16],
+    ys: &[u16],
+    ts: &[i64],
+    ps: &[u8],
+    out: &mut [u8],
+    start: usize,
+) -> Put
     requires { ⌜ Sized (now xs) (now ys) (now ts) (now ps) × (start ≤ 2 ^ 32) ⌝ }
     ensures { λ r. ⌜ r ≡ passed version state (eventsIn (now (xs .entry)) (now (ys .entry)) (now (ts .entry)) (now (ps .entry))) start ⌝ ∗ ⌜ now (out .exit) ≡ sets (now (out .entry)) start (encodeBytes version state (eventsIn (now (xs .entry)) (now (ys .entry)) (now (ts .entry)) (now (ps .entry)))) ⌝ }
 {

@@ -1,6 +1,6 @@
 -- The ways in which an append ends.
 use mathlib.Core.Path.{_≡_, refl, sym, ap, _∙_}
-use mathlib.Core.Bool.{Bool, true, false, cond, not, _&&_, _||_}
+use mathlib.Core.Bool.{Bool, true, false, cond, true≢false}
 use mathlib.Core.List.{List, [], _∷_, _++_}
 use Prim.Native.Nat.{ℕ, suc, _+_, _-_, _*_, _^_, _≤_, _<_}
 use native.Mathlib.Omega.{arith}
@@ -106,6 +106,18 @@ module _ (s : RawEventSink) (width height : ℕ) (xs ys : List ℕ) (ts : List �
 
     pub accepts-is : accepts s width height xs ys ts ps room ≡ eqb (toldAppend (ended room (checkOf s xs ys ts ps)) .number) 0
     accepts-is = ap (λ (t : Told). eqb (t .number) 0) (sym (ap toldAppend answer-is ∙ answer-told))
+
+    accepts-as : (k : Check) → eqb (toldAppend (ended room k) .number) 0 ≡ true → (k ≡ Passed) × (length (sends s width height xs ys ts ps) ≤ room)
+    accepts-as (Failed r) h = absurd (true≢false (sym (sym (refusal-no r) ∙ h)))
+    accepts-as Passed h = let n = length (sends s width height xs ys ts ps) in (refl, go n (leb n room) refl h)
+      where
+        go : (n : ℕ) (b : Bool) → leb n room ≡ b → eqb (toldAppend (cond b (Written n) (Refused (OutputTooShort n))) .number) 0 ≡ true → n ≤ room
+        go n true q h = leb-true n room q
+        go n false q h = absurd (true≢false (sym h))
+
+    -- what is accepted has passed the check, and has room
+    pub accepts-checked : accepts s width height xs ys ts ps room ≡ true → (checkOf s xs ys ts ps ≡ Passed) × (length (sends s width height xs ys ts ps) ≤ room)
+    accepts-checked h = accepts-as (checkOf s xs ys ts ps) (sym accepts-is ∙ h)
 
   module _ (out : List ℕ) where
     ends-no : (a : AppendAnswer) → a ≡ appendAnswer s width height xs ys ts ps (length out) → eqb (toldAppend a .number) 0 ≡ false

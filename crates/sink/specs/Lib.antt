@@ -3,6 +3,6 @@ pub mod Range
 pub mod Header
 pub mod Texts
 pub mod Append
-
 pub mod Ends
 pub mod Checks
+pub mod Laws

@@ -83,12 +83,10 @@ fn in_range(sink: RawEventSink) -> bool
 fn check_append(sink: RawEventSink, xs: &[u16], ys: &[u16], ts: &[i64], ps: &[u8]) -> Check
     ensures { λ r. ⌜ r ≡ checkOf sink (now (xs .entry)) (now (ys .entry)) (now (ts .entry)) (now (ps .entry)) ⌝ }
 {
-    if in_range(sink) {
-    } else {
+    if in_range(sink) {} else {
         return Check::Failed(Refusal::StateOutOfRange);
     }
-    if columns::same_lengths(xs.len(), ys.len(), ts.len(), ps.len()) {
-    } else {
+    if columns::same_lengths(xs.len(), ys.len(), ts.len(), ps.len()) {} else {
         return Check::Failed(Refusal::ColumnLengths);
     }
     if 268435456 < xs.len() {
@@ -131,15 +129,20 @@ fn last_after(last: LastTime, ts: &[i64]) -> LastTime
     ensures { λ r. ⌜ r ≡ lastAfter last (now (ts .entry)) ⌝ }
 {
     let n = ts.len();
-    if 0 < n {
-        LastTime::At(ts[n - 1])
-    } else {
-        last
-    }
+    if 0 < n { LastTime::At(ts[n - 1]) } else { last }
 }
 
 // The header, where it is due, and the words, from the front of `out`, as far as it reaches.
-fn write(sink: RawEventSink, width: usize, height: usize, xs: &[u16], ys: &[u16], ts: &[i64], ps: &[u8], out: &mut [u8]) -> Put
+fn write(
+    sink: RawEventSink,
+    width: usize,
+    height: usize,
+    xs: &[u16],
+    ys: &[u16],
+    ts: &[i64],
+    ps: &[u8],
+    out: &mut [u8],
+) -> Put
     requires { ⌜ Sized (now xs) (now ys) (now ts) (now ps) ⌝ }
     ensures { λ r. ⌜ r ≡ wrote sink width height (now (xs .entry)) (now (ys .entry)) (now (ts .entry)) (now (ps .entry)) ⌝ ∗ ⌜ now (out .exit) ≡ sets (now (out .entry)) 0 (sends sink width height (now (xs .entry)) (now (ys .entry)) (now (ts .entry)) (now (ps .entry))) ⌝ }
 {
@@ -152,7 +155,16 @@ fn write(sink: RawEventSink, width: usize, height: usize, xs: &[u16], ys: &[u16]
 
 // The bytes that are needed where there are fewer, and else 0. An event needs at most 8, and a
 // header at most 96: where these have room nothing is measured.
-fn shortfall(sink: RawEventSink, width: usize, height: usize, xs: &[u16], ys: &[u16], ts: &[i64], ps: &[u8], room: usize) -> usize
+fn shortfall(
+    sink: RawEventSink,
+    width: usize,
+    height: usize,
+    xs: &[u16],
+    ys: &[u16],
+    ts: &[i64],
+    ps: &[u8],
+    room: usize,
+) -> usize
     requires { ⌜ Sized (now xs) (now ys) (now ts) (now ps) ⌝ }
     ensures { λ r. ⌜ r ≡ cond (leb (length (sends sink width height (now (xs .entry)) (now (ys .entry)) (now (ts .entry)) (now (ps .entry)))) room) 0 (length (sends sink width height (now (xs .entry)) (now (ys .entry)) (now (ts .entry)) (now (ps .entry)))) ⌝ }
 {
@@ -166,7 +178,16 @@ fn shortfall(sink: RawEventSink, width: usize, height: usize, xs: &[u16], ys: &[
 }
 
 // Appends events. A refusal returns the sink as it was, and leaves the output alone.
-pub fn append(sink: RawEventSink, width: usize, height: usize, xs: &[u16], ys: &[u16], ts: &[i64], ps: &[u8], output: &mut [u8]) -> Appended
+pub fn append(
+    sink: RawEventSink,
+    width: usize,
+    height: usize,
+    xs: &[u16],
+    ys: &[u16],
+    ts: &[i64],
+    ps: &[u8],
+    output: &mut [u8],
+) -> Appended
     ensures { λ r. ⌜ AppendOwed sink width height (now (xs .entry)) (now (ys .entry)) (now (ts .entry)) (now (ps .entry)) (now (output .entry)) r (now (output .exit)) ⌝ }
 {
     let verdict = check_append(sink, xs, ys, ts, ps);

@@ -54,11 +54,7 @@ pub fn and2(a: bool, b: bool) -> bool
 pub fn and3(a: bool, b: bool, c: bool) -> bool
     ensures { λ r. ⌜ r ≡ (a && (b && c)) ⌝ }
 {
-    if a {
-        if b { c } else { false }
-    } else {
-        false
-    }
+    if a { if b { c } else { false } } else { false }
 }
 
 pub fn time(version: Encoding, t: i64) -> bool
@@ -78,8 +74,16 @@ fn sent(version: Encoding, state: EncoderState, t: u64) -> bool
     let low = state.time_low;
     let row = state.y;
     match version {
-        Encoding::Evt2 => and3(is_or_nothing(high, t / 64), is_nothing(low), is_nothing(row)),
-        Encoding::Evt3 => and3(is_or_nothing(high, t / 4096), is_or_nothing(low, t % 4096), at_most(row, 2047)),
+        Encoding::Evt2 => and3(
+            is_or_nothing(high, t / 64),
+            is_nothing(low),
+            is_nothing(row),
+        ),
+        Encoding::Evt3 => and3(
+            is_or_nothing(high, t / 4096),
+            is_or_nothing(low, t % 4096),
+            at_most(row, 2047),
+        ),
     }
 }
 
@@ -90,7 +94,15 @@ pub fn last(version: Encoding, state: EncoderState, n: usize, last: LastTime) ->
     let low = state.time_low;
     let row = state.y;
     match last {
-        LastTime::Never => and3(is_nothing(high), is_nothing(low), and2(is_nothing(row), n == 0)),
-        LastTime::At(t) => and3(time(version, t), n <= 4611686018427387904, sent(version, state, encode::time_of(t))),
+        LastTime::Never => and3(
+            is_nothing(high),
+            is_nothing(low),
+            and2(is_nothing(row), n == 0),
+        ),
+        LastTime::At(t) => and3(
+            time(version, t),
+            n <= 4611686018427387904,
+            sent(version, state, encode::time_of(t)),
+        ),
     }
 }

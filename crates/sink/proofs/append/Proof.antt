@@ -59,7 +59,7 @@ same-length c = search needs
 
 -- src/lib.rt:169:1
 returns-2 : tie.Need-returns-2
-returns-2 c = 
+returns-2 c =
     let all = sends (c .before .before .before .before .before .before .before .before .before .before .before .before .before .before .before .before .before .args .sink) (c .before .before .before .before .before .before .before .before .before .before .before .before .before .before .before .before .before .args .width) (c .before .before .before .before .before .before .before .before .before .before .before .before .before .before .before .before .before .args .height) (now (c .before .before .before .before .before .before .before .before .before .before .before .before .before .before .before .before .before .args .xs)) (now (c .before .before .before .before .before .before .before .before .before .before .before .before .before .before .before .before .before .args .ys)) (now (c .before .before .before .before .before .before .before .before .before .before .before .before .before .before .before .before .before .args .ts)) (now (c .before .before .before .before .before .before .before .before .before .before .before .before .before .before .before .before .before .args .ps)) in
     let put = c .before .before .before .before .before .before .write .result in
     let fits = short-cases (length all) (length (now (c .before .before .before .before .before .before .before .before .before .before .before .before .before .before .before .before .before .args .output))) (c .before .before .before .before .before .before .before .before .before .shortfall .result) (c .before .before .before .before .before .before .before .before .before .shortfall .ensures) .0 (c .before .before .before .before .before .before .before .before .if1 .taken) in
@@ -68,7 +68,7 @@ returns-2 c =
 
 -- src/lib.rt:169:1
 returns-3 : tie.Need-returns-3
-returns-3 c = 
+returns-3 c =
     let all = sends (c .before .before .before .before .before .before .before .before .before .args .sink) (c .before .before .before .before .before .before .before .before .before .args .width) (c .before .before .before .before .before .before .before .before .before .args .height) (now (c .before .before .before .before .before .before .before .before .before .args .xs)) (now (c .before .before .before .before .before .before .before .before .before .args .ys)) (now (c .before .before .before .before .before .before .before .before .before .args .ts)) (now (c .before .before .before .before .before .before .before .before .before .args .ps)) in
     let short = short-cases (length all) (length (now (c .before .before .before .before .before .before .before .before .before .args .output))) (c .before .shortfall .result) (c .before .shortfall .ensures) .1 (c .if1 .left) in
     ends-short (c .before .before .before .before .before .before .before .before .before .args .sink) (c .before .before .before .before .before .before .before .before .before .args .width) (c .before .before .before .before .before .before .before .before .before .args .height) (now (c .before .before .before .before .before .before .before .before .before .args .xs)) (now (c .before .before .before .before .before .before .before .before .before .args .ys)) (now (c .before .before .before .before .before .before .before .before .before .args .ts)) (now (c .before .before .before .before .before .before .before .before .before .args .ps)) (now (c .before .before .before .before .before .before .before .before .before .args .output)) (c .before .shortfall .result) (sym (c .before .before .before .before .check-append .ensures) ∙ c .before .before .enum-told .given .1) (short .0) (omega (arith, short .0, short .1))

@@ -23,7 +23,7 @@ in-range-requires c κs = search needs
 
 -- src/lib.rt:88:9
 returns : tie.Need-returns
-returns c = 
+returns c =
     let s = c .before .before .before .before .before .args in
     let a : sinkInRange (s .sink) ≡ false = sym (c .before .in-range .ensures) ∙ c .if1 .left in
     rw (a)
@@ -34,7 +34,7 @@ same-lengths-requires c κs = search needs
 
 -- src/lib.rt:92:9
 returns-2 : tie.Need-returns-2
-returns-2 c = 
+returns-2 c =
     let s = c .before .before .before .before .before .before .before .args in
     let a : sinkInRange (s .sink) ≡ true = sym (c .before .before .before .in-range .ensures) ∙ c .before .before .if1 .taken in
     let b : sameLengths (length (now (s .xs))) (length (now (s .ys))) (length (now (s .ts))) (length (now (s .ps))) ≡ false = sym (c .before .same-lengths .ensures) ∙ c .if2 .left in
@@ -42,7 +42,7 @@ returns-2 c =
 
 -- src/lib.rt:95:9
 returns-3 : tie.Need-returns-3
-returns-3 c = 
+returns-3 c =
     let s = c .before .before .before .before .before .before .before .before .args in
     let a : sinkInRange (s .sink) ≡ true = sym (c .before .before .before .before .in-range .ensures) ∙ c .before .before .before .if1 .taken in
     let b : sameLengths (length (now (s .xs))) (length (now (s .ys))) (length (now (s .ts))) (length (now (s .ps))) ≡ true = sym (c .before .before .same-lengths .ensures) ∙ c .before .if2 .taken in
@@ -50,14 +50,14 @@ returns-3 c =
 
 -- src/lib.rt:98:8
 times-fall-after-requires : tie.Need-times-fall-after-requires
-times-fall-after-requires c κs = 
+times-fall-after-requires c κs =
     let s = c .before .before .before .before .before .before .before .before .args in
     let z = sized-of (now (s .xs)) (now (s .ys)) (now (s .ts)) (now (s .ps)) (sym (c .before .before .same-lengths .ensures) ∙ c .before .if2 .taken) (c .if3 .left) in
     omega (arith, z .same-t, z .few)
 
 -- src/lib.rt:99:9
 returns-4 : tie.Need-returns-4
-returns-4 c = 
+returns-4 c =
     let s = c .before .before .before .before .before .before .before .before .before .before .args in
     let a : sinkInRange (s .sink) ≡ true = sym (c .before .before .before .before .before .before .in-range .ensures) ∙ c .before .before .before .before .before .if1 .taken in
     let b : sameLengths (length (now (s .xs))) (length (now (s .ys))) (length (now (s .ts))) (length (now (s .ps))) ≡ true = sym (c .before .before .before .before .same-lengths .ensures) ∙ c .before .before .before .if2 .taken in
@@ -66,16 +66,15 @@ returns-4 c =
 
 -- src/lib.rt:102:8
 events-in-range-requires : tie.Need-events-in-range-requires
-events-in-range-requires c κs = 
-    let s = c .before .before .before .before .before .before .before .before .before .before .args in
-    (
+events-in-range-requires c κs =
+    let s = c .before .before .before .before .before .before .before .before .before .before .args in (
       sized-of (now (s .xs)) (now (s .ys)) (now (s .ts)) (now (s .ps)) (sym (c .before .before .before .before .same-lengths .ensures) ∙ c .before .before .before .if2 .taken) (c .before .before .if3 .left),
       falls-never (s .sink .«last_t») (now (s .ts)) (sym (c .before .times-fall-after .ensures) ∙ c .if4 .left),
     )
 
 -- src/lib.rt:83:1
 returns-5 : tie.Need-returns-5
-returns-5 c = 
+returns-5 c =
     let s = c .before .before .before .before .before .before .before .before .before .before .before .before .args in
     let a : sinkInRange (s .sink) ≡ true = sym (c .before .before .before .before .before .before .before .before .in-range .ensures) ∙ c .before .before .before .before .before .before .before .if1 .taken in
     let b : sameLengths (length (now (s .xs))) (length (now (s .ys))) (length (now (s .ts))) (length (now (s .ps))) ≡ true = sym (c .before .before .before .before .before .before .same-lengths .ensures) ∙ c .before .before .before .before .before .if2 .taken in
@@ -85,7 +84,7 @@ returns-5 c =
 
 -- src/lib.rt:83:1
 returns-6 : tie.Need-returns-6
-returns-6 c = 
+returns-6 c =
     let s = c .before .before .before .before .before .before .before .before .before .before .before .before .args in
     let a : sinkInRange (s .sink) ≡ true = sym (c .before .before .before .before .before .before .before .before .in-range .ensures) ∙ c .before .before .before .before .before .before .before .if1 .taken in
     let b : sameLengths (length (now (s .xs))) (length (now (s .ys))) (length (now (s .ts))) (length (now (s .ps))) ≡ true = sym (c .before .before .before .before .before .before .same-lengths .ensures) ∙ c .before .before .before .before .before .if2 .taken in

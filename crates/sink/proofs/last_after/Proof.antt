@@ -27,7 +27,7 @@ shared-slice-copy-out-t9 c = search needs
 
 -- src/lib.rt:130:1
 returns : tie.Need-returns
-returns c = 
+returns c =
     let a = c .before .before .args in
     let ts = now (a .ts) in
     ap At (toZ-ofZ w64 (getD ts (length ts - 1) (pos 0)) (record { sfits = c .t9 .given })) ∙ sym (last-some (a .last) ts (c .before .if1 .taken))

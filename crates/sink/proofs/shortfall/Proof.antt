@@ -22,7 +22,7 @@ add-if1 c = search needs
 
 -- src/lib.rt:160:9
 returns : tie.Need-returns
-returns c = 
+returns c =
     let a = c .before .before .before .before .args in
     let few = sends-few (a .sink) (a .width) (a .height) (now (a .xs)) (now (a .ys)) (now (a .ts)) (now (a .ps)) (c .before .before .before .before .pre) (omega arith) (omega arith) in
     short-fits (length (sends (a .sink) (a .width) (a .height) (now (a .xs)) (now (a .ys)) (now (a .ts)) (now (a .ps)))) (a .room) (omega (arith, few, c .if1 .taken))
@@ -37,14 +37,14 @@ write-requires c κs = search needs
 
 -- src/lib.rt:155:1
 returns-2 : tie.Need-returns-2
-returns-2 c = 
+returns-2 c =
     let a = c .before .before .before .before .before .before .before .before .args in
     let n : c .before .before .write .result .at ≡ length (sends (a .sink) (a .width) (a .height) (now (a .xs)) (now (a .ys)) (now (a .ts)) (now (a .ps))) = ap (λ (p : Put). p .at) (c .before .before .write .ensures .0) in
     short-fits (length (sends (a .sink) (a .width) (a .height) (now (a .xs)) (now (a .ys)) (now (a .ts)) (now (a .ps)))) (a .room) (omega (arith, n, c .if2 .taken))
 
 -- src/lib.rt:155:1
 returns-3 : tie.Need-returns-3
-returns-3 c = 
+returns-3 c =
     let a = c .before .before .before .before .before .before .before .before .args in
     let n : c .before .before .write .result .at ≡ length (sends (a .sink) (a .width) (a .height) (now (a .xs)) (now (a .ys)) (now (a .ts)) (now (a .ps))) = ap (λ (p : Put). p .at) (c .before .before .write .ensures .0) in
     n ∙ short-lacks (length (sends (a .sink) (a .width) (a .height) (now (a .xs)) (now (a .ys)) (now (a .ts)) (now (a .ps)))) (a .room) (omega (arith, n, c .if2 .left))

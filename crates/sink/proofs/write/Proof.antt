@@ -21,7 +21,7 @@ put-due-requires c κs = search needs
 
 -- src/lib.rt:150:5
 pass-requires : tie.Need-pass-requires
-pass-requires c κs = 
+pass-requires c κs =
     let s = c .before .before .before .before .before .before .before .before .before .before .before in
     let few = due-few (c .before .before .before .before .before .header-due .result) (s .args .sink .version) (s .args .width) (s .args .height) (omega arith) (omega arith) in
     (s .pre, omega (arith, few, c .before .before .before .put-due .ensures .0))
@@ -32,7 +32,7 @@ same-length c = search needs
 
 -- src/lib.rt:142:1
 returns : tie.Need-returns
-returns c = 
+returns c =
     let a = c .before .before .before .before .before .before .before .before .before .before .before .before .before .before .args in
     wrote-is (a .sink) (a .width) (a .height) (now (a .xs)) (now (a .ys)) (now (a .ts)) (now (a .ps)) (now (a .out)) (c .before .before .before .before .before .before .before .before .header-due .ensures) (c .before .before .before .before .before .before .put-due .ensures .0) (c .before .before .before .before .before .before .put-due .ensures .1) (c .before .before .pass .ensures .0) (c .before .before .pass .ensures .1)
 

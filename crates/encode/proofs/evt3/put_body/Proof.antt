@@ -54,7 +54,7 @@ add-put-masks : tie.Need-add-put-masks
 add-put-masks c = search needs
 
 put-masks-requires : tie.Need-put-masks-requires
-put-masks-requires c κs = 
+put-masks-requires c κs =
     let s = c .before .before .before .before .before .before .before .before .before .before .before .before .before in
     let p = s .pre .0 in
     (record { low = p .low; high = p .high; few = p .few; place = p .place }, omega (arith, c .before .before .before .before .before .before .before .before .less .ensures, c .before .before .before .before .before .before .before .before .before .shared-slice-known3 .given (s .args .end - 1), c .before .before .before .before .before .before .before .before .before .before .shared-slice-known2 .given (s .args .i)))
@@ -66,7 +66,7 @@ same-length : tie.Need-same-length
 same-length c = search needs
 
 returns : tie.Need-returns
-returns c = 
+returns c =
     let s = c .before .before .before .before .before .before .before .before .before .before .before .before .before .before .before .before in
     let a = s .args in
     let x = getD (now (a .xs)) (a .i) 0 in
@@ -80,7 +80,7 @@ same-length-2 : tie.Need-same-length-2
 same-length-2 c = search needs
 
 returns-2 : tie.Need-returns-2
-returns-2 c = 
+returns-2 c =
     let s = c .before .before .before .before .before .before .before .before .before .before .before in
     let a = s .args in
     let k = (c .before .before .before .before .before .before .less .result + 12) / 12 in

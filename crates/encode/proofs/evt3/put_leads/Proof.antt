@@ -51,7 +51,7 @@ same-length : tie.Need-same-length
 same-length c = search needs
 
 returns : tie.Need-returns
-returns c = 
+returns c =
     let a = c .before .before .before .before .before .before .before .before .before .before .before .before .before .before .before .before .before .args in
     let v = a .state in
     let hi : c .before .before .before .before .before .before .before .before .before .before .before .before .before .before .before .is-sent .result ≡ highSent3 v (a .t) = c .before .before .before .before .before .before .before .before .before .before .before .before .before .before .before .is-sent .ensures in

@@ -14,7 +14,7 @@ loop-holds : tie.Need-loop-holds Inv-loop μ-loop
 loop-holds c = masking-start (c .before .before .pre .0) (c .before .before .pre .1)
 
 next-window-requires : tie.Need-next-window-requires Inv-loop μ-loop
-next-window-requires c κs = 
+next-window-requires c κs =
     let p = c .before .before .before .before .pre .0 in
     (record { low = c .before .loop .inv .below; high = p .high; few = p .few; place = omega arith }, omega (arith, c .before .loop .inv .base))
 

@@ -15,7 +15,7 @@ put-leads-requires : tie.Need-put-leads-requires
 put-leads-requires c κs = search needs
 
 put-body-requires : tie.Need-put-body-requires
-put-body-requires c κs = 
+put-body-requires c κs =
     let s = c .before .before .before .before .before .before .before in
     let p = s .pre .0 in
     let few = lead-few (s .args .state) (s .args .t) (s .args .y) in
@@ -25,7 +25,7 @@ same-length : tie.Need-same-length
 same-length c = search needs
 
 returns : tie.Need-returns
-returns c = 
+returns c =
     let a = c .before .before .before .before .before .before .before .before .before .before .args in
     let r = runOf (a .t) (a .y) (a .p) (between (now (a .xs)) (a .i) (a .end)) in
     let one = c .before .before .before .before .before .before .put-leads .ensures in

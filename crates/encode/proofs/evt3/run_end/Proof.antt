@@ -47,7 +47,7 @@ add-j : tie.Need-add-j Inv-loop μ-loop
 add-j c = omega (arith, c .before .before .before .before .before .before .before .before .pre .0 .few, c .before .before .before .before .before .before .before .before .pre .1)
 
 loop-holds : tie.Need-loop-holds Inv-loop μ-loop
-loop-holds c = 
+loop-holds c =
     let s = c .before .before .before .before .before .before .before .before in
     let t : c .before .before .before .time-of .result ≡ natural (getD (s .args .ts .now) (s .args .i) (pos 0)) = c .before .before .before .time-of .ensures ∙ ap natural (toZ-ofZ w64 (getD (s .args .ts .now) (s .args .i) (pos 0)) (record { sfits = c .before .before .before .before .time-of-arg .given })) in
     record { above = omega arith; below = omega (arith, s .pre .1); counts = rw t }
@@ -97,13 +97,13 @@ goes-is c =
     c .goes-on .ensures ∙ rw t
 
 loop-again : tie.Need-loop-again Inv-loop μ-loop
-loop-again c = 
+loop-again c =
     let s = c .before .before .before .before .before .before .before .before .before .before .before .before .before .before .before .before .before in
     let l = c .before .before .before .before .before .before .before .before .loop in
     tracking-turn _ _ _ _ (s .pre .0) (l .inv) (c .before .before .before .before .before .before .before .loop-test .taken) (sym (goes-is (c .before)) ∙ c .if1 .taken)
 
 returns : tie.Need-returns Inv-loop μ-loop
-returns c = 
+returns c =
     let s = c .before .before .before .before .before .before .before .before .before .before .before .before .before .before .before .before .before in
     let l = c .before .before .before .before .before .before .before .before .loop in
     tracking-out _ _ _ _ (s .pre .0) (l .inv) (c .before .before .before .before .before .before .before .loop-test .taken) (sym (goes-is (c .before)) ∙ c .if1 .left)

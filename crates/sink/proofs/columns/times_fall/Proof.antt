@@ -61,9 +61,9 @@ loop-less c = omega (arith, c .before .before .before .loop-test .taken)
 -- src/lib.rt:149:5
 loop-again : tie.Need-loop-again Inv-loop μ-loop
 loop-again c = (
-      omega (arith, c .before .before .before .loop-test .taken),
-      rw (plain (c .before)) (sym (falls-no (c .before .before .before .before .before .args .ts .now) (toZ w64 (c .before .before .before .before .loop .last)) (c .before .before .before .before .loop .i) (c .before .before .before .loop-test .taken) (sym (is-earlier (c .before)) ∙ c .if1 .left)) ∙ c .before .before .before .before .loop .inv .1),
-    )
+  omega (arith, c .before .before .before .loop-test .taken),
+  rw (plain (c .before)) (sym (falls-no (c .before .before .before .before .before .args .ts .now) (toZ w64 (c .before .before .before .before .loop .last)) (c .before .before .before .before .loop .i) (c .before .before .before .loop-test .taken) (sym (is-earlier (c .before)) ∙ c .if1 .left)) ∙ c .before .before .before .before .loop .inv .1),
+)
 
 -- src/lib.rt:143:1
 returns-2 : tie.Need-returns-2 Inv-loop μ-loop

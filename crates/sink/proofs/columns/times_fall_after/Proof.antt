@@ -35,14 +35,14 @@ times-fall-requires-2 c κs = search needs
 
 -- src/columns.rt:44:1
 returns : tie.Need-returns
-returns c = 
+returns c =
     let ts = now (c .before .before .before .before .before .args .ts) in
     let z = getD ts 0 (pos 0) in
     rw (c .before .before .before .enum-told .given .1) (c .times-fall .ensures ∙ ap (λ (t : ℤ). falls t ts) (toZ-ofZ w64 z (record { sfits = c .before .times-fall-arg .given })) ∙ falls-first ts)
 
 -- src/columns.rt:44:1
 returns-2 : tie.Need-returns-2
-returns-2 c = 
+returns-2 c =
     let ts = now (c .before .before .before .args .ts) in
     rw (c .before .enum-told .given .1) (sym (sym (falls-first ts) ∙ falls-end ts (getD ts 0 (pos 0)) 0 (c .if1 .left)))
 

@@ -45,7 +45,7 @@ and2-requires c κs = search needs
 
 -- src/columns.rt:88:1
 returns : tie.Need-returns
-returns c = 
+returns c =
     let s = c .before .before .before .before .before .before in
     let ts = now (s .args .ts) in
     let e = s .args .version in

@@ -55,7 +55,7 @@ same-length c = search needs
 -- src/header.rt:51:1
 returns : tie.Need-returns
 unfolding headerText
-returns c = 
+returns c =
     let a = c .before .before .before .before .before .before .before .before .before .before .before .before .before .before .before .before .before .before .before .before .before .before .before .before .before .before .before .before .args in
     stored-six (now (a .out)) (formatLine (a .version)) (ascii "% geometry ") (decimal (a .width)) (ascii "x") (decimal (a .height)) (ascii "\n% generator eventcv\n% end\n")
     (c .before .before .before .before .before .before .before .before .before .before .before .before .before .before .before .before .before .before .before .before .before .before .before .before .before .put-format .ensures .0) (c .before .before .before .before .before .before .before .before .before .before .before .before .before .before .before .before .before .before .before .before .before .before .before .before .before .put-format .ensures .1) (c .before .before .before .before .before .before .before .before .before .before .before .before .before .before .before .before .before .before .before .before .put-text .ensures .0) (c .before .before .before .before .before .before .before .before .before .before .before .before .before .before .before .before .before .before .before .before .put-text .ensures .1)

@@ -26,7 +26,7 @@ returns c = let s = c .before in time-early (s .args .version) (s .args .t) (rw 
 
 -- src/range.rt:64:1
 returns-2 : tie.Need-returns-2
-returns-2 c = 
+returns-2 c =
     let s = c .before .before .before in
     let e : c .before .time-of .result ≡ natural (s .args .t) = c .before .time-of .ensures ∙ ap natural (toZ-ofZ w64 (s .args .t) (s .fits .t)) in
     rw (e, c .time-bound .ensures) (time-late (s .args .version) (s .args .t) (rw (toZ-ofZ w64 (s .args .t) (s .fits .t)) at (c .before .before .if1 .left)))

@@ -7,6 +7,7 @@ use native.Mathlib.Numerals.{add-one}
 use lib.ListN.{length, getD, drop, length-drop, drop-of-length-le, length-map}
 use lib.Seq.{drop-cons, drop-drop}
 use lib.IntN.{ℤ, pos, negsuc}
+use lib.Signed.{mag}
 use Rattle.evt.specs.Event.{Event}
 use Rattle.evt.specs.Columns.{colX}
 
@@ -34,6 +35,10 @@ pub record Sized (xs ys : List ℕ) (ts : List ℤ) (ps : List ℕ) : Type 0 whe
   pub same-p : length ps ≡ length xs
 
 -- ---- laws
+
+pub natural-small : (z : ℤ) → mag z < 2 ^ 63 → natural z < 2 ^ 64
+natural-small (pos n) h = omega arith
+natural-small (negsuc n) h = omega arith
 
 -- the events from i on
 module _ (xs ys : List ℕ) (ts : List ℤ) (ps : List ℕ) where

@@ -6,7 +6,7 @@ use Prim.Native.Nat.{ℕ, zero, suc, _+_, _-_, _*_, _/_, _%_, _^_, _≤_, _<_}
 use native.Mathlib.Omega.{arith}
 use native.Mathlib.Nat.{add-zero}
 use native.Mathlib.Numerals.{add-one}
-use lib.Dec.{ltb}
+use lib.Dec.{eqb, ltb}
 use borrow.Author.Tests.{lt-ltb, le-ltb, ltb-true}
 use lib.ListN.{length, getD, take, drop, length-append, length-map, length-take, length-drop}
 use lib.Seq.{drop-cons, getD-take, getD-drop}
@@ -14,12 +14,13 @@ use Rattle.stream.specs.Machine.{run, words, words-append, and-both}
 use Rattle.stream.specs.Words.{stream, bytes, stream-append, length-stream}
 use Rattle.stream.specs.Mask.{mask}
 use Rattle.evt.specs.Event.{Event}
+use Rattle.evt.specs.declared.Sent.{Sent}
 use Rattle.encode.specs.declared.EncoderState.{EncoderState}
 use Rattle.encode.specs.declared.Put.{Put}
 use Rattle.encode.specs.declared.evt3.Window.{Window}
-use Rattle.encode.specs.Sent.{due}
+use Rattle.encode.specs.Sent.{due, held, held-is}
 use Rattle.encode.specs.Runs.{Run, runs, firstX, lastX}
-use Rattle.encode.specs.Evt3.{highWord3, lowWord3, rowWord3, highSent3, lowSent3, rowSent3, leads3, singleWord3, baseWord3, maskWord3, nearby, beyond, windows, vectored, singles, masks, vectors, body3, encode3, encoded3, writer3}
+use Rattle.encode.specs.Evt3.{highWord3, lowWord3, rowWord3, lowHeld, highSent3, lowSent3, rowSent3, leads3, singleWord3, baseWord3, maskWord3, nearby, beyond, windows, vectored, singles, masks, vectors, body3, encode3, encoded3, writer3}
 use Rattle.encode.specs.Storing.{piece, bytesFrom}
 
 abbrev pub bytes3 : EncoderState → Run → List ℕ
@@ -27,9 +28,6 @@ bytes3 = piece 2 writer3
 
 abbrev pub stream3 : EncoderState → List Event → List ℕ
 stream3 v es = bytesFrom 2 writer3 v (runs es)
-
-abbrev pub put3 : EncoderState → Run → ℕ → Put
-put3 v r at = record { state = encoded3 v r; at = at + length (bytes3 v r) }
 
 abbrev pub passed3 : EncoderState → List Event → ℕ → Put
 passed3 v es at = record { state = run writer3 v (runs es); at = at + length (stream3 v es) }
@@ -91,17 +89,41 @@ unfolding leads3
 lead-parts v t y =
     rw (words-append (due (highSent3 v t) (highWord3 t)), words-append (due (lowSent3 v t) (lowWord3 t)), stream-append 2 (words (due (highSent3 v t) (highWord3 t))), stream-append 2 (words (due (lowSent3 v t) (lowWord3 t))))
 
-pub lead-parts-as : (v : EncoderState) (t y : ℕ) (hi lo ro : Bool) → hi ≡ highSent3 v t → lo ≡ lowSent3 v t → ro ≡ rowSent3 v y
-    → leadBytes v t y ≡ dueBytes hi (highWord3 t) ++ (dueBytes lo (lowWord3 t) ++ dueBytes ro (y % 2048))
-lead-parts-as v t y hi lo ro h l r = let e : rowWord3 y ≡ y % 2048 = omega arith in lead-parts v t y ∙ rw (h, l, r, e)
+due-few : (b : Bool) (w : ℕ) → length (dueBytes b w) ≤ 2
+due-few true w = omega arith
+due-few false w = omega arith
+
+-- by the numbers that are held of what was sent
+abbrev pub leadsBytes : (high low row t y : ℕ) → List ℕ
+leadsBytes high low row t y =
+    let sent = eqb high (t / 4096) in
+    dueBytes sent (highWord3 t) ++ (dueBytes (eqb (cond sent low 0) (t % 4096)) (lowWord3 t) ++ dueBytes (eqb row y) (y % 2048))
+
+low-as : (b : Bool) (l : Sent) → held (lowHeld b l) ≡ cond b (held l) 0
+low-as true l = refl
+low-as false l = refl
+
+pub leads-held : (v : EncoderState) (high low row t y : ℕ) → t < 2 ^ 64 → y < 2 ^ 16 → high ≡ held (v .«time_high») → low ≡ held (v .«time_low») → row ≡ held (v .y)
+    → leadsBytes high low row t y ≡ leadBytes v t y
+leads-held v high low row t y t< y< h l r =
+    let hi : eqb high (t / 4096) ≡ highSent3 v t = ap (λ (n : ℕ). eqb n (t / 4096)) h ∙ held-is (v .«time_high») (t / 4096) (omega arith) in
+    let kept : cond (eqb high (t / 4096)) low 0 ≡ held (lowHeld (highSent3 v t) (v .«time_low»)) = rw (hi, l) (sym (low-as (highSent3 v t) (v .«time_low»))) in
+    let lo : eqb (cond (eqb high (t / 4096)) low 0) (t % 4096) ≡ lowSent3 v t = ap (λ (n : ℕ). eqb n (t % 4096)) kept ∙ held-is (lowHeld (highSent3 v t) (v .«time_low»)) (t % 4096) (omega arith) in
+    let ro : eqb row y ≡ rowSent3 v y = ap (λ (n : ℕ). eqb n y) r ∙ held-is (v .y) y (omega arith) in
+    let e : rowWord3 y ≡ y % 2048 = omega arith in
+    sym (lead-parts v t y ∙ rw (lo, hi, ro, e))
+
+pub leads-few : (high low row t y : ℕ) → length (leadsBytes high low row t y) ≤ 6
+leads-few high low row t y =
+    let sent = eqb high (t / 4096) in
+    let a = dueBytes sent (highWord3 t) in
+    let b = dueBytes (eqb (cond sent low 0) (t % 4096)) (lowWord3 t) in
+    let c = dueBytes (eqb row y) (y % 2048) in
+    omega (arith, length-append a (b ++ c), length-append b c, due-few sent (highWord3 t), due-few (eqb (cond sent low 0) (t % 4096)) (lowWord3 t), due-few (eqb row y) (y % 2048))
 
 pub bytes-parts : (v : EncoderState) (r : Run) → bytes3 v r ≡ leadBytes v (r .t) (r .y) ++ stream 2 (bodyWords (r .p) (r .xs))
 unfolding encode3
 bytes-parts v r = rw (words-append (leads3 v (r .t) (r .y)), stream-append 2 (words (leads3 v (r .t) (r .y))), words-body)
-
-due-few : (b : Bool) (w : ℕ) → length (dueBytes b w) ≤ 2
-due-few true w = omega arith
-due-few false w = omega arith
 
 pub due-place : (r at : ℕ) (b : Bool) (w : ℕ) → r ≡ at + length (dueBytes b w) → r ≤ at + 2
 due-place r at b w e = omega (arith, due-few b w)

@@ -4,8 +4,9 @@ use mathlib.Core.Bool.{Bool, true, false, cond, _&&_}
 use mathlib.Core.List.{List, [], _∷_, _++_, map}
 use Prim.Native.Nat.{ℕ, suc, _+_, _-_, _≤_, _<_}
 use native.Mathlib.Omega.{arith}
+use lib.Bits.{bitOr, bitXor, xor-self, xor-add-and, or-add-and, and-le-l, and-le-r}
 use lib.Dec.{eqb, ltb}
-use borrow.Author.Tests.{eqb-true, ltb-true}
+use borrow.Author.Tests.{eq-eqb, eqb-true, ltb-true}
 use lib.ListN.{length, getD, take, drop}
 use Rattle.stream.specs.Machine.{All, and-both}
 use Rattle.stream.specs.Mask.{Inc}
@@ -75,6 +76,32 @@ goes-true t y p last e h =
     let b = and-both _ _ (a .1) in
     let c = and-both _ _ (b .1) in
     record { is-t = eqb-true (e .t) t (a .0); is-y = eqb-true (e .y) y (b .0); is-p = eqb-true (e .p) p (c .0); rises = ltb-true last (e .x) (c .1) }
+
+-- compared at once: bits that differ are left of `^`
+xor-equal : (a b : ℕ) → bitXor a b ≡ 0 → a ≡ b
+xor-equal a b h = omega (arith, xor-add-and a b, and-le-l a b, and-le-r a b)
+
+or-zero : (a b : ℕ) → bitOr a b ≡ 0 → (a ≡ 0) × (b ≡ 0)
+or-zero a b h = (omega (arith, or-add-and a b, and-le-l a b, and-le-r a b), omega (arith, or-add-and a b, and-le-l a b, and-le-r a b))
+
+module _ (t y p last x t₂ y₂ p₂ : ℕ) where
+  abbrev pub differ : ℕ
+  differ = bitOr (bitOr (bitXor t₂ t) (bitXor y₂ y)) (bitXor p₂ p)
+
+  pub goes-same : differ ≡ 0 → ltb last x ≡ goes t y p last (event x y₂ t₂ p₂)
+  goes-same h =
+      let a = or-zero (bitOr (bitXor t₂ t) (bitXor y₂ y)) (bitXor p₂ p) h in
+      let b = or-zero (bitXor t₂ t) (bitXor y₂ y) (a .0) in
+      rw (eq-eqb t₂ t (xor-equal t₂ t (b .0)), eq-eqb y₂ y (xor-equal y₂ y (b .1)), eq-eqb p₂ p (xor-equal p₂ p (a .1)))
+
+  pub goes-differ : (differ ≡ 0 → ⊥) → false ≡ goes t y p last (event x y₂ t₂ p₂)
+  goes-differ h = go (goes t y p last (event x y₂ t₂ p₂)) refl
+    where
+      go : (b : Bool) → goes t y p last (event x y₂ t₂ p₂) ≡ b → false ≡ b
+      go false q = refl
+      go true q =
+          let g = goes-true t y p last (event x y₂ t₂ p₂) q in
+          absurd (h (rw (g .is-t, g .is-y, g .is-p, xor-self, xor-self, xor-self)))
 
 abbrev rest : Event → List Event → List Run
 rest e es = runs (drop (follow (e .t) (e .y) (e .p) (e .x) es) es)

@@ -1,20 +1,21 @@
 // EVT3: the words of runs of events, stored as far as the buffer reaches.
 ghost use mathlib.Core.Path.{_≡_};
-ghost use mathlib.Core.Bool.{_&&_};
-ghost use mathlib.Core.List.{map};
-ghost use Prim.Native.Nat.{_+_, _*_, _-_, _^_, _≤_, _<_};
+ghost use mathlib.Core.Bool.{_&&_, cond};
+ghost use mathlib.Core.List.{map, _++_};
+ghost use Prim.Native.Nat.{_+_, _*_, _-_, _/_, _^_, _≤_, _<_};
 ghost use lib.ListN.{length};
 ghost use lib.Seq.{sets};
 ghost use lib.Dec.{ltb};
 ghost use Rattle.stream.specs.Words.{stream};
 ghost use Rattle.encode.specs.Columns.{Sized, event, eventsIn};
-ghost use Rattle.encode.specs.Runs.{goes, runOf};
-ghost use Rattle.encode.specs.Evt3.{lowHeld, singleWord3, baseWord3};
-ghost use Rattle.encode.specs.Parts.{dueBytes, leadBytes, bytes3, stream3, put3, passed3, bodyWords, maskWords, between, Part, Windowed};
+ghost use Rattle.encode.specs.Runs.{goes};
+ghost use Rattle.encode.specs.Evt3.{singleWord3, baseWord3};
+ghost use Rattle.encode.specs.Parts.{dueBytes, leadsBytes, stream3, passed3, bodyWords, maskWords, between, Part, Windowed};
 ghost use Rattle.encode.specs.Loops.{goOn};
+ghost use Rattle.encode.specs.Pass3.{stateAt3};
 use crate::EncoderState;
 use crate::Put;
-use crate::is_sent;
+use crate::held_of;
 use crate::store;
 use crate::time_of;
 use evt::Sent;
@@ -25,18 +26,14 @@ pub struct Window {
     pub next: usize,
 }
 
+// Whether an event goes on a run: what must be equal is compared at once, without a branch for each.
 fn goes_on(t: u64, y: u16, p: u8, last: u16, x: u16, y2: u16, t2: u64, p2: u8) -> bool
     ensures { λ r. ⌜ r ≡ goes t y p last (event x y2 t2 p2) ⌝ }
 {
-    if t2 == t {
-        if y2 == y {
-            if p2 == p { last < x } else { false }
-        } else {
-            false
-        }
-    } else {
-        false
-    }
+    let rows = (y2 ^ y) as u64;
+    let signs = (p2 ^ p) as u64;
+    let differ = (t2 ^ t) | rows | signs;
+    if differ == 0 { last < x } else { false }
 }
 
 // The end of the run that starts at i.
@@ -63,10 +60,10 @@ fn run_end(xs: &[u16], ys: &[u16], ts: &[i64], ps: &[u8], i: usize) -> usize
 }
 
 // After a type 8 the low half counts as 0.
-fn low_held(sent: bool, low: Sent) -> Sent
-    ensures { λ r. ⌜ r ≡ lowHeld sent low ⌝ }
+fn low_kept(sent: bool, low: u64) -> u64
+    ensures { λ r. ⌜ r ≡ cond sent low 0 ⌝ }
 {
-    if sent { low } else { Sent::Value(0) }
+    if sent { low } else { 0 }
 }
 
 // A word, unless its content was sent.
@@ -82,20 +79,17 @@ fn put_due(sent: bool, w: u16, out: &mut [u8], at: usize) -> usize
     }
 }
 
-// Time and row, where they changed.
-fn put_leads(state: EncoderState, t: u64, y: u16, out: &mut [u8], at: usize) -> usize
+// Time and row, where they changed: `high`, `low` and `row` were sent last.
+fn put_leads(high: u64, low: u64, row: u64, t: u64, y: u16, out: &mut [u8], at: usize) -> usize
     requires { ⌜ at < 2 ^ 60 ⌝ }
-    ensures { λ r. ⌜ r ≡ at + length (leadBytes state t y) ⌝ ∗ ⌜ now (out .exit) ≡ sets (now (out .entry)) at (leadBytes state t y) ⌝ }
+    ensures { λ r. ⌜ r ≡ at + length (leadsBytes high low row t y) ⌝ ∗ ⌜ now (out .exit) ≡ sets (now (out .entry)) at (leadsBytes high low row t y) ⌝ }
 {
-    let high = state.time_high;
-    let low = state.time_low;
-    let row = state.y;
     let q = t / 4096;
     let l = t % 4096;
-    let sent = is_sent(high, q);
-    let held = low_held(sent, low);
-    let low_sent = is_sent(held, l);
-    let row_sent = is_sent(row, y as u64);
+    let sent = high == q;
+    let kept = low_kept(sent, low);
+    let low_sent = kept == l;
+    let row_sent = row == y as u64;
     let a = put_due(sent, 32768 + (q % 4096) as u16, &mut *out, at);
     let b = put_due(low_sent, 24576 + l as u16, &mut *out, a);
     put_due(row_sent, y % 2048, &mut *out, b)
@@ -189,12 +183,25 @@ fn put_masks(
     a
 }
 
-// Whether n events are over 2, and more than the words of k windows.
-fn vector_pays(n: u64, k: u64) -> bool
-    requires { ⌜ k ≤ 2 ^ 32 ⌝ }
-    ensures { λ r. ⌜ r ≡ (ltb 2 n && ltb (1 + k) n) ⌝ }
+// How many windows of 12 columns reach from the first column to the last.
+fn windows_to(first: u64, last: u64) -> u64
+    requires { ⌜ last < 2 ^ 16 ⌝ }
+    ensures { λ r. ⌜ r ≡ (last - first + 12) / 12 ⌝ }
 {
-    if 2 < n { 1 + k < n } else { false }
+    (less(last, first) + 12) / 12
+}
+
+// Whether n events are over 2, and more than the words of their windows.
+fn vector_pays(n: u64, first: u64, last: u64) -> bool
+    requires { ⌜ last < 2 ^ 16 ⌝ }
+    ensures { λ r. ⌜ r ≡ (ltb 2 n && ltb (1 + (last - first + 12) / 12) n) ⌝ }
+{
+    if 2 < n {
+        let k = windows_to(first, last);
+        1 + k < n
+    } else {
+        false
+    }
 }
 
 // The words of the columns from i up to end, a run.
@@ -205,8 +212,8 @@ fn put_body(p: u8, xs: &[u16], i: usize, end: usize, out: &mut [u8], at: usize) 
     let x = xs[i];
     let first = x as u64;
     let last = xs[end - 1] as u64;
-    let k = (less(last, first) + 12) / 12;
-    if vector_pays((end - i) as u64, k) {
+    if vector_pays((end - i) as u64, first, last) {
+        let k = windows_to(first, last);
         store::put16(&mut *out, at, base_word(p, x));
         put_masks(xs, i, end, first, k, &mut *out, at + 2)
     } else {
@@ -215,28 +222,27 @@ fn put_body(p: u8, xs: &[u16], i: usize, end: usize, out: &mut [u8], at: usize) 
 }
 
 // The words of the run from i up to end.
-fn put_run(
-    state: EncoderState,
-    t: u64,
-    y: u16,
-    p: u8,
-    xs: &[u16],
-    i: usize,
-    end: usize,
-    out: &mut [u8],
-    at: usize,
-) -> Put
+fn put_run(high: u64, low: u64, row: u64, t: u64, y: u16, p: u8, xs: &[u16], i: usize, end: usize, out: &mut [u8], at: usize) -> usize
     requires { ⌜ Part (now xs) i end (at + 8) × (i < end) ⌝ }
-    ensures { λ r. ⌜ r ≡ put3 state (runOf t y p (between (now (xs .entry)) i end)) at ⌝ ∗ ⌜ now (out .exit) ≡ sets (now (out .entry)) at (bytes3 state (runOf t y p (between (now (xs .entry)) i end))) ⌝ }
+    ensures { λ r. ⌜ r ≡ at + length (leadsBytes high low row t y ++ stream 2 (bodyWords p (between (now (xs .entry)) i end))) ⌝ ∗ ⌜ now (out .exit) ≡ sets (now (out .entry)) at (leadsBytes high low row t y ++ stream 2 (bodyWords p (between (now (xs .entry)) i end))) ⌝ }
 {
-    let a = put_leads(state, t, y, &mut *out, at);
-    let b = put_body(p, xs, i, end, &mut *out, a);
-    let next = EncoderState {
-        time_high: Sent::Value(t / 4096),
-        time_low: Sent::Value(t % 4096),
-        y: Sent::Value(y as u64),
-    };
-    Put { state: next, at: b }
+    let a = put_leads(high, low, row, t, y, &mut *out, at);
+    put_body(p, xs, i, end, &mut *out, a)
+}
+
+// What has been sent after n events, where `high`, `low` and `row` were sent last.
+fn sent_after(state: EncoderState, n: usize, high: u64, low: u64, row: u64) -> EncoderState
+    ensures { λ r. ⌜ r ≡ stateAt3 state n high low row ⌝ }
+{
+    if 0 < n {
+        EncoderState {
+            time_high: Sent::Value(high),
+            time_low: Sent::Value(low),
+            y: Sent::Value(row),
+        }
+    } else {
+        state
+    }
 }
 
 // The words of all events, from `start` on. The bounds keep `at` from wrapping.
@@ -252,16 +258,24 @@ pub fn pass(
     requires { ⌜ Sized (now xs) (now ys) (now ts) (now ps) × (start ≤ 2 ^ 32) ⌝ }
     ensures { λ r. ⌜ r ≡ passed3 state (eventsIn (now (xs .entry)) (now (ys .entry)) (now (ts .entry)) (now (ps .entry))) start ⌝ ∗ ⌜ now (out .exit) ≡ sets (now (out .entry)) start (stream3 state (eventsIn (now (xs .entry)) (now (ys .entry)) (now (ts .entry)) (now (ps .entry)))) ⌝ }
 {
-    let mut st = state;
+    let sent_high = state.time_high;
+    let sent_low = state.time_low;
+    let sent_row = state.y;
+    let mut high = held_of(sent_high);
+    let mut low = held_of(sent_low);
+    let mut row = held_of(sent_row);
     let mut at = start;
     let mut i: usize = 0;
     while i < xs.len() {
         let t = time_of(ts[i]);
+        let y = ys[i];
         let end = run_end(xs, ys, ts, ps, i);
-        let put = put_run(st, t, ys[i], ps[i], xs, i, end, &mut *out, at);
-        st = put.state;
-        at = put.at;
+        at = put_run(high, low, row, t, y, ps[i], xs, i, end, &mut *out, at);
+        high = t / 4096;
+        low = t % 4096;
+        row = y as u64;
         i = end;
     }
-    Put { state: st, at }
+    let after = sent_after(state, xs.len(), high, low, row);
+    Put { state: after, at }
 }

@@ -7,7 +7,7 @@ ghost use Prim.Native.Nat.{_^_, _≤_};
 ghost use lib.Seq.{sets};
 ghost use Rattle.encode.specs.Columns.{natural, Sized, eventsIn};
 ghost use Rattle.encode.specs.Encode.{encodeBytes, passed};
-ghost use Rattle.encode.specs.Sent.{sentIs};
+ghost use Rattle.encode.specs.Sent.{held};
 use evt::Encoding;
 use evt::Sent;
 
@@ -28,12 +28,13 @@ pub struct Put {
     pub at: usize,
 }
 
-pub fn is_sent(s: Sent, q: u64) -> bool
-    ensures { λ r. ⌜ r ≡ sentIs s q ⌝ }
+// What was sent as one number, for the loops: nothing is 2^64 - 1, which no half and no row is.
+pub fn held_of(s: Sent) -> u64
+    ensures { λ r. ⌜ r ≡ held s ⌝ }
 {
     match s {
-        Sent::Nothing => false,
-        Sent::Value(g) => g == q,
+        Sent::Nothing => 18446744073709551615,
+        Sent::Value(g) => g,
     }
 }
 

@@ -1,8 +1,8 @@
 use borrow.Author.Needs.{needs}
-use Rattle.encode.proofs.is_sent.Statement.{statement}
-use Rattle.encode.proofs.is_sent.Tie as tie
-use Rattle.encode.proofs.is_sent.Reads as reads
-use Rattle.encode.proofs.is_sent.Lts as lts
+use Rattle.encode.proofs.held_of.Statement.{statement}
+use Rattle.encode.proofs.held_of.Tie as tie
+use Rattle.encode.proofs.held_of.Reads as reads
+use Rattle.encode.proofs.held_of.Lts as lts
 
 -- src/lib.rt:41:25
 enum-told : tie.Need-enum-told
@@ -20,5 +20,5 @@ returns c = search needs
 returns-2 : tie.Need-returns-2
 returns-2 c = rw (c .before .s .given .1)
 
-pub is-sent-spec : {M : Type 1} → statement M
-is-sent-spec = tie.close (tie.spec enum-told enum-known-s returns returns-2)
+pub held-of-spec : {M : Type 1} → statement M
+held-of-spec = tie.close (tie.spec enum-told enum-known-s returns returns-2)

@@ -1,15 +1,15 @@
 -- Bytes stored piece by piece, as far as a list reaches; and a loop that gives a writer its input piece by piece, and stores the bytes of its words.
 use mathlib.Core.Path.{_≡_, refl, sym, ap, _∙_}
 use mathlib.Core.List.{List, [], _∷_, _++_}
-use Prim.Native.Nat.{ℕ, suc, _+_, _≤_}
+use Prim.Native.Nat.{ℕ, zero, suc, _+_, _-_, _/_, _%_, _≤_, _<_}
 use native.Mathlib.Omega.{arith}
 use native.Mathlib.Nat.{add-zero}
-use native.Mathlib.Numerals.{add-one, add-two}
-use lib.ListN.{length, set, length-append, length-set}
+use native.Mathlib.Numerals.{add-one}
+use lib.ListN.{length, set, length-append}
 use lib.Seq.{sets, length-sets, set-out}
 use Rattle.stream.specs.Columns.{sets-append}
 use Rattle.stream.specs.Machine.{Machine, Note, run, emits, words, words-append}
-use Rattle.stream.specs.Words.{stream, stream-append}
+use Rattle.stream.specs.Words.{bytes, stream, stream-append}
 
 -- On the way to `all` stored from at₀ on: `left` is to be stored from `at` on.
 pub record Storing (all : List ℕ) (at₀ : ℕ) (out₀ : List ℕ) (left : List ℕ) (at : ℕ) (out : List ℕ) : Type 0 where
@@ -32,11 +32,19 @@ module _ {all : List ℕ} {at₀ : ℕ} {out₀ : List ℕ} where
   pub storing-end : {at : ℕ} {out : List ℕ} → Storing all at₀ out₀ [] at out → (at ≡ at₀ + length all) × (out ≡ sets out₀ at₀ all)
   storing-end {at} s = (sym (add-zero at) ∙ s .count, s .stores)
 
--- of four bytes the last has no room
-pub stored-three : (l : List ℕ) (i a b c d : ℕ) → length l ≤ i + 3 → set (set (set l i a) (i + 1) b) (i + 2) c ≡ sets l i (a ∷ b ∷ c ∷ d ∷ [])
-stored-three l i a b c d h =
-    rw (add-one, add-two)
-    (sym (set-out (set (set (set l i a) (suc i) b) (suc (suc i)) c) (suc (suc (suc i))) d (rw (length-set (set (set l i a) (suc i) b), length-set (set l i a), length-set l) (omega arith))))
+-- nothing is stored past the end
+pub sets-out : (l : List ℕ) (i : ℕ) (vs : List ℕ) → length l ≤ i → sets l i vs ≡ l
+sets-out l i [] h = refl
+sets-out l i (v ∷ vs) h = ap (λ (k : List ℕ). sets k (suc i) vs) (set-out l i v h) ∙ sets-out l (suc i) vs (omega arith)
+
+-- the lowest byte, and the rest
+pub sets-rest : (l : List ℕ) (i n w : ℕ) → 0 < n → sets (set l i (w % 256)) (i + 1) (bytes (n - 1) (w / 256)) ≡ sets l i (bytes n w)
+sets-rest l i zero w h = absurd (omega arith)
+sets-rest l i (suc n) w h = let e : suc n - 1 ≡ n = omega arith in rw (e, add-one)
+
+pub sets-none : (l : List ℕ) (i n w : ℕ) → n ≤ 0 → l ≡ sets l i (bytes n w)
+sets-none l i zero w h = refl
+sets-none l i (suc n) w h = absurd (omega arith)
 
 -- one store after another
 pub stored-both : (out : List ℕ) (at : ℕ) {o₁ o₂ : List ℕ} {r₁ r₂ : ℕ} (a b : List ℕ) → r₁ ≡ at + length a → o₁ ≡ sets out at a → r₂ ≡ r₁ + length b → o₂ ≡ sets o₁ r₁ b

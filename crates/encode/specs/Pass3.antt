@@ -87,7 +87,7 @@ module _ {xs ys : List ℕ} {ts : List ℤ} {ps : List ℕ} (sized : Sized xs ys
           let n : length (between xs i e) ≡ e - i = length-between xs i e (omega arith) in-e in
           let some = state-some3 v₀ e (t / 4096) (t % 4096) y (omega arith) in
           let all : leadsBytes high low row t y ++ stream 2 (bodyWords p (between xs i e)) ≡ bytes3 v a =
-              ap (λ (l : List ℕ). l ++ stream 2 (bodyWords p (between xs i e))) (leads-held v high low row t y t< y< (u .is-high) (u .is-low) (u .is-row)) ∙ sym (bytes-parts v a) in
+          ap (λ (l : List ℕ). l ++ stream 2 (bodyWords p (between xs i e))) (leads-held v high low row t y t< y< (u .is-high) (u .is-low) (u .is-row)) ∙ sym (bytes-parts v a) in
           let few = few3 v a (omega arith) in
           let first : runs (eventsPast xs ys ts ps i) ≡ a ∷ runs (eventsPast xs ys ts ps e) = run-first i e h q ∙ rw (et, ey, ep) in
           record {

@@ -63,7 +63,15 @@ fn sent_after(state: EncoderState, n: usize, high: u64) -> EncoderState
 }
 
 // The words of all events, from `start` on. The bounds keep `at` from wrapping.
-pub fn pass(state: EncoderState, xs: &[u16], ys: &[u16], ts: &[i64], ps: &[u8], out: &mut [u8], start: usize) -> Put
+pub fn pass(
+    state: EncoderState,
+    xs: &[u16],
+    ys: &[u16],
+    ts: &[i64],
+    ps: &[u8],
+    out: &mut [u8],
+    start: usize,
+) -> Put
     requires { ⌜ Sized (now xs) (now ys) (now ts) (now ps) × (start ≤ 2 ^ 32) ⌝ }
     ensures { λ r. ⌜ r ≡ passed2 state (eventsIn (now (xs .entry)) (now (ys .entry)) (now (ts .entry)) (now (ps .entry))) start ⌝ ∗ ⌜ now (out .exit) ≡ sets (now (out .entry)) start (stream2 state (eventsIn (now (xs .entry)) (now (ys .entry)) (now (ts .entry)) (now (ps .entry)))) ⌝ }
 {

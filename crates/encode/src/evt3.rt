@@ -222,7 +222,19 @@ fn put_body(p: u8, xs: &[u16], i: usize, end: usize, out: &mut [u8], at: usize) 
 }
 
 // The words of the run from i up to end.
-fn put_run(high: u64, low: u64, row: u64, t: u64, y: u16, p: u8, xs: &[u16], i: usize, end: usize, out: &mut [u8], at: usize) -> usize
+fn put_run(
+    high: u64,
+    low: u64,
+    row: u64,
+    t: u64,
+    y: u16,
+    p: u8,
+    xs: &[u16],
+    i: usize,
+    end: usize,
+    out: &mut [u8],
+    at: usize,
+) -> usize
     requires { ⌜ Part (now xs) i end (at + 8) × (i < end) ⌝ }
     ensures { λ r. ⌜ r ≡ at + length (leadsBytes high low row t y ++ stream 2 (bodyWords p (between (now (xs .entry)) i end))) ⌝ ∗ ⌜ now (out .exit) ≡ sets (now (out .entry)) at (leadsBytes high low row t y ++ stream 2 (bodyWords p (between (now (xs .entry)) i end))) ⌝ }
 {

@@ -204,13 +204,13 @@ pub fn append(
                 let header_written = header_after(sink, xs);
                 let n_events = sink.n_events + xs.len();
                 let last = sink.last_t;
-                let last_t = last_after(last, ts);
+                let kept = last_after(last, ts);
                 let state = put.state;
                 let next = RawEventSink {
                     version,
                     header_written,
                     n_events,
-                    last_t,
+                    last_t: kept,
                     state,
                 };
                 Appended {

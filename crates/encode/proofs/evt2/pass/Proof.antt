@@ -77,7 +77,7 @@ loop-less c = omega (arith, c .before .before .before .before .before .before .b
 
 -- src/evt2.rt:74:5
 loop-again : tie.Need-loop-again Inv-loop μ-loop
-loop-again c = 
+loop-again c =
     let s = c .before .before .before .before .before .before .before .before .before .before .before .before .before .before .before .before in
     let l = c .before .before .before .before .before .before .before .before .before .before .loop in
     let z = getD (s .args .ts .now) (l .i) (pos 0) in

@@ -82,7 +82,7 @@ loop-less c = omega (arith, c .before .before .before .before .before .run-end .
 
 -- src/evt3.rt:269:5
 loop-again : tie.Need-loop-again Inv-loop μ-loop
-loop-again c = 
+loop-again c =
     let s = c .before .before .before .before .before .before .before .before .before .before .before .before .before .before .before .before .before .before in
     let l = c .before .before .before .before .before .before .before .before .before .before .loop in
     let z = getD (s .args .ts .now) (l .i) (pos 0) in

@@ -73,7 +73,7 @@ add-put-masks c = search needs
 
 -- src/evt3.rt:218:9
 put-masks-requires : tie.Need-put-masks-requires
-put-masks-requires c κs = 
+put-masks-requires c κs =
     let s = c .before .before .before .before .before .before .before .before .before .before .before .before .before in
     let p = s .pre .0 in
     (record { low = p .low; high = p .high; few = p .few; place = p .place }, omega (arith, c .before .before .before .before .before .before .windows-to .ensures, c .before .before .before .before .before .before .before .before .before .shared-slice-known3 .given (s .args .end - 1), c .before .before .before .before .before .before .before .before .before .before .shared-slice-known2 .given (s .args .i)))
@@ -88,7 +88,7 @@ same-length c = search needs
 
 -- src/evt3.rt:208:1
 returns : tie.Need-returns
-returns c = 
+returns c =
     let s = c .before .before .before .before .before .before .before .before .before .before .before .before .before .before .before .before in
     let a = s .args in
     let x = getD (now (a .xs)) (a .i) 0 in
@@ -104,7 +104,7 @@ same-length-2 c = search needs
 
 -- src/evt3.rt:208:1
 returns-2 : tie.Need-returns-2
-returns-2 c = 
+returns-2 c =
     let s = c .before .before .before .before .before .before .before .before .before .before in
     let a = s .args in
     let pays = sym (c .before .before .before .before .before .vector-pays .ensures) ∙ c .before .before .before .before .if1 .left in

@@ -46,7 +46,7 @@ put-due-requires-2 c κs = let a = c .before .before .before .before .before .be
 
 -- src/evt3.rt:95:5
 put-due-requires-3 : tie.Need-put-due-requires-3
-put-due-requires-3 c κs = 
+put-due-requires-3 c κs =
     let a = c .before .before .before .before .before .before .before .before .before .before .before .args in
     let one = due-place _ (a .at) (eqb (a .high) (a .t / 4096)) (highWord3 (a .t)) (c .before .before .before .before .before .before .before .put-due .ensures .0) in
     let two = due-place _ (c .before .before .before .before .before .before .before .put-due .result) (eqb (c .before .before .before .before .before .before .before .before .before .low-kept .result) (a .t % 4096)) (lowWord3 (a .t)) (c .before .before .before .put-due2 .ensures .0) in
@@ -58,7 +58,7 @@ same-length c = search needs
 
 -- src/evt3.rt:83:1
 returns : tie.Need-returns
-returns c = 
+returns c =
     let a = c .before .before .before .before .before .before .before .before .before .before .before .before .before .before .args in
     let sent = eqb (a .high) (a .t / 4096) in
     let low = dueBytes (eqb (c .before .before .before .before .before .before .before .before .before .before .before .before .low-kept .result) (a .t % 4096)) (lowWord3 (a .t)) in

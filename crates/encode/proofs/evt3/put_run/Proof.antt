@@ -18,7 +18,7 @@ put-leads-requires c κs = search needs
 
 -- src/evt3.rt:230:5
 put-body-requires : tie.Need-put-body-requires
-put-body-requires c κs = 
+put-body-requires c κs =
     let s = c .before .before .before .before .before .before .before in
     let p = s .pre .0 in
     let few = leads-few (s .args .high) (s .args .low) (s .args .row) (s .args .t) (s .args .y) in
@@ -30,7 +30,7 @@ same-length c = search needs
 
 -- src/evt3.rt:225:1
 returns : tie.Need-returns
-returns c = 
+returns c =
     let a = c .before .before .before .before .before .before .before .before .before .before .args in
     let one = c .before .before .before .before .before .before .put-leads .ensures in
     let two = c .before .before .put-body .ensures in

@@ -1,0 +1,43 @@
+use mathlib.Core.Path.{_≡_, refl, sym, ap, _∙_}
+use Rattle.encode.specs.Storing.{bytesFrom}
+use Rattle.encode.specs.Encode.{encodeBytes}
+use borrow.Author.Needs.{needs}
+use Rattle.encode.proofs.pass.Statement.{statement}
+use Rattle.encode.proofs.pass.Tie as tie
+
+enum-told : tie.Need-enum-told
+enum-told c = search needs
+
+pass2-requires : tie.Need-pass-requires
+pass2-requires c κs = search needs
+
+enum-told-2 : tie.Need-enum-told-2
+enum-told-2 c = search needs
+
+pass3-requires : tie.Need-pass-requires-2
+pass3-requires c κs = search needs
+
+same-length : tie.Need-same-length
+same-length c = search needs
+
+returns : tie.Need-returns
+returns c = rw (c .before .before .before .before .enum-told .given .1) (unfold encodeBytes bytesFrom in c .before .before .pass .ensures)
+
+same-length-2 : tie.Need-same-length-2
+same-length-2 c = search needs
+
+returns-2 : tie.Need-returns-2
+returns-2 c = rw (c .before .before .before .before .enum-told2 .given .1) (unfold encodeBytes bytesFrom in c .before .before .pass2 .ensures)
+
+pub pass-spec : {M : Type 1} → statement M
+pass-spec =
+    tie.close
+    (tie.spec
+    enum-told
+    pass2-requires
+    enum-told-2
+    pass3-requires
+    same-length
+    returns
+    same-length-2
+    returns-2)

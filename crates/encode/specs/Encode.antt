@@ -1,0 +1,36 @@
+-- The words of events in either encoding: what the writer's contracts cite.
+use mathlib.Core.List.{List}
+use Prim.Native.Nat.{ℕ, _+_}
+use lib.ListN.{length}
+use Rattle.stream.specs.Machine.{Note, run, emits, words}
+use Rattle.stream.specs.Words.{stream}
+use Rattle.evt.specs.Event.{Event}
+use Rattle.evt.specs.declared.Encoding.{Encoding}
+use Rattle.evt.specs.declared.Encoding.the-variants.{Evt2, Evt3}
+use Rattle.encode.specs.declared.EncoderState.{EncoderState}
+use Rattle.encode.specs.declared.Put.{Put}
+use Rattle.encode.specs.Evt2.{writer2}
+use Rattle.encode.specs.Runs.{runs}
+use Rattle.encode.specs.Evt3.{writer3}
+
+-- the words of events, each with a note of those that it carries
+abbrev pub encodeNotes : Encoding → EncoderState → List Event → List (Note ℕ Event)
+encodeNotes Evt2 v es = emits writer2 v es
+encodeNotes Evt3 v es = emits writer3 v (runs es)
+
+-- what has been sent after them
+abbrev pub encodeState : Encoding → EncoderState → List Event → EncoderState
+encodeState Evt2 v es = run writer2 v es
+encodeState Evt3 v es = run writer3 v (runs es)
+
+-- the bytes of a word
+abbrev pub encodeSize : Encoding → ℕ
+encodeSize Evt2 = 4
+encodeSize Evt3 = 2
+
+unfoldable pub encodeBytes : Encoding → EncoderState → List Event → List ℕ
+encodeBytes e v es = stream (encodeSize e) (words (encodeNotes e v es))
+
+-- after a pass whose words go from `at` on
+abbrev pub passed : Encoding → EncoderState → List Event → (at : ℕ) → Put
+passed e v es at = record { state = encodeState e v es; at = at + length (encodeBytes e v es) }

@@ -1,0 +1,220 @@
+-- EVT3: the bytes of a run's words, part by part.
+use mathlib.Core.Path.{_≡_, refl, sym, ap, _∙_}
+use mathlib.Core.Bool.{Bool, true, false, cond, _&&_}
+use mathlib.Core.List.{List, [], _∷_, _++_, map}
+use Prim.Native.Nat.{ℕ, zero, suc, _+_, _-_, _*_, _/_, _%_, _^_, _≤_, _<_}
+use native.Mathlib.Omega.{arith}
+use native.Mathlib.Nat.{add-zero}
+use native.Mathlib.Numerals.{add-one}
+use lib.Dec.{eqb, ltb}
+use borrow.Author.Tests.{lt-ltb, le-ltb, ltb-true}
+use lib.ListN.{length, getD, take, drop, length-append, length-map, length-take, length-drop}
+use lib.Seq.{drop-cons, getD-take, getD-drop}
+use Rattle.stream.specs.Machine.{run, words, words-append, and-both}
+use Rattle.stream.specs.Words.{stream, bytes, stream-append, length-stream}
+use Rattle.stream.specs.Mask.{mask}
+use Rattle.evt.specs.Event.{Event}
+use Rattle.evt.specs.declared.Sent.{Sent}
+use Rattle.encode.specs.declared.EncoderState.{EncoderState}
+use Rattle.encode.specs.declared.Put.{Put}
+use Rattle.encode.specs.declared.evt3.Window.{Window}
+use Rattle.encode.specs.Sent.{due, held, held-is}
+use Rattle.encode.specs.Runs.{Run, runs, firstX, lastX}
+use Rattle.encode.specs.Evt3.{highWord3, lowWord3, rowWord3, lowHeld, highSent3, lowSent3, rowSent3, leads3, singleWord3, baseWord3, maskWord3, nearby, beyond, windows, vectored, singles, masks, vectors, body3, encode3, encoded3, writer3}
+use Rattle.encode.specs.Storing.{piece, bytesFrom}
+
+abbrev pub bytes3 : EncoderState → Run → List ℕ
+bytes3 = piece 2 writer3
+
+abbrev pub stream3 : EncoderState → List Event → List ℕ
+stream3 v es = bytesFrom 2 writer3 v (runs es)
+
+abbrev pub passed3 : EncoderState → List Event → ℕ → Put
+passed3 v es at = record { state = run writer3 v (runs es); at = at + length (stream3 v es) }
+
+-- ---- the words of the columns
+
+unfoldable pub maskWords : (k b : ℕ) → List ℕ → List ℕ
+maskWords zero b xs = []
+maskWords (suc k) b xs = maskWord3 b (nearby (b + 12) xs) ∷ maskWords k (b + 12) (beyond (b + 12) xs)
+
+unfoldable pub vectorWords : (p : ℕ) → List ℕ → List ℕ
+vectorWords p xs = baseWord3 p (firstX xs) ∷ maskWords (windows xs) (firstX xs) xs
+
+unfoldable pub bodyWords : (p : ℕ) → List ℕ → List ℕ
+bodyWords p xs = cond (vectored xs) (vectorWords p xs) (map (singleWord3 p) xs)
+
+module _ (t y p : ℕ) where
+  words-singles : (xs : List ℕ) → words (singles t y p xs) ≡ map (singleWord3 p) xs
+  words-singles [] = refl
+  words-singles (x ∷ xs) = rw (words-singles xs)
+
+  words-masks : (k b : ℕ) (xs : List ℕ) → words (masks t y p k b xs) ≡ maskWords k b xs
+  unfolding maskWords
+  words-masks zero b xs = refl
+  words-masks (suc k) b xs = ap (λ (l : List ℕ). maskWord3 b (nearby (b + 12) xs) ∷ l) (words-masks k (b + 12) (beyond (b + 12) xs))
+
+  pub words-body : (xs : List ℕ) → words (body3 t y p xs) ≡ bodyWords p xs
+  unfolding body3 bodyWords vectorWords
+  words-body xs = go (vectored xs)
+    where
+      go : (b : Bool) → words (cond b (vectors t y p xs) (singles t y p xs)) ≡ cond b (baseWord3 p (firstX xs) ∷ maskWords (windows xs) (firstX xs) xs) (map (singleWord3 p) xs)
+      go true = ap (λ (l : List ℕ). baseWord3 p (firstX xs) ∷ l) (words-masks (windows xs) (firstX xs) xs)
+      go false = words-singles xs
+
+pub length-masks : (k b : ℕ) (xs : List ℕ) → length (maskWords k b xs) ≡ k
+unfolding maskWords
+length-masks zero b xs = refl
+length-masks (suc k) b xs = ap suc (length-masks k (b + 12) (beyond (b + 12) xs))
+
+pub length-body : (p : ℕ) (xs : List ℕ) → length (bodyWords p xs) ≤ length xs
+unfolding bodyWords vectorWords vectored
+length-body p xs = go (vectored xs) refl
+  where
+    go : (b : Bool) → vectored xs ≡ b → length (cond b (baseWord3 p (firstX xs) ∷ maskWords (windows xs) (firstX xs) xs) (map (singleWord3 p) xs)) ≤ length xs
+    go true h = omega (arith, length-masks (windows xs) (firstX xs) xs, ltb-true (1 + windows xs) (length xs) (and-both (ltb 2 (length xs)) (ltb (1 + windows xs) (length xs)) h .1))
+    go false h = omega (arith, length-map xs (singleWord3 p))
+
+-- ---- time and row
+
+abbrev pub dueBytes : (sent : Bool) → ℕ → List ℕ
+dueBytes b w = stream 2 (words (due b w))
+
+abbrev pub leadBytes : EncoderState → (t y : ℕ) → List ℕ
+leadBytes v t y = stream 2 (words (leads3 v t y))
+
+lead-parts : (v : EncoderState) (t y : ℕ)
+    → leadBytes v t y ≡ dueBytes (highSent3 v t) (highWord3 t) ++ (dueBytes (lowSent3 v t) (lowWord3 t) ++ dueBytes (rowSent3 v y) (rowWord3 y))
+unfolding leads3
+lead-parts v t y =
+    rw (words-append (due (highSent3 v t) (highWord3 t)), words-append (due (lowSent3 v t) (lowWord3 t)), stream-append 2 (words (due (highSent3 v t) (highWord3 t))), stream-append 2 (words (due (lowSent3 v t) (lowWord3 t))))
+
+due-few : (b : Bool) (w : ℕ) → length (dueBytes b w) ≤ 2
+due-few true w = omega arith
+due-few false w = omega arith
+
+-- by the numbers that are held of what was sent
+abbrev pub leadsBytes : (high low row t y : ℕ) → List ℕ
+leadsBytes high low row t y =
+    let sent = eqb high (t / 4096) in
+    dueBytes sent (highWord3 t) ++ (dueBytes (eqb (cond sent low 0) (t % 4096)) (lowWord3 t) ++ dueBytes (eqb row y) (y % 2048))
+
+low-as : (b : Bool) (l : Sent) → held (lowHeld b l) ≡ cond b (held l) 0
+low-as true l = refl
+low-as false l = refl
+
+pub leads-held : (v : EncoderState) (high low row t y : ℕ) → t < 2 ^ 64 → y < 2 ^ 16 → high ≡ held (v .«time_high») → low ≡ held (v .«time_low») → row ≡ held (v .y)
+    → leadsBytes high low row t y ≡ leadBytes v t y
+leads-held v high low row t y t< y< h l r =
+    let hi : eqb high (t / 4096) ≡ highSent3 v t = ap (λ (n : ℕ). eqb n (t / 4096)) h ∙ held-is (v .«time_high») (t / 4096) (omega arith) in
+    let kept : cond (eqb high (t / 4096)) low 0 ≡ held (lowHeld (highSent3 v t) (v .«time_low»)) = rw (hi, l) (sym (low-as (highSent3 v t) (v .«time_low»))) in
+    let lo : eqb (cond (eqb high (t / 4096)) low 0) (t % 4096) ≡ lowSent3 v t = ap (λ (n : ℕ). eqb n (t % 4096)) kept ∙ held-is (lowHeld (highSent3 v t) (v .«time_low»)) (t % 4096) (omega arith) in
+    let ro : eqb row y ≡ rowSent3 v y = ap (λ (n : ℕ). eqb n y) r ∙ held-is (v .y) y (omega arith) in
+    let e : rowWord3 y ≡ y % 2048 = omega arith in
+    sym (lead-parts v t y ∙ rw (lo, hi, ro, e))
+
+pub leads-few : (high low row t y : ℕ) → length (leadsBytes high low row t y) ≤ 6
+leads-few high low row t y =
+    let sent = eqb high (t / 4096) in
+    let a = dueBytes sent (highWord3 t) in
+    let b = dueBytes (eqb (cond sent low 0) (t % 4096)) (lowWord3 t) in
+    let c = dueBytes (eqb row y) (y % 2048) in
+    omega (arith, length-append a (b ++ c), length-append b c, due-few sent (highWord3 t), due-few (eqb (cond sent low 0) (t % 4096)) (lowWord3 t), due-few (eqb row y) (y % 2048))
+
+pub bytes-parts : (v : EncoderState) (r : Run) → bytes3 v r ≡ leadBytes v (r .t) (r .y) ++ stream 2 (bodyWords (r .p) (r .xs))
+unfolding encode3
+bytes-parts v r = rw (words-append (leads3 v (r .t) (r .y)), stream-append 2 (words (leads3 v (r .t) (r .y))), words-body)
+
+pub due-place : (r at : ℕ) (b : Bool) (w : ℕ) → r ≡ at + length (dueBytes b w) → r ≤ at + 2
+due-place r at b w e = omega (arith, due-few b w)
+
+pub lead-few : (v : EncoderState) (t y : ℕ) → length (leadBytes v t y) ≤ 6
+lead-few v t y =
+    let a = dueBytes (highSent3 v t) (highWord3 t) in
+    let b = dueBytes (lowSent3 v t) (lowWord3 t) in
+    let c = dueBytes (rowSent3 v y) (rowWord3 y) in
+    rw lead-parts (omega (arith, length-append a (b ++ c), length-append b c, due-few (highSent3 v t) (highWord3 t), due-few (lowSent3 v t) (lowWord3 t), due-few (rowSent3 v y) (rowWord3 y)))
+
+pub few3 : (v : EncoderState) (r : Run) → 1 ≤ length (r .xs) → length (bytes3 v r) ≤ 8 * length (r .xs)
+few3 v r h =
+    let a = leadBytes v (r .t) (r .y) in
+    let b = bodyWords (r .p) (r .xs) in
+    rw bytes-parts (omega (arith, length-append a (stream 2 b), length-stream 2 b, length-body (r .p) (r .xs), lead-few v (r .t) (r .y)))
+
+-- ---- a part of a column, from i up to e
+
+abbrev pub between : {A : Type 0} → List A → ℕ → ℕ → List A
+between xs i e = take (e - i) (drop i xs)
+
+pub between-at : (xs : List ℕ) (i e : ℕ) → i < e → e ≤ length xs → between xs i e ≡ getD xs i 0 ∷ between xs (i + 1) e
+between-at xs i e h k =
+    let n : e - i ≡ suc (e - suc i) = omega arith in
+    rw (add-one, drop-cons xs i 0 (omega arith), n)
+
+pub between-end : (xs : List ℕ) (i e : ℕ) → e ≤ i → between xs i e ≡ []
+between-end xs i e h = let n : e - i ≡ 0 = omega arith in rw n
+
+pub length-between : (xs : List ℕ) (i e : ℕ) → i ≤ e → e ≤ length xs → length (between xs i e) ≡ e - i
+length-between xs i e h k = rw (length-take, length-drop) (omega arith)
+
+pub between-getD : (xs : List ℕ) (i e k : ℕ) → i + k < e → getD (between xs i e) k 0 ≡ getD xs (i + k) 0
+between-getD xs i e k h = let n : k < e - i = omega arith in rw (getD-take (e - i) (drop i xs) k 0 n, getD-drop)
+
+-- and a place in the output
+pub record Part (xs : List ℕ) (i e at : ℕ) : Type 0 where
+  pub low : i ≤ e
+  pub high : e ≤ length xs
+  pub few : length xs ≤ 2 ^ 28
+  pub place : at ≤ 2 ^ 40
+
+-- the window that starts at b, of the numbers from `from` on
+pub record Windowed (xs : List ℕ) (from e b : ℕ) (w : Window) : Type 0 where
+  pub is-next : w .next ≡ from + length (nearby (b + 12) (between xs from e))
+  pub is-mask : w .mask ≡ mask b (nearby (b + 12) (between xs from e))
+  pub is-rest : between xs (w .next) e ≡ beyond (b + 12) (between xs from e)
+  pub within : w .next ≤ e
+
+module _ (to x : ℕ) (xs : List ℕ) where
+  pub nearby-in : x < to → nearby to (x ∷ xs) ≡ x ∷ nearby to xs
+  unfolding nearby
+  nearby-in h = rw (lt-ltb x to h)
+
+  pub nearby-out : to ≤ x → nearby to (x ∷ xs) ≡ []
+  unfolding nearby
+  nearby-out h = rw (le-ltb x to h)
+
+  pub beyond-in : x < to → beyond to (x ∷ xs) ≡ beyond to xs
+  unfolding beyond
+  beyond-in h = rw (lt-ltb x to h)
+
+  pub beyond-out : to ≤ x → beyond to (x ∷ xs) ≡ x ∷ xs
+  unfolding beyond
+  beyond-out h = rw (le-ltb x to h)
+
+-- ---- the columns, by which way they are written
+
+module _ (p : ℕ) (xs : List ℕ) (i e k : ℕ) (h : i < e) (f : e ≤ length xs) (is-k : k ≡ (getD xs (e - 1) 0 - getD xs i 0 + 12) / 12) where
+  first-is : firstX (between xs i e) ≡ getD xs i 0
+  first-is = between-getD xs i e 0 (omega arith) ∙ ap (λ (j : ℕ). getD xs j 0) (add-zero i)
+
+  last-is : lastX (between xs i e) ≡ getD xs (e - 1) 0
+  last-is =
+      let n : i + (e - i - 1) ≡ e - 1 = omega arith in
+      rw (length-between xs i e (omega arith) f) (between-getD xs i e (e - i - 1) (omega arith) ∙ ap (λ (j : ℕ). getD xs j 0) n)
+
+  windows-is : windows (between xs i e) ≡ k
+  unfolding windows
+  windows-is = rw (last-is, first-is) (omega arith)
+
+  vectored-is : vectored (between xs i e) ≡ (ltb 2 (e - i) && ltb (1 + k) (e - i))
+  unfolding vectored
+  vectored-is = rw (windows-is, length-between xs i e (omega arith) f)
+
+  pub body-vector : (ltb 2 (e - i) && ltb (1 + k) (e - i)) ≡ true
+      → stream 2 (bodyWords p (between xs i e)) ≡ bytes 2 (baseWord3 p (getD xs i 0)) ++ stream 2 (maskWords k (getD xs i 0) (between xs i e))
+  unfolding bodyWords vectorWords
+  body-vector v = ap (stream 2) (ap (λ (b : Bool). cond b (vectorWords p (between xs i e)) (map (singleWord3 p) (between xs i e))) (vectored-is ∙ v)) ∙ rw (windows-is, first-is)
+
+  pub body-singles : (ltb 2 (e - i) && ltb (1 + k) (e - i)) ≡ false → stream 2 (bodyWords p (between xs i e)) ≡ stream 2 (map (singleWord3 p) (between xs i e))
+  unfolding bodyWords
+  body-singles v = ap (stream 2) (ap (λ (b : Bool). cond b (vectorWords p (between xs i e)) (map (singleWord3 p) (between xs i e))) (vectored-is ∙ v))

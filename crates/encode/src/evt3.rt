@@ -1,0 +1,293 @@
+// EVT3: the words of runs of events, stored as far as the buffer reaches.
+ghost use mathlib.Core.Path.{_≡_};
+ghost use mathlib.Core.Bool.{_&&_, cond};
+ghost use mathlib.Core.List.{map, _++_};
+ghost use Prim.Native.Nat.{_+_, _*_, _-_, _/_, _^_, _≤_, _<_};
+ghost use lib.ListN.{length};
+ghost use lib.Seq.{sets};
+ghost use lib.Dec.{ltb};
+ghost use Rattle.stream.specs.Words.{stream};
+ghost use Rattle.encode.specs.Columns.{Sized, event, eventsIn};
+ghost use Rattle.encode.specs.Runs.{goes};
+ghost use Rattle.encode.specs.Evt3.{singleWord3, baseWord3};
+ghost use Rattle.encode.specs.Parts.{dueBytes, leadsBytes, stream3, passed3, bodyWords, maskWords, between, Part, Windowed};
+ghost use Rattle.encode.specs.Loops.{goOn};
+ghost use Rattle.encode.specs.Pass3.{stateAt3};
+use crate::EncoderState;
+use crate::Put;
+use crate::held_of;
+use crate::store;
+use crate::time_of;
+use evt::Sent;
+
+// The bits of one window of 12 columns, and the index of the first event after it.
+pub struct Window {
+    pub mask: u64,
+    pub next: usize,
+}
+
+// Whether an event goes on a run: what must be equal is compared at once, without a branch for each.
+fn goes_on(t: u64, y: u16, p: u8, last: u16, x: u16, y2: u16, t2: u64, p2: u8) -> bool
+    ensures { λ r. ⌜ r ≡ goes t y p last (event x y2 t2 p2) ⌝ }
+{
+    let rows = (y2 ^ y) as u64;
+    let signs = (p2 ^ p) as u64;
+    let differ = (t2 ^ t) | rows | signs;
+    if differ == 0 { last < x } else { false }
+}
+
+// The end of the run that starts at i.
+fn run_end(xs: &[u16], ys: &[u16], ts: &[i64], ps: &[u8], i: usize) -> usize
+    requires { ⌜ Sized (now xs) (now ys) (now ts) (now ps) × (i < length (now xs)) ⌝ }
+    ensures { λ r. ⌜ r ≡ i + 1 + goOn (now (xs .entry)) (now (ys .entry)) (now (ts .entry)) (now (ps .entry)) i ⌝ }
+{
+    let t = time_of(ts[i]);
+    let y = ys[i];
+    let p = ps[i];
+    let mut last = xs[i];
+    let mut j = i + 1;
+    while j < xs.len() {
+        let x = xs[j];
+        let t2 = time_of(ts[j]);
+        if goes_on(t, y, p, last, x, ys[j], t2, ps[j]) {
+            last = x;
+            j += 1;
+        } else {
+            return j;
+        }
+    }
+    j
+}
+
+// After a type 8 the low half counts as 0.
+fn low_kept(sent: bool, low: u64) -> u64
+    ensures { λ r. ⌜ r ≡ cond sent low 0 ⌝ }
+{
+    if sent { low } else { 0 }
+}
+
+// A word, unless its content was sent.
+fn put_due(sent: bool, w: u16, out: &mut [u8], at: usize) -> usize
+    requires { ⌜ at < 2 ^ 61 ⌝ }
+    ensures { λ r. ⌜ r ≡ at + length (dueBytes sent w) ⌝ ∗ ⌜ now (out .exit) ≡ sets (now (out .entry)) at (dueBytes sent w) ⌝ }
+{
+    if sent {
+        at
+    } else {
+        store::put16(&mut *out, at, w);
+        at + 2
+    }
+}
+
+// Time and row, where they changed: `high`, `low` and `row` were sent last.
+fn put_leads(high: u64, low: u64, row: u64, t: u64, y: u16, out: &mut [u8], at: usize) -> usize
+    requires { ⌜ at < 2 ^ 60 ⌝ }
+    ensures { λ r. ⌜ r ≡ at + length (leadsBytes high low row t y) ⌝ ∗ ⌜ now (out .exit) ≡ sets (now (out .entry)) at (leadsBytes high low row t y) ⌝ }
+{
+    let q = t / 4096;
+    let l = t % 4096;
+    let sent = high == q;
+    let kept = low_kept(sent, low);
+    let low_sent = kept == l;
+    let row_sent = row == y as u64;
+    let a = put_due(sent, 32768 + (q % 4096) as u16, &mut *out, at);
+    let b = put_due(low_sent, 24576 + l as u16, &mut *out, a);
+    put_due(row_sent, y % 2048, &mut *out, b)
+}
+
+fn single_word(p: u8, x: u16) -> u16
+    ensures { λ r. ⌜ r ≡ singleWord3 p x ⌝ }
+{
+    8192 + (p % 2) as u16 * 2048 + x % 2048
+}
+
+fn base_word(p: u8, x: u16) -> u16
+    ensures { λ r. ⌜ r ≡ baseWord3 p x ⌝ }
+{
+    12288 + (p % 2) as u16 * 2048 + x % 2048
+}
+
+// A word for each event from i up to end.
+fn put_singles(p: u8, xs: &[u16], i: usize, end: usize, out: &mut [u8], at: usize) -> usize
+    requires { ⌜ Part (now xs) i end at ⌝ }
+    ensures { λ r. ⌜ r ≡ at + length (stream 2 (map (singleWord3 p) (between (now (xs .entry)) i end))) ⌝ ∗ ⌜ now (out .exit) ≡ sets (now (out .entry)) at (stream 2 (map (singleWord3 p) (between (now (xs .entry)) i end))) ⌝ }
+{
+    let mut a = at;
+    let mut j = i;
+    while j < end {
+        store::put16(&mut *out, a, single_word(p, xs[j]));
+        a += 2;
+        j += 1;
+    }
+    a
+}
+
+// a - b, or 0 where that is negative.
+fn less(a: u64, b: u64) -> u64
+    ensures { λ r. ⌜ r ≡ a - b ⌝ }
+{
+    if a < b { 0 } else { a - b }
+}
+
+fn bit(d: u64) -> u64
+    requires { ⌜ d < 12 ⌝ }
+    ensures { λ r. ⌜ r ≡ 2 ^ d ⌝ }
+{
+    1 << d
+}
+
+// The events from `from` on that lie below base + 12.
+fn next_window(xs: &[u16], from: usize, end: usize, base: u64) -> Window
+    requires { ⌜ Part (now xs) from end 0 × (base ≤ 2 ^ 20) ⌝ }
+    ensures { λ r. ⌜ Windowed (now (xs .entry)) from end base r ⌝ }
+{
+    let mut mask: u64 = 0;
+    let mut c = from;
+    while c < end {
+        let x = xs[c] as u64;
+        if x < base + 12 {
+            mask += bit(less(x, base));
+            c += 1;
+        } else {
+            return Window { mask, next: c };
+        }
+    }
+    Window { mask, next: c }
+}
+
+// The masks of k windows from base on.
+fn put_masks(
+    xs: &[u16],
+    i: usize,
+    end: usize,
+    base: u64,
+    k: u64,
+    out: &mut [u8],
+    at: usize,
+) -> usize
+    requires { ⌜ Part (now xs) i end at × (base + 12 * k ≤ 2 ^ 20) ⌝ }
+    ensures { λ r. ⌜ r ≡ at + length (stream 2 (maskWords k base (between (now (xs .entry)) i end))) ⌝ ∗ ⌜ now (out .exit) ≡ sets (now (out .entry)) at (stream 2 (maskWords k base (between (now (xs .entry)) i end))) ⌝ }
+{
+    let mut a = at;
+    let mut c = i;
+    let mut b = base;
+    let mut left = k;
+    while 0 < left {
+        let w = next_window(xs, c, end, b);
+        store::put16(&mut *out, a, 16384 + (w.mask % 4096) as u16);
+        c = w.next;
+        a += 2;
+        b += 12;
+        left -= 1;
+    }
+    a
+}
+
+// How many windows of 12 columns reach from the first column to the last.
+fn windows_to(first: u64, last: u64) -> u64
+    requires { ⌜ last < 2 ^ 16 ⌝ }
+    ensures { λ r. ⌜ r ≡ (last - first + 12) / 12 ⌝ }
+{
+    (less(last, first) + 12) / 12
+}
+
+// Whether n events are over 2, and more than the words of their windows.
+fn vector_pays(n: u64, first: u64, last: u64) -> bool
+    requires { ⌜ last < 2 ^ 16 ⌝ }
+    ensures { λ r. ⌜ r ≡ (ltb 2 n && ltb (1 + (last - first + 12) / 12) n) ⌝ }
+{
+    if 2 < n {
+        let k = windows_to(first, last);
+        1 + k < n
+    } else {
+        false
+    }
+}
+
+// The words of the columns from i up to end, a run.
+fn put_body(p: u8, xs: &[u16], i: usize, end: usize, out: &mut [u8], at: usize) -> usize
+    requires { ⌜ Part (now xs) i end (at + 2) × (i < end) ⌝ }
+    ensures { λ r. ⌜ r ≡ at + length (stream 2 (bodyWords p (between (now (xs .entry)) i end))) ⌝ ∗ ⌜ now (out .exit) ≡ sets (now (out .entry)) at (stream 2 (bodyWords p (between (now (xs .entry)) i end))) ⌝ }
+{
+    let x = xs[i];
+    let first = x as u64;
+    let last = xs[end - 1] as u64;
+    if vector_pays((end - i) as u64, first, last) {
+        let k = windows_to(first, last);
+        store::put16(&mut *out, at, base_word(p, x));
+        put_masks(xs, i, end, first, k, &mut *out, at + 2)
+    } else {
+        put_singles(p, xs, i, end, &mut *out, at)
+    }
+}
+
+// The words of the run from i up to end.
+fn put_run(
+    high: u64,
+    low: u64,
+    row: u64,
+    t: u64,
+    y: u16,
+    p: u8,
+    xs: &[u16],
+    i: usize,
+    end: usize,
+    out: &mut [u8],
+    at: usize,
+) -> usize
+    requires { ⌜ Part (now xs) i end (at + 8) × (i < end) ⌝ }
+    ensures { λ r. ⌜ r ≡ at + length (leadsBytes high low row t y ++ stream 2 (bodyWords p (between (now (xs .entry)) i end))) ⌝ ∗ ⌜ now (out .exit) ≡ sets (now (out .entry)) at (leadsBytes high low row t y ++ stream 2 (bodyWords p (between (now (xs .entry)) i end))) ⌝ }
+{
+    let a = put_leads(high, low, row, t, y, &mut *out, at);
+    put_body(p, xs, i, end, &mut *out, a)
+}
+
+// What has been sent after n events, where `high`, `low` and `row` were sent last.
+fn sent_after(state: EncoderState, n: usize, high: u64, low: u64, row: u64) -> EncoderState
+    ensures { λ r. ⌜ r ≡ stateAt3 state n high low row ⌝ }
+{
+    if 0 < n {
+        EncoderState {
+            time_high: Sent::Value(high),
+            time_low: Sent::Value(low),
+            y: Sent::Value(row),
+        }
+    } else {
+        state
+    }
+}
+
+// The words of all events, from `start` on. The bounds keep `at` from wrapping.
+pub fn pass(
+    state: EncoderState,
+    xs: &[u16],
+    ys: &[u16],
+    ts: &[i64],
+    ps: &[u8],
+    out: &mut [u8],
+    start: usize,
+) -> Put
+    requires { ⌜ Sized (now xs) (now ys) (now ts) (now ps) × (start ≤ 2 ^ 32) ⌝ }
+    ensures { λ r. ⌜ r ≡ passed3 state (eventsIn (now (xs .entry)) (now (ys .entry)) (now (ts .entry)) (now (ps .entry))) start ⌝ ∗ ⌜ now (out .exit) ≡ sets (now (out .entry)) start (stream3 state (eventsIn (now (xs .entry)) (now (ys .entry)) (now (ts .entry)) (now (ps .entry)))) ⌝ }
+{
+    let sent_high = state.time_high;
+    let sent_low = state.time_low;
+    let sent_row = state.y;
+    let mut high = held_of(sent_high);
+    let mut low = held_of(sent_low);
+    let mut row = held_of(sent_row);
+    let mut at = start;
+    let mut i: usize = 0;
+    while i < xs.len() {
+        let t = time_of(ts[i]);
+        let y = ys[i];
+        let end = run_end(xs, ys, ts, ps, i);
+        at = put_run(high, low, row, t, y, ps[i], xs, i, end, &mut *out, at);
+        high = t / 4096;
+        low = t % 4096;
+        row = y as u64;
+        i = end;
+    }
+    let after = sent_after(state, xs.len(), high, low, row);
+    Put { state: after, at }
+}

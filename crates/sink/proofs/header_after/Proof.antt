@@ -1,0 +1,18 @@
+use Rattle.sink.specs.Ends.{some-is}
+use denote.Ref.{now}
+use borrow.Author.Needs.{needs}
+use Rattle.sink.proofs.header_after.Statement.{statement}
+use Rattle.sink.proofs.header_after.Tie as tie
+use Rattle.sink.proofs.header_after.Reads as reads
+use Rattle.sink.proofs.header_after.Lts as lts
+
+-- src/lib.rt:120:1
+returns : tie.Need-returns
+returns c = search needs
+
+-- src/lib.rt:120:1
+returns-2 : tie.Need-returns-2
+returns-2 c = rw (c .if1 .left) (some-is (now (c .before .args .xs)))
+
+pub header-after-spec : {M : Type 1} → statement M
+header-after-spec = tie.close (tie.spec returns returns-2)

@@ -1,0 +1,18 @@
+use Rattle.sink.specs.Ends.{some-is}
+use denote.Ref.{now}
+use borrow.Author.Needs.{needs}
+use Rattle.sink.proofs.header_due.Statement.{statement}
+use Rattle.sink.proofs.header_due.Tie as tie
+use Rattle.sink.proofs.header_due.Reads as reads
+use Rattle.sink.proofs.header_due.Lts as lts
+
+-- src/lib.rt:110:1
+returns : tie.Need-returns
+returns c = search needs
+
+-- src/lib.rt:110:1
+returns-2 : tie.Need-returns-2
+returns-2 c = rw (c .if1 .left) (some-is (now (c .before .args .xs)))
+
+pub header-due-spec : {M : Type 1} → statement M
+header-due-spec = tie.close (tie.spec returns returns-2)

@@ -1,0 +1,41 @@
+use mathlib.Core.Path.{_≡_, ap, _∙_}
+use native.Mathlib.Omega.{arith}
+use denote.Ref.{now}
+use Rattle.sink.specs.Ends.{due-few, wrote-is}
+use borrow.Author.Needs.{needs}
+use Rattle.sink.proofs.write.Statement.{statement}
+use Rattle.sink.proofs.write.Tie as tie
+use Rattle.sink.proofs.write.Reads as reads
+use Rattle.sink.proofs.write.Lts as lts
+use Rattle.encode.proofs.pass.Reads as pass-reads
+use Rattle.sink.proofs.header.put_due.Reads as put-due-reads
+use Rattle.sink.proofs.header_due.Reads as header-due-reads
+
+-- src/lib.rt:148:9
+header-due-requires : tie.Need-header-due-requires
+header-due-requires c κs = search needs
+
+-- src/lib.rt:149:9
+put-due-requires : tie.Need-put-due-requires
+put-due-requires c κs = search needs
+
+-- src/lib.rt:150:5
+pass-requires : tie.Need-pass-requires
+pass-requires c κs =
+    let s = c .before .before .before .before .before .before .before .before .before .before .before in
+    let few = due-few (c .before .before .before .before .before .header-due .result) (s .args .sink .version) (s .args .width) (s .args .height) (omega arith) (omega arith) in
+    (s .pre, omega (arith, few, c .before .before .before .put-due .ensures .0))
+
+-- src/lib.rt:142:1
+same-length : tie.Need-same-length
+same-length c = search needs
+
+-- src/lib.rt:142:1
+returns : tie.Need-returns
+returns c =
+    let a = c .before .before .before .before .before .before .before .before .before .before .before .before .before .before .args in
+    wrote-is (a .sink) (a .width) (a .height) (now (a .xs)) (now (a .ys)) (now (a .ts)) (now (a .ps)) (now (a .out)) (c .before .before .before .before .before .before .before .before .header-due .ensures) (c .before .before .before .before .before .before .put-due .ensures .0) (c .before .before .before .before .before .before .put-due .ensures .1) (c .before .before .pass .ensures .0) (c .before .before .pass .ensures .1)
+
+pub write-spec : {M : Type 1} → statement M
+write-spec =
+    tie.close (tie.spec header-due-requires put-due-requires pass-requires same-length returns)

@@ -1,0 +1,228 @@
+// The writer: events in four columns, written as words into a buffer that the caller lends, or
+// refused by number. specs/Append.antt says what an append answers and leaves, specs/Range.antt
+// what it is judged by, specs/Header.antt the header.
+ghost use mathlib.Core.Path.{_≡_};
+ghost use mathlib.Core.Bool.{cond, _||_};
+ghost use lib.Dec.{leb};
+ghost use lib.ListN.{length};
+ghost use lib.Seq.{sets};
+ghost use Rattle.encode.specs.Columns.{Sized};
+ghost use Rattle.sink.specs.Range.{sinkInRange};
+ghost use Rattle.sink.specs.Append.{freshSink, headerDue, some, lastAfter, sends, AppendOwed};
+ghost use Rattle.sink.specs.Ends.{checkOf, wrote};
+use encode::EncoderState;
+use encode::Put;
+use evt::Encoding;
+use evt::Refusal;
+use evt::Sent;
+
+mod columns;
+mod header;
+mod range;
+
+pub enum LastTime {
+    Never,
+    At(i64),
+}
+
+pub struct RawEventSink {
+    pub version: Encoding,
+    pub header_written: bool,
+    pub n_events: usize,
+    pub last_t: LastTime,
+    pub state: EncoderState,
+}
+
+// How many bytes were written, or why none.
+pub enum AppendAnswer {
+    Written(usize),
+    Refused(Refusal),
+}
+
+pub struct Appended {
+    pub sink: RawEventSink,
+    pub answer: AppendAnswer,
+}
+
+// What the sink and the columns ask for, the output aside.
+pub enum Check {
+    Passed,
+    Failed(Refusal),
+}
+
+impl RawEventSink {
+    // A fresh writer, which sends a header before its first words or not.
+    pub fn to_writer(version: Encoding, header: bool) -> Self
+        ensures { λ r. ⌜ r ≡ freshSink version header ⌝ }
+    {
+        let state = EncoderState {
+            time_high: Sent::Nothing,
+            time_low: Sent::Nothing,
+            y: Sent::Nothing,
+        };
+        Self {
+            version,
+            header_written: !header,
+            n_events: 0,
+            last_t: LastTime::Never,
+            state,
+        }
+    }
+}
+
+fn in_range(sink: RawEventSink) -> bool
+    ensures { λ r. ⌜ r ≡ sinkInRange sink ⌝ }
+{
+    let version = sink.version;
+    let state = sink.state;
+    let last = sink.last_t;
+    range::last(version, state, sink.n_events, last)
+}
+
+// Rules 10, 12, 4, 6 and 7.
+fn check_append(sink: RawEventSink, xs: &[u16], ys: &[u16], ts: &[i64], ps: &[u8]) -> Check
+    ensures { λ r. ⌜ r ≡ checkOf sink (now (xs .entry)) (now (ys .entry)) (now (ts .entry)) (now (ps .entry)) ⌝ }
+{
+    if in_range(sink) {} else {
+        return Check::Failed(Refusal::StateOutOfRange);
+    }
+    if columns::same_lengths(xs.len(), ys.len(), ts.len(), ps.len()) {} else {
+        return Check::Failed(Refusal::ColumnLengths);
+    }
+    if 268435456 < xs.len() {
+        return Check::Failed(Refusal::TooLong);
+    }
+    let last = sink.last_t;
+    if columns::times_fall_after(last, ts) {
+        return Check::Failed(Refusal::TimeOrder);
+    }
+    let version = sink.version;
+    if columns::events_in_range(version, xs, ys, ts, ps) {
+        Check::Passed
+    } else {
+        Check::Failed(Refusal::EventOutOfRange)
+    }
+}
+
+// A header is due before the first events.
+fn header_due(sink: RawEventSink, xs: &[u16]) -> bool
+    ensures { λ r. ⌜ r ≡ headerDue sink (now (xs .entry)) ⌝ }
+{
+    if sink.header_written {
+        false
+    } else {
+        0 < xs.len()
+    }
+}
+
+fn header_after(sink: RawEventSink, xs: &[u16]) -> bool
+    ensures { λ r. ⌜ r ≡ (sink .«header_written» || some (now (xs .entry))) ⌝ }
+{
+    if sink.header_written {
+        true
+    } else {
+        0 < xs.len()
+    }
+}
+
+fn last_after(last: LastTime, ts: &[i64]) -> LastTime
+    ensures { λ r. ⌜ r ≡ lastAfter last (now (ts .entry)) ⌝ }
+{
+    let n = ts.len();
+    if 0 < n { LastTime::At(ts[n - 1]) } else { last }
+}
+
+// The header, where it is due, and the words, from the front of `out`, as far as it reaches.
+fn write(
+    sink: RawEventSink,
+    width: usize,
+    height: usize,
+    xs: &[u16],
+    ys: &[u16],
+    ts: &[i64],
+    ps: &[u8],
+    out: &mut [u8],
+) -> Put
+    requires { ⌜ Sized (now xs) (now ys) (now ts) (now ps) ⌝ }
+    ensures { λ r. ⌜ r ≡ wrote sink width height (now (xs .entry)) (now (ys .entry)) (now (ts .entry)) (now (ps .entry)) ⌝ ∗ ⌜ now (out .exit) ≡ sets (now (out .entry)) 0 (sends sink width height (now (xs .entry)) (now (ys .entry)) (now (ts .entry)) (now (ps .entry))) ⌝ }
+{
+    let version = sink.version;
+    let state = sink.state;
+    let due = header_due(sink, xs);
+    let at = header::put_due(due, version, width, height, &mut *out);
+    encode::pass(version, state, xs, ys, ts, ps, &mut *out, at)
+}
+
+// The bytes that are needed where there are fewer, and else 0. An event needs at most 8, and a
+// header at most 96: where these have room nothing is measured.
+fn shortfall(
+    sink: RawEventSink,
+    width: usize,
+    height: usize,
+    xs: &[u16],
+    ys: &[u16],
+    ts: &[i64],
+    ps: &[u8],
+    room: usize,
+) -> usize
+    requires { ⌜ Sized (now xs) (now ys) (now ts) (now ps) ⌝ }
+    ensures { λ r. ⌜ r ≡ cond (leb (length (sends sink width height (now (xs .entry)) (now (ys .entry)) (now (ts .entry)) (now (ps .entry)))) room) 0 (length (sends sink width height (now (xs .entry)) (now (ys .entry)) (now (ts .entry)) (now (ps .entry)))) ⌝ }
+{
+    if 96 + 8 * xs.len() <= room {
+        return 0;
+    }
+    let mut none = [0u8; 0];
+    let put = write(sink, width, height, xs, ys, ts, ps, &mut none);
+    let need = put.at;
+    if need <= room { 0 } else { need }
+}
+
+// Appends events. A refusal returns the sink as it was, and leaves the output alone.
+pub fn append(
+    sink: RawEventSink,
+    width: usize,
+    height: usize,
+    xs: &[u16],
+    ys: &[u16],
+    ts: &[i64],
+    ps: &[u8],
+    output: &mut [u8],
+) -> Appended
+    ensures { λ r. ⌜ AppendOwed sink width height (now (xs .entry)) (now (ys .entry)) (now (ts .entry)) (now (ps .entry)) (now (output .entry)) r (now (output .exit)) ⌝ }
+{
+    let verdict = check_append(sink, xs, ys, ts, ps);
+    match verdict {
+        Check::Failed(refusal) => Appended {
+            sink,
+            answer: AppendAnswer::Refused(refusal),
+        },
+        Check::Passed => {
+            let need = shortfall(sink, width, height, xs, ys, ts, ps, output.len());
+            if need == 0 {
+                let put = write(sink, width, height, xs, ys, ts, ps, &mut *output);
+                let version = sink.version;
+                let header_written = header_after(sink, xs);
+                let n_events = sink.n_events + xs.len();
+                let last = sink.last_t;
+                let kept = last_after(last, ts);
+                let state = put.state;
+                let next = RawEventSink {
+                    version,
+                    header_written,
+                    n_events,
+                    last_t: kept,
+                    state,
+                };
+                Appended {
+                    sink: next,
+                    answer: AppendAnswer::Written(put.at),
+                }
+            } else {
+                Appended {
+                    sink,
+                    answer: AppendAnswer::Refused(Refusal::OutputTooShort(need)),
+                }
+            }
+        }
+    }
+}

@@ -1,3 +1,4 @@
 -- What each file is stands at its head.
 pub mod Index
 pub mod Build
+pub mod Laws

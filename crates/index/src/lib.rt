@@ -130,7 +130,11 @@ pub fn advance(recording: &[u8], run: Run) -> Ran
     Ran { record, next }
 }
 
-// A spacing that rule 8 allows. Alignment is the encoding's: 4 for both.
+// What a spacing is a multiple of (rule 8), for each encoding.
+const EVT2_ALIGNMENT: usize = 4;
+const EVT3_ALIGNMENT: usize = 4;
+
+// A spacing that rule 8 allows.
 fn spacing_ok(encoding: Encoding, spacing: usize) -> bool
     ensures { λ r. ⌜ r ≡ spacingOk encoding spacing ⌝ }
 {
@@ -140,11 +144,10 @@ fn spacing_ok(encoding: Encoding, spacing: usize) -> bool
     if 4194304 < spacing {
         return false;
     }
-    let alignment = match encoding {
-        Encoding::Evt2 => 4,
-        Encoding::Evt3 => 4,
-    };
-    spacing % alignment == 0
+    match encoding {
+        Encoding::Evt2 => spacing % EVT2_ALIGNMENT == 0,
+        Encoding::Evt3 => spacing % EVT3_ALIGNMENT == 0,
+    }
 }
 
 // One record for every `spacing` bytes begun, and one for no bytes.
@@ -314,8 +317,9 @@ pub fn conclude(run: Run) -> OpenAnswer
     match plan {
         Plan::Refuse(r) => OpenAnswer::Refused(r),
         Plan::Build(s) => {
+            let encoding = s.encoding;
             let source = RawSliceSource {
-                encoding: s.encoding,
+                encoding,
                 spacing: s.spacing,
                 data_offset: s.data_offset,
                 len: s.len,

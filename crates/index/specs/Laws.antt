@@ -7,6 +7,7 @@ use native.Mathlib.Omega.{arith}
 use native.Mathlib.Numerals.{add-one}
 use native.Mathlib.Nat.{zero-mul, suc-mul, mul-add, add-assoc}
 use lib.Dec.{ltb}
+use lib.IntN.{ℤ, pos}
 use lib.ListN.{length, take, drop, set, length-take, length-drop, length-append}
 use lib.Seq.{take-add, drop-drop, take-suc-set, drop-set-lt, length-take-le, take-all}
 use borrow.Author.Tests.{lt-ltb, le-ltb}
@@ -21,7 +22,8 @@ use Rattle.index.specs.declared.Checkpoint.{Checkpoint}
 use Rattle.index.specs.declared.Plan.{Plan}
 use Rattle.index.specs.declared.Run.{Run}
 use Rattle.index.specs.Index.{firsts}
-use Rattle.index.specs.Build.{recordOf, chunkOf, nextOf, Fit, Job, firstOf, frontOf, seenOf, runAt}
+use Rattle.decode.specs.declared.Survey.{Survey}
+use Rattle.index.specs.Build.{Advanced, recordOf, chunkOf, nextOf, Fit, Job, firstOf, frontOf, seenOf, runAt}
 
 -- ---- one turn
 
@@ -50,6 +52,35 @@ part-chunk l start spacing end h e = go (ltb (length l - start) spacing) refl
     go false q =
         let n : end - start ≡ spacing = omega (arith, borrow.Author.Tests.ltb-false (length l - start) spacing q) in
         ap (λ (k : ℕ). take k (drop start l)) n
+
+module _ (l : List ℕ) (t : Run) (f : Fit l t) (end : ℕ) (is-end : end ≡ min (t .offset + t .spacing) (length l)) where
+  abbrev part : List ℕ
+  part = take (end - t .offset) (drop (t .offset) l)
+
+  is-part : part ≡ chunkOf l t
+  is-part = part-chunk l (t .offset) (t .spacing) end (f .start) is-end
+
+  pub part-bounded : Bounded (length part) (t .codec)
+  part-bounded = rw is-part (chunk-bounded l t f)
+
+  module _ (s : Survey) (is : s ≡ surveyOf (t .width) (t .height) (t .codec) part) where
+    is-survey : s ≡ surveyOf (t .width) (t .height) (t .codec) (chunkOf l t)
+    is-survey = is ∙ ap (surveyOf (t .width) (t .height) (t .codec)) is-part
+
+    pub count-sum : t .count + s .count < 2 ^ 64
+    count-sum = omega (arith, ap (λ (u : Survey). u .count) is-survey, chunk-few l t f, f .few, f .long, f .start)
+
+    pub advanced : (time : ℤ) → time ≡ pos (t .latest) → (top : ℕ) → top ≡ max (t .latest) (s .latest)
+        → Advanced l t (record {
+          «record» = record { «byte_offset» = t .offset; «event_index» = t .count; time = time; codec = t .codec };
+          next = record { more = ltb (t .at + 1) (t .cap); at = t .at + 1; cap = t .cap; offset = t .offset + t .spacing; spacing = t .spacing; width = t .width; height = t .height; count = t .count + s .count; latest = top; codec = s .codec; plan = t .plan };
+        })
+    advanced time is-time top is-top = record {
+      is-record = ap (λ (z : ℤ). record { «byte_offset» = t .offset; «event_index» = t .count; time = z; codec = t .codec }) is-time;
+      is-next =
+        let e : top ≡ max (t .latest) (surveyOf (t .width) (t .height) (t .codec) (chunkOf l t) .latest) = is-top ∙ ap (λ (u : Survey). max (t .latest) (u .latest)) is-survey in
+        λ i. record { more = ltb (t .at + 1) (t .cap); at = t .at + 1; cap = t .cap; offset = t .offset + t .spacing; spacing = t .spacing; width = t .width; height = t .height; count = t .count + is-survey i .count; latest = e i; codec = is-survey i .codec; plan = t .plan };
+    }
 
 -- ---- all turns
 

@@ -2,3 +2,4 @@
 pub mod Index
 pub mod Build
 pub mod Laws
+pub mod Open

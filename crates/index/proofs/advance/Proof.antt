@@ -1,3 +1,8 @@
+use mathlib.Core.Path.{_≡_, refl, sym, ap, _∙_}
+use native.Mathlib.Omega.{arith}
+use mir.Facts.{toZ-pos}
+use mir.Syntax.{w64}
+use Rattle.index.specs.Laws.{part-bounded, count-sum, advanced}
 use borrow.Author.Needs.{needs}
 use Rattle.index.proofs.advance.Statement.{statement}
 use Rattle.index.proofs.advance.Tie as tie
@@ -33,11 +38,11 @@ part-count-all-end c = search needs
 
 -- src/lib.rt:112:9
 count-all-requires : tie.Need-count-all-requires
-count-all-requires c κs = ?
+count-all-requires c κs = part-bounded (c .before .before .before .before .before .args .recording .now) (c .before .before .before .before .before .args .run) (c .before .before .before .before .before .pre) (c .before .less .result) (c .before .less .ensures)
 
 -- src/lib.rt:113:17
 add-count : tie.Need-add-count
-add-count c = ?
+add-count c = record { fits = count-sum (c .before .before .before .before .before .before .before .before .args .recording .now) (c .before .before .before .before .before .before .before .before .args .run) (c .before .before .before .before .before .before .before .before .pre) (c .before .before .before .before .less .result) (c .before .before .before .before .less .ensures) (c .before .before .count-all .result) (c .before .before .count-all .ensures) }
 
 -- src/lib.rt:114:9
 later-requires : tie.Need-later-requires
@@ -49,7 +54,7 @@ add-at c = search needs
 
 -- src/lib.rt:97:1
 returns : tie.Need-returns
-returns c = ?
+returns c = advanced (c .before .before .before .before .before .before .before .before .before .before .before .args .recording .now) (c .before .before .before .before .before .before .before .before .before .before .before .args .run) (c .before .before .before .before .before .before .before .before .before .before .before .pre) (c .before .before .before .before .before .before .before .less .result) (c .before .before .before .before .before .before .before .less .ensures) (c .before .before .before .before .before .count-all .result) (c .before .before .before .before .before .count-all .ensures) _ (toZ-pos w64 (c .before .before .before .before .before .before .before .before .before .before .before .pre .early)) _ (c .before .before .later .ensures)
 
 pub advance-spec : {M : Type 1} → statement M
 advance-spec =

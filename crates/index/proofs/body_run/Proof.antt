@@ -1,3 +1,9 @@
+use mathlib.Core.Path.{_≡_, refl, sym, ap, _∙_}
+use native.Mathlib.Omega.{arith}
+use lib.ListN.{length, length-drop}
+use Rattle.index.specs.Build.{firstOf}
+use Rattle.index.specs.Open.{spaced, job-spacing, job-short, job-none, job-made, survey-none, survey-some}
+use Rattle.read.specs.Laws.{rest-of, ready-fresh}
 use borrow.Author.Needs.{needs}
 use Rattle.index.proofs.body_run.Statement.{statement}
 use Rattle.index.proofs.body_run.Tie as tie
@@ -21,7 +27,7 @@ idle-run-requires c κs = search needs
 
 -- src/lib.rt:223:9
 returns : tie.Need-returns
-returns c = ?
+returns c = c .idle-run .ensures ∙ ap firstOf (job-spacing (c .before .before .before .before .args .recording .now) (c .before .before .before .before .args .start) (c .before .before .before .before .args .encoding) (c .before .before .before .before .args .size) (c .before .before .before .before .args .spacing) (c .before .before .before .before .args .room) (c .before .before .before .before .pre .0) (c .before .before .before .before .pre .1) (sym (c .before .before .spacing-ok .ensures) ∙ c .before .if1 .taken))
 
 -- src/lib.rt:226:29
 sub-record-count : tie.Need-sub-record-count
@@ -29,7 +35,7 @@ sub-record-count c = search needs
 
 -- src/lib.rt:226:9
 record-count-requires : tie.Need-record-count-requires
-record-count-requires c κs = ?
+record-count-requires c κs = let s = spaced (c .before .before .before .args .encoding) (c .before .before .before .args .spacing) (sym (c .before .spacing-ok .ensures) ∙ c .if1 .left) in (omega (arith, c .before .before .before .pre .0), (s .low, s .high))
 
 -- src/lib.rt:228:9
 idle-run-requires-2 : tie.Need-idle-run-requires-2
@@ -37,7 +43,7 @@ idle-run-requires-2 c κs = search needs
 
 -- src/lib.rt:228:9
 returns-2 : tie.Need-returns-2
-returns-2 c = ?
+returns-2 c = c .idle-run2 .ensures ∙ ap firstOf (job-short (c .before .before .before .before .before .before .args .recording .now) (c .before .before .before .before .before .before .args .start) (c .before .before .before .before .before .before .args .encoding) (c .before .before .before .before .before .before .args .size) (c .before .before .before .before .before .before .args .spacing) (c .before .before .before .before .before .before .args .room) (c .before .before .before .before .before .before .pre .0) (c .before .before .before .before .before .before .pre .1) (c .before .before .record-count .result) (c .before .before .record-count .ensures) (sym (c .before .before .before .before .spacing-ok .ensures) ∙ c .before .before .before .if1 .left) (c .before .if2 .taken))
 
 -- src/lib.rt:231:27
 enum-known-size : tie.Need-enum-known-size

@@ -1,3 +1,5 @@
+use mathlib.Core.Path.{_≡_, refl, sym, ap, _∙_}
+use native.Mathlib.Omega.{arith}
 use borrow.Author.Needs.{needs}
 use Rattle.index.proofs.first_run.Statement.{statement}
 use Rattle.index.proofs.first_run.Tie as tie
@@ -11,7 +13,7 @@ new-requires c κs = search needs
 
 -- src/lib.rt:163:1
 returns : tie.Need-returns
-returns c = ?
+returns c = rw (c .new .ensures)
 
 pub first-run-spec : {M : Type 1} → statement M
 first-run-spec = tie.close (tie.spec new-requires returns)

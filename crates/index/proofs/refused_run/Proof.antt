@@ -1,3 +1,6 @@
+use mathlib.Core.Path.{_≡_, refl, sym, ap, _∙_}
+use native.Mathlib.Omega.{arith}
+use Rattle.index.specs.Build.{refusedJob, firstOf}
 use borrow.Author.Needs.{needs}
 use Rattle.index.proofs.refused_run.Statement.{statement}
 use Rattle.index.proofs.refused_run.Tie as tie
@@ -23,11 +26,11 @@ idle-run-requires-2 c κs = search needs
 
 -- src/lib.rt:271:1
 returns : tie.Need-returns
-returns c = ?
+returns c = c .idle-run .ensures ∙ sym (ap (λ a. firstOf (refusedJob a)) (c .before .before .answer .given .1))
 
 -- src/lib.rt:271:1
 returns-2 : tie.Need-returns-2
-returns-2 c = ?
+returns-2 c = c .idle-run2 .ensures ∙ sym (ap (λ a. firstOf (refusedJob a)) (c .before .enum-told .given .1))
 
 pub refused-run-spec : {M : Type 1} → statement M
 refused-run-spec =

@@ -32,7 +32,10 @@ use Rattle.header.specs.Laws.{of-accepted}
 use Rattle.select.specs.declared.Tally.{Tally}
 use Rattle.select.specs.Pass.{Ready, handedOver, surveyed}
 use Rattle.select.specs.Uses.{numberedOver, over-all}
-use Rattle.read.specs.Laws.{ready-fresh}
+use Rattle.window.specs.declared.Window.{Window}
+use Rattle.evt.specs.declared.codec.Codec.{Codec}
+use Rattle.index.specs.declared.Plan.the-variants.{Refuse, Build}
+use Rattle.read.specs.Laws.{ready-fresh, rest-of}
 use Rattle.read.specs.Read.{kept, widthOf, heightOf, sizeless}
 use Rattle.index.specs.declared.Checkpoint.{Checkpoint}
 use Rattle.index.specs.declared.OpenAnswer.{OpenAnswer}
@@ -251,3 +254,74 @@ module _ (e : Encoding) (body : List ℕ) (long : length body ≤ 2 ^ 30) where
             → (sizeless Unknown es ≡ false) × ((t .width ≡ widthOf Unknown es) × (t .height ≡ heightOf Unknown es))
         go [] c w h = absurd (nz c)
         go (a ∷ es) c w h = (refl, (w ∙ grown (λ e. e .x) a es, h ∙ grown (λ e. e .y) a es))
+
+-- ---- the runs that the code starts
+
+module _ (l : List ℕ) (start : ℕ) (e : Encoding) (spacing room : ℕ) (long : length l ≤ 2 ^ 30) (within : start ≤ length l) (ok : spacingOk e spacing ≡ true)
+    (n : ℕ) (is-n : n ≡ recordCount (length l - start) spacing) (enough : n ≤ room) where
+  abbrev plainJob : (width height w h : ℕ) → Job
+  plainJob width height w h = record {
+    encoding = e;
+    start = start;
+    spacing = spacing;
+    cap = n;
+    width = width;
+    height = height;
+    plan = Build (record { encoding = e; spacing = spacing; «data_offset» = start; len = length l; width = w; height = h; «n_events» = 0 });
+  }
+
+  pub run-known : (size : SensorSize) (w h : ℕ) → size ≡ Known w h → (r : Run) → r ≡ firstOf (plainJob w h w h) → r ≡ firstOf (bodyJob l start e size spacing room)
+  run-known size w h q r is = is ∙ ap firstOf (job-made l start e (Known w h) spacing room long within n is-n ok enough refl) ∙ ap (λ (s : SensorSize). firstOf (bodyJob l start e s spacing room)) (sym q)
+
+  -- the rest of the recording is surveyed
+  module _ (size : SensorSize) (q : size ≡ Unknown) (c : Codec) (is-c : c ≡ freshC e) (win : Window) (is-win : win ≡ wholeWindow) (t : Tally)
+      (is-t : t ≡ surveyed win 0 c (take (length l - start) (drop start l))) where
+    is-tally : t ≡ surveyed wholeWindow 0 (freshC e) (drop start l)
+    is-tally =
+        is-t ∙ ap (λ (b : List ℕ). surveyed win 0 c b) (rest-of l start) ∙ ap (λ (d : Codec). surveyed win 0 d (drop start l)) is-c
+        ∙ ap (λ (w : Window). surveyed w 0 (freshC e) (drop start l)) is-win
+
+    long-rest : length (drop start l) ≤ 2 ^ 30
+    long-rest = omega (arith, length-drop start l)
+
+    pub run-none : t .count ≡ 0 → (r : Run) → r ≡ firstOf (idle InvalidSensorSize) → r ≡ firstOf (bodyJob l start e size spacing room)
+    run-none z r is =
+        is ∙ ap firstOf (job-none l start e Unknown spacing room long within n is-n ok enough (survey-none e (drop start l) long-rest t is-tally z))
+        ∙ ap (λ (s : SensorSize). firstOf (bodyJob l start e s spacing room)) (sym q)
+
+    pub run-unknown : (t .count ≡ 0 → ⊥) → (r : Run) → r ≡ firstOf (plainJob 65536 65536 (t .width) (t .height)) → r ≡ firstOf (bodyJob l start e size spacing room)
+    run-unknown nz r is =
+        let s = survey-some e (drop start l) long-rest t is-tally nz in
+        is ∙ ap (λ (w : ℕ). firstOf (plainJob 65536 65536 w (t .height))) (s .1 .0) ∙ ap (λ (h : ℕ). firstOf (plainJob 65536 65536 (widthOf Unknown (eventsFrom (freshC e) (drop start l))) h)) (s .1 .1)
+        ∙ ap firstOf (job-made l start e Unknown spacing room long within n is-n ok enough (s .0))
+        ∙ ap (λ (s : SensorSize). firstOf (bodyJob l start e s spacing room)) (sym q)
+
+pub ready-rest : (l : List ℕ) (start : ℕ) (e : Encoding) (c : Codec) → c ≡ freshC e → length l ≤ 2 ^ 30 → Ready c 0 (length (take (length l - start) (drop start l)))
+ready-rest l start e c is h = rw (is, rest-of l start) (ready-fresh e (length (drop start l)) (omega (arith, length-drop start l)))
+
+-- ---- the two entries
+
+module _ (l : List ℕ) (o : OpenOptions) (room : ℕ) (a : HeaderAnswer) (is-header : a ≡ headerOf l (o .«sensor_size»)) where
+  pub job-refused : (q : Refusal) → a ≡ NoHeader q → idle q ≡ rawJob l o room
+  unfolding rawJob
+  job-refused q h = sym (ap (λ (b : HeaderAnswer). jobAfter b l (o .spacing) room) (sym is-header ∙ h))
+
+  pub job-header : (h : header.Header) → a ≡ Header h → bodyJob l (h .«data_offset») (h .encoding) (h .«sensor_size») (o .spacing) room ≡ rawJob l o room
+  unfolding rawJob
+  job-header h q = sym (ap (λ (b : HeaderAnswer). jobAfter b l (o .spacing) room) (sym is-header ∙ q))
+
+  pub header-fits : (h : header.Header) → a ≡ Header h → (length l ≤ 2 ^ 30) × (h .«data_offset» ≤ length l)
+  header-fits h q = let k = of-accepted l (o .«sensor_size») h (sym is-header ∙ q) in (k .short, k .within)
+
+module _ (l : List ℕ) (o : WordsOptions) (room : ℕ) where
+  pub job-long : 2 ^ 30 < length l → idle TooLong ≡ wordsJob l o room
+  unfolding wordsJob
+  job-long h = rw (lt-ltb (2 ^ 30) (length l) h)
+
+  pub job-zero : length l ≤ 2 ^ 30 → hasZero (o .«sensor_size») ≡ true → idle InvalidSensorSize ≡ wordsJob l o room
+  unfolding wordsJob
+  job-zero h z = rw (le-ltb (2 ^ 30) (length l) h, z)
+
+  pub job-words : length l ≤ 2 ^ 30 → hasZero (o .«sensor_size») ≡ false → bodyJob l 0 (o .encoding) (o .«sensor_size») (o .spacing) room ≡ wordsJob l o room
+  unfolding wordsJob
+  job-words h z = rw (le-ltb (2 ^ 30) (length l) h, z)

@@ -1,6 +1,7 @@
 // The index of a recording: checkpoints at every `spacing` bytes of its body, made into lent records.
 // specs/Index.antt has what an index holds and what opening answers, by document 01's table.
 ghost use mathlib.Core.Path.{_≡_};
+ghost use mathlib.Core.Bool.{true};
 ghost use Prim.Native.Nat.{_≤_, _<_, _^_, min, max};
 ghost use lib.ListN.{length};
 ghost use Rattle.index.specs.Index.{spacingOk, recordCount, OpensRaw, OpensWords};
@@ -207,8 +208,8 @@ fn whole_window() -> Window
     }
 }
 
-// A body from `start` on: 8, 9, 1 for no event, or the making of its records.
-fn body_run(
+// A body from `start` on, its spacing allowed: 9, 1 for no event, or the making of its records.
+fn spaced_run(
     recording: &[u8],
     start: usize,
     encoding: Encoding,
@@ -216,12 +217,9 @@ fn body_run(
     spacing: usize,
     room: usize,
 ) -> Run
-    requires { ⌜ (length (now recording) ≤ 2 ^ 30) × (start ≤ length (now recording)) ⌝ }
+    requires { ⌜ (length (now recording) ≤ 2 ^ 30) × ((start ≤ length (now recording)) × (spacingOk encoding spacing ≡ true)) ⌝ }
     ensures { λ r. ⌜ r ≡ firstOf (bodyJob (now (recording .entry)) start encoding size spacing room) ⌝ }
 {
-    if !spacing_ok(encoding, spacing) {
-        return idle_run(Refusal::InvalidSpacing);
-    }
     let len = recording.len();
     let need = record_count(len - start, spacing);
     if room < need {
@@ -265,6 +263,24 @@ fn body_run(
             first_run(encoding, start, spacing, need, 65536, 65536, Plan::Build(source))
         }
     }
+}
+
+// 8, and so on.
+fn body_run(
+    recording: &[u8],
+    start: usize,
+    encoding: Encoding,
+    size: SensorSize,
+    spacing: usize,
+    room: usize,
+) -> Run
+    requires { ⌜ (length (now recording) ≤ 2 ^ 30) × (start ≤ length (now recording)) ⌝ }
+    ensures { λ r. ⌜ r ≡ firstOf (bodyJob (now (recording .entry)) start encoding size spacing room) ⌝ }
+{
+    if spacing_ok(encoding, spacing) {
+        return spaced_run(recording, start, encoding, size, spacing, room);
+    }
+    idle_run(Refusal::InvalidSpacing)
 }
 
 // The refusal of a header that was not accepted.

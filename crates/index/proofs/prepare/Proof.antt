@@ -1,3 +1,7 @@
+use mathlib.Core.Path.{_≡_, refl, sym, ap, _∙_}
+use native.Mathlib.Omega.{arith}
+use Rattle.index.specs.Build.{firstOf, refusedJob}
+use Rattle.index.specs.Open.{job-refused, job-header, header-fits}
 use borrow.Author.Needs.{needs}
 use Rattle.index.proofs.prepare.Statement.{statement}
 use Rattle.index.proofs.prepare.Tie as tie
@@ -25,15 +29,15 @@ refused-run-requires c κs = search needs
 
 -- src/lib.rt:288:9
 returns : tie.Need-returns
-returns c = ?
+returns c = c .refused-run .ensures ∙ ap (λ a. firstOf (refusedJob a)) (c .before .enum-told .given .1) ∙ ap firstOf (job-refused (c .before .before .before .before .before .args .recording .now) (c .before .before .before .before .before .args .options) (c .before .before .before .before .before .args .room) (c .before .before .before .parse-header .result) (c .before .before .before .parse-header .ensures .answer) _ (c .before .enum-told .given .1))
 
 -- src/lib.rt:293:5
 body-run-requires : tie.Need-body-run-requires
-body-run-requires c κs = ?
+body-run-requires c κs = header-fits (c .before .before .before .before .before .args .recording .now) (c .before .before .before .before .before .args .options) (c .before .before .before .before .before .args .room) (c .before .before .before .parse-header .result) (c .before .before .before .parse-header .ensures .answer) _ (c .before .answer .given .1)
 
 -- src/lib.rt:281:1
 returns-2 : tie.Need-returns-2
-returns-2 c = ?
+returns-2 c = c .body-run .ensures ∙ ap firstOf (job-header (c .before .before .before .before .before .before .args .recording .now) (c .before .before .before .before .before .before .args .options) (c .before .before .before .before .before .before .args .room) (c .before .before .before .before .parse-header .result) (c .before .before .before .before .parse-header .ensures .answer) _ (c .before .before .answer .given .1))
 
 pub prepare-spec : {M : Type 1} → statement M
 prepare-spec =

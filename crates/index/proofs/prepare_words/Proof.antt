@@ -1,3 +1,5 @@
+use Rattle.index.specs.Build.{firstOf}
+use Rattle.index.specs.Open.{job-long, job-zero, job-words}
 use mathlib.Core.Path.{_≡_, refl, sym, ap, _∙_}
 use native.Mathlib.Omega.{arith}
 use borrow.Author.Needs.{needs}
@@ -15,7 +17,7 @@ idle-run-requires c κs = search needs
 
 -- src/lib.rt:304:9
 returns : tie.Need-returns
-returns c = ?
+returns c = c .idle-run .ensures ∙ ap firstOf (job-long (c .before .before .before .args .words .now) (c .before .before .before .args .options) (c .before .before .before .args .room) (c .before .if1 .taken))
 
 -- src/lib.rt:306:8
 has-zero-requires : tie.Need-has-zero-requires
@@ -27,7 +29,7 @@ idle-run-requires-2 c κs = search needs
 
 -- src/lib.rt:307:9
 returns-2 : tie.Need-returns-2
-returns-2 c = ?
+returns-2 c = c .idle-run2 .ensures ∙ ap firstOf (job-zero (c .before .before .before .before .before .args .words .now) (c .before .before .before .before .before .args .options) (c .before .before .before .before .before .args .room) (c .before .before .before .if1 .left) (sym (c .before .before .has-zero .ensures) ∙ c .before .if2 .taken))
 
 -- src/lib.rt:309:5
 body-run-requires : tie.Need-body-run-requires
@@ -35,7 +37,7 @@ body-run-requires c κs = search needs
 
 -- src/lib.rt:297:1
 returns-3 : tie.Need-returns-3
-returns-3 c = ?
+returns-3 c = c .body-run .ensures ∙ ap firstOf (job-words (c .before .before .before .before .before .args .words .now) (c .before .before .before .before .before .args .options) (c .before .before .before .before .before .args .room) (c .before .before .before .if1 .left) (sym (c .before .before .has-zero .ensures) ∙ c .before .if2 .left))
 
 pub prepare-words-spec : {M : Type 1} → statement M
 prepare-words-spec =

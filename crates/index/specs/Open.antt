@@ -102,7 +102,7 @@ pub record Allowed (job : Job) (l : List ℕ) (room : ℕ) : Type 0 where
   pub fits : job .cap ≤ room
   pub sound : 0 < job .cap → Sound job l
 
-allowed-idle : (r : Refusal) (l : List ℕ) (room : ℕ) → Allowed (idle r) l room
+pub allowed-idle : (r : Refusal) (l : List ℕ) (room : ℕ) → Allowed (idle r) l room
 allowed-idle r l room = record { fits = omega arith; sound = λ h. absurd (omega arith) }
 
 module _ (l : List ℕ) (start : ℕ) (e : Encoding) (size : SensorSize) (spacing room : ℕ) (long : length l ≤ 2 ^ 30) (within : start ≤ length l) where

@@ -5,3 +5,4 @@ pub mod Build
 pub mod Laws
 pub mod Open
 pub mod Stage
+pub mod Choose

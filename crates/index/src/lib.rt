@@ -6,6 +6,7 @@ ghost use Prim.Native.Nat.{_≤_, _<_, _^_, min, max};
 ghost use lib.ListN.{length};
 ghost use Rattle.index.specs.Index.{spacingOk, recordCount, OpensRaw, OpensWords};
 ghost use Rattle.index.specs.Build.{Fit, Advanced, firstOf, idle, bodyJob, rawJob, refusedJob, wholeWindow, wordsJob, concluded};
+ghost use Rattle.index.specs.Choose.{passesOf, bestOf, consideredOf, chosenOf};
 use evt::Codec;
 use evt::Encoding;
 use evt::Refusal;
@@ -379,4 +380,62 @@ pub fn open_words<'a, 'b>(words: &'a [u8], records: &'b mut [Checkpoint], option
         t = m.next;
     }
     conclude(t)
+}
+
+// A search for the record to start at: the last whose count is at most `index`, or, by time, whose
+// time is below `time`; or else the first.
+pub struct Choice {
+    pub some: bool,
+    pub by_time: bool,
+    pub index: usize,
+    pub time: i64,
+    pub best: Checkpoint,
+}
+
+fn passes(s: Choice, c: Checkpoint) -> bool
+    ensures { λ r. ⌜ r ≡ passesOf s c ⌝ }
+{
+    if s.by_time {
+        return c.time < s.time;
+    }
+    c.event_index <= s.index
+}
+
+fn with_best(s: Choice, c: Checkpoint) -> Choice
+    ensures { λ r. ⌜ r ≡ bestOf s c ⌝ }
+{
+    Choice {
+        some: true,
+        by_time: s.by_time,
+        index: s.index,
+        time: s.time,
+        best: c,
+    }
+}
+
+// One record more.
+pub fn consider(s: Choice, c: Checkpoint) -> Choice
+    ensures { λ r. ⌜ r ≡ consideredOf s c ⌝ }
+{
+    if passes(s, c) {
+        return with_best(s, c);
+    }
+    if s.some {
+        return s;
+    }
+    with_best(s, c)
+}
+
+// All records, each read singly into a copy.
+pub fn choose(records: &[Checkpoint], s: Choice) -> Choice
+    ensures { λ r. ⌜ r ≡ chosenOf s (now (records .entry)) ⌝ }
+{
+    let mut t = s;
+    let mut i = 0;
+    while i < records.len() {
+        let c = records[i];
+        t = consider(t, c);
+        i += 1;
+    }
+    t
 }

@@ -1,0 +1,19 @@
+use mathlib.Core.Path.{_≡_, refl, sym, ap, _∙_}
+use native.Mathlib.Omega.{arith}
+use borrow.Author.Needs.{needs}
+use Rattle.index.proofs.first_run.Statement.{statement}
+use Rattle.index.proofs.first_run.Tie as tie
+use Rattle.index.proofs.first_run.Reads as reads
+use Rattle.index.proofs.first_run.Lts as lts
+use Rattle.evt.proofs.codec.Codec.new.Reads as new-reads
+
+-- src/lib.rt:184:16
+new-requires : tie.Need-new-requires
+new-requires c κs = search needs
+
+-- src/lib.rt:163:1
+returns : tie.Need-returns
+returns c = rw (c .new .ensures)
+
+pub first-run-spec : {M : Type 1} → statement M
+first-run-spec = tie.close (tie.spec new-requires returns)

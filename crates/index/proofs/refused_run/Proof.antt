@@ -1,0 +1,38 @@
+use mathlib.Core.Path.{_≡_, refl, sym, ap, _∙_}
+use native.Mathlib.Omega.{arith}
+use Rattle.index.specs.Build.{refusedJob, firstOf}
+use borrow.Author.Needs.{needs}
+use Rattle.index.proofs.refused_run.Statement.{statement}
+use Rattle.index.proofs.refused_run.Tie as tie
+use Rattle.index.proofs.refused_run.Reads as reads
+use Rattle.index.proofs.refused_run.Lts as lts
+use Rattle.index.proofs.idle_run.Reads as idle-run-reads
+
+-- src/lib.rt:275:31
+enum-known-answer : tie.Need-enum-known-answer
+enum-known-answer c = search needs
+
+-- src/lib.rt:275:37
+idle-run-requires : tie.Need-idle-run-requires
+idle-run-requires c κs = search needs
+
+-- src/lib.rt:276:45
+enum-told : tie.Need-enum-told
+enum-told c = search needs
+
+-- src/lib.rt:276:36
+idle-run-requires-2 : tie.Need-idle-run-requires-2
+idle-run-requires-2 c κs = search needs
+
+-- src/lib.rt:271:1
+returns : tie.Need-returns
+returns c = c .idle-run .ensures ∙ sym (ap (λ a. firstOf (refusedJob a)) (c .before .before .answer .given .1))
+
+-- src/lib.rt:271:1
+returns-2 : tie.Need-returns-2
+returns-2 c = c .idle-run2 .ensures ∙ sym (ap (λ a. firstOf (refusedJob a)) (c .before .enum-told .given .1))
+
+pub refused-run-spec : {M : Type 1} → statement M
+refused-run-spec =
+    tie.close
+    (tie.spec enum-known-answer idle-run-requires enum-told idle-run-requires-2 returns returns-2)

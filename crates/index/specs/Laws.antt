@@ -78,8 +78,8 @@ module _ (l : List ℕ) (t : Run) (f : Fit l t) (end : ℕ) (is-end : end ≡ mi
     advanced time is-time top is-top = record {
       is-record = ap (λ (z : ℤ). record { «byte_offset» = t .offset; «event_index» = t .count; time = z; codec = t .codec }) is-time;
       is-next =
-        let e : top ≡ max (t .latest) (surveyOf (t .width) (t .height) (t .codec) (chunkOf l t) .latest) = is-top ∙ ap (λ (u : Survey). max (t .latest) (u .latest)) is-survey in
-        λ i. record { more = ltb (t .at + 1) (t .cap); at = t .at + 1; cap = t .cap; offset = t .offset + t .spacing; spacing = t .spacing; width = t .width; height = t .height; count = t .count + is-survey i .count; latest = e i; codec = is-survey i .codec; plan = t .plan };
+          let e : top ≡ max (t .latest) (surveyOf (t .width) (t .height) (t .codec) (chunkOf l t) .latest) = is-top ∙ ap (λ (u : Survey). max (t .latest) (u .latest)) is-survey in
+          λ i. record { more = ltb (t .at + 1) (t .cap); at = t .at + 1; cap = t .cap; offset = t .offset + t .spacing; spacing = t .spacing; width = t .width; height = t .height; count = t .count + is-survey i .count; latest = e i; codec = is-survey i .codec; plan = t .plan };
     }
 
 -- ---- all turns

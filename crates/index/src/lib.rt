@@ -134,6 +134,7 @@ pub fn advance(recording: &[u8], run: Run) -> Ran
 
 // What a spacing is a multiple of (rule 8), for each encoding.
 const EVT2_ALIGNMENT: usize = 4;
+
 const EVT3_ALIGNMENT: usize = 4;
 
 // A spacing that rule 8 allows.
@@ -248,7 +249,12 @@ fn spaced_run(
             )
         }
         SensorSize::Unknown => {
-            let tally = select::survey(&recording[start..], Codec::new(encoding), whole_window(), 0);
+            let tally = select::survey(
+                &recording[start..],
+                Codec::new(encoding),
+                whole_window(),
+                0,
+            );
             if tally.count == 0 {
                 return idle_run(Refusal::InvalidSensorSize);
             }
@@ -261,7 +267,15 @@ fn spaced_run(
                 height: tally.height as usize,
                 n_events: 0,
             };
-            first_run(encoding, start, spacing, need, 65536, 65536, Plan::Build(source))
+            first_run(
+                encoding,
+                start,
+                spacing,
+                need,
+                65536,
+                65536,
+                Plan::Build(source),
+            )
         }
     }
 }
@@ -353,7 +367,11 @@ pub fn conclude(run: Run) -> OpenAnswer
 }
 
 // Makes the index of a recording into the lent records. Refused, no record is touched.
-pub fn open<'a, 'b>(recording: &'a [u8], records: &'b mut [Checkpoint], options: OpenOptions) -> OpenAnswer
+pub fn open<'a, 'b>(
+    recording: &'a [u8],
+    records: &'b mut [Checkpoint],
+    options: OpenOptions,
+) -> OpenAnswer
     ensures { λ r. ⌜ OpensRaw (now (recording .entry)) options r (now (records .entry)) (now (records .exit)) ⌝ }
 {
     let room = records.len();
@@ -368,7 +386,11 @@ pub fn open<'a, 'b>(recording: &'a [u8], records: &'b mut [Checkpoint], options:
 }
 
 // The same for headerless words.
-pub fn open_words<'a, 'b>(words: &'a [u8], records: &'b mut [Checkpoint], options: WordsOptions) -> OpenAnswer
+pub fn open_words<'a, 'b>(
+    words: &'a [u8],
+    records: &'b mut [Checkpoint],
+    options: WordsOptions,
+) -> OpenAnswer
     ensures { λ r. ⌜ OpensWords (now (words .entry)) options r (now (records .entry)) (now (records .exit)) ⌝ }
 {
     let room = records.len();

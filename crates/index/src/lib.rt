@@ -7,6 +7,7 @@ ghost use lib.ListN.{length};
 ghost use Rattle.index.specs.Index.{spacingOk, recordCount, OpensRaw, OpensWords};
 ghost use Rattle.index.specs.Build.{Fit, Advanced, firstOf, idle, bodyJob, rawJob, refusedJob, wholeWindow, wordsJob, concluded};
 ghost use Rattle.index.specs.Choose.{passesOf, bestOf, consideredOf, chosenOf};
+ghost use Rattle.index.specs.Judge.{isOther, standsOf, onwardOf};
 use evt::Codec;
 use evt::Encoding;
 use evt::Refusal;
@@ -460,4 +461,80 @@ pub fn choose(records: &[Checkpoint], s: Choice) -> Choice
         i += 1;
     }
     t
+}
+
+// The judging of records one after another (rule 10): record by record what the next one's offset
+// must be, and the last one's count and time. `past`: that offset passes 2^64.
+pub struct Judging {
+    pub ok: bool,
+    pub past: bool,
+    pub offset: usize,
+    pub spacing: usize,
+    pub encoding: Encoding,
+    pub total: usize,
+    pub count: usize,
+    pub time: i64,
+}
+
+fn is_other(codec: Codec, encoding: Encoding) -> bool
+    ensures { λ r. ⌜ r ≡ isOther codec encoding ⌝ }
+{
+    match codec {
+        Codec::Evt2(_) => match encoding {
+            Encoding::Evt2 => false,
+            Encoding::Evt3 => true,
+        },
+        Codec::Evt3(_) => match encoding {
+            Encoding::Evt2 => true,
+            Encoding::Evt3 => false,
+        },
+    }
+}
+
+// Whether a record may stand there, its decoder aside.
+fn stands(s: Judging, c: Checkpoint) -> bool
+    ensures { λ r. ⌜ r ≡ standsOf s c ⌝ }
+{
+    if s.past {
+        return false;
+    }
+    if c.byte_offset < s.offset {
+        return false;
+    }
+    if s.offset < c.byte_offset {
+        return false;
+    }
+    if c.event_index < s.count {
+        return false;
+    }
+    if 8589934592 < c.event_index {
+        return false;
+    }
+    if s.total < c.event_index {
+        return false;
+    }
+    s.time <= c.time
+}
+
+// Goes on behind a record.
+fn onward(s: Judging, c: Checkpoint, ok: bool) -> Judging
+    ensures { λ r. ⌜ r ≡ onwardOf s c ok ⌝ }
+{
+    let encoding = s.encoding;
+    let most = 18446744073709551615 - s.spacing;
+    let past = most < s.offset;
+    let mut offset = 0;
+    if s.offset <= most {
+        offset = s.offset + s.spacing;
+    }
+    Judging {
+        ok,
+        past,
+        offset,
+        spacing: s.spacing,
+        encoding,
+        total: s.total,
+        count: c.event_index,
+        time: c.time,
+    }
 }

@@ -6,3 +6,4 @@ pub mod Laws
 pub mod Open
 pub mod Stage
 pub mod Choose
+pub mod Judge

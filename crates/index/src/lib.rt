@@ -1,5 +1,8 @@
 // The index of a recording: checkpoints at every `spacing` bytes of its body, made into lent records.
-// specs/Index.antt has what an index holds and what opening answers, by document 01's table.
+// specs/Index.antt has what an index holds and what opening answers, by document 01's table;
+// specs/Judge.antt when records are out of range (10), specs/Choose.antt which one a slice starts at.
+// `open`, `open_words`, `judge_all` and `choose` are lent records: they are proved by hand over the
+// other functions, which take a record by value.
 ghost use mathlib.Core.Path.{_≡_};
 ghost use mathlib.Core.Bool.{true};
 ghost use Prim.Native.Nat.{_≤_, _<_, _^_, min, max};
@@ -7,6 +10,7 @@ ghost use lib.ListN.{length};
 ghost use Rattle.index.specs.Index.{spacingOk, recordCount, OpensRaw, OpensWords};
 ghost use Rattle.index.specs.Build.{Fit, Advanced, firstOf, idle, bodyJob, rawJob, refusedJob, wholeWindow, wordsJob, concluded};
 ghost use Rattle.index.specs.Choose.{passesOf, bestOf, consideredOf, chosenOf};
+ghost use Rattle.index.specs.Judge.{isOther, standsOf, aheadOf, onwardOf, admitsOf, judgedOf, judgedAll};
 use evt::Codec;
 use evt::Encoding;
 use evt::Refusal;
@@ -457,6 +461,125 @@ pub fn choose(records: &[Checkpoint], s: Choice) -> Choice
     while i < records.len() {
         let c = records[i];
         t = consider(t, c);
+        i += 1;
+    }
+    t
+}
+
+// The judging of records one after another (rule 10): record by record what the next one's offset
+// must be, and the last one's count and time. `past`: that offset passes 2^64.
+pub struct Judging {
+    pub ok: bool,
+    pub past: bool,
+    pub offset: usize,
+    pub spacing: usize,
+    pub encoding: Encoding,
+    pub total: usize,
+    pub count: usize,
+    pub time: i64,
+}
+
+fn is_other(codec: Codec, encoding: Encoding) -> bool
+    ensures { λ r. ⌜ r ≡ isOther codec encoding ⌝ }
+{
+    match codec {
+        Codec::Evt2(_) => match encoding {
+            Encoding::Evt2 => false,
+            Encoding::Evt3 => true,
+        },
+        Codec::Evt3(_) => match encoding {
+            Encoding::Evt2 => true,
+            Encoding::Evt3 => false,
+        },
+    }
+}
+
+// Whether a record may stand there, its decoder aside.
+fn stands(s: Judging, c: Checkpoint) -> bool
+    ensures { λ r. ⌜ r ≡ standsOf s c ⌝ }
+{
+    if s.past {
+        return false;
+    }
+    if c.byte_offset < s.offset {
+        return false;
+    }
+    if s.offset < c.byte_offset {
+        return false;
+    }
+    if c.event_index < s.count {
+        return false;
+    }
+    if 8589934592 < c.event_index {
+        return false;
+    }
+    if s.total < c.event_index {
+        return false;
+    }
+    s.time <= c.time
+}
+
+fn ahead(s: Judging, c: Checkpoint, ok: bool, past: bool, offset: usize) -> Judging
+    ensures { λ r. ⌜ r ≡ aheadOf s c ok past offset ⌝ }
+{
+    let encoding = s.encoding;
+    Judging {
+        ok,
+        past,
+        offset,
+        spacing: s.spacing,
+        encoding,
+        total: s.total,
+        count: c.event_index,
+        time: c.time,
+    }
+}
+
+// Goes on behind a record.
+fn onward(s: Judging, c: Checkpoint, ok: bool) -> Judging
+    ensures { λ r. ⌜ r ≡ onwardOf s c ok ⌝ }
+{
+    let most = 18446744073709551615 - s.spacing;
+    if most < s.offset {
+        return ahead(s, c, ok, true, 0);
+    }
+    ahead(s, c, ok, false, s.offset + s.spacing)
+}
+
+// Whether a record may stand there, and all before it might.
+fn admits(s: Judging, c: Checkpoint) -> bool
+    ensures { λ r. ⌜ r ≡ admitsOf s c ⌝ }
+{
+    let codec = c.codec;
+    let encoding = s.encoding;
+    if is_other(codec, encoding) {
+        return false;
+    }
+    if stands(s, c) {
+        if s.ok {
+            return codec.in_range();
+        }
+    }
+    false
+}
+
+// One record more.
+pub fn judge(s: Judging, c: Checkpoint) -> Judging
+    ensures { λ r. ⌜ r ≡ judgedOf s c ⌝ }
+{
+    let ok = admits(s, c);
+    onward(s, c, ok)
+}
+
+// All records, each read singly into a copy.
+pub fn judge_all(records: &[Checkpoint], s: Judging) -> Judging
+    ensures { λ r. ⌜ r ≡ judgedAll s (now (records .entry)) ⌝ }
+{
+    let mut t = s;
+    let mut i = 0;
+    while i < records.len() {
+        let c = records[i];
+        t = judge(t, c);
         i += 1;
     }
     t

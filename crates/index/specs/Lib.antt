@@ -7,3 +7,5 @@ pub mod Open
 pub mod Stage
 pub mod Choose
 pub mod Judge
+pub mod InRange
+pub mod Start

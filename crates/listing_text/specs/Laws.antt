@@ -133,7 +133,7 @@ lists-refused r h = record { counts = refl; small = omega arith; never-5 = λ e.
 lists-read : (r : Reading) (es : List Event) → r .count ≡ length es → length es ≤ listRoom → Lists (Read r) es
 lists-read r es e h = record { counts = e; small = h; never-5 = λ q. omega (arith, q); parts = refl }
 
-lists-body : (e : Encoding) (size : SensorSize) (es : List Event) → length es ≤ listRoom → Lists (answerOf e size es listRoom) (handedOf size es listRoom)
+lists-body : (e : Encoding) (size : SensorSize) (es : List Event) → length es ≤ listRoom → Lists (answerOf e size Unlimited es listRoom) (handedOf size Unlimited es listRoom)
 lists-body e size es h = rw (le-ltb listRoom (length es) h) (go (sizeless size es))
   where
     reading : Reading

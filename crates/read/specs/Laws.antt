@@ -234,7 +234,7 @@ top-handed : (f : Event → ℕ) (es : List Event) (old now : List ℕ) → now 
 top-handed f es old now e = ap (λ (l : List ℕ). top (take (length es) l)) e ∙ ap top (take-at (map f es) (drop (length es) old) (length es) (length-map es f)) ∙ greatest-map (λ x. x) f es
 
 -- what an answer tells is the verdict
-told-answer : (e : Encoding) (size : SensorSize) (es : List Event) (room : ℕ) → toldRead (answerOf e size es room) ≡ verdictOf e size es room
+told-answer : (e : Encoding) (size : SensorSize) (es : List Event) (room : ℕ) → toldRead (answerOf e size Unlimited es room) ≡ verdictOf e size Unlimited es room
 told-answer e size es room = go (sizeless size es) (ltb room (length es))
   where
     go : (a b : Bool) → toldRead (cond a (Refused InvalidSensorSize) (cond b (Refused (ColumnsTooShort (length es))) (Read (record { encoding = e; width = widthOf size es; height = heightOf size es; count = length es }))))
@@ -256,7 +256,7 @@ module _ {xs₀ ys₀ : List ℕ} {ts₀ : List ℤ} {ps₀ xs ys : List ℕ} {t
 
   module _ (e : Encoding) where
     fits-go : (size : SensorSize) (es′ : List Event) → es ≡ es′ → length es ≤ room → Handed es xs₀ ys₀ ts₀ ps₀ xs ys ts ps
-        → (sizedOf e size (length es′) xs ys ≡ answerOf e size es′ room) × Handed (handedOf size es′ room) xs₀ ys₀ ts₀ ps₀ xs ys ts ps
+        → (sizedOf e size (length es′) xs ys ≡ answerOf e size Unlimited es′ room) × Handed (handedOf size Unlimited es′ room) xs₀ ys₀ ts₀ ps₀ xs ys ts ps
     fits-go (Known w k) es′ q h c = let le : ltb room (length es′) ≡ false = le-ltb room (length es′) (rw (← q) h) in (rw le, rw (le, ← q) c)
     fits-go Unknown [] q h c = (refl, rw q at c)
     fits-go Unknown (a ∷ es′) q h c =
@@ -267,23 +267,23 @@ module _ {xs₀ ys₀ : List ℕ} {ts₀ : List ℤ} {ps₀ xs ys : List ℕ} {t
         )
 
     short-go : (size : SensorSize) (es′ : List Event) → room < length es′ → Handed [] xs₀ ys₀ ts₀ ps₀ xs ys ts ps
-        → (Refused (ColumnsTooShort (length es′)) ≡ answerOf e size es′ room) × Handed (handedOf size es′ room) xs₀ ys₀ ts₀ ps₀ xs ys ts ps
+        → (Refused (ColumnsTooShort (length es′)) ≡ answerOf e size Unlimited es′ room) × Handed (handedOf size Unlimited es′ room) xs₀ ys₀ ts₀ ps₀ xs ys ts ps
     short-go (Known w k) es′ h c = let lt : ltb room (length es′) ≡ true = lt-ltb room (length es′) h in (rw lt, rw lt c)
     short-go Unknown [] h c = absurd (omega arith)
     short-go Unknown (a ∷ es′) h c = let lt : ltb room (length (a ∷ es′)) ≡ true = lt-ltb room (length (a ∷ es′)) h in (rw lt, rw lt c)
 
-    settles : (size : SensorSize) → (settledOf e size r xs ys ≡ answerOf e size es room) × Handed (handedOf size es room) xs₀ ys₀ ts₀ ps₀ xs ys ts ps
+    settles : (size : SensorSize) → (settledOf e size r xs ys ≡ answerOf e size Unlimited es room) × Handed (handedOf size Unlimited es room) xs₀ ys₀ ts₀ ps₀ xs ys ts ps
     settles size = rw (d .answer) (go (leb (length es) room) refl (d .columns))
       where
         go : (b : Bool) → leb (length es) room ≡ b → Handed (cond b es []) xs₀ ys₀ ts₀ ps₀ xs ys ts ps
-            → (settledOf e size (cond b (Written (length es)) (Needed (length es))) xs ys ≡ answerOf e size es room) × Handed (handedOf size es room) xs₀ ys₀ ts₀ ps₀ xs ys ts ps
+            → (settledOf e size (cond b (Written (length es)) (Needed (length es))) xs ys ≡ answerOf e size Unlimited es room) × Handed (handedOf size Unlimited es room) xs₀ ys₀ ts₀ ps₀ xs ys ts ps
         go true q h = fits-go size es refl (leb-true (length es) room q) h
         go false q h = short-go size es (leb-false (length es) room q) h
 
     pub reads-body : (size : SensorSize) (a : ReadAnswer) → a ≡ settledOf e size r xs ys → ReadsBody e size es a xs₀ ys₀ ts₀ ps₀ xs ys ts ps
     reads-body size a is =
         let s = settles size in
-        let is′ : a ≡ answerOf e size es room = is ∙ s .0 in
+        let is′ : a ≡ answerOf e size Unlimited es room = is ∙ s .0 in
         record { is-told = ap toldRead is′ ∙ told-answer e size es room; is-answer = is′; columns = s .1 }
 
 -- ---- the two entries
@@ -300,7 +300,7 @@ module _ {xs₀ ys₀ : List ℕ} {ts₀ : List ℤ} {ps₀ : List ℕ} where
 
     pub words-read : {r : ReadAnswer} {xs ys : List ℕ} {ts : List ℤ} {ps : List ℕ} → length words ≤ 2 ^ 30 → hasZero size ≡ false
         → ReadsBody e size (bodyEvents e size limit words) r xs₀ ys₀ ts₀ ps₀ xs ys ts ps → DecodesWords words e size limit r xs₀ ys₀ ts₀ ps₀ xs ys ts ps
-    unfolding wordsVerdict wordsAnswer wordsHanded
+    unfolding wordsVerdict wordsAnswer wordsHanded bodyEvents
     words-read h z b = rw (le-ltb (2 ^ 30) (length words) h, z) b
 
   module _ (recording : List ℕ) (o : LoadOptions) (a : HeaderAnswer) (is-header : a ≡ headerOf recording (o .«sensor_size»)) where
@@ -316,6 +316,7 @@ module _ {xs₀ ys₀ : List ℕ} {ts₀ : List ℤ} {ps₀ : List ℕ} where
     pub raw-read : (h : header.Header) → a ≡ Header h → {r : ReadAnswer} {xs ys : List ℕ} {ts : List ℤ} {ps : List ℕ}
         → ReadsBody (h .encoding) (h .«sensor_size») (bodyEvents (h .encoding) (h .«sensor_size») (o .«max_events») (drop (h .«data_offset») recording)) r xs₀ ys₀ ts₀ ps₀ xs ys ts ps
         → ReadsRaw recording o r xs₀ ys₀ ts₀ ps₀ xs ys ts ps
+    unfolding bodyEvents
     raw-read h e b = raw-from (rw e b)
 
 -- a part up to the end

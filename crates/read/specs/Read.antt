@@ -37,6 +37,7 @@ abbrev pub limited : Limit → List Event → List Event
 limited Unlimited es = es
 limited (AtMost n) es = take n es
 
+-- those that the limit leaves
 unfoldable pub bodyEvents : Encoding → SensorSize → Limit → List ℕ → List Event
 bodyEvents e size limit body = limited limit (kept size (eventsFrom (freshC e) body))
 
@@ -62,9 +63,10 @@ abbrev pub toldRead : ReadAnswer → Told
 toldRead (Read r) = accepted (encodingNumber (r .encoding) ∷ r .width ∷ r .height ∷ r .count ∷ [])
 toldRead (Refused r) = told r
 
--- 1 for no event, then 5: `room` is the length of the shortest column
-abbrev pub verdictOf : Encoding → SensorSize → List Event → (room : ℕ) → Told
-verdictOf e size es room =
+-- 1 for no event, then 5: `all` are the events kept, and `room` is the length of the shortest column; the size comes from those that the limit leaves
+abbrev pub verdictOf : Encoding → SensorSize → Limit → (all : List Event) → (room : ℕ) → Told
+verdictOf e size limit all room =
+    let es = limited limit all in
     cond (sizeless size es) (refused 1)
     (cond (ltb room (length es)) (short 5 (length es))
     (accepted (encodingNumber e ∷ widthOf size es ∷ heightOf size es ∷ length es ∷ [])))
@@ -73,39 +75,42 @@ verdictOf e size es room =
 unfoldable pub wordsVerdict : List ℕ → Encoding → SensorSize → Limit → (room : ℕ) → Told
 wordsVerdict words e size limit room =
     cond (ltb (2 ^ 30) (length words)) (refused 4)
-    (cond (hasZero size) (refused 1) (verdictOf e size (bodyEvents e size limit words) room))
+    (cond (hasZero size) (refused 1) (verdictOf e size limit (bodyEvents e size Unlimited words) room))
 
 -- a recording: what the header is refused for (4, 3, 2, 1 for a zero size), and so on
 abbrev pub verdictAfter : HeaderAnswer → List ℕ → Limit → (room : ℕ) → Told
 verdictAfter (NoHeader r) recording limit room = told r
 verdictAfter (Header h) recording limit room =
-    verdictOf (h .encoding) (h .«sensor_size») (bodyEvents (h .encoding) (h .«sensor_size») limit (drop (h .«data_offset») recording)) room
+    verdictOf (h .encoding) (h .«sensor_size») limit (bodyEvents (h .encoding) (h .«sensor_size») Unlimited (drop (h .«data_offset») recording)) room
 
 unfoldable pub rawVerdict : List ℕ → LoadOptions → (room : ℕ) → Told
 rawVerdict recording o room = verdictAfter (headerOf recording (o .«sensor_size»)) recording (o .«max_events») room
 
 -- ---- what is handed over: nothing on a refusal
 
-abbrev pub handedOf : SensorSize → List Event → (room : ℕ) → List Event
-handedOf size es room = cond (sizeless size es) [] (cond (ltb room (length es)) [] es)
+abbrev pub handedOf : SensorSize → Limit → (all : List Event) → (room : ℕ) → List Event
+handedOf size limit all room =
+    let es = limited limit all in
+    cond (sizeless size es) [] (cond (ltb room (length es)) [] es)
 
 unfoldable pub wordsHanded : List ℕ → Encoding → SensorSize → Limit → (room : ℕ) → List Event
 wordsHanded words e size limit room =
     cond (ltb (2 ^ 30) (length words)) []
-    (cond (hasZero size) [] (handedOf size (bodyEvents e size limit words) room))
+    (cond (hasZero size) [] (handedOf size limit (bodyEvents e size Unlimited words) room))
 
 abbrev pub handedAfter : HeaderAnswer → List ℕ → Limit → (room : ℕ) → List Event
 handedAfter (NoHeader r) recording limit room = []
 handedAfter (Header h) recording limit room =
-    handedOf (h .«sensor_size») (bodyEvents (h .encoding) (h .«sensor_size») limit (drop (h .«data_offset») recording)) room
+    handedOf (h .«sensor_size») limit (bodyEvents (h .encoding) (h .«sensor_size») Unlimited (drop (h .«data_offset») recording)) room
 
 unfoldable pub rawHanded : List ℕ → LoadOptions → (room : ℕ) → List Event
 rawHanded recording o room = handedAfter (headerOf recording (o .«sensor_size»)) recording (o .«max_events») room
 
 -- ---- the answer itself, for callers
 
-abbrev pub answerOf : Encoding → SensorSize → List Event → (room : ℕ) → ReadAnswer
-answerOf e size es room =
+abbrev pub answerOf : Encoding → SensorSize → Limit → (all : List Event) → (room : ℕ) → ReadAnswer
+answerOf e size limit all room =
+    let es = limited limit all in
     cond (sizeless size es) (Refused InvalidSensorSize)
     (cond (ltb room (length es)) (Refused (ColumnsTooShort (length es)))
     (Read (record { encoding = e; width = widthOf size es; height = heightOf size es; count = length es })))
@@ -113,12 +118,12 @@ answerOf e size es room =
 unfoldable pub wordsAnswer : List ℕ → Encoding → SensorSize → Limit → (room : ℕ) → ReadAnswer
 wordsAnswer words e size limit room =
     cond (ltb (2 ^ 30) (length words)) (Refused TooLong)
-    (cond (hasZero size) (Refused InvalidSensorSize) (answerOf e size (bodyEvents e size limit words) room))
+    (cond (hasZero size) (Refused InvalidSensorSize) (answerOf e size limit (bodyEvents e size Unlimited words) room))
 
 abbrev pub answerAfter : HeaderAnswer → List ℕ → Limit → (room : ℕ) → ReadAnswer
 answerAfter (NoHeader r) recording limit room = Refused r
 answerAfter (Header h) recording limit room =
-    answerOf (h .encoding) (h .«sensor_size») (bodyEvents (h .encoding) (h .«sensor_size») limit (drop (h .«data_offset») recording)) room
+    answerOf (h .encoding) (h .«sensor_size») limit (bodyEvents (h .encoding) (h .«sensor_size») Unlimited (drop (h .«data_offset») recording)) room
 
 unfoldable pub rawAnswer : List ℕ → LoadOptions → (room : ℕ) → ReadAnswer
 rawAnswer recording o room = answerAfter (headerOf recording (o .«sensor_size»)) recording (o .«max_events») room
@@ -142,11 +147,11 @@ pub record Reads (verdict : Told) (answer : ReadAnswer) (es : List Event) (r : R
   pub is-answer : r ≡ answer
   pub columns : Handed es xs₀ ys₀ ts₀ ps₀ xs ys ts ps
 
--- of a body whose events are es
+-- of a body whose events, the limit applied, are es
 abbrev pub ReadsBody : Encoding → SensorSize → List Event → ReadAnswer → (xs₀ ys₀ : List ℕ) (ts₀ : List ℤ) (ps₀ xs ys : List ℕ) (ts : List ℤ) (ps : List ℕ) → Type 0
 ReadsBody e size es r xs₀ ys₀ ts₀ ps₀ =
     let room = shortest xs₀ ys₀ ts₀ ps₀ in
-    Reads (verdictOf e size es room) (answerOf e size es room) (handedOf size es room) r xs₀ ys₀ ts₀ ps₀
+    Reads (verdictOf e size Unlimited es room) (answerOf e size Unlimited es room) (handedOf size Unlimited es room) r xs₀ ys₀ ts₀ ps₀
 
 abbrev pub DecodesWords : List ℕ → Encoding → SensorSize → Limit → ReadAnswer → (xs₀ ys₀ : List ℕ) (ts₀ : List ℤ) (ps₀ xs ys : List ℕ) (ts : List ℤ) (ps : List ℕ) → Type 0
 DecodesWords words e size limit r xs₀ ys₀ ts₀ ps₀ =

@@ -92,7 +92,8 @@ fn deliver_all(
 {
     let codec = Codec::new(encoding);
     let room = less(less(xs.len(), ys.len()), less(ts.len(), ps.len()));
-    if most_events(encoding, body.len()) <= room {
+    let most = most_events(encoding, body.len());
+    if most <= room {
         let t = decode::fill_all(
             body,
             codec,
@@ -105,8 +106,8 @@ fn deliver_all(
         );
         return Delivered::Written(t.count);
     }
-    let n = decode::count_all(body, codec, width, height).count;
-    if n <= room {
+    let count = decode::count_all(body, codec, width, height).count;
+    if count <= room {
         let t = decode::fill_all(
             body,
             codec,
@@ -119,7 +120,7 @@ fn deliver_all(
         );
         return Delivered::Written(t.count);
     }
-    Delivered::Needed(n)
+    Delivered::Needed(count)
 }
 
 // The window of the first `limit` events.

@@ -7,9 +7,9 @@ use native.Mathlib.Omega.{arith}
 use borrow.Author.Tests.{lt-ltb}
 use lib.ListN.{length, take, drop}
 use Rattle.stream.specs.Machine.{Note, All, all-of, all-map, all-append-left, run, emits, words, notes, words-append, notes-append, words-take, notes-split, says-take, says-fits}
-use Rattle.stream.specs.Words.{Fits, stream, stream-append, wordsOf, wordsOf-take}
-use Rattle.stream.specs.Format.{Format, Lawful, Good, givens, writes, sent-good}
-use Rattle.stream.specs.Stream.{decode, after, decode-whole, decode-cut, bytes-resumed, resumed-good, decode-resumed}
+use Rattle.stream.specs.Words.{Fits, stream, stream-append, wordsOf, wordsOf-stream, wordsOf-take}
+use Rattle.stream.specs.Format.{Format, Lawful, Good, givens, writes}
+use Rattle.stream.specs.Stream.{decode, after, bytesOf, decode-whole, decode-cut, bytes-resumed, resumed-good, decode-resumed}
 use Rattle.stream.specs.Checkpoint.{good-timed}
 use Rattle.stream.specs.Order.{Rise, rise-from}
 use Rattle.stream.specs.Slice.{sift, sift-all, Past, within, reached, over-time, says-past}
@@ -65,11 +65,11 @@ pub all-sayable : (e : Encoding) (from : ℕ) (es : List Event) → Rise clock (
 all-sayable e from [] r = tt
 all-sayable e from (a ∷ es) r = (r .0 .fine, all-sayable e (clock a) es (r .1))
 
--- a stream that was cut can be sliced
+-- what is cut off comes after the rest, so the first c bytes can be sliced too
 module _ {S Q I E : Type 0} (F : Format S Q I E) (L : Lawful F) (live : S → Bool) (time : S → ℕ) (clock : E → ℕ)
     (ahead : (s : S) (es : List E) → F .Ready s es → live s ≡ true → All (λ e. time s ≤ clock e) es) where
-  pub cut-timed : (t₀ t₁ : ℕ) (s : S) (ns : List (Note ℕ E)) → Good F s ns [] → (c : ℕ)
-      → Past (F .reader) (within clock t₀ t₁) (reached live time t₁) s (wordsOf (F .size) (take c (stream (F .size) (words ns))))
+  cut-timed : (t₀ t₁ : ℕ) (s : S) (ns : List (Note ℕ E)) → Good F s ns [] → (c : ℕ)
+      → Past (F .reader) (within clock t₀ t₁) (reached live time t₁) s (wordsOf (F .size) (take c (bytesOf F L ns)))
   cut-timed t₀ t₁ s ns g c =
       let k = c / F .size in
       rw (wordsOf-take (F .size) (L .sized) c (words ns) (says-fits (F .reader) (Fits (F .size)) (F .Ready) s ns [] g), ← words-take k ns)
@@ -84,15 +84,37 @@ module _ (e : Encoding) where
   valid : (gs : List (List Event)) → All (formatOf e .Valid) gs
   valid gs = all-of _ (λ g. tt) gs
 
-  -- ---- FROM ANY WRITER that agrees with the decoder
+  -- ---- FROM ANY WRITER that agrees with the decoder, which is ready for the events
+
   module _ (d : StateOf e) (v : EncoderState) (gs : List (List Event)) (agree : AgreeOf e v d) (ready : ReadyOf e d (flat gs)) where
-    both : Good (formatOf e) d (appendNotes e v gs) [] × AgreeOf e (run (appender e) v gs) (run (readerOf e) d (words (appendNotes e v gs)))
-    both = writes (formatOf e) (lawfulOf e) v d gs [] (valid gs) agree (rw (append-nil, given-all) ready)
+    abbrev sends : List (Note ℕ Event)
+    sends = appendNotes e v gs
 
-    pub agreed-events : eventsFrom (codecOf e d) (appendBytes e v gs) ≡ flat gs
-    agreed-events = events-are e d (appendBytes e v gs) ∙ decode-whole (formatOf e) (lawfulOf e) d (appendNotes e v gs) (both .0) ∙ notes-all e v gs
+    abbrev stretch : List ℕ
+    stretch = appendBytes e v gs
 
-  -- ---- FROM A FRESH WRITER
+    understood : Good (formatOf e) d sends [] × AgreeOf e (run (appender e) v gs) (run (readerOf e) d (words sends))
+    understood = writes (formatOf e) (lawfulOf e) v d gs [] (valid gs) agree (rw (append-nil, given-all) ready)
+
+    pub agreed-whole : eventsFrom (codecOf e d) stretch ≡ flat gs
+    agreed-whole = events-are e d stretch ∙ decode-whole (formatOf e) (lawfulOf e) d sends (understood .0) ∙ notes-all e v gs
+
+    pub agreed-cut : (c : ℕ) → eventsFrom (codecOf e d) (take c stretch) ≡ notes (take (c / encodeSize e) sends)
+    agreed-cut c = events-are e d (take c stretch) ∙ decode-cut (formatOf e) (lawfulOf e) d sends (understood .0) c
+
+    pub agreed-past : (c : ℕ) (win : Window) → PastOver win (codecOf e d) (take c stretch)
+    agreed-past c win =
+        past-over e win d (take c stretch)
+        (cut-timed (formatOf e) (lawfulOf e) (isStarted e) (timeOf e) clock (λ d es rd l. ready-ahead e d es rd) (win .t0) (win .t1) d sends (understood .0) c)
+
+    -- and they agree after it
+    pub agreed-after : AgreeOf e (run (appender e) v gs) (after (encodeSize e) (readerOf e) d stretch)
+    agreed-after =
+        let fits = says-fits (readerOf e) (Fits (encodeSize e)) (ReadyOf e) d sends [] (understood .0) in
+        rw (wordsOf-stream (encodeSize e) (lawfulOf e .sized) (words sends) fits) (understood .1)
+
+  -- ---- FROM A FRESH WRITER, to a fresh decoder
+
   module _ (gs : List (List Event)) (orderly : Orderly e gs) where
     abbrev ns : List (Note ℕ Event)
     ns = appendNotes e freshState gs
@@ -100,47 +122,50 @@ module _ (e : Encoding) where
     abbrev bytes : List ℕ
     bytes = appendBytes e freshState gs
 
-    good : Good (formatOf e) (freshOf e) ns []
-    good = sent-good (formatOf e) (lawfulOf e) (freshOf e) gs [] (valid gs) (rw (append-nil, given-all) (fresh-ready e (flat gs) orderly))
+    agree : AgreeOf e freshState (freshOf e)
+    agree = lawfulOf e .starts (freshOf e)
 
-    read : (l : List ℕ) → eventsFrom (freshC e) l ≡ decode (encodeSize e) (readerOf e) (freshOf e) l
-    read l = ap (λ (c : _). eventsFrom c l) (fresh-is e) ∙ events-are e (freshOf e) l
+    ready : ReadyOf e (freshOf e) (flat gs)
+    ready = fresh-ready e (flat gs) orderly
 
     pub whole-events : eventsFrom (freshC e) bytes ≡ flat gs
-    whole-events = read bytes ∙ decode-whole (formatOf e) (lawfulOf e) (freshOf e) ns good ∙ notes-all e freshState gs
+    whole-events = rw (fresh-is e) (agreed-whole (freshOf e) freshState gs agree ready)
 
     -- THE CUT: of the first c bytes, the events whose words lie whole within them
     pub cut-events : (c : ℕ) → eventsFrom (freshC e) (take c bytes) ≡ notes (take (c / encodeSize e) ns)
-    cut-events c = read (take c bytes) ∙ decode-cut (formatOf e) (lawfulOf e) (freshOf e) ns good c
+    cut-events c = rw (fresh-is e) (agreed-cut (freshOf e) freshState gs agree ready c)
 
     -- they are the first of all
     pub cut-first : (c : ℕ) → eventsFrom (freshC e) (take c bytes) ++ notes (drop (c / encodeSize e) ns) ≡ flat gs
     cut-first c = rw (cut-events c, notes-split) (notes-all e freshState gs)
 
     pub cut-past : (c : ℕ) (win : Window) → PastOver win (freshC e) (take c bytes)
-    cut-past c win =
-        rw (fresh-is e)
-        (past-over e win (freshOf e) (take c bytes)
-        (cut-timed (formatOf e) (lawfulOf e) (isStarted e) (timeOf e) clock (λ d es rd l. ready-ahead e d es rd) (win .t0) (win .t1) (freshOf e) ns good c))
+    cut-past c win = rw (fresh-is e) (agreed-past (freshOf e) freshState gs agree ready c win)
 
     -- THE RESUMPTION: a second writer, given what is missing
     module _ (c : ℕ) (hs : List (List Event)) (missing : eventsFrom (freshC e) (take c bytes) ++ flat hs ≡ flat gs) where
+      good : Good (formatOf e) (freshOf e) ns []
+      good = understood (freshOf e) freshState gs agree ready .0
+
+      read : (l : List ℕ) → eventsFrom (freshC e) l ≡ decode (encodeSize e) (readerOf e) (freshOf e) l
+      read l = rw (fresh-is e) (events-are e (freshOf e) l)
+
       left : decode (encodeSize e) (readerOf e) (freshOf e) (take c bytes) ++ givens (formatOf e) hs ≡ notes ns
       left = rw (given-all hs, ← read (take c bytes), notes-all e freshState gs) missing
 
       pub joined-events : eventsFrom (freshC e) (joined e gs c hs) ≡ flat gs
-      joined-events =
-          read (joined e gs c hs) ∙ decode-resumed (formatOf e) (lawfulOf e) (freshOf e) ns good c hs (valid hs) left ∙ notes-all e freshState gs
+      joined-events = read (joined e gs c hs) ∙ decode-resumed (formatOf e) (lawfulOf e) (freshOf e) ns good c hs (valid hs) left ∙ notes-all e freshState gs
 
       pub joined-past : (win : Window) → PastOver win (freshC e) (joined e gs c hs)
       joined-past win =
           let F = formatOf e in
           let L = lawfulOf e in
-          let ms = take (c / encodeSize e) ns ++ appendNotes e freshState hs in
+          let more = appendNotes e freshState hs in
           rw (fresh-is e)
           (past-over e win (freshOf e) (joined e gs c hs)
-          (rw (bytes-resumed F L c ns (appendNotes e freshState hs))
-          (good-timed F L (isStarted e) (timeOf e) clock (λ d es rd l. ready-ahead e d es rd) (win .t0) (win .t1) (freshOf e) ms (resumed-good F L (freshOf e) ns good c hs (valid hs) left))))
+          (rw (bytes-resumed F L c ns more)
+          (good-timed F L (isStarted e) (timeOf e) clock (λ d es rd l. ready-ahead e d es rd) (win .t0) (win .t1) (freshOf e) (take (c / encodeSize e) ns ++ more)
+          (resumed-good F L (freshOf e) ns good c hs (valid hs) left))))
 
     -- ---- THE SENSOR: none of them is outside 2048 by 2048
 

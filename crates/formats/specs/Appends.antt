@@ -1,21 +1,21 @@
 -- Appends to a writer, one after another, in either encoding: the words, the cut, the resumption, and slices by time.
-use mathlib.Core.Path.{_≡_, refl, sym, ap, _∙_}
-use mathlib.Core.Bool.{Bool, true, false}
+use mathlib.Core.Path.{_≡_, refl, ap, _∙_}
+use mathlib.Core.Bool.{Bool, true}
 use mathlib.Core.List.{List, [], _∷_, _++_, append-nil}
-use Prim.Native.Nat.{ℕ, _*_, _/_, _≤_, _<_}
+use Prim.Native.Nat.{ℕ, _*_, _/_, _≤_}
 use native.Mathlib.Omega.{arith}
 use borrow.Author.Tests.{lt-ltb}
-use lib.ListN.{length, take, drop}
+use lib.ListN.{take, drop}
 use Rattle.stream.specs.Machine.{Note, All, all-of, all-map, all-append-left, run, emits, words, notes, words-append, notes-append, words-take, notes-split, says-take, says-fits}
 use Rattle.stream.specs.Words.{Fits, stream, stream-append, wordsOf, wordsOf-stream, wordsOf-take}
 use Rattle.stream.specs.Format.{Format, Lawful, Good, givens, writes}
 use Rattle.stream.specs.Stream.{decode, after, bytesOf, decode-whole, decode-cut, bytes-resumed, resumed-good, decode-resumed}
 use Rattle.stream.specs.Checkpoint.{good-timed}
-use Rattle.stream.specs.Order.{Rise, rise-from}
+use Rattle.stream.specs.Order.{Rise}
 use Rattle.stream.specs.Slice.{sift, sift-all, Past, within, reached, over-time, says-past}
 use Rattle.evt.specs.declared.Encoding.{Encoding}
 use Rattle.evt.specs.Event.{Event}
-use Rattle.evt.specs.Codec.{freshC, eventsFrom, codecAfter}
+use Rattle.evt.specs.Codec.{freshC, eventsFrom}
 use Rattle.sensor.specs.Inside.{inside, clock}
 use Rattle.window.specs.declared.Window.{Window}
 use Rattle.select.specs.Uses.{PastOver}
@@ -23,8 +23,8 @@ use Rattle.encode.specs.declared.EncoderState.{EncoderState}
 use Rattle.encode.specs.Sent.{freshState}
 use Rattle.encode.specs.Encode.{encodeNotes, encodeState, encodeSize, encodeBytes}
 use Rattle.encode.specs.Laws.{encode-notes}
-use Rattle.formats.specs.Ready.{limit, sayable, Sayable, sayable-true}
-use Rattle.formats.specs.Either.{StateOf, codecOf, freshOf, readerOf, appender, ReadyOf, AgreeOf, formatOf, lawfulOf, fresh-is, events-are, after-is, fresh-ready, isStarted, timeOf, ready-ahead, past-over}
+use Rattle.formats.specs.Ready.{limit, sayable, sayable-true}
+use Rattle.formats.specs.Either.{StateOf, codecOf, freshOf, readerOf, appender, ReadyOf, AgreeOf, formatOf, lawfulOf, fresh-is, events-are, fresh-ready, isStarted, timeOf, ready-ahead, past-over}
 
 -- all the events of some appends
 abbrev pub flat : List (List Event) → List Event

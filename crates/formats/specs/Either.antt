@@ -1,12 +1,12 @@
 -- Either encoding as a format whose writer is given an append's events at a time, over the definitions that contracts cite.
 use mathlib.Core.Path.{_≡_, refl, ap, _∙_}
-use mathlib.Core.Bool.{Bool, true}
-use mathlib.Core.List.{List, [], _∷_, _++_}
+use mathlib.Core.Bool.{Bool}
+use mathlib.Core.List.{List, [], _∷_}
 use Prim.Native.Nat.{ℕ, _≤_}
 use native.Mathlib.Omega.{arith}
 use Rattle.stream.specs.Machine.{Machine, Note, All, all-of}
 use Rattle.stream.specs.Words.{wordsOf}
-use Rattle.stream.specs.Format.{Format, Lawful, Through, through, givens}
+use Rattle.stream.specs.Format.{Format, Lawful, through, givens}
 use Rattle.stream.specs.Stream.{decode, after}
 use Rattle.stream.specs.Order.{Rise, rise-all}
 use Rattle.stream.specs.Slice.{Past, reached, past-then}
@@ -29,7 +29,7 @@ use Rattle.encode.specs.Runs.{Run, runs, runs-are, givenBy}
 use Rattle.encode.specs.Encode.{encodeNotes, encodeState, encodeSize}
 use Rattle.formats.specs.Ready.{limit, sayable}
 use Rattle.formats.specs.Lawful2.{Ready2, format2, lawful2}
-use Rattle.formats.specs.Lawful3.{Ready3, Agree3, format3, lawful3}
+use Rattle.formats.specs.Lawful3.{Ready3, format3, lawful3}
 
 -- a decoder of the encoding
 abbrev pub StateOf : Encoding → Type 0

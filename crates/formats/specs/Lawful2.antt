@@ -4,14 +4,14 @@ use mathlib.Core.Bool.{Bool, true, false}
 use mathlib.Core.List.{List, [], _∷_, _++_}
 use Prim.Native.Nat.{ℕ, _+_, _*_, _/_, _%_, _^_, _≤_, _<_}
 use native.Mathlib.Omega.{arith}
-use Rattle.stream.specs.Machine.{Note, run, words}
+use Rattle.stream.specs.Machine.{run, words}
 use Rattle.stream.specs.Format.{Format, Lawful, Good}
 use Rattle.stream.specs.Loop.{tracks-same}
 use Rattle.stream.specs.Order.{rise-first}
 use Rattle.evt.specs.declared.Encoding.the-variants.{Evt2}
 use Rattle.evt.specs.declared.evt2.Evt2Decoder.{Evt2Decoder}
 use Rattle.evt.specs.Event.{Event, eventsOf}
-use Rattle.evt.specs.Layout.{type2, timeLow2, x2, y2, timeHigh2, event-type2, event-low2, event-x2, event-y2, event-fits2, time-type2, time-high2, time-fits2}
+use Rattle.evt.specs.Layout.{type2, timeLow2, x2, y2, event-type2, event-low2, event-x2, event-y2, event-fits2, time-type2, time-high2, time-fits2}
 use Rattle.evt.specs.Evt2 as Reader
 use Rattle.evt.specs.Evt2.{fresh2, period2, threshold2, step2, vector2, reader2, time-word, event-word}
 use Rattle.sensor.specs.Inside.{clock}

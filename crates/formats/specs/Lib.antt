@@ -1,0 +1,6 @@
+-- What each file is stands at its head.
+pub mod Ready
+pub mod Lawful2
+pub mod Lawful3
+pub mod Either
+pub mod Appends

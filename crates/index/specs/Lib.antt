@@ -9,4 +9,5 @@ pub mod Choose
 pub mod Judge
 pub mod InRange
 pub mod Start
+pub mod Halves
 pub mod Search

@@ -2,7 +2,8 @@ use mathlib.Core.Path.{_≡_, refl, sym, ap, _∙_}
 use mathlib.Core.Bool.{true, false}
 use Prim.Native.Nat.{ℕ, _+_}
 use borrow.Author.Needs.{needs}
-use Rattle.index.specs.Search.{bracketOf, narrow-by, narrow-met}
+use Rattle.index.specs.Halves.{bracketOf}
+use Rattle.index.specs.Search.{narrow-by, narrow-met}
 use Rattle.index.proofs.narrow.Statement.{statement}
 use Rattle.index.proofs.narrow.Tie as tie
 use Rattle.index.proofs.narrow.Reads as reads

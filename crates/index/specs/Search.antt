@@ -25,12 +25,12 @@ place-between lo hi h = rw (lt-ltb lo hi h)
 pub place-met : (lo hi : ℕ) → hi ≤ lo → placeOf lo hi ≡ lo - 1
 place-met lo hi h = rw (le-ltb lo hi h)
 
-pub narrow-by : (s : Search) (c : Checkpoint) (v : Bool) → s .lo < s .hi → passesOf (s .asked) c ≡ v
-    → narrowed s c ≡ cond v (bracketOf true (middleOf (s .lo) (s .hi) + 1) (s .hi) (s .asked) c) (bracketOf true (s .lo) (middleOf (s .lo) (s .hi)) (s .asked) c)
-narrow-by s c v h e = rw (lt-ltb (s .lo) (s .hi) h, e)
+pub narrow-by : (s : Search) (c : Checkpoint) (v : Bool) (m : ℕ) (r : Search) → s .lo < s .hi → m ≡ middleOf (s .lo) (s .hi) → passesOf (s .asked) c ≡ v
+    → r ≡ cond v (bracketOf true (m + 1) (s .hi) (s .asked) c) (bracketOf true (s .lo) m (s .asked) c) → r ≡ narrowed s c
+narrow-by s c v m r h q e is = is ∙ rw (q, lt-ltb (s .lo) (s .hi) h, e)
 
-pub narrow-met : (s : Search) (c : Checkpoint) → s .hi ≤ s .lo → narrowed s c ≡ bracketOf false (s .lo) (s .hi) (s .asked) c
-narrow-met s c h = rw (le-ltb (s .lo) (s .hi) h)
+pub narrow-met : (s : Search) (c : Checkpoint) (r : Search) → s .hi ≤ s .lo → r ≡ bracketOf false (s .lo) (s .hi) (s .asked) c → r ≡ narrowed s c
+narrow-met s c r h is = is ∙ rw (le-ltb (s .lo) (s .hi) h)
 
 -- ---- records that are parted
 

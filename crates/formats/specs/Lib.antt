@@ -1,0 +1,4 @@
+-- What each file is stands at its head.
+pub mod Ready
+pub mod Lawful2
+pub mod Lawful3

@@ -1,2 +1,3 @@
 -- What each file is stands at its head.
 pub mod Handover
+pub mod Calls

@@ -54,6 +54,14 @@ module _ (s : RawEventSink) (c : Call) where
   pub out-refused : sinkInRange s ≡ false → isAccepted s c ≡ false
   out-refused h = rw h
 
+-- so a list to it comes to nothing
+pub out-nothing : (s : RawEventSink) (cs : List Call) → sinkInRange s ≡ false → (acceptedEvents s cs ≡ []) × (streamOf s cs ≡ [])
+out-nothing s [] h = (refl, refl)
+out-nothing s (c ∷ cs) h =
+    let n = out-nothing s cs h in
+    let u = refused-unchanged s c (out-refused s c h) in
+    (rw (u .no-events, u .is-sink) (n .0), rw (u .no-bytes, u .is-sink) (n .1))
+
 -- ---- the stream is its words
 
 -- no header is due

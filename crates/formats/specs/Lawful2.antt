@@ -4,23 +4,24 @@ use mathlib.Core.Bool.{Bool, true, false}
 use mathlib.Core.List.{List, [], _∷_, _++_}
 use Prim.Native.Nat.{ℕ, _+_, _*_, _/_, _%_, _^_, _≤_, _<_}
 use native.Mathlib.Omega.{arith}
-use Rattle.stream.specs.Machine.{Note, run, words}
+use Rattle.stream.specs.Machine.{run, words}
 use Rattle.stream.specs.Format.{Format, Lawful, Good}
 use Rattle.stream.specs.Loop.{tracks-same}
 use Rattle.stream.specs.Order.{rise-first}
+use Rattle.evt.specs.declared.Encoding.the-variants.{Evt2}
 use Rattle.evt.specs.declared.evt2.Evt2Decoder.{Evt2Decoder}
 use Rattle.evt.specs.Event.{Event, eventsOf}
-use Rattle.evt.specs.Layout.{type2, timeLow2, x2, y2, timeHigh2, event-type2, event-low2, event-x2, event-y2, event-fits2, time-type2, time-high2, time-fits2}
-use Rattle.evt.specs.Evt2 as Evt2
+use Rattle.evt.specs.Layout.{type2, timeLow2, x2, y2, event-type2, event-low2, event-x2, event-y2, event-fits2, time-type2, time-high2, time-fits2}
+use Rattle.evt.specs.Evt2 as Reader
 use Rattle.evt.specs.Evt2.{fresh2, period2, threshold2, step2, vector2, reader2, time-word, event-word}
 use Rattle.sensor.specs.Inside.{clock}
 use Rattle.encode.specs.declared.EncoderState.{EncoderState}
 use Rattle.encode.specs.Sent.{freshState, carries, due}
 use Rattle.encode.specs.Evt2.{highWord2, wordOf2, highSent2, encode2, writer2, encode-notes2}
-use Rattle.formats.specs.Ready.{sayable, Ready, Holds, holds-sent, Sayable, sayable-true, no-event, one-event}
+use Rattle.formats.specs.Ready.{limit, sayable, Ready, Holds, holds-sent, Sayable, sayable-true, no-event, one-event}
 
 abbrev pub Ready2 : Evt2Decoder → List Event → Type 0
-Ready2 d es = Ready period2 period2 (d .«time_high») (d .time) (d .«high_loops») es
+Ready2 d es = Ready period2 (limit Evt2) (d .«time_high») (d .time) (d .«high_loops») es
 
 -- the decoder has the coarse time of the half h
 abbrev pub High2 : Evt2Decoder → (h : ℕ) → Type 0
@@ -41,7 +42,7 @@ format2 = record {
 
 -- ---- an event's word, at the coarse time that the event has
 
-module _ (d : Evt2Decoder) (e : Event) (f : Sayable period2 e) (on : d .initialised ≡ true) (at : d .«time_high» ≡ e .t / 64 * 64) where
+module _ (d : Evt2Decoder) (e : Event) (f : Sayable (limit Evt2) e) (on : d .initialised ≡ true) (at : d .«time_high» ≡ e .t / 64 * 64) where
   abbrev w : ℕ
   w = wordOf2 e
 
@@ -69,7 +70,7 @@ module _ (d : Evt2Decoder) (e : Event) (f : Sayable period2 e) (on : d .initiali
   is-t : d .«time_high» + timeLow2 w ≡ e .t
   is-t = rw (event-low2 (e .p % 2) (e .t % 64) (e .x % 2048) (e .y % 2048) p<2 low< x<2048 y<2048, at) (omega arith)
 
-  by-event : (step2 d w ≡ Evt2.stepAs Evt2.event d w) × (vector2 d w ≡ Evt2.vectorAs Evt2.event d w)
+  by-event : (step2 d w ≡ Reader.stepAs Reader.event d w) × (vector2 d w ≡ Reader.vectorAs Reader.event d w)
   by-event = event-word d w (type2 w) refl (omega (arith, is-p, f .p<)) on
 
   pub event-emits : eventsOf (vector2 d w) ≡ e ∷ []
@@ -98,7 +99,7 @@ module _ (d : Evt2Decoder) (t : ℕ) (low : d .«high_loops» * period2 ≤ t) (
   q< : q < 2 ^ 28
   q< = omega arith
 
-  by-time : (step2 d (highWord2 t) ≡ Evt2.stepAs Evt2.timeHigh d (highWord2 t)) × (vector2 d (highWord2 t) ≡ Evt2.vectorAs Evt2.timeHigh d (highWord2 t))
+  by-time : (step2 d (highWord2 t) ≡ Reader.stepAs Reader.timeHigh d (highWord2 t)) × (vector2 d (highWord2 t) ≡ Reader.vectorAs Reader.timeHigh d (highWord2 t))
   by-time = time-word d (highWord2 t) (type2 (highWord2 t)) refl (time-type2 q q<)
 
   pub high-fits : highWord2 t < 256 ^ 4
@@ -116,15 +117,15 @@ module _ (d : Evt2Decoder) (t : ℕ) (low : d .«high_loops» * period2 ≤ t) (
 
 group-as : (b : Bool) (d : Evt2Decoder) (e : Event) (more : List Event) → (b ≡ true → High2 d (e .t / 64)) → Ready2 d (e ∷ more)
     → let ns = due b (highWord2 (e .t)) ++ (carries (wordOf2 e) e ∷ []) in Good format2 d ns more × High2 (run reader2 d (words ns)) (e .t / 64)
-group-as true d e more h rd = said-event d e (sayable-true period2 e (rd .rises .0 .fine)) (h refl .0) (h refl .1) more rd
+group-as true d e more h rd = said-event d e (sayable-true (limit Evt2) e (rd .rises .0 .fine)) (h refl .0) (h refl .1) more rd
 group-as false d e more h rd =
-    let f = sayable-true period2 e (rd .rises .0 .fine) in
+    let f = sayable-true (limit Evt2) e (rd .rises .0 .fine) in
     let le : d .«time_high» ≤ e .t = omega (arith, rd .past, rd .rises .0 .rises) in
     let low : d .«high_loops» * period2 ≤ e .t = omega (arith, rd .counted) in
     let high : e .t < d .«high_loops» * period2 + period2 = omega (arith, f .t<) in
     let next : Evt2Decoder = record { initialised = true; «time_high» = e .t / 64 * 64; time = e .t / 64 * 64; «high_loops» = d .«high_loops» } in
     let up : step2 d (highWord2 (e .t)) ≡ next = high-steps d (e .t) low high le in
-    let r = said-event next e f refl refl more (record { counted = omega arith; past = omega arith; rises = rise-first clock (sayable period2) (d .time) (e .t / 64 * 64) e more (omega arith) (rd .rises) }) in
+    let r = said-event next e f refl refl more (record { counted = omega arith; past = omega arith; rises = rise-first clock (sayable (limit Evt2)) (d .time) (e .t / 64 * 64) e more (omega arith) (rd .rises) }) in
     (record { ready = rd; fits = high-fits d (e .t) low high le; says = high-emits d (e .t) low high le; rest = rw up (r .0) }, rw up (r .1))
 
 pub lawful2 : Lawful format2

@@ -12,23 +12,24 @@ use Rattle.stream.specs.Format.{Format, Lawful, Good}
 use Rattle.stream.specs.Loop.{tracks-same}
 use Rattle.stream.specs.Mask.{Inc, mask, bits, bits-mask, mask-lt}
 use Rattle.stream.specs.Order.{Rise, rise-from, rise-suffix}
+use Rattle.evt.specs.declared.Encoding.the-variants.{Evt3}
 use Rattle.evt.specs.declared.evt3.Decoder.{Decoder}
 use Rattle.evt.specs.declared.Sent.{Sent}
 use Rattle.evt.specs.declared.vector.Vector.{Vector}
 use Rattle.evt.specs.Event.{Event, eventAt, eventsOf}
-use Rattle.evt.specs.Layout.{type3, y3, x3, polarity3, mask12, time3, word-type3, word-time3, word-mask12, word-y3, word-fits3, column-type3, column-polarity3, column-x3, column-fits3}
-use Rattle.evt.specs.Evt3.{fresh3, period3, threshold3, timed, at, past, number, step3, vector3, reader3, stepAs, vectorAs, kindOn, started-word, first-word}
+use Rattle.evt.specs.Layout.{type3, x3, polarity3, mask12, time3, word-type3, word-time3, word-mask12, word-y3, word-fits3, column-type3, column-polarity3, column-x3, column-fits3}
+use Rattle.evt.specs.Evt3.{fresh3, period3, threshold3, timed, past, number, step3, vector3, reader3, stepAs, vectorAs, kindOn, started-word, first-word}
 use Rattle.sensor.specs.Inside.{clock}
 use Rattle.encode.specs.declared.EncoderState.{EncoderState}
 use Rattle.encode.specs.Columns.{event}
-use Rattle.encode.specs.Sent.{freshState, sentIs, quiet, carries, due}
+use Rattle.encode.specs.Sent.{freshState, sentIs, due}
 use Rattle.encode.specs.Runs.{Run, given, spread, Rising, Valid, firstX, lastX}
 use Rattle.encode.specs.Evt3.{highWord3, lowWord3, rowWord3, lowHeld, highSent3, lowSent3, rowSent3, leads3, singleWord3, baseWord3, maskWord3, nearby, beyond, windows, vectored, singles, masks, vectors, body3, encode3, encoded3, writer3}
 use Rattle.encode.specs.Laws.{reach, near-is, none-left, singles-notes, masks-notes, body-notes, due-notes, encode-notes3}
-use Rattle.formats.specs.Ready.{sayable, Ready, Holds, holds-sent, Sayable, sayable-true, no-event, one-event}
+use Rattle.formats.specs.Ready.{limit, sayable, Ready, Holds, holds-sent, Sayable, sayable-true, no-event, one-event}
 
 abbrev pub Ready3 : Decoder → List Event → Type 0
-Ready3 d es = Ready period3 period3 (d .«time_base») (d .time) (d .«high_loops») es
+Ready3 d es = Ready period3 (limit Evt3) (d .«time_base») (d .time) (d .«high_loops») es
 
 -- the decoder has the coarse time of the half h
 abbrev pub High3 : Decoder → (h : ℕ) → Type 0
@@ -54,7 +55,7 @@ format3 = record {
 }
 
 abbrev Rises : ℕ → List Event → Type 0
-Rises = Rise clock (sayable period3)
+Rises = Rise clock (sayable (limit Evt3))
 
 -- the decoder has the time t and the row y
 record Fixed (t y : ℕ) (d : Decoder) : Type 0 where
@@ -90,7 +91,7 @@ said-word t y d d′ w es left ns more st em fits nl rd next = (
 said-singles : (t y p : ℕ) (xs : List ℕ) (d : Decoder) (more : List Event) → Fixed t y d → Rises t (spread t y p xs ++ more) → Reads t y d (singles t y p xs) more
 said-singles t y p [] d more f r = (fixed-ready t y d more f r, f)
 said-singles t y p (x ∷ xs) d more f r =
-    let g = sayable-true period3 (event x y t p) (r .0 .fine) in
+    let g = sayable-true (limit Evt3) (event x y t p) (r .0 .fine) in
     let w = singleWord3 p x in
     let p2 : p % 2 < 2 = omega arith in
     let xm : x % 2048 < 2048 = omega arith in
@@ -137,17 +138,17 @@ said-masks t y p (suc k) b xs d more f eb ep fits i r =
     (ap eventsOf (by .1) ∙ mask-events (vectorAs (kindOn 4) d w) near (omega arith) is-mask inc ∙ rw (f .at-time, f .at-row, ep))
     (word-fits3 4 (mask b near % 4096) (omega arith) m<) (masks-notes t y p k (b + 12) far i′) (fixed-ready t y d (spread t y p near ++ (spread t y p far ++ more)) f r₂)
     (said-masks t y p k (b + 12) far (past 12 d) more (record { on = f .on; counted = f .counted; at-coarse = f .at-coarse; at-time = f .at-time; at-row = f .at-row })
-    next ep (omega arith) i′ (rise-suffix clock (sayable period3) t (spread t y p near) (spread t y p far ++ more) r₂))
+    next ep (omega arith) i′ (rise-suffix clock (sayable (limit Evt3)) t (spread t y p near) (spread t y p far ++ more) r₂))
 
 -- ---- the columns of a run
 
-first-fine : (t y p : ℕ) (xs : List ℕ) (more : List Event) → 1 ≤ length xs → Rises t (spread t y p xs ++ more) → Sayable period3 (event (firstX xs) y t p)
+first-fine : (t y p : ℕ) (xs : List ℕ) (more : List Event) → 1 ≤ length xs → Rises t (spread t y p xs ++ more) → Sayable (limit Evt3) (event (firstX xs) y t p)
 first-fine t y p [] more h r = absurd (omega arith)
-first-fine t y p (x ∷ xs) more h r = sayable-true period3 (event x y t p) (r .0 .fine)
+first-fine t y p (x ∷ xs) more h r = sayable-true (limit Evt3) (event x y t p) (r .0 .fine)
 
 all-fine : (t y p : ℕ) (xs : List ℕ) (more : List Event) → Rises t (spread t y p xs ++ more) → (k : ℕ) → getD xs k 0 < 2048
 all-fine t y p [] more r k = omega arith
-all-fine t y p (x ∷ xs) more r zero = sayable-true period3 (event x y t p) (r .0 .fine) .x<
+all-fine t y p (x ∷ xs) more r zero = sayable-true (limit Evt3) (event x y t p) (r .0 .fine) .x<
 all-fine t y p (x ∷ xs) more r (suc k) = all-fine t y p xs more (r .1) k
 
 windows-few : (xs : List ℕ) → lastX xs < 2048 → windows xs ≤ 171
@@ -160,7 +161,7 @@ number-is (suc zero) h = refl
 number-is (suc (suc p)) h = absurd (omega arith)
 
 module _ (t y p : ℕ) (xs : List ℕ) (v : Rising xs) (more : List Event) (r : Rises t (spread t y p xs ++ more)) where
-  fine : Sayable period3 (event (firstX xs) y t p)
+  fine : Sayable (limit Evt3) (event (firstX xs) y t p)
   fine = first-fine t y p xs more (v .some) r
 
   said-vectors : (d : Decoder) → Fixed t y d → Reads t y d (vectors t y p xs) more
@@ -249,7 +250,7 @@ module _ (t y p : ℕ) (xs : List ℕ) (v : Rising xs) (more : List Event) (r : 
       said-word t y d d′ w [] (spread t y p xs) (due lo (lowWord3 t) ++ (due ro (rowWord3 y) ++ here)) more (q .0) (q .1)
       (word-fits3 8 (t / 4096 % 4096) (omega arith) (omega arith)) (due-notes lo (lowWord3 t) (due ro (rowWord3 y) ++ here) ∙ due-notes ro (rowWord3 y) here ∙ body-notes t y p xs v) rd
       (said-low lo ro d′ refl refl
-      (record { counted = omega arith; past = omega arith; rises = rise-from clock (sayable period3) (t / 4096 * 4096) t (spread t y p xs ++ more) (omega arith) r })
+      (record { counted = omega arith; past = omega arith; rises = rise-from clock (sayable (limit Evt3)) (t / 4096 * 4096) t (spread t y p xs ++ more) (omega arith) r })
       (λ e. omega (arith, ht e .1 refl)) hr)
 
 -- ---- the law

@@ -2,3 +2,5 @@
 pub mod Ready
 pub mod Lawful2
 pub mod Lawful3
+pub mod Either
+pub mod Appends

@@ -68,7 +68,7 @@ all-sayable e from (a ∷ es) r = (r .0 .fine, all-sayable e (clock a) es (r .1)
 -- what is cut off comes after the rest, so the first c bytes can be sliced too
 module _ {S Q I E : Type 0} (F : Format S Q I E) (L : Lawful F) (live : S → Bool) (time : S → ℕ) (clock : E → ℕ)
     (ahead : (s : S) (es : List E) → F .Ready s es → live s ≡ true → All (λ e. time s ≤ clock e) es) where
-  cut-timed : (t₀ t₁ : ℕ) (s : S) (ns : List (Note ℕ E)) → Good F s ns [] → (c : ℕ)
+  pub cut-timed : (t₀ t₁ : ℕ) (s : S) (ns : List (Note ℕ E)) → Good F s ns [] → (c : ℕ)
       → Past (F .reader) (within clock t₀ t₁) (reached live time t₁) s (wordsOf (F .size) (take c (bytesOf F L ns)))
   cut-timed t₀ t₁ s ns g c =
       let k = c / F .size in
@@ -77,7 +77,7 @@ module _ {S Q I E : Type 0} (F : Format S Q I E) (L : Lawful F) (live : S → Bo
       s (take k ns) (notes (drop k ns) ++ []) (says-take (F .reader) (Fits (F .size)) (F .Ready) k s ns [] g))
 
 module _ (e : Encoding) where
-  given-all : (gs : List (List Event)) → givens (formatOf e) gs ≡ flat gs
+  pub given-all : (gs : List (List Event)) → givens (formatOf e) gs ≡ flat gs
   given-all [] = refl
   given-all (g ∷ gs) = rw (given-all gs)
 

@@ -2,3 +2,4 @@
 pub mod Handover
 pub mod Calls
 pub mod Cut
+pub mod Streams

@@ -1,0 +1,52 @@
+-- Streams that a fresh decoder understands: those of a fresh writer, and those that were cut and gone on with by a fresh writer, however often.
+use mathlib.Core.Path.{_≡_, refl, sym, ap, _∙_}
+use mathlib.Core.List.{List, [], _∷_, _++_, append-nil}
+use Prim.Native.Nat.{ℕ, _*_, _/_}
+use lib.ListN.{take, drop}
+use Rattle.stream.specs.Machine.{Note, All, all-of, words, notes}
+use Rattle.stream.specs.Words.{stream}
+use Rattle.stream.specs.Format.{Good, sent-good, resumes}
+use Rattle.stream.specs.Stream.{decode-cut, bytes-resumed}
+use Rattle.evt.specs.Event.{Event}
+use Rattle.evt.specs.Codec.{freshC, eventsFrom}
+use Rattle.evt.specs.declared.Encoding.{Encoding}
+use Rattle.sensor.specs.Inside.{clock}
+use Rattle.window.specs.declared.Window.{Window}
+use Rattle.select.specs.Uses.{PastOver}
+use Rattle.encode.specs.Sent.{freshState}
+use Rattle.encode.specs.Encode.{encodeSize}
+use Rattle.formats.specs.Either.{formatOf, lawfulOf, freshOf, fresh-is, events-are, fresh-ready, isStarted, timeOf, ready-ahead, past-over}
+use Rattle.formats.specs.Appends.{flat, Orderly, appendNotes, given-all, cut-timed}
+
+module _ (e : Encoding) where
+  abbrev pub Understood : List (Note ℕ Event) → Type 0
+  Understood ns = Good (formatOf e) (freshOf e) ns []
+
+  abbrev pub bytesOf : List (Note ℕ Event) → List ℕ
+  bytesOf ns = stream (encodeSize e) (words ns)
+
+  pub sent-understood : (gs : List (List Event)) → Orderly e gs → Understood (appendNotes e freshState gs)
+  sent-understood gs o =
+      sent-good (formatOf e) (lawfulOf e) (freshOf e) gs [] (all-of _ (λ g. tt) gs) (rw (append-nil, given-all e gs) (fresh-ready e (flat gs) o))
+
+  -- after k words, by a fresh writer that is given what was noted of the others
+  pub resumed-understood : (k : ℕ) (ns : List (Note ℕ Event)) (gs : List (List Event)) → Understood ns → flat gs ≡ notes (drop k ns)
+      → Understood (take k ns ++ appendNotes e freshState gs)
+  resumed-understood k ns gs p h = resumes (formatOf e) (lawfulOf e) k (freshOf e) ns gs [] (all-of _ (λ g. tt) gs) p (given-all e gs ∙ h)
+
+  pub resumed-bytes : (c : ℕ) (ns ms : List (Note ℕ Event)) → take (c / encodeSize e * encodeSize e) (bytesOf ns) ++ bytesOf ms ≡ bytesOf (take (c / encodeSize e) ns ++ ms)
+  resumed-bytes c ns ms = bytes-resumed (formatOf e) (lawfulOf e) c ns ms
+
+  module _ (ns : List (Note ℕ Event)) (understood : Understood ns) (c : ℕ) where
+    -- the first c bytes
+    abbrev front : List ℕ
+    front = take c (bytesOf ns)
+
+    pub front-events : eventsFrom (freshC e) front ≡ notes (take (c / encodeSize e) ns)
+    front-events = rw (fresh-is e) (events-are e (freshOf e) front ∙ decode-cut (formatOf e) (lawfulOf e) (freshOf e) ns understood c)
+
+    pub front-past : (win : Window) → PastOver win (freshC e) front
+    front-past win =
+        rw (fresh-is e)
+        (past-over e win (freshOf e) front
+        (cut-timed (formatOf e) (lawfulOf e) (isStarted e) (timeOf e) clock (λ d es rd l. ready-ahead e d es rd) (win .t0) (win .t1) (freshOf e) ns understood c))

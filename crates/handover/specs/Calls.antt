@@ -14,12 +14,14 @@ use Rattle.stream.specs.Words.{stream, stream-append}
 use Rattle.stream.specs.Order.{Rise, lastOf, rise-append}
 use Rattle.evt.specs.Event.{Event}
 use Rattle.evt.specs.declared.Encoding.{Encoding}
+use Rattle.evt.specs.declared.Encoding.the-variants.{Evt2, Evt3}
 use Rattle.sensor.specs.Inside.{clock}
 use Rattle.encode.specs.declared.EncoderState.{EncoderState}
 use Rattle.encode.specs.Columns.{natural, event, eventsIn}
 use Rattle.encode.specs.Encode.{encodeNotes, encodeState, encodeSize, encodeBytes}
 use Rattle.encode.specs.Laws.{encode-notes}
-use Rattle.formats.specs.Ready.{sayable}
+use Rattle.formats.specs.Ready.{limit, sayable}
+use Rattle.formats.specs.Appends.{flat, Orderly, appendNotes}
 use Rattle.sink.specs.declared.LastTime.{LastTime}
 use Rattle.sink.specs.declared.LastTime.the-variants.{Never, At}
 use Rattle.sink.specs.declared.RawEventSink.{RawEventSink}
@@ -27,7 +29,8 @@ use Rattle.sink.specs.Range.{timeBound, timeInRange, every, atMost, falls, fall
 use Rattle.sink.specs.Append.{lastAfter, wordBytes, headerBytes, sends, nextSink}
 use Rattle.sink.specs.Ends.{accepts-checked}
 use Rattle.sink.specs.Checks.{Checked, checked-of, or-neither}
-use Rattle.handover.specs.Handover.{Call, isAccepted, next, bytesOf, eventsOf, wordsOf, acceptedEvents, streamOf, streamWords}
+use Rattle.handover.specs.Handover.{Call, isAccepted, next, bytesOf, eventsOf, wordsOf, acceptedEvents, streamOf, streamWords, fresh}
+use Rattle.handover.specs.Streams.{Understood, sent-understood}
 
 -- ---- what an append that is refused, and one that is accepted, comes to
 
@@ -178,3 +181,41 @@ rise-go false s c cs h ih = ih s
 pub accepted-rise : (s : RawEventSink) (cs : List Call) → Rises (s .version) (lastTime (s .«last_t»)) (acceptedEvents s cs)
 accepted-rise s [] = tt
 accepted-rise s (c ∷ cs) = rise-go (isAccepted s c) s c cs refl (λ u. accepted-rise u cs)
+
+-- ---- the accepted appends as groups of events
+
+abbrev pub groupsOf : RawEventSink → List Call → List (List Event)
+groupsOf s [] = []
+groupsOf s (c ∷ cs) = cond (isAccepted s c) (columns s c ∷ []) [] ++ groupsOf (next s c) cs
+
+groups-go : (b : Bool) (s : RawEventSink) (c : Call) (cs : List Call) → ((u : RawEventSink) → flat (groupsOf u cs) ≡ acceptedEvents u cs)
+    → flat (cond b (columns s c ∷ []) [] ++ groupsOf (cond b (later s c) s) cs) ≡ cond b (columns s c) [] ++ acceptedEvents (cond b (later s c) s) cs
+groups-go true s c cs ih = ap (λ (l : List Event). columns s c ++ l) (ih (later s c))
+groups-go false s c cs ih = ih s
+
+pub groups-events : (s : RawEventSink) (cs : List Call) → flat (groupsOf s cs) ≡ acceptedEvents s cs
+groups-events s [] = refl
+groups-events s (c ∷ cs) = groups-go (isAccepted s c) s c cs (λ u. groups-events u cs)
+
+sent-go : (b : Bool) (s : RawEventSink) (c : Call) (cs : List Call) → ((u : RawEventSink) → streamWords u cs ≡ appendNotes (u .version) (u .state) (groupsOf u cs))
+    → cond b (encodeNotes (s .version) (s .state) (columns s c)) [] ++ streamWords (cond b (later s c) s) cs
+    ≡ appendNotes (s .version) (s .state) (cond b (columns s c ∷ []) [] ++ groupsOf (cond b (later s c) s) cs)
+sent-go true s c cs ih = ap (λ (l : List (Note ℕ Event)). encodeNotes (s .version) (s .state) (columns s c) ++ l) (ih (later s c))
+sent-go false s c cs ih = ih s
+
+pub groups-words : (s : RawEventSink) (cs : List Call) → streamWords s cs ≡ appendNotes (s .version) (s .state) (groupsOf s cs)
+groups-words s [] = refl
+groups-words s (c ∷ cs) = sent-go (isAccepted s c) s c cs (λ u. groups-words u cs)
+
+-- ---- of a fresh writer
+
+bound-is : (e : Encoding) → timeBound e ≡ limit e
+bound-is Evt2 = refl
+bound-is Evt3 = refl
+
+module _ (e : Encoding) (cs : List Call) where
+  pub fresh-orderly : Orderly e (groupsOf (fresh e) cs)
+  fresh-orderly = rw (groups-events (fresh e) cs, ← bound-is e) (accepted-rise (fresh e) cs)
+
+  pub fresh-understood : Understood e (streamWords (fresh e) cs)
+  fresh-understood = rw (groups-words (fresh e) cs) (sent-understood e (groupsOf (fresh e) cs) fresh-orderly)

@@ -153,19 +153,19 @@ module _ (e : Encoding) where
       left : decode (encodeSize e) (readerOf e) (freshOf e) (take c bytes) ++ givens (formatOf e) hs ≡ notes ns
       left = rw (given-all hs, ← read (take c bytes), notes-all e freshState gs) missing
 
+      -- whole words, and whole words behind them
+      joined-is : joined e gs c hs ≡ stream (encodeSize e) (words (take (c / encodeSize e) ns ++ appendNotes e freshState hs))
+      joined-is = bytes-resumed (formatOf e) (lawfulOf e) c ns (appendNotes e freshState hs)
+
       pub joined-events : eventsFrom (freshC e) (joined e gs c hs) ≡ flat gs
       joined-events = read (joined e gs c hs) ∙ decode-resumed (formatOf e) (lawfulOf e) (freshOf e) ns good c hs (valid hs) left ∙ notes-all e freshState gs
 
       pub joined-past : (win : Window) → PastOver win (freshC e) (joined e gs c hs)
       joined-past win =
-          let F = formatOf e in
-          let L = lawfulOf e in
-          let more = appendNotes e freshState hs in
-          rw (fresh-is e)
-          (past-over e win (freshOf e) (joined e gs c hs)
-          (rw (bytes-resumed F L c ns more)
-          (good-timed F L (isStarted e) (timeOf e) clock (λ d es rd l. ready-ahead e d es rd) (win .t0) (win .t1) (freshOf e) (take (c / encodeSize e) ns ++ more)
-          (resumed-good F L (freshOf e) ns good c hs (valid hs) left))))
+          rw (fresh-is e, joined-is)
+          (past-over e win (freshOf e) (stream (encodeSize e) (words (take (c / encodeSize e) ns ++ appendNotes e freshState hs)))
+          (good-timed (formatOf e) (lawfulOf e) (isStarted e) (timeOf e) clock (λ d es rd l. ready-ahead e d es rd) (win .t0) (win .t1) (freshOf e)
+          (take (c / encodeSize e) ns ++ appendNotes e freshState hs) (resumed-good (formatOf e) (lawfulOf e) (freshOf e) ns good c hs (valid hs) left)))
 
     -- ---- THE SENSOR: none of them is outside 2048 by 2048
 

@@ -2,7 +2,7 @@
 use mathlib.Core.Path.{_≡_, sym, subst}
 use mathlib.Core.Bool.{Bool, true, _&&_, true≢false}
 use mathlib.Core.List.{List, [], _∷_}
-use Prim.Native.Nat.{ℕ, _*_, _≤_, _<_, min}
+use Prim.Native.Nat.{ℕ, _*_, _^_, _≤_, _<_, min}
 use native.Mathlib.Omega.{arith}
 use lib.Dec.{leb, ltb}
 use borrow.Author.Tests.{leb-true, ltb-true, eqb-true}
@@ -20,7 +20,7 @@ use Rattle.sensor.specs.Inside.{clock}
 use Rattle.encode.specs.Columns.{event}
 use Rattle.encode.specs.Sent.{sentIs}
 
--- the times that a writer's words can say: those of the first loop
+-- the times that a writer's words can say, those of the first loop: rule 7's bound is not above it
 abbrev pub limit : Encoding → ℕ
 limit Evt2 = period2
 limit Evt3 = period3
@@ -29,7 +29,7 @@ limit Evt3 = period3
 abbrev pub sayable : (limit : ℕ) → Event → Bool
 sayable limit e = leb (e .x) 2047 && (leb (e .y) 2047 && (leb (e .p) 1 && ltb (e .t) limit))
 
--- a decoder with this clock can take these events next: they can be said, their times don't fall, and none is before the decoder's time
+-- a decoder with this clock, loops counted, can take these events next: they can be said, their times don't fall, and none is before the decoder's time
 pub record Ready (period limit coarse time loops : ℕ) (es : List Event) : Type 0 where
   pub counted : loops * period ≤ coarse
   pub past : coarse ≤ time
@@ -41,6 +41,10 @@ Holds Nothing P = Unit
 Holds (Value q) P = P q
 
 -- ---- laws
+
+pub limit-le : (e : Encoding) → limit e ≤ 2 ^ 34
+limit-le Evt2 = omega arith
+limit-le Evt3 = omega arith
 
 pub holds-sent : (o : Sent) (P : ℕ → Type 0) (q : ℕ) → Holds o P → sentIs o q ≡ true → P q
 holds-sent Nothing P q h e = absurd (true≢false (sym e))

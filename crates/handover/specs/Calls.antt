@@ -21,7 +21,7 @@ use Rattle.encode.specs.Columns.{natural, event, eventsIn}
 use Rattle.encode.specs.Encode.{encodeNotes, encodeState, encodeSize, encodeBytes}
 use Rattle.encode.specs.Laws.{encode-notes}
 use Rattle.formats.specs.Ready.{limit, sayable}
-use Rattle.formats.specs.Appends.{flat, Orderly, appendNotes}
+use Rattle.formats.specs.Appends.{flat, appendNotes}
 use Rattle.sink.specs.declared.LastTime.{LastTime}
 use Rattle.sink.specs.declared.LastTime.the-variants.{Never, At}
 use Rattle.sink.specs.declared.RawEventSink.{RawEventSink}
@@ -214,8 +214,8 @@ bound-is Evt2 = refl
 bound-is Evt3 = refl
 
 module _ (e : Encoding) (cs : List Call) where
-  pub fresh-orderly : Orderly e (groupsOf (fresh e) cs)
-  fresh-orderly = rw (groups-events (fresh e) cs, ← bound-is e) (accepted-rise (fresh e) cs)
+  pub fresh-rise : Rise clock (sayable (limit e)) 0 (acceptedEvents (fresh e) cs)
+  fresh-rise = rw (← bound-is e) (accepted-rise (fresh e) cs)
 
   pub fresh-understood : Understood e (streamWords (fresh e) cs)
-  fresh-understood = rw (groups-words (fresh e) cs) (sent-understood e (groupsOf (fresh e) cs) fresh-orderly)
+  fresh-understood = rw (groups-words (fresh e) cs) (sent-understood e (groupsOf (fresh e) cs) (rw (groups-events (fresh e) cs) fresh-rise))

@@ -94,20 +94,21 @@ abbrev pub brokenAfter : (size cut at : ℕ) → List (Note ℕ Event) → List 
 brokenAfter size cut at [] = []
 brokenAfter size cut at (w ∷ ws) = cond (leb (at + size) cut) [] (w .events) ++ brokenAfter size cut (at + size) ws
 
-module _ (e : Encoding) (calls : List Call) (cut : ℕ) where
-  -- the bytes before the cut
-  abbrev pub before : List ℕ
-  before = take cut (streamOf (fresh e) calls)
+-- of a stream, given by its bytes, or by its words each with the events whose event word it is
+module _ (e : Encoding) (cut : ℕ) where
+  -- what stands
+  abbrev pub before : List ℕ → List ℕ
+  before bytes = take cut bytes
 
-  abbrev pub whole : List Event
-  whole = wholeBefore (encodeSize e) cut 0 (streamWords (fresh e) calls)
+  abbrev pub whole : List (Note ℕ Event) → List Event
+  whole ws = wholeBefore (encodeSize e) cut 0 ws
 
-  abbrev pub others : List Event
-  others = brokenAfter (encodeSize e) cut 0 (streamWords (fresh e) calls)
+  abbrev pub others : List (Note ℕ Event) → List Event
+  others ws = brokenAfter (encodeSize e) cut 0 ws
 
-  -- the bytes before the cut less a broken last word, then the second stream
-  abbrev pub joined : List Call → List ℕ
-  joined second = take (cut / encodeSize e * encodeSize e) before ++ streamOf (fresh e) second
+  -- what stands less a broken last word, then the stream of a second list, run in the same way by a fresh writer
+  abbrev pub joined : List ℕ → (second : List Call) → List ℕ
+  joined bytes second = take (cut / encodeSize e * encodeSize e) (before bytes) ++ streamOf (fresh e) second
 
 -- ---- what is read of some bytes is exactly `es`
 
@@ -175,19 +176,21 @@ Exact e bytes es = length bytes ≤ 2 ^ 30 → (size : SensorSize) → Suits siz
 
 -- ---- the claim
 
-pub record Claim (e : Encoding) (calls : List Call) (cut : ℕ) : Type 0 where
-  -- the stream is its words, each accepted event stands in one, and is whole or not
-  pub worded : streamOf (fresh e) calls ≡ stream (encodeSize e) (words (streamWords (fresh e) calls))
-  pub noted : notes (streamWords (fresh e) calls) ≡ acceptedEvents (fresh e) calls
-  pub parted : whole e calls cut ++ others e calls cut ≡ acceptedEvents (fresh e) calls
+-- of a stream of these bytes and words that carries es, and a cut
+pub record Claim (e : Encoding) (bytes : List ℕ) (ws : List (Note ℕ Event)) (es : List Event) (cut : ℕ) : Type 0 where
+  -- the bytes are those of the words, each event stands in one, and that is whole before the cut or not
+  pub worded : bytes ≡ stream (encodeSize e) (words ws)
+  pub noted : notes ws ≡ es
+  pub parted : whole e cut ws ++ others e cut ws ≡ es
   -- 2048 by 2048 keeps all
-  pub whole-suits : Suits widest (whole e calls cut)
-  pub all-suits : Suits widest (acceptedEvents (fresh e) calls)
-  -- decoding and slices of the bytes before the cut
-  pub of-cut : Exact e (before e calls cut) (whole e calls cut)
-  -- and of the joined stream, where the second list's accepted events are the others
-  pub of-joined : (second : List Call) → acceptedEvents (fresh e) second ≡ others e calls cut → Exact e (joined e calls cut second) (acceptedEvents (fresh e) calls)
+  pub whole-suits : Suits widest (whole e cut ws)
+  pub all-suits : Suits widest es
+  -- what stands decodes, and is sliced, as the events that are whole
+  pub of-cut : Exact e (before e cut bytes) (whole e cut ws)
+  -- and the joined stream as all events, where the second list's accepted events are the others
+  pub of-joined : (second : List Call) → acceptedEvents (fresh e) second ≡ others e cut ws → Exact e (joined e cut bytes second) es
 
 -- for both encodings, every list and every cut
 abbrev pub DemandThree : Type 0
-DemandThree = (e : Encoding) (calls : List Call) (cut : ℕ) → cut ≤ length (streamOf (fresh e) calls) → Claim e calls cut
+DemandThree = (e : Encoding) (calls : List Call) (cut : ℕ) → cut ≤ length (streamOf (fresh e) calls)
+    → Claim e (streamOf (fresh e) calls) (streamWords (fresh e) calls) (acceptedEvents (fresh e) calls) cut

@@ -4,3 +4,4 @@ pub mod Cut
 pub mod Streams
 pub mod Calls
 pub mod Reading
+pub mod Proof

@@ -1,36 +1,34 @@
 -- Lists of appends to one writer, whatever writer they start from: what is sent is the words of the accepted events, and these are in order.
 use mathlib.Core.Path.{_≡_, refl, sym, ap, _∙_, subst}
-use mathlib.Core.Bool.{Bool, true, false, cond, not, _&&_, _||_, true≢false}
+use mathlib.Core.Bool.{Bool, true, false, cond, true≢false}
 use mathlib.Core.List.{List, [], _∷_, _++_}
-use Prim.Native.Nat.{ℕ, _^_, _≤_}
+use Prim.Native.Nat.{ℕ, _≤_}
 use native.Mathlib.Omega.{arith}
 use lib.ListN.{length}
 use lib.IntN.{ℤ, pos, negsuc}
 use lib.Signed.{ltZ, nonNeg}
-use lib.Dec.{leb, ltb}
+use lib.Dec.{ltb}
 use borrow.Author.Tests.{ltb-false, le-ltb}
-use Rattle.stream.specs.Machine.{and-both, Note, words, words-append, notes, notes-append}
-use Rattle.stream.specs.Words.{stream, stream-append}
+use Rattle.stream.specs.Machine.{and-both, Note, notes}
 use Rattle.stream.specs.Order.{Rise, lastOf, rise-append}
 use Rattle.evt.specs.Event.{Event}
 use Rattle.evt.specs.declared.Encoding.{Encoding}
 use Rattle.evt.specs.declared.Encoding.the-variants.{Evt2, Evt3}
 use Rattle.sensor.specs.Inside.{clock}
 use Rattle.encode.specs.declared.EncoderState.{EncoderState}
-use Rattle.encode.specs.Columns.{natural, event, eventsIn}
-use Rattle.encode.specs.Encode.{encodeNotes, encodeState, encodeSize, encodeBytes}
-use Rattle.encode.specs.Laws.{encode-notes}
+use Rattle.encode.specs.Columns.{natural, eventsIn}
+use Rattle.encode.specs.Encode.{encodeNotes, encodeBytes}
 use Rattle.formats.specs.Ready.{limit, sayable}
-use Rattle.formats.specs.Appends.{flat, appendNotes}
+use Rattle.formats.specs.Either.{freshOf}
+use Rattle.formats.specs.Appends.{flat, appendNotes, noteBytes, appendBytes, bytes-next, notes-all, Understood, fresh-understood}
 use Rattle.sink.specs.declared.LastTime.{LastTime}
 use Rattle.sink.specs.declared.LastTime.the-variants.{Never, At}
 use Rattle.sink.specs.declared.RawEventSink.{RawEventSink}
 use Rattle.sink.specs.Range.{timeBound, timeInRange, every, atMost, falls, fallsAfter, lastInRange, sinkInRange}
-use Rattle.sink.specs.Append.{lastAfter, wordBytes, headerBytes, sends, nextSink}
+use Rattle.sink.specs.Append.{lastAfter, sends, nextSink}
 use Rattle.sink.specs.Ends.{accepts-checked}
 use Rattle.sink.specs.Checks.{Checked, checked-of, or-neither}
 use Rattle.handover.specs.Handover.{Call, isAccepted, next, bytesOf, eventsOf, wordsOf, acceptedEvents, streamOf, streamWords, fresh}
-use Rattle.handover.specs.Streams.{Understood, sent-understood}
 
 -- ---- what an append that is refused, and one that is accepted, comes to
 
@@ -65,42 +63,55 @@ out-nothing s (c ∷ cs) h =
     let u = refused-unchanged s c (out-refused s c h) in
     (rw (u .no-events, u .is-sink) (n .0), rw (u .no-bytes, u .is-sink) (n .1))
 
--- ---- the stream is its words
+-- ---- the accepted appends as groups of events
 
--- no header is due
-no-header : (s : RawEventSink) (c : Call) → s .«header_written» ≡ true
-    → sends s (c .width) (c .height) (c .xs) (c .ys) (c .ts) (c .ps) ≡ stream (encodeSize (s .version)) (words (encodeNotes (s .version) (s .state) (columns s c)))
-unfolding encodeBytes
-no-header s c h = rw h
+abbrev pub groupsOf : RawEventSink → List Call → List (List Event)
+groupsOf s [] = []
+groupsOf s (c ∷ cs) = cond (isAccepted s c) (columns s c ∷ []) [] ++ groupsOf (next s c) cs
 
-worded-go : (b : Bool) (s : RawEventSink) (c : Call) (cs : List Call) → s .«header_written» ≡ true
-    → ((u : RawEventSink) → u .«header_written» ≡ true → streamOf u cs ≡ stream (encodeSize (u .version)) (words (streamWords u cs)))
+groups-go : (b : Bool) (s : RawEventSink) (c : Call) (cs : List Call) → ((u : RawEventSink) → flat (groupsOf u cs) ≡ acceptedEvents u cs)
+    → flat (cond b (columns s c ∷ []) [] ++ groupsOf (cond b (later s c) s) cs) ≡ cond b (columns s c) [] ++ acceptedEvents (cond b (later s c) s) cs
+groups-go true s c cs ih = ap (λ (l : List Event). columns s c ++ l) (ih (later s c))
+groups-go false s c cs ih = ih s
+
+pub groups-events : (s : RawEventSink) (cs : List Call) → flat (groupsOf s cs) ≡ acceptedEvents s cs
+groups-events s [] = refl
+groups-events s (c ∷ cs) = groups-go (isAccepted s c) s c cs (λ u. groups-events u cs)
+
+-- their words
+words-go : (b : Bool) (s : RawEventSink) (c : Call) (cs : List Call) → ((u : RawEventSink) → streamWords u cs ≡ appendNotes (u .version) (u .state) (groupsOf u cs))
+    → cond b (encodeNotes (s .version) (s .state) (columns s c)) [] ++ streamWords (cond b (later s c) s) cs
+    ≡ appendNotes (s .version) (s .state) (cond b (columns s c ∷ []) [] ++ groupsOf (cond b (later s c) s) cs)
+words-go true s c cs ih = ap (λ (l : List (Note ℕ Event)). encodeNotes (s .version) (s .state) (columns s c) ++ l) (ih (later s c))
+words-go false s c cs ih = ih s
+
+pub groups-words : (s : RawEventSink) (cs : List Call) → streamWords s cs ≡ appendNotes (s .version) (s .state) (groupsOf s cs)
+groups-words s [] = refl
+groups-words s (c ∷ cs) = words-go (isAccepted s c) s c cs (λ u. groups-words u cs)
+
+-- and bytes, where no header is due
+bytes-go : (b : Bool) (s : RawEventSink) (c : Call) (cs : List Call) → s .«header_written» ≡ true
+    → ((u : RawEventSink) → u .«header_written» ≡ true → streamOf u cs ≡ appendBytes (u .version) (u .state) (groupsOf u cs))
     → cond b (sends s (c .width) (c .height) (c .xs) (c .ys) (c .ts) (c .ps)) [] ++ streamOf (cond b (later s c) s) cs
-    ≡ stream (encodeSize (s .version)) (words (cond b (encodeNotes (s .version) (s .state) (columns s c)) [] ++ streamWords (cond b (later s c) s) cs))
-worded-go true s c cs h ih =
-    let ns = encodeNotes (s .version) (s .state) (columns s c) in
-    let ms = streamWords (later s c) cs in
-    ap (λ (l : List ℕ). l ++ streamOf (later s c) cs) (no-header s c h)
-    ∙ ap (λ (l : List ℕ). stream (encodeSize (s .version)) (words ns) ++ l) (ih (later s c) (rw h))
-    ∙ sym (ap (stream (encodeSize (s .version))) (words-append ns ms) ∙ stream-append (encodeSize (s .version)) (words ns) (words ms))
-worded-go false s c cs h ih = ih s h
+    ≡ appendBytes (s .version) (s .state) (cond b (columns s c ∷ []) [] ++ groupsOf (cond b (later s c) s) cs)
+bytes-go true s c cs h ih =
+    let none : sends s (c .width) (c .height) (c .xs) (c .ys) (c .ts) (c .ps) ≡ encodeBytes (s .version) (s .state) (columns s c) = rw h in
+    ap (λ (l : List ℕ). l ++ streamOf (later s c) cs) none
+    ∙ ap (λ (l : List ℕ). encodeBytes (s .version) (s .state) (columns s c) ++ l) (ih (later s c) (rw h))
+    ∙ sym (bytes-next (s .version) (s .state) (columns s c) (groupsOf (later s c) cs))
+bytes-go false s c cs h ih = ih s h
 
-pub stream-words : (s : RawEventSink) (cs : List Call) → s .«header_written» ≡ true → streamOf s cs ≡ stream (encodeSize (s .version)) (words (streamWords s cs))
-stream-words s [] h = refl
-stream-words s (c ∷ cs) h = worded-go (isAccepted s c) s c cs h (λ u k. stream-words u cs k)
+groups-bytes : (s : RawEventSink) (cs : List Call) → s .«header_written» ≡ true → streamOf s cs ≡ appendBytes (s .version) (s .state) (groupsOf s cs)
+groups-bytes s [] h = refl
+groups-bytes s (c ∷ cs) h = bytes-go (isAccepted s c) s c cs h (λ u k. groups-bytes u cs k)
 
--- ---- each accepted event stands in one
+-- THE STREAM is its words
+pub stream-words : (s : RawEventSink) (cs : List Call) → s .«header_written» ≡ true → streamOf s cs ≡ noteBytes (s .version) (streamWords s cs)
+stream-words s cs h = rw (groups-words s cs) (groups-bytes s cs h)
 
-noted-go : (b : Bool) (s : RawEventSink) (c : Call) (cs : List Call) → ((u : RawEventSink) → notes (streamWords u cs) ≡ acceptedEvents u cs)
-    → notes (cond b (encodeNotes (s .version) (s .state) (columns s c)) [] ++ streamWords (cond b (later s c) s) cs) ≡ cond b (columns s c) [] ++ acceptedEvents (cond b (later s c) s) cs
-noted-go true s c cs ih =
-    notes-append (encodeNotes (s .version) (s .state) (columns s c)) (streamWords (later s c) cs)
-    ∙ rw (encode-notes (s .version) (s .state) (columns s c), ih (later s c))
-noted-go false s c cs ih = ih s
-
+-- EACH ACCEPTED EVENT stands in one of them
 pub stream-notes : (s : RawEventSink) (cs : List Call) → notes (streamWords s cs) ≡ acceptedEvents s cs
-stream-notes s [] = refl
-stream-notes s (c ∷ cs) = noted-go (isAccepted s c) s c cs (λ u. stream-notes u cs)
+stream-notes s cs = rw (groups-words s cs) (notes-all (s .version) (s .state) (groupsOf s cs) ∙ groups-events s cs)
 
 -- ---- the accepted events can be said, and their times never fall
 
@@ -182,31 +193,6 @@ pub accepted-rise : (s : RawEventSink) (cs : List Call) → Rises (s .version) (
 accepted-rise s [] = tt
 accepted-rise s (c ∷ cs) = rise-go (isAccepted s c) s c cs refl (λ u. accepted-rise u cs)
 
--- ---- the accepted appends as groups of events
-
-abbrev pub groupsOf : RawEventSink → List Call → List (List Event)
-groupsOf s [] = []
-groupsOf s (c ∷ cs) = cond (isAccepted s c) (columns s c ∷ []) [] ++ groupsOf (next s c) cs
-
-groups-go : (b : Bool) (s : RawEventSink) (c : Call) (cs : List Call) → ((u : RawEventSink) → flat (groupsOf u cs) ≡ acceptedEvents u cs)
-    → flat (cond b (columns s c ∷ []) [] ++ groupsOf (cond b (later s c) s) cs) ≡ cond b (columns s c) [] ++ acceptedEvents (cond b (later s c) s) cs
-groups-go true s c cs ih = ap (λ (l : List Event). columns s c ++ l) (ih (later s c))
-groups-go false s c cs ih = ih s
-
-pub groups-events : (s : RawEventSink) (cs : List Call) → flat (groupsOf s cs) ≡ acceptedEvents s cs
-groups-events s [] = refl
-groups-events s (c ∷ cs) = groups-go (isAccepted s c) s c cs (λ u. groups-events u cs)
-
-sent-go : (b : Bool) (s : RawEventSink) (c : Call) (cs : List Call) → ((u : RawEventSink) → streamWords u cs ≡ appendNotes (u .version) (u .state) (groupsOf u cs))
-    → cond b (encodeNotes (s .version) (s .state) (columns s c)) [] ++ streamWords (cond b (later s c) s) cs
-    ≡ appendNotes (s .version) (s .state) (cond b (columns s c ∷ []) [] ++ groupsOf (cond b (later s c) s) cs)
-sent-go true s c cs ih = ap (λ (l : List (Note ℕ Event)). encodeNotes (s .version) (s .state) (columns s c) ++ l) (ih (later s c))
-sent-go false s c cs ih = ih s
-
-pub groups-words : (s : RawEventSink) (cs : List Call) → streamWords s cs ≡ appendNotes (s .version) (s .state) (groupsOf s cs)
-groups-words s [] = refl
-groups-words s (c ∷ cs) = sent-go (isAccepted s c) s c cs (λ u. groups-words u cs)
-
 -- ---- of a fresh writer
 
 bound-is : (e : Encoding) → timeBound e ≡ limit e
@@ -217,5 +203,5 @@ module _ (e : Encoding) (cs : List Call) where
   pub fresh-rise : Rise clock (sayable (limit e)) 0 (acceptedEvents (fresh e) cs)
   fresh-rise = rw (← bound-is e) (accepted-rise (fresh e) cs)
 
-  pub fresh-understood : Understood e (streamWords (fresh e) cs)
-  fresh-understood = rw (groups-words (fresh e) cs) (sent-understood e (groupsOf (fresh e) cs) (rw (groups-events (fresh e) cs) fresh-rise))
+  pub stream-understood : Understood e (freshOf e) (streamWords (fresh e) cs)
+  stream-understood = rw (groups-words (fresh e) cs) (fresh-understood e (groupsOf (fresh e) cs) (rw (groups-events (fresh e) cs) fresh-rise))

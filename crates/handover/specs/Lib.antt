@@ -1,7 +1,6 @@
 -- What each file is stands at its head.
 pub mod Handover
 pub mod Cut
-pub mod Streams
 pub mod Calls
 pub mod Reading
 pub mod Proof

@@ -1,13 +1,13 @@
 -- Bytes whose events are es are read as exactly these.
-use mathlib.Core.Path.{_≡_, refl, sym, ap, _∙_}
-use mathlib.Core.Bool.{Bool, true, false, cond}
-use mathlib.Core.List.{List, [], _∷_, _++_}
+use mathlib.Core.Path.{_≡_, _∙_}
+use mathlib.Core.Bool.{true, false}
+use mathlib.Core.List.{List}
 use Prim.Native.Nat.{ℕ, _^_, _≤_}
 use native.Mathlib.Omega.{arith}
 use borrow.Author.Tests.{le-ltb, ne-eqb}
-use lib.Dec.{eqb, ltb}
+use lib.Dec.{ltb}
 use lib.IntN.{ℤ}
-use lib.ListN.{length, take, drop}
+use lib.ListN.{length}
 use Rattle.evt.specs.Event.{Event}
 use Rattle.evt.specs.Codec.{freshC, eventsFrom}
 use Rattle.evt.specs.declared.Encoding.{Encoding}
@@ -15,16 +15,14 @@ use Rattle.evt.specs.declared.Limit.the-variants.{Unlimited}
 use Rattle.evt.specs.declared.SensorSize.{SensorSize}
 use Rattle.evt.specs.declared.SensorSize.the-variants.{Unknown, Known}
 use Rattle.header.specs.Header.{hasZero}
-use Rattle.read.specs.declared.ReadAnswer.{ReadAnswer}
 use Rattle.read.specs.declared.ReadAnswer.the-variants.{Read}
 use Rattle.read.specs.Read as Read
-use Rattle.read.specs.Read.{DecodesWords, Handed, shortest, kept, widthOf, heightOf, sizeless, bodyEvents}
+use Rattle.read.specs.Read.{shortest, kept, widthOf, heightOf, bodyEvents}
 use Rattle.index.specs.declared.Checkpoint.{Checkpoint}
 use Rattle.index.specs.declared.RawSliceSource.{RawSliceSource}
-use Rattle.index.specs.declared.OpenAnswer.{OpenAnswer}
 use Rattle.index.specs.declared.OpenAnswer.the-variants.{Opened}
 use Rattle.index.specs.Index as Index
-use Rattle.index.specs.Index.{OpensWords, recordCount, recordsOf, sourceOf, spacingOk, bodyAnswer, bodyMade}
+use Rattle.index.specs.Index.{recordCount, recordsOf, sourceOf, spacingOk, bodyAnswer, bodyMade}
 use Rattle.index.specs.InRange.{indexInRange}
 use Rattle.slice.specs.declared.SliceAnswer.{SliceAnswer}
 use Rattle.slice.specs.declared.SliceAnswer.the-variants.{Sliced}

@@ -138,6 +138,18 @@ numbered es i0 i1 =
 abbrev pub timed : List Event → (t0 t1 : ℤ) → List Event
 timed es t0 t1 = sift (isDuring t0 t1) es
 
+-- slices of some bytes by an index, where the columns suffice
+module _ (bytes : List ℕ) (es : List Event) (source : RawSliceSource) (records : List Checkpoint) where
+  abbrev pub ByNumber : Type 0
+  ByNumber = (i0 i1 : ℕ) (r : SliceAnswer) (xs₀ ys₀ : List ℕ) (ts₀ : List ℤ) (ps₀ xs ys : List ℕ) (ts : List ℤ) (ps : List ℕ)
+      → SlicesIndex bytes source records i0 i1 r xs₀ ys₀ ts₀ ps₀ xs ys ts ps → length (numbered es i0 i1) ≤ shortest xs₀ ys₀ ts₀ ps₀
+      → Gives (numbered es i0 i1) r xs₀ ys₀ ts₀ ps₀ xs ys ts ps
+
+  abbrev pub ByTime : Type 0
+  ByTime = (t0 t1 : ℤ) (r : SliceAnswer) (xs₀ ys₀ : List ℕ) (ts₀ : List ℤ) (ps₀ xs ys : List ℕ) (ts : List ℤ) (ps : List ℕ)
+      → SlicesTime bytes source records t0 t1 r xs₀ ys₀ ts₀ ps₀ xs ys ts ps → length (timed es t0 t1) ≤ shortest xs₀ ys₀ ts₀ ps₀
+      → Gives (timed es t0 t1) r xs₀ ys₀ ts₀ ps₀ xs ys ts ps
+
 module _ (e : Encoding) (size : SensorSize) (bytes : List ℕ) (es : List Event) where
   -- decoding, with no header and no limit, where the columns suffice: accepted, the count and all four columns
   abbrev pub Decodes : Type 0
@@ -145,26 +157,14 @@ module _ (e : Encoding) (size : SensorSize) (bytes : List ℕ) (es : List Event)
       → DecodesWords bytes e size Unlimited r xs₀ ys₀ ts₀ ps₀ xs ys ts ps → length es ≤ shortest xs₀ ys₀ ts₀ ps₀
       → (r ≡ Read (record { encoding = e; width = widthOf size es; height = heightOf size es; count = length es })) × Handed es xs₀ ys₀ ts₀ ps₀ xs ys ts ps
 
-  -- slices by an index, where the columns suffice
-  module _ (source : RawSliceSource) (records : List Checkpoint) where
-    abbrev pub ByNumber : Type 0
-    ByNumber = (i0 i1 : ℕ) (r : SliceAnswer) (xs₀ ys₀ : List ℕ) (ts₀ : List ℤ) (ps₀ xs ys : List ℕ) (ts : List ℤ) (ps : List ℕ)
-        → SlicesIndex bytes source records i0 i1 r xs₀ ys₀ ts₀ ps₀ xs ys ts ps → length (numbered es i0 i1) ≤ shortest xs₀ ys₀ ts₀ ps₀
-        → Gives (numbered es i0 i1) r xs₀ ys₀ ts₀ ps₀ xs ys ts ps
-
-    abbrev pub ByTime : Type 0
-    ByTime = (t0 t1 : ℤ) (r : SliceAnswer) (xs₀ ys₀ : List ℕ) (ts₀ : List ℤ) (ps₀ xs ys : List ℕ) (ts : List ℤ) (ps : List ℕ)
-        → SlicesTime bytes source records t0 t1 r xs₀ ys₀ ts₀ ps₀ xs ys ts ps → length (timed es t0 t1) ≤ shortest xs₀ ys₀ ts₀ ps₀
-        → Gives (timed es t0 t1) r xs₀ ys₀ ts₀ ps₀ xs ys ts ps
-
-  -- an index built likewise from just these bytes at any allowed spacing, where the records suffice: opened, and both slices over the source told and the records made
+  -- an index built likewise from just these bytes at any allowed spacing, where the records suffice: opened, and both slices by the source told and the records made
   abbrev pub Indexes : Type 0
   Indexes = (spacing : ℕ) → spacingOk e spacing ≡ true
       → (r : OpenAnswer) (records₀ records : List Checkpoint) → OpensWords bytes (record { encoding = e; «sensor_size» = size; spacing = spacing }) r records₀ records
       → recordCount (length bytes) spacing ≤ length records₀
       → let source = sourceOf (length bytes) 0 e size spacing es in
       let made = recordCount (length bytes) spacing in
-      (r ≡ Opened (record { source = source; records = made })) × (ByNumber source (take made records) × ByTime source (take made records))
+      (r ≡ Opened (record { source = source; records = made })) × (ByNumber bytes es source (take made records) × ByTime bytes es source (take made records))
 
   pub record Reads : Type 0 where
     pub decodes : Decodes

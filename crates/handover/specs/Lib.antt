@@ -4,3 +4,4 @@ pub mod Cut
 pub mod Calls
 pub mod Reading
 pub mod Proof
+pub mod Again

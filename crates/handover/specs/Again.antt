@@ -1,8 +1,8 @@
 -- What follows from the claim: streams handed over any number of times, and numbers that hold at every spacing and through every cut.
-use mathlib.Core.Path.{_≡_, refl, sym, ap, _∙_}
+use mathlib.Core.Path.{_≡_, refl, sym, _∙_}
 use mathlib.Core.Bool.{Bool, true, false}
 use mathlib.Core.List.{List, [], _∷_, _++_}
-use Prim.Native.Nat.{ℕ, _+_, _-_, _/_, _≤_, min, max}
+use Prim.Native.Nat.{ℕ, _+_, _-_, _≤_, min, max}
 use native.Mathlib.Omega.{arith}
 use lib.Dec.{leb}
 use lib.IntN.{ℤ}
@@ -13,7 +13,45 @@ use Rattle.stream.specs.Machine.{Note}
 use Rattle.evt.specs.Event.{Event}
 use Rattle.evt.specs.declared.Encoding.{Encoding}
 use Rattle.slice.specs.declared.SliceAnswer.{SliceAnswer}
-use Rattle.handover.specs.Handover.{numbered, Gives}
+use Rattle.handover.specs.Handover.{Call, acceptedEvents, streamOf, streamWords, fresh, others, joined, numbered, Gives, Exact, Claim}
+use Rattle.handover.specs.Proof.{Sent, fresh-sent, joinedWords, joined-sent, exact-whole, claim}
+
+-- ---- THE FULL LENGTH: a stream that isn't cut is read as all its accepted events
+
+pub full : (e : Encoding) (calls : List Call) → Exact e (streamOf (fresh e) calls) (acceptedEvents (fresh e) calls)
+full e calls = exact-whole e (streamOf (fresh e) calls) (streamWords (fresh e) calls) (acceptedEvents (fresh e) calls) (fresh-sent e calls)
+
+-- ---- ANY NUMBER OF HANDOVERS: what is joined is again a stream that can be cut, read and gone on with
+
+-- where the stream so far is cut, and the list of the writer that goes on
+pub record Turn : Type 0 where
+  pub cut : ℕ
+  pub calls : List Call
+
+module _ (e : Encoding) where
+  abbrev pub bytesAfter : List ℕ → List Turn → List ℕ
+  bytesAfter bytes [] = bytes
+  bytesAfter bytes (t ∷ ts) = bytesAfter (joined e (t .cut) bytes (t .calls)) ts
+
+  abbrev pub wordsAfter : List (Note ℕ Event) → List Turn → List (Note ℕ Event)
+  wordsAfter ws [] = ws
+  wordsAfter ws (t ∷ ts) = wordsAfter (joinedWords e (t .cut) ws (t .calls)) ts
+
+  -- each writer is given the events that its cut left out
+  abbrev pub Owed : List (Note ℕ Event) → List Turn → Type 0
+  Owed ws [] = Unit
+  Owed ws (t ∷ ts) = (acceptedEvents (fresh e) (t .calls) ≡ others e (t .cut) ws) × Owed (joinedWords e (t .cut) ws (t .calls)) ts
+
+  sent-after : (bytes : List ℕ) (ws : List (Note ℕ Event)) (es : List Event) → Sent e bytes ws es → (ts : List Turn) → Owed ws ts → Sent e (bytesAfter bytes ts) (wordsAfter ws ts) es
+  sent-after bytes ws es s [] o = s
+  sent-after bytes ws es s (t ∷ ts) o =
+      sent-after (joined e (t .cut) bytes (t .calls)) (joinedWords e (t .cut) ws (t .calls)) es (joined-sent e bytes ws es s (t .cut) (t .calls) (o .0)) ts (o .1)
+
+  pub claim-after : (calls : List Call) (ts : List Turn) → Owed (streamWords (fresh e) calls) ts → (cut : ℕ)
+      → Claim e (bytesAfter (streamOf (fresh e) calls) ts) (wordsAfter (streamWords (fresh e) calls) ts) (acceptedEvents (fresh e) calls) cut
+  claim-after calls ts o cut =
+      claim e (bytesAfter (streamOf (fresh e) calls) ts) (wordsAfter (streamWords (fresh e) calls) ts) (acceptedEvents (fresh e) calls)
+      (sent-after (streamOf (fresh e) calls) (streamWords (fresh e) calls) (acceptedEvents (fresh e) calls) (fresh-sent e calls) ts o) cut
 
 -- ---- NUMBERS STAY: a slice that ends before the cut is the same of all events
 

@@ -164,7 +164,7 @@ module _ (e : Encoding) (size : SensorSize) (bytes : List ℕ) (es : List Event)
       → recordCount (length bytes) spacing ≤ length records₀
       → let source = sourceOf (length bytes) 0 e size spacing es in
       let made = recordCount (length bytes) spacing in
-      (r ≡ Opened (record { source = source; records = made })) × (ByNumber bytes es source (take made records) × ByTime bytes es source (take made records))
+      (r ≡ Opened (record { source = source; records = made })) × ByNumber bytes es source (take made records) × ByTime bytes es source (take made records)
 
   pub record Reads : Type 0 where
     pub decodes : Decodes

@@ -1,4 +1,4 @@
--- DEMAND 3, proved: a stream that a fresh decoder understands is as claimed, and so is what is left of one and gone on with.
+-- DEMAND 3, proved: what a fresh writer sends is a stream that a fresh decoder understands, so is what is left of such a stream and gone on with, and all such streams are as claimed.
 use mathlib.Core.Path.{_≡_, refl, _∙_}
 use mathlib.Core.Bool.{true}
 use mathlib.Core.List.{List, _++_}
@@ -11,7 +11,7 @@ use Rattle.stream.specs.Machine.{Note, All, all-append-left, notes, notes-appen
 use Rattle.stream.specs.Order.{Rise}
 use Rattle.stream.specs.Slice.{sift-all}
 use Rattle.evt.specs.Event.{Event}
-use Rattle.evt.specs.Codec.{freshC, eventsFrom}
+use Rattle.evt.specs.Codec.{eventsFrom}
 use Rattle.evt.specs.declared.Encoding.{Encoding}
 use Rattle.header.specs.Header.{hasZero}
 use Rattle.sensor.specs.Inside.{clock, inside}
@@ -21,69 +21,81 @@ use Rattle.encode.specs.Encode.{encodeSize}
 use Rattle.formats.specs.Ready.{limit, sayable}
 use Rattle.formats.specs.Either.{codecOf, freshOf, lawfulOf, fresh-is}
 use Rattle.formats.specs.Appends.{noteBytes, rise-inside, Understood, resumed-understood, resumed-bytes, whole-events, whole-past, cut-events, cut-past}
-use Rattle.handover.specs.Handover.{Call, acceptedEvents, streamOf, streamWords, fresh, whole, others, joined, Suits, widest, Exact, Claim, DemandThree}
+use Rattle.handover.specs.Handover.{Call, acceptedEvents, streamOf, streamWords, fresh, before, whole, others, joined, Suits, widest, Exact, Claim, DemandThree}
 use Rattle.handover.specs.Cut.{whole-is, broken-is, cut-parts}
 use Rattle.handover.specs.Calls.{stream-words, stream-notes, groupsOf, groups-events, groups-words, fresh-rise, stream-understood}
+use Rattle.handover.specs.Reading.{exact}
+
+-- a stream of these bytes and words that carries es
+pub record Sent (e : Encoding) (bytes : List ℕ) (ws : List (Note ℕ Event)) (es : List Event) : Type 0 where
+  pub worded : bytes ≡ noteBytes e ws
+  pub noted : notes ws ≡ es
+  pub rises : Rise clock (sayable (limit e)) 0 es
+  pub understood : Understood e (freshOf e) ws
 
 suits-inside : (es : List Event) → All (λ a. inside 2048 2048 a ≡ true) es → Suits widest es
 unfolding hasZero
 suits-inside es h = record { no-zero = refl; is-sized = refl; keeps = sift-all (inside 2048 2048) es h }
 
-module _ (exact : (e : Encoding) (bytes : List ℕ) (es : List Event) → eventsFrom (freshC e) bytes ≡ es → ((win : Window) → PastOver win (freshC e) bytes) → Exact e bytes es) where
-
- module _ (e : Encoding) where
-  abbrev size : ℕ
-  size = encodeSize e
-
-  sized : 0 < size
+module _ (e : Encoding) where
+  sized : 0 < encodeSize e
   sized = lawfulOf e .sized
 
-  -- ---- going on
+  -- of a fresh writer
+  pub fresh-sent : (calls : List Call) → Sent e (streamOf (fresh e) calls) (streamWords (fresh e) calls) (acceptedEvents (fresh e) calls)
+  fresh-sent calls = record {
+    worded = stream-words (fresh e) calls refl;
+    noted = stream-notes (fresh e) calls;
+    rises = fresh-rise e calls;
+    understood = stream-understood e calls;
+  }
 
-  -- the words of what is joined to the first k
-  abbrev pub joinedWords : (k : ℕ) → List (Note ℕ Event) → (second : List Call) → List (Note ℕ Event)
-  joinedWords k ns second = take k ns ++ streamWords (fresh e) second
+  -- the words of a joined stream
+  abbrev pub joinedWords : (cut : ℕ) → List (Note ℕ Event) → (second : List Call) → List (Note ℕ Event)
+  joinedWords cut ws second = take (cut / encodeSize e) ws ++ streamWords (fresh e) second
 
-  module _ (ns : List (Note ℕ Event)) (cut : ℕ) (second : List Call) (rest : acceptedEvents (fresh e) second ≡ others e cut ns) where
-    rest-is : acceptedEvents (fresh e) second ≡ notes (drop (cut / size) ns)
-    rest-is = rest ∙ broken-is size cut sized ns
-
-    pub joined-understood : Understood e (freshOf e) ns → Understood e (freshOf e) (joinedWords (cut / size) ns second)
-    joined-understood p =
-        rw (groups-words (fresh e) second) (resumed-understood e (freshOf e) (cut / size) ns (groupsOf (fresh e) second) p (groups-events (fresh e) second ∙ rest-is))
-
-    pub joined-notes : notes (joinedWords (cut / size) ns second) ≡ notes ns
-    joined-notes = rw (notes-append (take (cut / size) ns) (streamWords (fresh e) second), stream-notes (fresh e) second, rest-is) (notes-split (cut / size) ns)
-
-    pub joined-worded : joined e cut (noteBytes e ns) second ≡ noteBytes e (joinedWords (cut / size) ns second)
-    joined-worded =
-        let le : cut / size * size ≤ cut = omega (arith, div-add-mod' cut size) in
-        rw (take-take (cut / size * size) cut (noteBytes e ns) le, stream-words (fresh e) second refl) (resumed-bytes e cut ns (streamWords (fresh e) second))
+  module _ (bytes : List ℕ) (ws : List (Note ℕ Event)) (es : List Event) (sent : Sent e bytes ws es) (cut : ℕ) where
+    -- gone on with by a fresh writer
+    pub joined-sent : (second : List Call) → acceptedEvents (fresh e) second ≡ others e cut ws → Sent e (joined e cut bytes second) (joinedWords cut ws second) es
+    joined-sent second rest =
+        let size = encodeSize e in
+        let k = cut / size in
+        let ms = streamWords (fresh e) second in
+        let le : k * size ≤ cut = omega (arith, div-add-mod' cut size) in
+        let rest-is : acceptedEvents (fresh e) second ≡ notes (drop k ws) = rest ∙ broken-is size cut sized ws in
+        record {
+          worded = rw (take-take (k * size) cut bytes le, sent .worded, stream-words (fresh e) second refl) (resumed-bytes e cut ws ms);
+          noted = rw (notes-append (take k ws) ms, stream-notes (fresh e) second, rest-is) (notes-split k ws ∙ sent .noted);
+          rises = sent .rises;
+          understood = rw (groups-words (fresh e) second) (resumed-understood e (freshOf e) k ws (groupsOf (fresh e) second) (sent .understood) (groups-events (fresh e) second ∙ rest-is));
+        }
 
   read : (bytes : List ℕ) (es : List Event) → eventsFrom (codecOf e (freshOf e)) bytes ≡ es → ((win : Window) → PastOver win (codecOf e (freshOf e)) bytes) → Exact e bytes es
   read bytes es h p = exact e bytes es (rw (fresh-is e) h) (rw (fresh-is e) p)
 
-  -- ---- the claim, of any stream that is understood
+  -- all of it, and before a cut
+  pub exact-whole : (bytes : List ℕ) (ws : List (Note ℕ Event)) (es : List Event) → Sent e bytes ws es → Exact e bytes es
+  exact-whole bytes ws es s =
+      rw (s .worded) (read (noteBytes e ws) es (whole-events e (freshOf e) ws (s .understood) ∙ s .noted) (whole-past e (freshOf e) ws (s .understood)))
 
-  module _ (bytes : List ℕ) (ns : List (Note ℕ Event)) (es : List Event) (worded : bytes ≡ noteBytes e ns) (noted : notes ns ≡ es) (rise : Rise clock (sayable (limit e)) 0 es) (understood : Understood e (freshOf e) ns) where
-    pub claim : (cut : ℕ) → Claim e bytes ns es cut
-    claim cut =
-        let parted : whole e cut ns ++ others e cut ns ≡ es = cut-parts size cut sized ns ∙ noted in
-        let all = rise-inside e 0 es rise in
-        record {
-          worded = worded;
-          noted = noted;
-          parted = parted;
-          whole-suits = suits-inside (whole e cut ns) (all-append-left _ (whole e cut ns) (others e cut ns) (rw parted all));
-          all-suits = suits-inside es all;
-          of-cut = rw (worded, whole-is size cut sized ns) (read (take cut (noteBytes e ns)) (notes (take (cut / size) ns)) (cut-events e (freshOf e) ns understood cut) (cut-past e (freshOf e) ns understood cut));
-          of-joined = λ second rest.
-            let ms = joinedWords (cut / size) ns second in
-            let u = joined-understood ns cut second rest understood in
-            rw (worded, joined-worded ns cut second rest) (read (noteBytes e ms) es (whole-events e (freshOf e) ms u ∙ joined-notes ns cut second rest ∙ noted) (whole-past e (freshOf e) ms u));
-        }
+  exact-before : (bytes : List ℕ) (ws : List (Note ℕ Event)) (es : List Event) → Sent e bytes ws es → (cut : ℕ) → Exact e (before e cut bytes) (whole e cut ws)
+  exact-before bytes ws es s cut =
+      rw (s .worded, whole-is (encodeSize e) cut sized ws)
+      (read (take cut (noteBytes e ws)) (notes (take (cut / encodeSize e) ws)) (cut-events e (freshOf e) ws (s .understood) cut) (cut-past e (freshOf e) ws (s .understood) cut))
 
- demand-three : DemandThree
- demand-three e calls cut h =
-    claim e (streamOf (fresh e) calls) (streamWords (fresh e) calls) (acceptedEvents (fresh e) calls)
-    (stream-words (fresh e) calls refl) (stream-notes (fresh e) calls) (fresh-rise e calls) (stream-understood e calls) cut
+  pub claim : (bytes : List ℕ) (ws : List (Note ℕ Event)) (es : List Event) → Sent e bytes ws es → (cut : ℕ) → Claim e bytes ws es cut
+  claim bytes ws es s cut =
+      let parted : whole e cut ws ++ others e cut ws ≡ es = cut-parts (encodeSize e) cut sized ws ∙ s .noted in
+      let all = rise-inside e 0 es (s .rises) in
+      record {
+        worded = s .worded;
+        noted = s .noted;
+        parted = parted;
+        whole-suits = suits-inside (whole e cut ws) (all-append-left _ (whole e cut ws) (others e cut ws) (rw parted all));
+        all-suits = suits-inside es all;
+        of-cut = exact-before bytes ws es s cut;
+        of-joined = λ second rest. exact-whole (joined e cut bytes second) (joinedWords cut ws second) es (joined-sent bytes ws es s cut second rest);
+      }
+
+pub demand-three : DemandThree
+demand-three e calls cut h = claim e (streamOf (fresh e) calls) (streamWords (fresh e) calls) (acceptedEvents (fresh e) calls) (fresh-sent e calls) cut

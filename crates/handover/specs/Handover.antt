@@ -1,14 +1,15 @@
 -- DEMAND 3, stated once, of the definitions that the contracts of `append`, `decode_words`, `open_words`, `slice_index` and `slice_time` cite.
--- specs/Proof.antt proves `Claim`.
+-- specs/Proof.antt proves `DemandThree`.
 use mathlib.Core.Path.{_≡_}
 use mathlib.Core.Bool.{Bool, true, false, cond}
 use mathlib.Core.List.{List, [], _∷_, _++_}
-use Prim.Native.Nat.{ℕ, _+_, _-_, _*_, _/_, _^_, _≤_}
+use Prim.Native.Nat.{ℕ, _+_, _-_, _*_, _/_, _^_, _≤_, min, max}
 use lib.Dec.{leb}
 use lib.IntN.{ℤ}
 use lib.ListN.{length, take, drop}
-use Rattle.stream.specs.Machine.{Note}
+use Rattle.stream.specs.Machine.{Note, words, notes}
 use Rattle.stream.specs.Slice.{sift}
+use Rattle.stream.specs.Words.{stream}
 use Rattle.evt.specs.Event.{Event}
 use Rattle.evt.specs.declared.Encoding.{Encoding}
 use Rattle.evt.specs.declared.Limit.the-variants.{Unlimited}
@@ -20,7 +21,8 @@ use Rattle.sink.specs.declared.RawEventSink.{RawEventSink}
 use Rattle.sink.specs.Append.{freshSink, accepts, handedOver, sinkAfter}
 use Rattle.read.specs.declared.ReadAnswer.{ReadAnswer}
 use Rattle.read.specs.declared.ReadAnswer.the-variants.{Read}
-use Rattle.read.specs.Read.{DecodesWords, Handed, shortest}
+use Rattle.header.specs.Header.{hasZero}
+use Rattle.read.specs.Read.{DecodesWords, Handed, shortest, kept, widthOf, heightOf, sizeless}
 use Rattle.index.specs.declared.Checkpoint.{Checkpoint}
 use Rattle.index.specs.declared.RawSliceSource.{RawSliceSource}
 use Rattle.index.specs.declared.OpenAnswer.{OpenAnswer}
@@ -28,7 +30,7 @@ use Rattle.index.specs.declared.OpenAnswer.the-variants.{Opened}
 use Rattle.index.specs.Index.{OpensWords, recordCount, sourceOf, spacingOk}
 use Rattle.slice.specs.declared.SliceAnswer.{SliceAnswer}
 use Rattle.slice.specs.declared.SliceAnswer.the-variants.{Sliced}
-use Rattle.slice.specs.Slice.{SlicesIndex, SlicesTime, firstOf, endOf, isDuring}
+use Rattle.slice.specs.Slice.{SlicesIndex, SlicesTime, isDuring}
 
 -- ---- lists of appends
 
@@ -92,84 +94,103 @@ abbrev pub brokenAfter : (size cut at : ℕ) → List (Note ℕ Event) → List 
 brokenAfter size cut at [] = []
 brokenAfter size cut at (w ∷ ws) = cond (leb (at + size) cut) [] (w .events) ++ brokenAfter size cut (at + size) ws
 
-module _ (e : Encoding) (calls : List Call) (cut : ℕ) where
-  -- the bytes before the cut
-  abbrev pub before : List ℕ
-  before = take cut (streamOf (fresh e) calls)
+-- of a stream, given by its bytes, or by its words each with the events whose event word it is
+module _ (e : Encoding) (cut : ℕ) where
+  -- what stands
+  abbrev pub before : List ℕ → List ℕ
+  before bytes = take cut bytes
 
-  abbrev pub whole : List Event
-  whole = wholeBefore (encodeSize e) cut 0 (streamWords (fresh e) calls)
+  abbrev pub whole : List (Note ℕ Event) → List Event
+  whole ws = wholeBefore (encodeSize e) cut 0 ws
 
-  abbrev pub others : List Event
-  others = brokenAfter (encodeSize e) cut 0 (streamWords (fresh e) calls)
+  abbrev pub others : List (Note ℕ Event) → List Event
+  others ws = brokenAfter (encodeSize e) cut 0 ws
 
-  -- the bytes before the cut less a broken last word, then the second stream
-  abbrev pub joined : List Call → List ℕ
-  joined second = take (cut / encodeSize e * encodeSize e) before ++ streamOf (fresh e) second
+  -- what stands less a broken last word, then the stream of a second list, run in the same way by a fresh writer
+  abbrev pub joined : List ℕ → (second : List Call) → List ℕ
+  joined bytes second = take (cut / encodeSize e * encodeSize e) (before bytes) ++ streamOf (fresh e) second
 
 -- ---- what is read of some bytes is exactly `es`
 
-abbrev pub sensor : SensorSize
-sensor = Known 2048 2048
+-- a size that keeps them all: no zero, and some event where the size comes from the events (the table's 1 otherwise)
+pub record Suits (size : SensorSize) (es : List Event) : Type 0 where
+  pub no-zero : hasZero size ≡ false
+  pub is-sized : sizeless size es ≡ false
+  pub keeps : kept size es ≡ es
 
-module _ (e : Encoding) (bytes : List ℕ) (es : List Event) where
-  -- what a slice comes to: accepted, its count, and all four columns
-  pub record Gives (part : List Event) (r : SliceAnswer) (xs₀ ys₀ : List ℕ) (ts₀ : List ℤ) (ps₀ xs ys : List ℕ) (ts : List ℤ) (ps : List ℕ) : Type 0 where
-    pub count : r ≡ Sliced (length part)
-    pub columns : Handed part xs₀ ys₀ ts₀ ps₀ xs ys ts ps
+-- the size of all that can be appended
+abbrev pub widest : SensorSize
+widest = Known 2048 2048
 
-  -- decoding, where the columns suffice
+-- the columns are handed the events `part`, and a slice is accepted with their count
+pub record Gives (part : List Event) (r : SliceAnswer) (xs₀ ys₀ : List ℕ) (ts₀ : List ℤ) (ps₀ xs ys : List ℕ) (ts : List ℤ) (ps : List ℕ) : Type 0 where
+  pub count : r ≡ Sliced (length part)
+  pub columns : Handed part xs₀ ys₀ ts₀ ps₀ xs ys ts ps
+
+-- by number: from the clamped start to before the clamped end
+abbrev pub numbered : List Event → (i0 i1 : ℕ) → List Event
+numbered es i0 i1 =
+    let start = min i0 (length es) in
+    let end = max start (min i1 (length es)) in
+    take (end - start) (drop start es)
+
+-- by time: t0 ≤ t < t1
+abbrev pub timed : List Event → (t0 t1 : ℤ) → List Event
+timed es t0 t1 = sift (isDuring t0 t1) es
+
+-- slices of some bytes by an index, where the columns suffice
+module _ (bytes : List ℕ) (es : List Event) (source : RawSliceSource) (records : List Checkpoint) where
+  abbrev pub ByNumber : Type 0
+  ByNumber = (i0 i1 : ℕ) (r : SliceAnswer) (xs₀ ys₀ : List ℕ) (ts₀ : List ℤ) (ps₀ xs ys : List ℕ) (ts : List ℤ) (ps : List ℕ)
+      → SlicesIndex bytes source records i0 i1 r xs₀ ys₀ ts₀ ps₀ xs ys ts ps → length (numbered es i0 i1) ≤ shortest xs₀ ys₀ ts₀ ps₀
+      → Gives (numbered es i0 i1) r xs₀ ys₀ ts₀ ps₀ xs ys ts ps
+
+  abbrev pub ByTime : Type 0
+  ByTime = (t0 t1 : ℤ) (r : SliceAnswer) (xs₀ ys₀ : List ℕ) (ts₀ : List ℤ) (ps₀ xs ys : List ℕ) (ts : List ℤ) (ps : List ℕ)
+      → SlicesTime bytes source records t0 t1 r xs₀ ys₀ ts₀ ps₀ xs ys ts ps → length (timed es t0 t1) ≤ shortest xs₀ ys₀ ts₀ ps₀
+      → Gives (timed es t0 t1) r xs₀ ys₀ ts₀ ps₀ xs ys ts ps
+
+module _ (e : Encoding) (size : SensorSize) (bytes : List ℕ) (es : List Event) where
+  -- decoding, with no header and no limit, where the columns suffice: accepted, the count and all four columns
   abbrev pub Decodes : Type 0
   Decodes = (r : ReadAnswer) (xs₀ ys₀ : List ℕ) (ts₀ : List ℤ) (ps₀ xs ys : List ℕ) (ts : List ℤ) (ps : List ℕ)
-      → DecodesWords bytes e sensor Unlimited r xs₀ ys₀ ts₀ ps₀ xs ys ts ps → length es ≤ shortest xs₀ ys₀ ts₀ ps₀
-      → (r ≡ Read (record { encoding = e; width = 2048; height = 2048; count = length es })) × Handed es xs₀ ys₀ ts₀ ps₀ xs ys ts ps
+      → DecodesWords bytes e size Unlimited r xs₀ ys₀ ts₀ ps₀ xs ys ts ps → length es ≤ shortest xs₀ ys₀ ts₀ ps₀
+      → (r ≡ Read (record { encoding = e; width = widthOf size es; height = heightOf size es; count = length es })) × Handed es xs₀ ys₀ ts₀ ps₀ xs ys ts ps
 
-  -- the index of these bytes, at a spacing
-  abbrev pub source : ℕ → RawSliceSource
-  source spacing = sourceOf (length bytes) 0 e sensor spacing es
-
-  module _ (spacing : ℕ) where
-    -- by number: from the clamped start to before the clamped end
-    abbrev pub numbered : (i0 i1 : ℕ) → List Event
-    numbered i0 i1 = take (endOf (source spacing) i0 i1 - firstOf (source spacing) i0) (drop (firstOf (source spacing) i0) es)
-
-    -- by time: t0 ≤ t < t1
-    abbrev pub timed : (t0 t1 : ℤ) → List Event
-    timed t0 t1 = sift (isDuring t0 t1) es
-
-  module _ (spacing : ℕ) (records : List Checkpoint) where
-    -- slices over the records that were made, where the columns suffice
-    abbrev pub ByNumber : Type 0
-    ByNumber = (i0 i1 : ℕ) (r : SliceAnswer) (xs₀ ys₀ : List ℕ) (ts₀ : List ℤ) (ps₀ xs ys : List ℕ) (ts : List ℤ) (ps : List ℕ)
-        → SlicesIndex bytes (source spacing) records i0 i1 r xs₀ ys₀ ts₀ ps₀ xs ys ts ps → length (numbered spacing i0 i1) ≤ shortest xs₀ ys₀ ts₀ ps₀
-        → Gives (numbered spacing i0 i1) r xs₀ ys₀ ts₀ ps₀ xs ys ts ps
-
-    abbrev pub ByTime : Type 0
-    ByTime = (t0 t1 : ℤ) (r : SliceAnswer) (xs₀ ys₀ : List ℕ) (ts₀ : List ℤ) (ps₀ xs ys : List ℕ) (ts : List ℤ) (ps : List ℕ)
-        → SlicesTime bytes (source spacing) records t0 t1 r xs₀ ys₀ ts₀ ps₀ xs ys ts ps → length (timed spacing t0 t1) ≤ shortest xs₀ ys₀ ts₀ ps₀
-        → Gives (timed spacing t0 t1) r xs₀ ys₀ ts₀ ps₀ xs ys ts ps
-
-  -- opening at an allowed spacing, where the records suffice, and both slices over the records made
-  abbrev pub Slices : Type 0
-  Slices = (spacing : ℕ) → spacingOk e spacing ≡ true
-      → (r : OpenAnswer) (records₀ records : List Checkpoint) → OpensWords bytes (record { encoding = e; «sensor_size» = sensor; spacing = spacing }) r records₀ records
+  -- an index built likewise from just these bytes at any allowed spacing, where the records suffice: opened, and both slices by the source told and the records made
+  abbrev pub Indexes : Type 0
+  Indexes = (spacing : ℕ) → spacingOk e spacing ≡ true
+      → (r : OpenAnswer) (records₀ records : List Checkpoint) → OpensWords bytes (record { encoding = e; «sensor_size» = size; spacing = spacing }) r records₀ records
       → recordCount (length bytes) spacing ≤ length records₀
-      → (r ≡ Opened (record { source = source spacing; records = recordCount (length bytes) spacing }))
-      × (ByNumber spacing (take (recordCount (length bytes) spacing) records) × ByTime spacing (take (recordCount (length bytes) spacing) records))
+      → let source = sourceOf (length bytes) 0 e size spacing es in
+      let made = recordCount (length bytes) spacing in
+      (r ≡ Opened (record { source = source; records = made })) × ByNumber bytes es source (take made records) × ByTime bytes es source (take made records)
 
-  pub record Exact : Type 0 where
+  pub record Reads : Type 0 where
     pub decodes : Decodes
-    pub slices : Slices
+    pub indexes : Indexes
+
+-- bytes within the table's 4 are read exactly, whatever size keeps the events
+abbrev pub Exact : Encoding → List ℕ → List Event → Type 0
+Exact e bytes es = length bytes ≤ 2 ^ 30 → (size : SensorSize) → Suits size es → Reads e size bytes es
 
 -- ---- the claim
 
-pub record Claim (e : Encoding) (calls : List Call) (cut : ℕ) : Type 0 where
-  -- the words are those of the stream, and each accepted event stands in one
-  pub split : whole e calls cut ++ others e calls cut ≡ acceptedEvents (fresh e) calls
-  pub of-cut : length (before e calls cut) ≤ 2 ^ 30 → Exact e (before e calls cut) (whole e calls cut)
-  pub of-joined : (second : List Call) → acceptedEvents (fresh e) second ≡ others e calls cut → length (joined e calls cut second) ≤ 2 ^ 30
-      → Exact e (joined e calls cut second) (acceptedEvents (fresh e) calls)
+-- of a stream of these bytes and words that carries es, and a cut
+pub record Claim (e : Encoding) (bytes : List ℕ) (ws : List (Note ℕ Event)) (es : List Event) (cut : ℕ) : Type 0 where
+  -- the bytes are those of the words, each event stands in one, and that is whole before the cut or not
+  pub worded : bytes ≡ stream (encodeSize e) (words ws)
+  pub noted : notes ws ≡ es
+  pub parted : whole e cut ws ++ others e cut ws ≡ es
+  -- 2048 by 2048 keeps all
+  pub whole-suits : Suits widest (whole e cut ws)
+  pub all-suits : Suits widest es
+  -- what stands decodes, and is sliced, as the events that are whole
+  pub of-cut : Exact e (before e cut bytes) (whole e cut ws)
+  -- and the joined stream as all events, where the second list's accepted events are the others
+  pub of-joined : (second : List Call) → acceptedEvents (fresh e) second ≡ others e cut ws → Exact e (joined e cut bytes second) es
 
 -- for both encodings, every list and every cut
 abbrev pub DemandThree : Type 0
-DemandThree = (e : Encoding) (calls : List Call) (cut : ℕ) → cut ≤ length (streamOf (fresh e) calls) → Claim e calls cut
+DemandThree = (e : Encoding) (calls : List Call) (cut : ℕ) → cut ≤ length (streamOf (fresh e) calls)
+    → Claim e (streamOf (fresh e) calls) (streamWords (fresh e) calls) (acceptedEvents (fresh e) calls) cut

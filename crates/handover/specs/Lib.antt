@@ -1,2 +1,7 @@
 -- What each file is stands at its head.
 pub mod Handover
+pub mod Cut
+pub mod Calls
+pub mod Reading
+pub mod Proof
+pub mod Again

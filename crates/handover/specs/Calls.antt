@@ -9,7 +9,7 @@ use lib.IntN.{ℤ, pos, negsuc}
 use lib.Signed.{ltZ, nonNeg}
 use lib.Dec.{ltb}
 use borrow.Author.Tests.{ltb-false, le-ltb}
-use Rattle.stream.specs.Machine.{and-both, Note, notes}
+use Rattle.stream.specs.Machine.{and-both, Note, All, notes}
 use Rattle.stream.specs.Order.{Rise, lastOf, rise-append}
 use Rattle.evt.specs.Event.{Event}
 use Rattle.evt.specs.declared.Encoding.{Encoding}
@@ -28,7 +28,8 @@ use Rattle.sink.specs.Range.{timeBound, timeInRange, every, atMost, falls, fall
 use Rattle.sink.specs.Append.{lastAfter, sends, nextSink}
 use Rattle.sink.specs.Ends.{accepts-checked}
 use Rattle.sink.specs.Checks.{Checked, checked-of, or-neither}
-use Rattle.handover.specs.Handover.{Call, isAccepted, next, bytesOf, eventsOf, wordsOf, acceptedEvents, streamOf, streamWords, fresh}
+use Rattle.handover.specs.Handover.{Call, isAccepted, next, bytesOf, eventsOf, wordsOf, acceptedEvents, streamOf, streamWords, fresh, Typed}
+use Rattle.handover.specs.EventWords.{append-typed}
 
 -- ---- what an append that is refused, and one that is accepted, comes to
 
@@ -112,6 +113,9 @@ stream-words s cs h = rw (groups-words s cs) (groups-bytes s cs h)
 -- EACH ACCEPTED EVENT stands in one of them
 pub stream-notes : (s : RawEventSink) (cs : List Call) → notes (streamWords s cs) ≡ acceptedEvents s cs
 stream-notes s cs = rw (groups-words s cs) (notes-all (s .version) (s .state) (groupsOf s cs) ∙ groups-events s cs)
+
+pub stream-typed : (s : RawEventSink) (cs : List Call) → All (Typed (s .version)) (streamWords s cs)
+stream-typed s cs = rw (groups-words s cs) (append-typed (s .version) (s .state) (groupsOf s cs))
 
 -- ---- the accepted events can be said, and their times never fall
 

@@ -1,5 +1,6 @@
 -- What each file is stands at its head.
 pub mod Handover
+pub mod EventWords
 pub mod Cut
 pub mod Calls
 pub mod Reading

@@ -6,3 +6,4 @@ pub mod Calls
 pub mod Reading
 pub mod Proof
 pub mod Again
+pub mod Ran

@@ -47,7 +47,12 @@ module _ (s : RawEventSink) (c : Call) where
     pub no-words : wordsOf s c ≡ []
 
   pub refused-unchanged : isAccepted s c ≡ false → Unchanged
-  refused-unchanged h = record { is-sink = rw h; no-bytes = rw h; no-events = rw h; no-words = rw h }
+  refused-unchanged h = record {
+    is-sink = ap (λ (b : Bool). cond b later s) h;
+    no-bytes = ap (λ (b : Bool). cond b (sends s (c .width) (c .height) (c .xs) (c .ys) (c .ts) (c .ps)) []) h;
+    no-events = ap (λ (b : Bool). cond b columns []) h;
+    no-words = ap (λ (b : Bool). cond b (encodeNotes (s .version) (s .state) columns) []) h;
+  }
 
   pub accepted-checked : isAccepted s c ≡ true → Checked s (c .xs) (c .ys) (c .ts) (c .ps)
   accepted-checked h = checked-of s (c .xs) (c .ys) (c .ts) (c .ps) (accepts-checked s (c .width) (c .height) (c .xs) (c .ys) (c .ts) (c .ps) (c .room) h .0)
@@ -62,7 +67,7 @@ out-nothing s [] h = (refl, refl)
 out-nothing s (c ∷ cs) h =
     let n = out-nothing s cs h in
     let u = refused-unchanged s c (out-refused s c h) in
-    (rw (u .no-events, u .is-sink) (n .0), rw (u .no-bytes, u .is-sink) (n .1))
+    ((λ i. u .no-events i ++ acceptedEvents (u .is-sink i) cs) ∙ n .0, (λ i. u .no-bytes i ++ streamOf (u .is-sink i) cs) ∙ n .1)
 
 -- ---- the accepted appends as groups of events
 
@@ -199,7 +204,7 @@ accepted-rise s (c ∷ cs) = rise-go (isAccepted s c) s c cs refl (λ u. accepte
 
 -- ---- of a fresh writer
 
-bound-is : (e : Encoding) → timeBound e ≡ limit e
+pub bound-is : (e : Encoding) → timeBound e ≡ limit e
 bound-is Evt2 = refl
 bound-is Evt3 = refl
 

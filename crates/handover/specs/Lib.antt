@@ -6,4 +6,5 @@ pub mod Calls
 pub mod Reading
 pub mod Proof
 pub mod Again
+pub mod Others
 pub mod Ran

@@ -1,5 +1,5 @@
 -- DEMAND 3, proved: what a fresh writer sends is a stream that a fresh decoder understands, so is what is left of such a stream and gone on with, and all such streams are as claimed.
-use mathlib.Core.Path.{_≡_, refl, _∙_}
+use mathlib.Core.Path.{_≡_, refl, ap, _∙_}
 use mathlib.Core.Bool.{true}
 use mathlib.Core.List.{List, _++_}
 use Prim.Native.Nat.{ℕ, _*_, _/_, _≤_, _<_}
@@ -66,7 +66,9 @@ module _ (e : Encoding) where
         let le : k * size ≤ cut = omega (arith, div-add-mod' cut size) in
         let rest-is : acceptedEvents (fresh e) second ≡ notes (drop k ws) = rest ∙ broken-is size cut sized ws in
         record {
-          worded = rw (take-take (k * size) cut bytes le, sent .worded, stream-words (fresh e) second refl) (resumed-bytes e cut ws ms);
+          worded =
+              ap (λ (l : List ℕ). l ++ streamOf (fresh e) second) (take-take (k * size) cut bytes le)
+              ∙ (λ i. take (k * size) (sent .worded i) ++ stream-words (fresh e) second refl i) ∙ resumed-bytes e cut ws ms;
           noted = rw (notes-append (take k ws) ms, stream-notes (fresh e) second, rest-is) (notes-split k ws ∙ sent .noted);
           typed = all-append (Typed e) (take k ws) ms (all-take (Typed e) k ws (sent .typed)) (stream-typed (fresh e) second);
           rises = sent .rises;

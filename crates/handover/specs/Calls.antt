@@ -9,7 +9,7 @@ use lib.IntN.{ℤ, pos, negsuc}
 use lib.Signed.{ltZ, nonNeg}
 use lib.Dec.{ltb}
 use borrow.Author.Tests.{ltb-false, le-ltb}
-use Rattle.stream.specs.Machine.{and-both, Note, notes}
+use Rattle.stream.specs.Machine.{and-both, Note, All, notes}
 use Rattle.stream.specs.Order.{Rise, lastOf, rise-append}
 use Rattle.evt.specs.Event.{Event}
 use Rattle.evt.specs.declared.Encoding.{Encoding}
@@ -28,7 +28,8 @@ use Rattle.sink.specs.Range.{timeBound, timeInRange, every, atMost, falls, fall
 use Rattle.sink.specs.Append.{lastAfter, sends, nextSink}
 use Rattle.sink.specs.Ends.{accepts-checked}
 use Rattle.sink.specs.Checks.{Checked, checked-of, or-neither}
-use Rattle.handover.specs.Handover.{Call, isAccepted, next, bytesOf, eventsOf, wordsOf, acceptedEvents, streamOf, streamWords, fresh}
+use Rattle.handover.specs.Handover.{Call, isAccepted, next, bytesOf, eventsOf, wordsOf, acceptedEvents, streamOf, streamWords, fresh, Typed}
+use Rattle.handover.specs.EventWords.{append-typed}
 
 -- ---- what an append that is refused, and one that is accepted, comes to
 
@@ -46,7 +47,12 @@ module _ (s : RawEventSink) (c : Call) where
     pub no-words : wordsOf s c ≡ []
 
   pub refused-unchanged : isAccepted s c ≡ false → Unchanged
-  refused-unchanged h = record { is-sink = rw h; no-bytes = rw h; no-events = rw h; no-words = rw h }
+  refused-unchanged h = record {
+    is-sink = ap (λ (b : Bool). cond b later s) h;
+    no-bytes = ap (λ (b : Bool). cond b (sends s (c .width) (c .height) (c .xs) (c .ys) (c .ts) (c .ps)) []) h;
+    no-events = ap (λ (b : Bool). cond b columns []) h;
+    no-words = ap (λ (b : Bool). cond b (encodeNotes (s .version) (s .state) columns) []) h;
+  }
 
   pub accepted-checked : isAccepted s c ≡ true → Checked s (c .xs) (c .ys) (c .ts) (c .ps)
   accepted-checked h = checked-of s (c .xs) (c .ys) (c .ts) (c .ps) (accepts-checked s (c .width) (c .height) (c .xs) (c .ys) (c .ts) (c .ps) (c .room) h .0)
@@ -61,7 +67,7 @@ out-nothing s [] h = (refl, refl)
 out-nothing s (c ∷ cs) h =
     let n = out-nothing s cs h in
     let u = refused-unchanged s c (out-refused s c h) in
-    (rw (u .no-events, u .is-sink) (n .0), rw (u .no-bytes, u .is-sink) (n .1))
+    ((λ i. u .no-events i ++ acceptedEvents (u .is-sink i) cs) ∙ n .0, (λ i. u .no-bytes i ++ streamOf (u .is-sink i) cs) ∙ n .1)
 
 -- ---- the accepted appends as groups of events
 
@@ -112,6 +118,9 @@ stream-words s cs h = rw (groups-words s cs) (groups-bytes s cs h)
 -- EACH ACCEPTED EVENT stands in one of them
 pub stream-notes : (s : RawEventSink) (cs : List Call) → notes (streamWords s cs) ≡ acceptedEvents s cs
 stream-notes s cs = rw (groups-words s cs) (notes-all (s .version) (s .state) (groupsOf s cs) ∙ groups-events s cs)
+
+pub stream-typed : (s : RawEventSink) (cs : List Call) → All (Typed (s .version)) (streamWords s cs)
+stream-typed s cs = rw (groups-words s cs) (append-typed (s .version) (s .state) (groupsOf s cs))
 
 -- ---- the accepted events can be said, and their times never fall
 
@@ -195,7 +204,7 @@ accepted-rise s (c ∷ cs) = rise-go (isAccepted s c) s c cs refl (λ u. accepte
 
 -- ---- of a fresh writer
 
-bound-is : (e : Encoding) → timeBound e ≡ limit e
+pub bound-is : (e : Encoding) → timeBound e ≡ limit e
 bound-is Evt2 = refl
 bound-is Evt3 = refl
 

@@ -1,17 +1,19 @@
 -- DEMAND 3, stated once, of the definitions that the contracts of `append`, `decode_words`, `open_words`, `slice_index` and `slice_time` cite.
 -- specs/Proof.antt proves `DemandThree`.
 use mathlib.Core.Path.{_≡_}
-use mathlib.Core.Bool.{Bool, true, false, cond}
+use mathlib.Core.Bool.{Bool, true, false, cond, _||_}
 use mathlib.Core.List.{List, [], _∷_, _++_}
-use Prim.Native.Nat.{ℕ, _+_, _-_, _*_, _/_, _^_, _≤_, min, max}
-use lib.Dec.{leb}
+use Prim.Native.Nat.{ℕ, _+_, _-_, _*_, _/_, _^_, _≤_, _<_, min, max}
+use lib.Dec.{leb, eqb}
 use lib.IntN.{ℤ}
 use lib.ListN.{length, take, drop}
-use Rattle.stream.specs.Machine.{Note, words, notes}
+use Rattle.stream.specs.Machine.{Note, All, words, notes}
 use Rattle.stream.specs.Slice.{sift}
 use Rattle.stream.specs.Words.{stream}
 use Rattle.evt.specs.Event.{Event}
+use Rattle.evt.specs.Layout.{type2, type3}
 use Rattle.evt.specs.declared.Encoding.{Encoding}
+use Rattle.evt.specs.declared.Encoding.the-variants.{Evt2, Evt3}
 use Rattle.evt.specs.declared.Limit.the-variants.{Unlimited}
 use Rattle.evt.specs.declared.SensorSize.{SensorSize}
 use Rattle.evt.specs.declared.SensorSize.the-variants.{Known}
@@ -81,6 +83,15 @@ streamWords s (c ∷ cs) = wordsOf s c ++ streamWords (next s c) cs
 -- a fresh writer that sends no header
 abbrev pub fresh : Encoding → RawEventSink
 fresh e = freshSink e false
+
+-- an event word is of type 0 or 1 in EVT2, of type 2 or 4 in EVT3
+abbrev pub isEventWord : Encoding → ℕ → Bool
+isEventWord Evt2 w = leb (type2 w) 1
+isEventWord Evt3 w = eqb (type3 w) 2 || eqb (type3 w) 4
+
+-- and no other word carries events
+abbrev pub Typed : Encoding → Note ℕ Event → Type 0
+Typed e w = 0 < length (w .events) → isEventWord e (w .word) ≡ true
 
 -- ---- the cut, and the joined stream
 
@@ -178,9 +189,10 @@ Exact e bytes es = length bytes ≤ 2 ^ 30 → (size : SensorSize) → Suits siz
 
 -- of a stream of these bytes and words that carries es, and a cut
 pub record Claim (e : Encoding) (bytes : List ℕ) (ws : List (Note ℕ Event)) (es : List Event) (cut : ℕ) : Type 0 where
-  -- the bytes are those of the words, each event stands in one, and that is whole before the cut or not
+  -- the bytes are those of the words; each event stands in one, its event word, and that is whole before the cut or not
   pub worded : bytes ≡ stream (encodeSize e) (words ws)
   pub noted : notes ws ≡ es
+  pub typed : All (Typed e) ws
   pub parted : whole e cut ws ++ others e cut ws ≡ es
   -- 2048 by 2048 keeps all
   pub whole-suits : Suits widest (whole e cut ws)

@@ -1,7 +1,10 @@
 -- What each file is stands at its head.
 pub mod Handover
+pub mod EventWords
 pub mod Cut
 pub mod Calls
 pub mod Reading
 pub mod Proof
 pub mod Again
+pub mod Others
+pub mod Ran

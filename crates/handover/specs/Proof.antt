@@ -1,5 +1,5 @@
 -- DEMAND 3, proved: what a fresh writer sends is a stream that a fresh decoder understands, so is what is left of such a stream and gone on with, and all such streams are as claimed.
-use mathlib.Core.Path.{_≡_, refl, _∙_}
+use mathlib.Core.Path.{_≡_, refl, ap, _∙_}
 use mathlib.Core.Bool.{true}
 use mathlib.Core.List.{List, _++_}
 use Prim.Native.Nat.{ℕ, _*_, _/_, _≤_, _<_}
@@ -7,7 +7,7 @@ use native.Mathlib.Omega.{arith}
 use native.Mathlib.Nat.{div-add-mod'}
 use lib.ListN.{take, drop}
 use lib.Seq.{take-take}
-use Rattle.stream.specs.Machine.{Note, All, all-append-left, notes, notes-append, notes-split}
+use Rattle.stream.specs.Machine.{Note, All, all-append, all-append-left, all-take, notes, notes-append, notes-split}
 use Rattle.stream.specs.Order.{Rise}
 use Rattle.stream.specs.Slice.{sift-all}
 use Rattle.evt.specs.Event.{Event}
@@ -21,15 +21,16 @@ use Rattle.encode.specs.Encode.{encodeSize}
 use Rattle.formats.specs.Ready.{limit, sayable}
 use Rattle.formats.specs.Either.{codecOf, freshOf, lawfulOf, fresh-is}
 use Rattle.formats.specs.Appends.{noteBytes, rise-inside, Understood, resumed-understood, resumed-bytes, whole-events, whole-past, cut-events, cut-past}
-use Rattle.handover.specs.Handover.{Call, acceptedEvents, streamOf, streamWords, fresh, before, whole, others, joined, Suits, widest, Exact, Claim, DemandThree}
+use Rattle.handover.specs.Handover.{Call, acceptedEvents, streamOf, streamWords, fresh, before, whole, others, joined, Typed, Suits, widest, Exact, Claim, DemandThree}
 use Rattle.handover.specs.Cut.{whole-is, broken-is, cut-parts}
-use Rattle.handover.specs.Calls.{stream-words, stream-notes, groupsOf, groups-events, groups-words, fresh-rise, stream-understood}
+use Rattle.handover.specs.Calls.{stream-words, stream-notes, stream-typed, groupsOf, groups-events, groups-words, fresh-rise, stream-understood}
 use Rattle.handover.specs.Reading.{exact}
 
 -- a stream of these bytes and words that carries es
 pub record Sent (e : Encoding) (bytes : List ℕ) (ws : List (Note ℕ Event)) (es : List Event) : Type 0 where
   pub worded : bytes ≡ noteBytes e ws
   pub noted : notes ws ≡ es
+  pub typed : All (Typed e) ws
   pub rises : Rise clock (sayable (limit e)) 0 es
   pub understood : Understood e (freshOf e) ws
 
@@ -46,6 +47,7 @@ module _ (e : Encoding) where
   fresh-sent calls = record {
     worded = stream-words (fresh e) calls refl;
     noted = stream-notes (fresh e) calls;
+    typed = stream-typed (fresh e) calls;
     rises = fresh-rise e calls;
     understood = stream-understood e calls;
   }
@@ -64,8 +66,11 @@ module _ (e : Encoding) where
         let le : k * size ≤ cut = omega (arith, div-add-mod' cut size) in
         let rest-is : acceptedEvents (fresh e) second ≡ notes (drop k ws) = rest ∙ broken-is size cut sized ws in
         record {
-          worded = rw (take-take (k * size) cut bytes le, sent .worded, stream-words (fresh e) second refl) (resumed-bytes e cut ws ms);
+          worded =
+              ap (λ (l : List ℕ). l ++ streamOf (fresh e) second) (take-take (k * size) cut bytes le)
+              ∙ (λ i. take (k * size) (sent .worded i) ++ stream-words (fresh e) second refl i) ∙ resumed-bytes e cut ws ms;
           noted = rw (notes-append (take k ws) ms, stream-notes (fresh e) second, rest-is) (notes-split k ws ∙ sent .noted);
+          typed = all-append (Typed e) (take k ws) ms (all-take (Typed e) k ws (sent .typed)) (stream-typed (fresh e) second);
           rises = sent .rises;
           understood = rw (groups-words (fresh e) second) (resumed-understood e (freshOf e) k ws (groupsOf (fresh e) second) (sent .understood) (groups-events (fresh e) second ∙ rest-is));
         }
@@ -90,6 +95,7 @@ module _ (e : Encoding) where
       record {
         worded = s .worded;
         noted = s .noted;
+        typed = s .typed;
         parted = parted;
         whole-suits = suits-inside (whole e cut ws) (all-append-left _ (whole e cut ws) (others e cut ws) (rw parted all));
         all-suits = suits-inside es all;

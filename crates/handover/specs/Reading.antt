@@ -75,8 +75,7 @@ module _ (e : Encoding) (size : SensorSize) (bytes : List ℕ) (few : length byt
           let is : OpenedAs bytes 0 e size spacing opening records = opened-words opening r records₀ records opened bytes options o in
           let passes : (A : Type 0) (is4 is1 is8 is10 passed : A) → byRules bytes (opening .source) (take (opening .records) records) is4 is1 is8 is10 passed ≡ passed = λ A. opened-rules bytes 0 e size spacing opening records is in
           let source = opening .source in
-          let lent = take (opening .records) records in
-          (
+          let lent = take (opening .records) records in (
             opened,
             (λ i0 i1. slice-gives bytes source lent passes _ _ (opened-number bytes 0 e size spacing opening records is i0 i1)),
             (λ t0 t1. slice-gives bytes source lent passes _ _ (opened-time bytes 0 e size spacing opening records is t0 t1 (past _))),

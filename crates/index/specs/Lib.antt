@@ -9,3 +9,4 @@ pub mod Choose
 pub mod Judge
 pub mod InRange
 pub mod Start
+pub mod JudgeLaws

@@ -18,9 +18,25 @@ use Rattle.read.specs.Read.{shortest, Handed}
 use Rattle.index.specs.declared.Checkpoint.{Checkpoint}
 use Rattle.index.specs.declared.RawSliceSource.{RawSliceSource}
 use Rattle.index.specs.Index.{spacingOk}
+use Rattle.index.specs.Judge.{firstJudging}
+use Rattle.slice.specs.declared.Asked.{Asked}
 use Rattle.slice.specs.declared.SliceAnswer.{SliceAnswer}
 use Rattle.slice.specs.declared.SliceAnswer.the-variants.{Sliced, Refused}
-use Rattle.slice.specs.Slice.{sizeOf}
+use Rattle.slice.specs.Slice.{sizeOf, firstOf, endOf}
+use Rattle.slice.specs.Times.{timeWindow}
+
+-- ---- what is asked for
+
+-- from the clamped start to before the clamped end, at any time
+abbrev pub numberWindow : RawSliceSource → (i0 i1 : ℕ) → Window
+numberWindow s i0 i1 = record { width = s .width; height = s .height; n0 = firstOf s i0; n1 = endOf s i0 i1; t0 = 0; t1 = 18446744073709551615 }
+
+-- of an index of n records
+abbrev pub askedByNumber : RawSliceSource → (n i0 i1 : ℕ) → Asked
+askedByNumber s n i0 i1 = record { judging = firstJudging s n; choice = record { «by_time» = false; index = firstOf s i0; time = pos 0 }; window = numberWindow s i0 i1 }
+
+abbrev pub askedByTime : RawSliceSource → (n : ℕ) → (t0 t1 : ℤ) → Asked
+askedByTime s n t0 t1 = record { judging = firstJudging s n; choice = record { «by_time» = true; index = 0; time = t0 }; window = timeWindow (s .width) (s .height) 0 18446744073709551615 t0 t1 }
 
 -- ---- the pass
 

@@ -1,20 +1,22 @@
 -- The parts of a slice come to what specs/Slice.antt defines.
 use mathlib.Core.Path.{_≡_, refl, sym, ap, _∙_}
-use mathlib.Core.Bool.{Bool, true, false, cond, _&&_}
+use mathlib.Core.Bool.{Bool, true, false, cond, _&&_, true≢false}
 use mathlib.Core.List.{List, [], _∷_}
 use Prim.Native.Nat.{ℕ, zero, suc, _+_, _-_, _*_, _/_, _≤_, _<_, _^_, min, max}
 use native.Mathlib.Omega.{arith}
 use lib.Dec.{leb, ltb}
-use lib.IntN.{ℤ, pos, negsuc}
+use lib.IntN.{ℤ}
+use lib.Signed.{ltZ}
 use lib.ListN.{length, take, drop, length-drop, drop-of-length-le}
 use borrow.Author.Tests.{leb-true, leb-false, ltb-true, ltb-false, lt-ltb, le-ltb}
 use Rattle.stream.specs.Slice.{onto, sift}
 use Rattle.stream.specs.Select as Select
+use Rattle.stream.specs.Select.{byNumber}
 use Rattle.stream.specs.Words.{wordsOf}
 use Rattle.evt.specs.declared.Refusal.the-variants.{InvalidSensorSize, TooLong, ColumnsTooShort, InvalidSpacing, StateOutOfRange}
 use Rattle.evt.specs.declared.codec.Codec.{Codec}
 use Rattle.evt.specs.declared.codec.Codec.the-variants.{Evt2, Evt3}
-use Rattle.evt.specs.Codec.{inRangeC}
+use Rattle.evt.specs.Codec.{inRangeC, eventsFrom}
 use Rattle.evt.specs.Columns.{Wrote, Fits}
 use Rattle.evt.specs.Event.{Event}
 use Rattle.evt.specs.Told.{Told, accepted, refused, short}
@@ -24,18 +26,26 @@ use Rattle.window.specs.declared.Window.{Window}
 use Rattle.window.specs.Window.{spanOf, reading2, reading3}
 use Rattle.select.specs.declared.Tally.{Tally}
 use Rattle.select.specs.declared.Filled.{Filled}
-use Rattle.select.specs.Pass.{Ready, handedOver, surveyed, filled}
-use Rattle.select.specs.Uses.{able-range, numberedOver, over-few}
-use Rattle.read.specs.Read.{shortest, Handed}
+use Rattle.select.specs.Pass.{Ready, Able, handedOver, surveyed, filled}
+use Rattle.select.specs.Uses.{able-range, numberedOver, over-few, over-by-number, over-by-time}
+use Rattle.read.specs.Read.{kept, shortest, Handed}
 use Rattle.read.specs.Laws.{fits-room, handed-wrote, handed-none, rest-of}
 use Rattle.index.specs.declared.Checkpoint.{Checkpoint}
+use Rattle.index.specs.declared.Judging.{Judging}
 use Rattle.index.specs.declared.RawSliceSource.{RawSliceSource}
 use Rattle.index.specs.Index.{spacingOk}
 use Rattle.index.specs.InRange.{indexInRange}
+use Rattle.index.specs.Choose.{passesOf, Chose}
+use Rattle.index.specs.Judge.{firstJudging, judgedAll}
+use Rattle.index.specs.JudgeLaws.{judged-in-range, Good, parted-passes, last-good}
+use Rattle.index.specs.Open.{spaced}
+use Rattle.index.specs.Start.{lastPassing}
 use Rattle.slice.specs.declared.SliceAnswer.{SliceAnswer}
 use Rattle.slice.specs.declared.SliceAnswer.the-variants.{Sliced, Refused}
-use Rattle.slice.specs.Slice.{sizeOf, toldSlice, byRules, sliceVerdict, sliceHanded, sliceAnswer, Slices}
-use Rattle.slice.specs.From.{passedFrom, mostFrom, mostOver, answerTo, handedTo, Answers, rulesOf, SlicesFrom, Startable}
+use Rattle.slice.specs.declared.Asked.{Asked}
+use Rattle.slice.specs.Slice.{startingAt, sizeOf, firstOf, endOf, indexEvents, isDuring, eventsUntil, timeEvents, toldSlice, byRules, sliceVerdict, sliceHanded, sliceAnswer, Slices, SlicesIndex, SlicesTime}
+use Rattle.slice.specs.Times.{timeWindow, time-over}
+use Rattle.slice.specs.From.{numberWindow, askedByNumber, askedByTime, passedFrom, mostFrom, mostOver, answerTo, handedTo, Answers, rulesOf, SlicesFrom, Startable}
 
 -- ---- a pass hands over no more than its window has numbers, nor than its bytes have events
 
@@ -53,6 +63,10 @@ module _ {S : Type 0} (R : Select.Reading S ℕ Event) (span : Select.Window) wh
 
   handed-span : (k : ℕ) (s : S) (ws : List ℕ) → length (Select.handed R span k s ws) ≤ span .n1 - span .n0
   handed-span k s ws = rw Select.handed-after (omega (arith, chosen-span k (Select.numbered R s (take (Select.ended R span k s ws .consumed) ws))))
+
+most-small : (c : Codec) (n : ℕ) → mostFrom c n ≤ 6 * n
+most-small (Evt2 d) n = omega arith
+most-small (Evt3 d) n = omega arith
 
 module _ (win : Window) (k : ℕ) (c : Codec) (bytes : List ℕ) where
   abbrev over : List Event
@@ -175,3 +189,87 @@ module _ (recording : List ℕ) (s : RawSliceSource) (records : List Checkpoint)
         is-answer = a;
         columns = rw (same-rules (λ es. handedTo es room) [] [] [] []) at (h .columns);
       }
+
+-- ---- the record that a slice starts at
+
+pub record Began (s : RawSliceSource) (records : List Checkpoint) (asked : Asked) (judged : Judging) (start : Checkpoint) : Type 0 where
+  pub first : asked .judging ≡ firstJudging s (length records)
+  pub all : judged ≡ judgedAll (asked .judging) records
+  pub chose : Chose (asked .choice) records start
+
+module _ (s : RawSliceSource) (records : List Checkpoint) (asked : Asked) (judged : Judging) (start : Checkpoint) (b : Began s records asked judged start) where
+  judged-is : spacingOk (s .encoding) (s .spacing) ≡ true → judged .ok ≡ indexInRange s records
+  judged-is p =
+      ap (λ (j : Judging). j .ok) (b .all ∙ ap (λ (j : Judging). judgedAll j records) (b .first)) ∙ judged-in-range s (spaced (s .encoding) (s .spacing) p .high) records
+
+  -- in range it is the one by the definition, and good
+  start-is : (p : Checkpoint → Bool) → passesOf (asked .choice) ≡ p → (c : Checkpoint) (cs : List Checkpoint) → records ≡ c ∷ cs → indexInRange s (c ∷ cs) ≡ true → start ≡ lastPassing p c cs
+  start-is p e c cs r ok = rw (← e) (rw r at (b .chose) (parted-passes s (c ∷ cs) ok (asked .choice)))
+
+  start-good : indexInRange s records ≡ true → Good s start
+  start-good = go records refl
+    where
+      go : (l : List Checkpoint) → records ≡ l → indexInRange s l ≡ true → Good s start
+      unfolding indexInRange
+      go [] r ok = absurd (true≢false (sym ok))
+      go (c ∷ cs) r ok = rw (start-is (passesOf (asked .choice)) refl c cs r ok) (last-good s (passesOf (asked .choice)) c cs ok)
+
+  pub startable : Startable s (judged .ok) start
+  startable p q = let g = start-good (sym (judged-is p) ∙ q) in (g .decoder, g .few)
+
+  -- what is decoded from there on
+  starting : (p : Checkpoint → Bool) (f : Checkpoint → List Event) → passesOf (asked .choice) ≡ p → indexInRange s records ≡ true → f start ≡ startingAt p f records
+  starting p f e = go records refl
+    where
+      go : (l : List Checkpoint) → records ≡ l → indexInRange s l ≡ true → f start ≡ startingAt p f l
+      unfolding indexInRange
+      go [] r ok = absurd (true≢false (sym ok))
+      go (c ∷ cs) r ok = ap f (start-is p e c cs r ok)
+
+  module _ (recording : List ℕ) (short : length recording ≤ 2 ^ 30) (ok : indexInRange s records ≡ true) where
+    able-start : Able (length (drop (start .«byte_offset») recording)) (start .codec)
+    able-start = able-range (start .codec) (length (drop (start .«byte_offset») recording)) (start-good ok .decoder) (omega (arith, length-drop (start .«byte_offset») recording))
+
+    same-number : (i0 i1 : ℕ) → passesOf (asked .choice) ≡ (λ c. leb (c .«event_index») (firstOf s i0)) → asked .window ≡ numberWindow s i0 i1
+        → passedFrom recording (asked .window) start ≡ indexEvents recording s records i0 i1
+    unfolding indexEvents
+    same-number i0 i1 e w =
+        let f : Checkpoint → List Event = λ c. byNumber (firstOf s i0) (endOf s i0 i1) (c .«event_index») (kept (sizeOf s) (eventsFrom (c .codec) (drop (c .«byte_offset») recording))) in
+        ap (λ (win : Window). passedFrom recording win start) w
+        ∙ over-by-number (numberWindow s i0 i1) (start .codec) (drop (start .«byte_offset») recording) able-start refl (omega arith) (start .«event_index»)
+        ∙ starting (λ c. leb (c .«event_index») (firstOf s i0)) f e ok
+
+    same-time : (t0 t1 : ℤ) → passesOf (asked .choice) ≡ (λ c. ltZ (c .time) t0) → asked .window ≡ timeWindow (s .width) (s .height) 0 18446744073709551615 t0 t1
+        → passedFrom recording (asked .window) start ≡ timeEvents recording s records t0 t1
+    unfolding timeEvents
+    same-time t0 t1 e w =
+        let win = timeWindow (s .width) (s .height) 0 18446744073709551615 t0 t1 in
+        let rest = drop (start .«byte_offset») recording in
+        let f : Checkpoint → List Event = λ c. sift (isDuring t0 t1) (kept (sizeOf s) (eventsUntil t1 (c .codec) (drop (c .«byte_offset») recording))) in
+        let few : start .«event_index» + length (numberedOver win (start .codec) rest) < 18446744073709551615 =
+            omega (arith, start-good ok .few, numbered-most win 0 (start .codec) rest, most-small (start .codec) (length rest), length-drop (start .«byte_offset») recording) in
+        ap (λ (win : Window). passedFrom recording win start) w
+        ∙ over-by-time win (start .«event_index») (start .codec) rest (omega arith) few
+        ∙ sym (time-over (s .width) (s .height) 0 18446744073709551615 t0 t1 (start .codec) rest)
+        ∙ starting (λ c. ltZ (c .time) t0) f e ok
+
+-- ---- by number and by time
+
+module _ (recording : List ℕ) (s : RawSliceSource) (records : List Checkpoint) (asked : Asked) (judged : Judging) (start : Checkpoint) where
+  module _ (i0 i1 : ℕ) (is : asked ≡ askedByNumber s (length records) i0 i1) (all : judged ≡ judgedAll (asked .judging) records) (chose : Chose (asked .choice) records start) where
+    pub began-index : Began s records asked judged start
+    began-index = record { first = ap (λ (a : Asked). a .judging) is; all = all; chose = chose }
+
+    pub slices-index : {r : SliceAnswer} {xs₀ ys₀ : List ℕ} {ts₀ : List ℤ} {ps₀ xs ys : List ℕ} {ts : List ℤ} {ps : List ℕ}
+        → SlicesFrom recording s (judged .ok) (passedFrom recording (asked .window) start) r xs₀ ys₀ ts₀ ps₀ xs ys ts ps → SlicesIndex recording s records i0 i1 r xs₀ ys₀ ts₀ ps₀ xs ys ts ps
+    slices-index = slices-from recording s records (judged .ok) (passedFrom recording (asked .window) start) (indexEvents recording s records i0 i1) (judged-is s records asked judged start began-index)
+        (λ short ok. same-number s records asked judged start began-index recording short ok i0 i1 (ap (λ (a : Asked). passesOf (a .choice)) is) (ap (λ (a : Asked). a .window) is))
+
+  module _ (t0 t1 : ℤ) (is : asked ≡ askedByTime s (length records) t0 t1) (all : judged ≡ judgedAll (asked .judging) records) (chose : Chose (asked .choice) records start) where
+    pub began-time : Began s records asked judged start
+    began-time = record { first = ap (λ (a : Asked). a .judging) is; all = all; chose = chose }
+
+    pub slices-time : {r : SliceAnswer} {xs₀ ys₀ : List ℕ} {ts₀ : List ℤ} {ps₀ xs ys : List ℕ} {ts : List ℤ} {ps : List ℕ}
+        → SlicesFrom recording s (judged .ok) (passedFrom recording (asked .window) start) r xs₀ ys₀ ts₀ ps₀ xs ys ts ps → SlicesTime recording s records t0 t1 r xs₀ ys₀ ts₀ ps₀ xs ys ts ps
+    slices-time = slices-from recording s records (judged .ok) (passedFrom recording (asked .window) start) (timeEvents recording s records t0 t1) (judged-is s records asked judged start began-time)
+        (λ short ok. same-time s records asked judged start began-time recording short ok t0 t1 (ap (λ (a : Asked). passesOf (a .choice)) is) (ap (λ (a : Asked). a .window) is))

@@ -10,3 +10,4 @@ pub mod Judge
 pub mod InRange
 pub mod Start
 pub mod JudgeLaws
+pub mod Search

@@ -207,10 +207,10 @@ module _ (s : RawSliceSource) (records : List Checkpoint) (asked : Asked) (judge
   start-is p e c cs r ok = rw (← e) (rw r at (b .chose) (parted-passes s (c ∷ cs) ok (asked .choice)))
 
   start-good : indexInRange s records ≡ true → Good s start
+  unfolding indexInRange
   start-good = go records refl
     where
       go : (l : List Checkpoint) → records ≡ l → indexInRange s l ≡ true → Good s start
-      unfolding indexInRange
       go [] r ok = absurd (true≢false (sym ok))
       go (c ∷ cs) r ok = rw (start-is (passesOf (asked .choice)) refl c cs r ok) (last-good s (passesOf (asked .choice)) c cs ok)
 
@@ -219,10 +219,10 @@ module _ (s : RawSliceSource) (records : List Checkpoint) (asked : Asked) (judge
 
   -- what is decoded from there on
   starting : (p : Checkpoint → Bool) (f : Checkpoint → List Event) → passesOf (asked .choice) ≡ p → indexInRange s records ≡ true → f start ≡ startingAt p f records
+  unfolding indexInRange
   starting p f e = go records refl
     where
       go : (l : List Checkpoint) → records ≡ l → indexInRange s l ≡ true → f start ≡ startingAt p f l
-      unfolding indexInRange
       go [] r ok = absurd (true≢false (sym ok))
       go (c ∷ cs) r ok = ap f (start-is p e c cs r ok)
 

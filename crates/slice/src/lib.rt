@@ -5,11 +5,15 @@ ghost use mathlib.Core.Path.{_≡_};
 ghost use Prim.Native.Nat.{_≤_, _^_, min, max, _-_};
 ghost use lib.ListN.{length};
 ghost use Rattle.select.specs.Pass.{Ready, handedOver};
-ghost use Rattle.slice.specs.From.{passedFrom, mostFrom, mostOver, Answers, SlicesFrom, Startable};
+ghost use Rattle.index.specs.Judge.{firstJudging};
+ghost use Rattle.slice.specs.Slice.{SlicesIndex, SlicesTime};
+ghost use Rattle.slice.specs.From.{askedByNumber, askedByTime, passedFrom, mostFrom, mostOver, Answers, SlicesFrom, Startable};
 use evt::Codec;
 use evt::Refusal;
 use evt::SensorSize;
 use index::Checkpoint;
+use index::Choice;
+use index::Judging;
 use index::RawSliceSource;
 use select::Window;
 
@@ -18,10 +22,93 @@ pub enum SliceAnswer {
     Refused(Refusal),
 }
 
+// What a slice asks for: how the records are judged, which of them it starts at, and which events
+// it hands over.
+struct Asked {
+    judging: Judging,
+    choice: Choice,
+    window: Window,
+}
+
 fn less(a: usize, b: usize) -> usize
     ensures { λ r. ⌜ r ≡ min a b ⌝ }
 {
     if a < b { a } else { b }
+}
+
+fn greater(a: usize, b: usize) -> usize
+    ensures { λ r. ⌜ r ≡ max a b ⌝ }
+{
+    if a < b { b } else { a }
+}
+
+// Before the first of n records.
+fn first_judging(source: RawSliceSource, n: usize) -> Judging
+    ensures { λ r. ⌜ r ≡ firstJudging source n ⌝ }
+{
+    let encoding = source.encoding;
+    Judging {
+        ok: 0 < n,
+        past: false,
+        offset: source.data_offset,
+        spacing: source.spacing,
+        encoding,
+        total: source.n_events,
+        count: 0,
+        time: 0,
+    }
+}
+
+// By number, the ends clamped to the total; n is how many records there are.
+fn by_number(source: RawSliceSource, n: usize, i0: usize, i1: usize) -> Asked
+    ensures { λ r. ⌜ r ≡ askedByNumber source n i0 i1 ⌝ }
+{
+    let first = less(i0, source.n_events);
+    let end = greater(first, less(i1, source.n_events));
+    let judging = first_judging(source, n);
+    let choice = Choice {
+        by_time: false,
+        index: first,
+        time: 0,
+    };
+    let window = Window {
+        width: source.width as u64,
+        height: source.height as u64,
+        n0: first as u64,
+        n1: end as u64,
+        t0: 0,
+        t1: 18446744073709551615,
+    };
+    Asked {
+        judging,
+        choice,
+        window,
+    }
+}
+
+// By time: a negative bound acts as 0.
+fn by_time(source: RawSliceSource, n: usize, t0: i64, t1: i64) -> Asked
+    ensures { λ r. ⌜ r ≡ askedByTime source n t0 t1 ⌝ }
+{
+    let judging = first_judging(source, n);
+    let choice = Choice {
+        by_time: true,
+        index: 0,
+        time: t0,
+    };
+    let window = Window {
+        width: source.width as u64,
+        height: source.height as u64,
+        n0: 0,
+        n1: 18446744073709551615,
+        t0: encode::time_of(t0),
+        t1: encode::time_of(t1),
+    };
+    Asked {
+        judging,
+        choice,
+        window,
+    }
 }
 
 // More events than this n bytes can't have.
@@ -121,4 +208,45 @@ fn slice_from(
         return SliceAnswer::Refused(Refusal::StateOutOfRange);
     }
     SliceAnswer::Refused(Refusal::InvalidSpacing)
+}
+
+// The events from number i0 to before i1, the ends clamped to the total. The records are read singly
+// into copies, by `judge_all` and `choose`; all else is by value.
+pub fn slice_index(
+    recording: &[u8],
+    source: RawSliceSource,
+    records: &[Checkpoint],
+    i0: usize,
+    i1: usize,
+    xs: &mut [u16],
+    ys: &mut [u16],
+    ts: &mut [i64],
+    ps: &mut [u8],
+) -> SliceAnswer
+    ensures { λ r. ⌜ SlicesIndex (now (recording .entry)) source (now (records .entry)) i0 i1 r (now (xs .entry)) (now (ys .entry)) (now (ts .entry)) (now (ps .entry)) (now (xs .exit)) (now (ys .exit)) (now (ts .exit)) (now (ps .exit)) ⌝ }
+{
+    let asked = by_number(source, records.len(), i0, i1);
+    let judged = index::judge_all(records, asked.judging);
+    let start = index::choose(records, asked.choice);
+    slice_from(recording, source, asked.window, judged.ok, start, xs, ys, ts, ps)
+}
+
+// The events with t0 <= t < t1.
+pub fn slice_time(
+    recording: &[u8],
+    source: RawSliceSource,
+    records: &[Checkpoint],
+    t0: i64,
+    t1: i64,
+    xs: &mut [u16],
+    ys: &mut [u16],
+    ts: &mut [i64],
+    ps: &mut [u8],
+) -> SliceAnswer
+    ensures { λ r. ⌜ SlicesTime (now (recording .entry)) source (now (records .entry)) t0 t1 r (now (xs .entry)) (now (ys .entry)) (now (ts .entry)) (now (ps .entry)) (now (xs .exit)) (now (ys .exit)) (now (ts .exit)) (now (ps .exit)) ⌝ }
+{
+    let asked = by_time(source, records.len(), t0, t1);
+    let judged = index::judge_all(records, asked.judging);
+    let start = index::choose(records, asked.choice);
+    slice_from(recording, source, asked.window, judged.ok, start, xs, ys, ts, ps)
 }

@@ -23,7 +23,7 @@ time-of-requires-2 c κs = search needs
 
 -- src/lib.rt:90:1
 returns : tie.Need-returns
-returns c = rw (c .time-of2 .ensures, c .before .time-of .ensures, c .before .before .first-judging .ensures, toZ-ofZ w64 (c .before .before .before .args .t0) (c .before .before .before .fits .t0))
+returns c = rw (c .time-of2 .ensures, c .before .time-of .ensures, c .before .before .first-judging .ensures, toZ-ofZ w64 (c .before .before .before .args .t0) (c .before .before .before .fits .t0), toZ-ofZ w64 (c .before .before .before .args .t1) (c .before .before .before .fits .t1))
 
 pub by-time-spec : {M : Type 1} → statement M
 by-time-spec =

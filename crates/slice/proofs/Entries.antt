@@ -107,7 +107,7 @@ rest =
 abbrev pub machR : RawSliceSource → Val
 machR d = LL.val R.the-type R′.the-laws d
 
-abbrev pub machK : Asked → Val
+abbrev machK : Asked → Val
 machK d = LL.val K.the-type K′.the-laws d
 
 abbrev pub machE : SliceAnswer → Val
@@ -231,18 +231,14 @@ module _ {M : Type 1} (𝓤 : URA M) (H : Heap 𝓤) (A : Atoms 𝓤) (W : Given
   abbrev pub Sliced-from : Asked → Judging → Checkpoint → SliceAnswer → (xs ys : List ℕ) (ts : List ℤ) (ps : List ℕ) → Type 0
   Sliced-from a j c r = SlicesFrom (xb .now) s (j .ok) (passedFrom (xb .now) (a .window) c) r (xx .now) (xy .now) (xt .now) (xp .now)
 
-  -- the judgement and the record chosen
-  abbrev pub Told : Asked → Judging → Checkpoint → Type 0 → Type 0
-  Told a j c X = j ≡ judgedAll (a .judging) (xr .now) → Chose (a .choice) (xr .now) c → X
-
   module _ (𝓣 : Tables 𝓤 H) (known-judge : Triple 𝓤 (𝓣 .C #index·judges) (Judges 𝓤 H A at-mem run)) (known-choose : Triple 𝓤 (𝓣 .C #index·choose) (Chooses 𝓤 H A at-mem run))
       (known-from : Triple 𝓤 (𝓣 .C #slice·from) (Slicing 𝓤 H A at-mem run))
       (gs : Is R.the-row s (machR s ∷ [])) (g : Room T.the-row n) (gx : Room u16 (length (xx .now))) (gy : Room u16 (length (xy .now))) (gt : Room i64 (length (xt .now))) (gp : Room u8 (length (xp .now)))
       (a : Asked) (ga : Is K.the-row a (machK a ∷ [])) (u v : ℕ) (Post : Val → SProp 𝓤)
-      (able : (j : Judging) (c : Checkpoint) → Told a j c (Startable s (j .ok) c))
+      (able : (j : Judging) (c : Checkpoint) → j ≡ judgedAll (a .judging) (xr .now) → Chose (a .choice) (xr .now) c → Startable s (j .ok) c)
       (exits : (j : Judging) (c : Checkpoint) → j ≡ judgedAll (a .judging) (xr .now) → Chose (a .choice) (xr .now) c → (r : SliceAnswer) (xs ys : List ℕ) (ts : List ℤ) (ps : List ℕ)
-          → length xs ≡ length (xx .now) → length ys ≡ length (xy .now) → length ts ≡ length (xt .now) → length ps ≡ length (xp .now) → Sliced-from a j c r xs ys ts ps → Is E.the-row r (machE r ∷ [])
-          → ent 𝓤 (⋆ 𝓤 H A (Had xs ys ts ps)) (Post (machE r)))
+      → length xs ≡ length (xx .now) → length ys ≡ length (xy .now) → length ts ≡ length (xt .now) → length ps ≡ length (xp .now) → Sliced-from a j c r xs ys ts ps → Is E.the-row r (machE r ∷ [])
+      → ent 𝓤 (⋆ 𝓤 H A (Had xs ys ts ps)) (Post (machE r)))
       (l₀ l₁ l₂ l₃ l₄ l₅ l₆ l₇ l₈ l₉ l₁₀ l₁₁ l₁₂ l₁₃ l₁₄ l₁₅ l₁₆ l₁₇ l₁₈ l₁₉ l₂₀ l₂₁ : ℕ) where
     abbrev En : Env 𝓤 H
     En = (E′.mir, l₀) ∷ (bslice, l₁) ∷ (R′.mir, l₂) ∷ (rslice, l₃) ∷ (word, l₄) ∷ (word, l₅) ∷ (column 2 w16, l₆) ∷ (column 3 w16, l₇) ∷ (column 4 w64, l₈) ∷ (column 5 w8, l₉) ∷ (K′.mir, l₁₀) ∷ (J′.mir, l₁₁) ∷ (T′.mir, l₁₂) ∷ (word, l₁₃) ∷ (pointer w16, l₁₄) ∷ (lent w16, l₁₅) ∷ (pointer w16, l₁₆) ∷ (lent w16, l₁₇) ∷ (pointer w64, l₁₈) ∷ (lent w64, l₁₉) ∷ (pointer w8, l₂₀) ∷ (lent w8, l₂₁) ∷ []

@@ -2,7 +2,7 @@
 use mathlib.Core.Path.{_≡_, refl, sym, ap, _∙_}
 use mathlib.Core.Bool.{Bool, true, false, cond, _&&_, true≢false}
 use mathlib.Core.List.{List, [], _∷_}
-use Prim.Native.Nat.{ℕ, zero, suc, _+_, _-_, _*_, _/_, _≤_, _<_, _^_, min, max}
+use Prim.Native.Nat.{ℕ, suc, _+_, _-_, _*_, _≤_, _<_, _^_, min, max}
 use native.Mathlib.Omega.{arith}
 use lib.Dec.{leb, ltb}
 use lib.IntN.{ℤ}
@@ -16,10 +16,10 @@ use Rattle.stream.specs.Words.{wordsOf}
 use Rattle.evt.specs.declared.Refusal.the-variants.{InvalidSensorSize, TooLong, ColumnsTooShort, InvalidSpacing, StateOutOfRange}
 use Rattle.evt.specs.declared.codec.Codec.{Codec}
 use Rattle.evt.specs.declared.codec.Codec.the-variants.{Evt2, Evt3}
-use Rattle.evt.specs.Codec.{inRangeC, eventsFrom}
+use Rattle.evt.specs.Codec.{eventsFrom}
 use Rattle.evt.specs.Columns.{Wrote, Fits}
 use Rattle.evt.specs.Event.{Event}
-use Rattle.evt.specs.Told.{Told, accepted, refused, short}
+use Rattle.evt.specs.Told.{accepted, refused, short}
 use Rattle.header.specs.Header.{hasZero}
 use Rattle.decode.specs.Loops.{few2, few3}
 use Rattle.window.specs.declared.Window.{Window}
@@ -28,7 +28,7 @@ use Rattle.select.specs.declared.Tally.{Tally}
 use Rattle.select.specs.declared.Filled.{Filled}
 use Rattle.select.specs.Pass.{Ready, Able, handedOver, surveyed, filled}
 use Rattle.select.specs.Uses.{able-range, numberedOver, over-few, over-by-number, over-by-time}
-use Rattle.read.specs.Read.{kept, shortest, Handed}
+use Rattle.read.specs.Read.{kept, shortest}
 use Rattle.read.specs.Laws.{fits-room, handed-wrote, handed-none, rest-of}
 use Rattle.index.specs.declared.Checkpoint.{Checkpoint}
 use Rattle.index.specs.declared.Judging.{Judging}
@@ -247,7 +247,7 @@ module _ (s : RawSliceSource) (records : List Checkpoint) (asked : Asked) (judge
         let rest = drop (start .«byte_offset») recording in
         let f : Checkpoint → List Event = λ c. sift (isDuring t0 t1) (kept (sizeOf s) (eventsUntil t1 (c .codec) (drop (c .«byte_offset») recording))) in
         let few : start .«event_index» + length (numberedOver win (start .codec) rest) < 18446744073709551615 =
-            omega (arith, start-good ok .few, numbered-most win 0 (start .codec) rest, most-small (start .codec) (length rest), length-drop (start .«byte_offset») recording) in
+        omega (arith, start-good ok .few, numbered-most win 0 (start .codec) rest, most-small (start .codec) (length rest), length-drop (start .«byte_offset») recording) in
         ap (λ (win : Window). passedFrom recording win start) w
         ∙ over-by-time win (start .«event_index») (start .codec) rest (omega arith) few
         ∙ sym (time-over (s .width) (s .height) 0 18446744073709551615 t0 t1 (start .codec) rest)

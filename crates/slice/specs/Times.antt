@@ -1,6 +1,6 @@
 -- Times of slices as natural numbers: a negative bound acts as 0, since no event and no decoder has a negative time.
-use mathlib.Core.Path.{_≡_, refl, sym, ap}
-use mathlib.Core.Bool.{Bool, true, false, _&&_, and-false}
+use mathlib.Core.Path.{_≡_, refl, sym}
+use mathlib.Core.Bool.{_&&_}
 use mathlib.Core.List.{List}
 use Prim.Native.Nat.{ℕ}
 use native.Mathlib.Omega.{arith}
@@ -14,7 +14,6 @@ use Rattle.stream.specs.Words.{wordsOf}
 use Rattle.evt.specs.declared.SensorSize.the-variants.{Known}
 use Rattle.evt.specs.declared.codec.Codec.{Codec}
 use Rattle.evt.specs.declared.codec.Codec.the-variants.{Evt2, Evt3}
-use Rattle.evt.specs.Event.{Event}
 use Rattle.evt.specs.Evt2.{reader2}
 use Rattle.evt.specs.Evt3.{reader3}
 use Rattle.sensor.specs.Inside.{inside, clock}

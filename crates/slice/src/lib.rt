@@ -126,7 +126,11 @@ fn most_from(codec: Codec, n: usize) -> usize
 fn numbers(window: Window) -> u64
     ensures { λ r. ⌜ r ≡ window .n1 - window .n0 ⌝ }
 {
-    if window.n0 < window.n1 { window.n1 - window.n0 } else { 0 }
+    if window.n0 < window.n1 {
+        window.n1 - window.n0
+    } else {
+        0
+    }
 }
 
 // More events than this a pass can't hand over.
@@ -155,12 +159,30 @@ fn deliver(
 {
     let room = less(less(xs.len(), ys.len()), less(ts.len(), ps.len()));
     if most_over(window, codec, bytes.len()) <= room {
-        let t = select::fill(bytes, codec, window, number, &mut *xs, &mut *ys, &mut *ts, &mut *ps);
+        let t = select::fill(
+            bytes,
+            codec,
+            window,
+            number,
+            &mut *xs,
+            &mut *ys,
+            &mut *ts,
+            &mut *ps,
+        );
         return SliceAnswer::Sliced(t.count);
     }
     let n = select::survey(bytes, codec, window, number).count;
     if n <= room {
-        let t = select::fill(bytes, codec, window, number, &mut *xs, &mut *ys, &mut *ts, &mut *ps);
+        let t = select::fill(
+            bytes,
+            codec,
+            window,
+            number,
+            &mut *xs,
+            &mut *ys,
+            &mut *ts,
+            &mut *ps,
+        );
         return SliceAnswer::Sliced(t.count);
     }
     SliceAnswer::Refused(Refusal::ColumnsTooShort(n))
@@ -228,7 +250,17 @@ pub fn slice_index(
     let asked = by_number(source, records.len(), i0, i1);
     let judged = index::judge_all(records, asked.judging);
     let start = index::choose(records, asked.choice);
-    slice_from(recording, source, asked.window, judged.ok, start, xs, ys, ts, ps)
+    slice_from(
+        recording,
+        source,
+        asked.window,
+        judged.ok,
+        start,
+        xs,
+        ys,
+        ts,
+        ps,
+    )
 }
 
 // The events with t0 <= t < t1.
@@ -248,5 +280,15 @@ pub fn slice_time(
     let asked = by_time(source, records.len(), t0, t1);
     let judged = index::judge_all(records, asked.judging);
     let start = index::choose(records, asked.choice);
-    slice_from(recording, source, asked.window, judged.ok, start, xs, ys, ts, ps)
+    slice_from(
+        recording,
+        source,
+        asked.window,
+        judged.ok,
+        start,
+        xs,
+        ys,
+        ts,
+        ps,
+    )
 }

@@ -1,4 +1,3 @@
-use mathlib.Core.Path.{_≡_, refl}
 use borrow.Author.Needs.{needs}
 use Rattle.slice.proofs.by_number.Statement.{statement}
 use Rattle.slice.proofs.by_number.Tie as tie

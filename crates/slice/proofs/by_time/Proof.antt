@@ -1,4 +1,3 @@
-use mathlib.Core.Path.{_≡_, refl}
 use mir.Syntax.{w64}
 use mir.ValLaws.{toZ-ofZ}
 use borrow.Author.Needs.{needs}

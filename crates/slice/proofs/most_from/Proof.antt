@@ -1,4 +1,4 @@
-use mathlib.Core.Path.{_≡_, sym, ap}
+use mathlib.Core.Path.{sym, ap}
 use Rattle.evt.specs.declared.codec.Codec.{Codec}
 use Rattle.slice.specs.From.{mostFrom}
 use borrow.Author.Needs.{needs}

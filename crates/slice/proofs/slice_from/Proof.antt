@@ -1,4 +1,4 @@
-use mathlib.Core.Path.{_≡_, refl, sym, ap, _∙_}
+use mathlib.Core.Path.{sym, _∙_}
 use Rattle.slice.specs.From.{passedFrom}
 use Rattle.slice.specs.Laws.{rest-from, ready-from, from-long, from-zero, from-spacing, from-range, from-all}
 use borrow.Author.Needs.{needs}

@@ -60,7 +60,7 @@ use Rattle.slice.proofs.Asked as K
 use Rattle.slice.proofs.Asked.Laws as K′
 use Rattle.slice.proofs.SliceAnswer as E
 use Rattle.slice.proofs.SliceAnswer.Laws as E′
-use Rattle.slice.proofs.Entries.{machR, machK, machE, Judges, Chooses, Slicing, Had, Sliced-from, Told, onward}
+use Rattle.slice.proofs.Entries.{machR, machE, Judges, Chooses, Slicing, Had, Sliced-from, onward}
 use Rattle.slice.proofs.by_number as ask
 use Rattle.slice.proofs.by_number.Symbol as ask-def
 use Rattle.slice.proofs.by_number.Symbol.{name as #slice·asks}
@@ -75,8 +75,22 @@ use Rattle.slice.proofs.slice_index.Code as code
 
 -- the columns are given to `slice_from`; nothing is said of what else was passed
 abbrev stayed : Stays (f.ended .signature .params) (f.ended .kept)
-stayed = (stay-dropped (shrSliceOf (0 ∷ []) tt (plain (λ _. u8))) yes, (stay-dropped (plain (λ _. R.the-row)) yes, (stay-dropped (shrSliceOf (1 ∷ []) tt (plain (λ _. T.the-row))) yes, (stay-dropped (plain (λ _. u64)) yes, (stay-dropped (plain (λ _. u64)) yes,
-    (gave-slice (2 ∷ []) tt (plain (λ _. u16)), (gave-slice (3 ∷ []) tt (plain (λ _. u16)), (gave-slice (4 ∷ []) tt (plain (λ _. i64)), (gave-slice (5 ∷ []) tt (plain (λ _. u8)), tt)))))))))
+stayed = (
+  stay-dropped (shrSliceOf (0 ∷ []) tt (plain (λ _. u8))) yes,
+  (
+    stay-dropped (plain (λ _. R.the-row)) yes,
+    (
+      stay-dropped (shrSliceOf (1 ∷ []) tt (plain (λ _. T.the-row))) yes,
+      (
+        stay-dropped (plain (λ _. u64)) yes,
+        (
+          stay-dropped (plain (λ _. u64)) yes,
+          (gave-slice (2 ∷ []) tt (plain (λ _. u16)), (gave-slice (3 ∷ []) tt (plain (λ _. u16)), (gave-slice (4 ∷ []) tt (plain (λ _. i64)), (gave-slice (5 ∷ []) tt (plain (λ _. u8)), tt)))),
+        ),
+      ),
+    ),
+  ),
+)
 
 module _ {M : Type 1} (𝓤 : URA M) (H : Heap 𝓤) (A : Atoms 𝓤) (at-mem : Memory → SProp 𝓤) (run : Routine → Fun 𝓤) where
   abbrev Asks : Contract 𝓤
@@ -184,8 +198,22 @@ module _ {M : Type 1} (𝓤 : URA M) (H : Heap 𝓤) (A : Atoms 𝓤) (W : Given
   f-walks : (𝓣 : Tables 𝓤 H) → Known 𝓤 H A at-mem run 𝓣 → Walks 𝓤 H A f.ended stayed (WpFn 𝓤 H (𝓣 .C) (𝓣 .Λ) code.function) (f.clauses 𝓤 H A at-mem run)
   f-walks 𝓣 known = walked 𝓤 H A f.ended stayed (f.clauses 𝓤 H A at-mem run) (WpFn 𝓤 H (𝓣 .C) (𝓣 .Λ) code.function)
       (λ κs. (slice-vals, (LL.vals R.the-type R′.the-laws, (slice-vals, (uint-vals w64, (uint-vals w64, (slice-vals, (slice-vals, (slice-vals, (slice-vals, tt))))))))))
-      (λ κs. (shr-slice-tells (named 0) (κs .0) u8, (LL.tells R.the-type R′.the-laws, (shr-slice-tells (named 1) (κs .1 .0) T.the-row, (uint-tells w64, (uint-tells w64,
-      (mut-slice-tells (named 2) (κs .1 .1 .0) u16, (mut-slice-tells (named 3) (κs .1 .1 .1 .0) u16, (mut-slice-tells (named 4) (κs .1 .1 .1 .1 .0) i64, (mut-slice-tells (named 5) (κs .1 .1 .1 .1 .1 .0) u8, tt))))))))))
+      (λ κs. (
+        shr-slice-tells (named 0) (κs .0) u8,
+        (
+          LL.tells R.the-type R′.the-laws,
+          (
+            shr-slice-tells (named 1) (κs .1 .0) T.the-row,
+            (
+              uint-tells w64,
+              (
+                uint-tells w64,
+                (mut-slice-tells (named 2) (κs .1 .1 .0) u16, (mut-slice-tells (named 3) (κs .1 .1 .1 .0) u16, (mut-slice-tells (named 4) (κs .1 .1 .1 .1 .0) i64, (mut-slice-tells (named 5) (κs .1 .1 .1 .1 .1 .0) u8, tt)))),
+              ),
+            ),
+          ),
+        ),
+      ))
       (λ κs qs bounds a _ are. via 𝓤 _ (fst∗ 𝓤 _ (emp 𝓤))
       (walk 𝓤 H A W at-mem run (κs .0) (κs .1 .0) (κs .1 .1 .0) (κs .1 .1 .1 .0) (κs .1 .1 .1 .1 .0) (κs .1 .1 .1 .1 .1 .0) (qs .0) (qs .1 .0) (qs .1 .1 .0) (qs .1 .1 .1 .0) (qs .1 .1 .1 .1 .0) (qs .1 .1 .1 .1 .1 .0)
       (a .0) (a .1 .0) (a .1 .1 .0) (a .1 .1 .1 .0) (a .1 .1 .1 .1 .0) (a .1 .1 .1 .1 .1 .0) (a .1 .1 .1 .1 .1 .1 .0) (a .1 .1 .1 .1 .1 .1 .1 .0) (a .1 .1 .1 .1 .1 .1 .1 .1 .0) 𝓣 known
@@ -194,10 +222,22 @@ module _ {M : Type 1} (𝓤 : URA M) (H : Heap 𝓤) (A : Atoms 𝓤) (W : Given
 
 f-meets : {M : Type 1} (𝓤 : URA M) (H : Heap 𝓤) (A : Atoms 𝓤) (W : Given 𝓤 H A) (at-mem : Memory → SProp 𝓤) (run : Routine → Fun 𝓤) (𝓣 : Tables 𝓤 H) → Known 𝓤 H A at-mem run 𝓣 → Meets 𝓤 H A f.signature (WpFn 𝓤 H (𝓣 .C) (𝓣 .Λ) code.function) (f.spec 𝓤 H A at-mem run)
 f-meets 𝓤 H A W at-mem run 𝓣 known =
-    walk-meets 𝓤 H A f.ended stayed W
-    (goes-dropped 𝓤 H A W 6 (shrSliceOf (0 ∷ []) tt (plain (λ _. u8))) yes (λ κs x f. refl), (goes-dropped 𝓤 H A W 6 (plain (λ _. R.the-row)) yes (λ κs x f. refl), (goes-dropped 𝓤 H A W 6 (shrSliceOf (1 ∷ []) tt (plain (λ _. T.the-row))) yes (λ κs x f. refl),
-    (goes-dropped 𝓤 H A W 6 (plain (λ _. u64)) yes (λ κs x f. refl), (goes-dropped 𝓤 H A W 6 (plain (λ _. u64)) yes (λ κs x f. refl),
-    (goes-gave-slice 𝓤 H A W 6 2 tt (plain (λ _. u16)), (goes-gave-slice 𝓤 H A W 6 3 tt (plain (λ _. u16)), (goes-gave-slice 𝓤 H A W 6 4 tt (plain (λ _. i64)), (goes-gave-slice 𝓤 H A W 6 5 tt (plain (λ _. u8)), tt)))))))))
+    walk-meets 𝓤 H A f.ended stayed W (
+      goes-dropped 𝓤 H A W 6 (shrSliceOf (0 ∷ []) tt (plain (λ _. u8))) yes (λ κs x f. refl),
+      (
+        goes-dropped 𝓤 H A W 6 (plain (λ _. R.the-row)) yes (λ κs x f. refl),
+        (
+          goes-dropped 𝓤 H A W 6 (shrSliceOf (1 ∷ []) tt (plain (λ _. T.the-row))) yes (λ κs x f. refl),
+          (
+            goes-dropped 𝓤 H A W 6 (plain (λ _. u64)) yes (λ κs x f. refl),
+            (
+              goes-dropped 𝓤 H A W 6 (plain (λ _. u64)) yes (λ κs x f. refl),
+              (goes-gave-slice 𝓤 H A W 6 2 tt (plain (λ _. u16)), (goes-gave-slice 𝓤 H A W 6 3 tt (plain (λ _. u16)), (goes-gave-slice 𝓤 H A W 6 4 tt (plain (λ _. i64)), (goes-gave-slice 𝓤 H A W 6 5 tt (plain (λ _. u8)), tt)))),
+            ),
+          ),
+        ),
+      ),
+    )
     (f.clauses 𝓤 H A at-mem run) (WpFn 𝓤 H (𝓣 .C) (𝓣 .Λ) code.function) (WpFn-mono 𝓤 H (W .laws) 𝓣 code.function) (f-walks 𝓤 H A W at-mem run 𝓣 known)
 
 pub slice-index-spec : {M : Type 1} → stated.statement M
@@ -205,8 +245,13 @@ unfolding code.routine tablesOf
 slice-index-spec 𝓤 H 𝓜 𝓖 𝓡 =
     entered 𝓤 H (tripleOf 𝓤 H (𝓖 .A) f.signature (f.spec 𝓤 H (𝓖 .A) (𝓜 .mem) (𝓡 .run)))
     (tables 𝓤 H 𝓜 𝓡 code.env .C) (tables 𝓤 H 𝓜 𝓡 code.env .Λ) #slice·entry code.function (code.unfolded 𝓤 H 𝓜 𝓡)
-    (f-meets 𝓤 H (𝓖 .A) (givenOf 𝓤 H 𝓜 𝓖) (𝓜 .mem) (𝓡 .run) (tablesOf 𝓤 H 𝓜 (tables 𝓤 H 𝓜 𝓡 code.env))
-    (cited 𝓤 H (Asks 𝓤 H (𝓖 .A) (𝓜 .mem) (𝓡 .run)) 𝓜 𝓡 code.env #slice·asks ask-def.routine code.calls-slice·by-number (ask-thm.met 𝓤 H 𝓜 𝓖 𝓡),
-    (cited 𝓤 H (Judges 𝓤 H (𝓖 .A) (𝓜 .mem) (𝓡 .run)) 𝓜 𝓡 code.env #index·judges judge-def.routine code.calls-index·judge-all (judge-thm.met 𝓤 H 𝓜 𝓖 𝓡),
-    (cited 𝓤 H (Chooses 𝓤 H (𝓖 .A) (𝓜 .mem) (𝓡 .run)) 𝓜 𝓡 code.env #index·choose choose-def.routine code.calls-index·choose (choose-thm.met 𝓤 H 𝓜 𝓖 𝓡),
-    cited 𝓤 H (Slicing 𝓤 H (𝓖 .A) (𝓜 .mem) (𝓡 .run)) 𝓜 𝓡 code.env #slice·from from-def.routine code.calls-slice·slice-from (from-thm.met 𝓤 H 𝓜 𝓖 𝓡)))))
+    (f-meets 𝓤 H (𝓖 .A) (givenOf 𝓤 H 𝓜 𝓖) (𝓜 .mem) (𝓡 .run) (tablesOf 𝓤 H 𝓜 (tables 𝓤 H 𝓜 𝓡 code.env)) (
+      cited 𝓤 H (Asks 𝓤 H (𝓖 .A) (𝓜 .mem) (𝓡 .run)) 𝓜 𝓡 code.env #slice·asks ask-def.routine code.calls-slice·by-number (ask-thm.met 𝓤 H 𝓜 𝓖 𝓡),
+      (
+        cited 𝓤 H (Judges 𝓤 H (𝓖 .A) (𝓜 .mem) (𝓡 .run)) 𝓜 𝓡 code.env #index·judges judge-def.routine code.calls-index·judge-all (judge-thm.met 𝓤 H 𝓜 𝓖 𝓡),
+        (
+          cited 𝓤 H (Chooses 𝓤 H (𝓖 .A) (𝓜 .mem) (𝓡 .run)) 𝓜 𝓡 code.env #index·choose choose-def.routine code.calls-index·choose (choose-thm.met 𝓤 H 𝓜 𝓖 𝓡),
+          cited 𝓤 H (Slicing 𝓤 H (𝓖 .A) (𝓜 .mem) (𝓡 .run)) 𝓜 𝓡 code.env #slice·from from-def.routine code.calls-slice·slice-from (from-thm.met 𝓤 H 𝓜 𝓖 𝓡),
+        ),
+      ),
+    ))

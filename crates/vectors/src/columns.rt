@@ -82,6 +82,12 @@ pub fn show_dirty(xs: &[u16], ys: &[u16], ts: &[i64], ps: &[u8], from: usize) {
     }
 }
 
+pub fn show_dirty_bytes(s: &[u8], from: usize) {
+    if !clean_bytes(s, from) {
+        show::text(b" dirty");
+    }
+}
+
 fn show_event(xs: &[u16], ys: &[u16], ts: &[i64], ps: &[u8], i: usize) {
     if i < xs.len() {
         if i < ys.len() {

@@ -94,14 +94,14 @@ pub fn bytes(s: &[u8], into: &mut [u8]) -> Bytes {
 // The first n entries, or none where there are fewer.
 pub fn first_shorts(s: &[u16], n: usize) -> &[u16] {
     if n <= s.len() {
-        return &s[..n];
+        return &s[0..n];
     }
     &s[..0]
 }
 
 pub fn first_longs(s: &[i64], n: usize) -> &[i64] {
     if n <= s.len() {
-        return &s[..n];
+        return &s[0..n];
     }
     &s[..0]
 }

@@ -2,7 +2,6 @@
 // APPEND is `WxH:ROOM:XS:YS:TS:PS`, ROOM the length of the output. Answers `ok` and for each append
 // ` | HEX SINK`, `-` for no bytes, or ` | refused N SINK`, with the count that 11 tells; and ` dirty`
 // behind it if a byte behind those handed over changed, or any one by a refused call.
-ghost use Prim.Native.Nat.{_≤_};
 use crate::columns;
 use crate::given;
 use crate::options;
@@ -18,12 +17,6 @@ use sink::AppendAnswer;
 use sink::Appended;
 use sink::RawEventSink;
 
-fn at_most(n: usize, most: usize) -> usize
-    ensures { λ r. ⌜ r ≤ most ⌝ }
-{
-    if n < most { n } else { most }
-}
-
 // Lends the first bytes of the output, as many as the case says.
 fn lend(
     sink: RawEventSink,
@@ -36,7 +29,7 @@ fn lend(
     out: &mut [u8],
     room: usize,
 ) -> Appended {
-    let n = at_most(room, out.len());
+    let n = columns::at_most(room, out.len());
     sink::append(sink, width, height, xs, ys, ts, ps, &mut out[..n])
 }
 
@@ -81,7 +74,37 @@ fn bad(sink: RawEventSink) -> RawEventSink {
     sink
 }
 
-fn with_size(
+// With the columns of the places: reads those of times and polarities.
+fn with_places(
+    sink: RawEventSink,
+    width: usize,
+    height: usize,
+    room: usize,
+    append: &[u8],
+    xs: &[u16],
+    ys: &[u16],
+) -> RawEventSink {
+    let mut ts = columns::longs();
+    let Bytes::Count(t) = given::longs(text::field(append, b':', 4), &mut ts) else {
+        return bad(sink);
+    };
+    let mut ps = columns::bytes();
+    let Bytes::Count(p) = given::bytes(text::field(append, b':', 5), &mut ps) else {
+        return bad(sink);
+    };
+    with_columns(
+        sink,
+        width,
+        height,
+        xs,
+        ys,
+        given::first_longs(&ts, t),
+        text::part(&ps, 0, p),
+        room,
+    )
+}
+
+fn with_room(
     sink: RawEventSink,
     width: usize,
     height: usize,
@@ -89,30 +112,21 @@ fn with_size(
     append: &[u8],
 ) -> RawEventSink {
     let mut xs = columns::shorts();
-    let Bytes::Count(nx) = given::shorts(text::field(append, b':', 2), &mut xs) else {
+    let Bytes::Count(x) = given::shorts(text::field(append, b':', 2), &mut xs) else {
         return bad(sink);
     };
     let mut ys = columns::shorts();
-    let Bytes::Count(ny) = given::shorts(text::field(append, b':', 3), &mut ys) else {
+    let Bytes::Count(y) = given::shorts(text::field(append, b':', 3), &mut ys) else {
         return bad(sink);
     };
-    let mut ts = columns::longs();
-    let Bytes::Count(nt) = given::longs(text::field(append, b':', 4), &mut ts) else {
-        return bad(sink);
-    };
-    let mut ps = columns::bytes();
-    let Bytes::Count(np) = given::bytes(text::field(append, b':', 5), &mut ps) else {
-        return bad(sink);
-    };
-    with_columns(
+    with_places(
         sink,
         width,
         height,
-        given::first_shorts(&xs, nx),
-        given::first_shorts(&ys, ny),
-        given::first_longs(&ts, nt),
-        text::part(&ps, 0, np),
         room,
+        append,
+        given::first_shorts(&xs, x),
+        given::first_shorts(&ys, y),
     )
 }
 
@@ -127,7 +141,7 @@ fn one(sink: RawEventSink, append: &[u8]) -> RawEventSink {
     let Number::Value(room) = text::read_number(text::field(append, b':', 1)) else {
         return bad(sink);
     };
-    with_size(sink, width, height, room as usize, append)
+    with_room(sink, width, height, room as usize, append)
 }
 
 fn all(start: RawEventSink, appends: &[u8]) {

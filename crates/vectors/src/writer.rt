@@ -25,7 +25,7 @@ enum Last {
     Bad,
 }
 
-fn half(s: &[u8]) -> Half {
+fn read_half(s: &[u8]) -> Half {
     if text::is(s, b"-") {
         return Half::Of(Sent::Nothing);
     }
@@ -35,7 +35,7 @@ fn half(s: &[u8]) -> Half {
     }
 }
 
-fn last(s: &[u8]) -> Last {
+fn read_last(s: &[u8]) -> Last {
     if text::is(s, b"-") {
         return Last::Of(LastTime::Never);
     }
@@ -52,16 +52,16 @@ fn resumed(version: Encoding, s: &[u8]) -> Writer {
     let Number::Value(count) = text::read_number(text::field(s, b',', 1)) else {
         return Writer::Bad;
     };
-    let Last::Of(last_t) = last(text::field(s, b',', 2)) else {
+    let Last::Of(last_t) = read_last(text::field(s, b',', 2)) else {
         return Writer::Bad;
     };
-    let Half::Of(time_high) = half(text::field(s, b',', 3)) else {
+    let Half::Of(time_high) = read_half(text::field(s, b',', 3)) else {
         return Writer::Bad;
     };
-    let Half::Of(time_low) = half(text::field(s, b',', 4)) else {
+    let Half::Of(time_low) = read_half(text::field(s, b',', 4)) else {
         return Writer::Bad;
     };
-    let Half::Of(y) = half(text::field(s, b',', 5)) else {
+    let Half::Of(y) = read_half(text::field(s, b',', 5)) else {
         return Writer::Bad;
     };
     let state = EncoderState {

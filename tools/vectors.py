@@ -731,7 +731,7 @@ def writer_states():
         enc, _, _, last, *_ = fields(sink)
         t = max(0, min(BOUND[enc] - 1, last or 0))
         expect = None if sink in good else 'refused 10'
-        for list_ in [Append(one_event(t))], [Append(one_event(min(t + 5000, BOUND[enc] - 1), y=0), room=OUTPUT), Append()], [Append(), Append(one_event(t, 2047, 2047, 0))]:
+        for list_ in [Append(one_event(t))], [Append(), Append(one_event(min(t + 5000, BOUND[enc] - 1), 2047, 2047, 0), room=OUTPUT)]:
             yield Writing(f'wstate{enc}', sink, list_, [expect] * len(list_))
     for enc, state in (2, f'2:1,{MOST},100,1,-,-'), (3, f'3:1,{MOST},4097,1,1,7'):
         yield Writing('wleave', state, [Append(), Append(one_event(9000)), Append(one_event(9000)), Append()], [None, None, 'refused 10', 'refused 10'])
@@ -880,7 +880,7 @@ def writer_drawn():
                 last = a.columns[2][-1]
         return list_
 
-    for enc, count in (2, 60), (3, 110):
+    for enc, count in (2, 40), (3, 80):
         for _ in range(count):
             sink = r.choice(['new', 'new', 'header']) + str(enc)
             yield Writing(f'wlist{enc}', sink, some(enc, sink, 0))

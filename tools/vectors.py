@@ -636,11 +636,11 @@ class Writing(Case):
     of those with falling times it has to say so too. What an output that is too short would have needed it is asked separately."""
     def __init__(self, group, sink, appends, expect=()):
         self.group, self.sink, self.appends, self.expect = group, sink, appends, expect
-        fresh = sink.startswith(('new', 'header'))
-        self.start = f'{sink[-1]}:{int(sink[0] == "n")},0,-,-,-,-' if fresh else sink
+        fresh = sink[1] != ':'
+        self.start = f'{sink[0]}:{int(sink[1] == "n")},0,-,-,-,-' if fresh else sink
         enc, _, count, last, *_ = fields(self.start)
         usable, kept, self.numbers, extra = writer_in_range(self.start), [], [], []
-        begin = f'write enc={enc} header={int(sink.startswith("header"))}' + ('' if fresh else f' wstate={sink[2:]}') + ' a='
+        begin = f'write enc={enc} header={int(sink[1] == "h")}' + ('' if fresh else f' wstate={sink[2:]}') + ' a='
         for a in appends:
             n = number_of(enc, usable, last, a)
             if n == 0 and a.short:
@@ -699,16 +699,16 @@ def writer_bench():
     """Document 01's bench values of the writer, and the table's own examples but 4: its shortest case has 268,435,457 events."""
     start = [0x8001, 0x6001, 0x0007]
     for room in dict(more=0), dict(room=OUTPUT):
-        yield Writing('wbench', 'new2', [Append(one_event(100), **room)], [hexed(2, [0x80000001, 0x19002807])])
-        yield Writing('wbench', 'new3', [Append(one_event(4097), **room)], [hexed(3, start + [0x2805])])
-        yield Writing('wbench', 'new3', [Append(row_of([10, 11, 13]), **room)], [hexed(3, start + [0x300A, 0x400B])])
-        yield Writing('wbench', 'new3', [Append(row_of([10, 20, 21]), **room)], [hexed(3, start + [0x300A, 0x4C01])])
-        yield Writing('wbench', 'new3', [Append(row_of([10, 20, 22]), **room)], [hexed(3, start + [0x200A, 0x2014, 0x2016])])
+        yield Writing('wbench', '2n', [Append(one_event(100), **room)], [hexed(2, [0x80000001, 0x19002807])])
+        yield Writing('wbench', '3n', [Append(one_event(4097), **room)], [hexed(3, start + [0x2805])])
+        yield Writing('wbench', '3n', [Append(row_of([10, 11, 13]), **room)], [hexed(3, start + [0x300A, 0x400B])])
+        yield Writing('wbench', '3n', [Append(row_of([10, 20, 21]), **room)], [hexed(3, start + [0x300A, 0x4C01])])
+        yield Writing('wbench', '3n', [Append(row_of([10, 20, 22]), **room)], [hexed(3, start + [0x200A, 0x2014, 0x2016])])
     for enc in 2, 3:
-        yield Writing('wtable', f'new{enc}', [Append(one_event(5) + one_event(4))], ['refused 6'])
-        yield Writing('wtable', f'new{enc}', [Append(one_event(5, x=2048))], ['refused 7'])
-        yield Writing('wtable', f'new{enc}', [Append(one_event(4097), room=3, short=True)], ['refused 11 8'])
-        yield Writing('wtable', f'new{enc}', [Append(columns=([5, 6], [7], [5, 5], [1, 1]))], ['refused 12'])
+        yield Writing('wtable', f'{enc}n', [Append(one_event(5) + one_event(4))], ['refused 6'])
+        yield Writing('wtable', f'{enc}n', [Append(one_event(5, x=2048))], ['refused 7'])
+        yield Writing('wtable', f'{enc}n', [Append(one_event(4097), room=3, short=True)], ['refused 11 8'])
+        yield Writing('wtable', f'{enc}n', [Append(columns=([5, 6], [7], [5, 5], [1, 1]))], ['refused 12'])
 
 
 def writer_states():
@@ -766,24 +766,24 @@ def writer_columns():
         for k, n in itertools.product(range(4), (0, 1, 2, 4)):
             columns = [[1, 2, 3], [7, 7, 7], [t, t, t], [0, 0, 0]]
             columns[k] = (columns[k] * 2)[:n]
-            yield Writing(f'wlength{enc}', f'header{enc}', [Append(columns=columns, room=200), Append(one_event(9))], ['refused 12'])
+            yield Writing(f'wlength{enc}', f'{enc}h', [Append(columns=columns, room=200), Append(one_event(9))], ['refused 12'])
         for k, n in itertools.product(range(4), (0, 1)):
             columns = [[1] * (k == j) or [1] * n for j in range(4)] if n == 0 else [[1] * (k != j) for j in range(4)]
-            yield Writing(f'wlength{enc}', f'new{enc}', [Append(columns=columns, room=99)], ['refused 12'])
+            yield Writing(f'wlength{enc}', f'{enc}n', [Append(columns=columns, room=99)], ['refused 12'])
         values = [(0, 2047, 1), (0, 2048, 0), (0, 4095, 0), (0, 65535, 0), (1, 2047, 1), (1, 2048, 0), (1, 65535, 0), (3, 1, 1), (3, 2, 0), (3, 3, 0), (3, 255, 0), (3, 128, 0)]
         for (k, v, ok), place in itertools.product(values, range(3)):
             columns = [[1, 2, 3], [7, 8, 7], [t, t, t], [0, 0, 0]]
             columns[k][place] = v
-            yield Writing(f'wrange{enc}', f'new{enc}', [Append(columns=columns), Append(row_of([4, 5], t))], [None if ok else 'refused 7'])
+            yield Writing(f'wrange{enc}', f'{enc}n', [Append(columns=columns), Append(row_of([4, 5], t))], [None if ok else 'refused 7'])
         for t0, ok in (0, 1), (-1, 0), (-2**63, 0), (BOUND[enc] - 1, 1), (BOUND[enc], 0), (2**63 - 1, 0), (BOUND[enc] + 4097, 0), (2**32, enc == 2):
-            yield Writing(f'wrange{enc}', f'new{enc}', [Append(one_event(t0)), Append(one_event(BOUND[enc] - 1))], [None if ok else 'refused 7'])
+            yield Writing(f'wrange{enc}', f'{enc}n', [Append(one_event(t0)), Append(one_event(BOUND[enc] - 1))], [None if ok else 'refused 7'])
             times = sorted([t0, t, t + 1])
-            yield Writing(f'wrange{enc}', f'new{enc}', [Append([(t, 1, 1, 1) for t in times]), Append(one_event(6000))], [None if ok else 'refused 7'])
+            yield Writing(f'wrange{enc}', f'{enc}n', [Append([(t, 1, 1, 1) for t in times]), Append(one_event(6000))], [None if ok else 'refused 7'])
         for times in [5, 4], [5, 5, 4], [5, 4, 5], [0, -1], [4097, 4096], [4096, 4095], [64, 63], [BOUND[enc] - 1, 0], [1, 2, 3, 4, 3], [-1, -2], [2**63 - 1, -2**63], [BOUND[enc] + 1, BOUND[enc]]:
-            yield Writing(f'wfall{enc}', f'new{enc}', [Append([(t, 1, 1, 1) for t in times])], ['refused 6'])
+            yield Writing(f'wfall{enc}', f'{enc}n', [Append([(t, 1, 1, 1) for t in times])], ['refused 6'])
         for last, t in (5, 4), (5, 5), (5, 6), (64, 63), (4096, 4095), (4096, 0), (BOUND[enc] - 1, BOUND[enc] - 2), (BOUND[enc] - 1, BOUND[enc] - 1), (5, -1), (0, -1), (0, 0):
-            yield Writing(f'wfall{enc}', f'new{enc}', [Append(one_event(last)), Append(one_event(t)), Append(), Append(one_event(last) + one_event(last))], [None, 'refused 6' if t < last else None])
-        yield Writing(f'wfall{enc}', f'new{enc}', [Append(one_event(9000), more=-1), Append(one_event(8000)), Append(one_event(9000, x=2048)), Append(one_event(7999)), Append(one_event(8000))], ['refused 11', None, 'refused 7', 'refused 6'])
+            yield Writing(f'wfall{enc}', f'{enc}n', [Append(one_event(last)), Append(one_event(t)), Append(), Append(one_event(last) + one_event(last))], [None, 'refused 6' if t < last else None])
+        yield Writing(f'wfall{enc}', f'{enc}n', [Append(one_event(9000), more=-1), Append(one_event(8000)), Append(one_event(9000, x=2048)), Append(one_event(7999)), Append(one_event(8000))], ['refused 11', None, 'refused 7', 'refused 6'])
 
 
 def writer_rooms():
@@ -792,20 +792,20 @@ def writer_rooms():
         lists = [one_event(4097), row_of([10, 11, 13]) + one_event(4098) + one_event(70000, 6, 8, 0)]
         for events, need in zip(lists, {2: (8, 28), 3: (8, 28)}[enc]):
             for more in range(-need if enc == 2 or events is lists[0] else -20, 3):
-                yield Writing(f'wroom{enc}', f'new{enc}', [Append(events, more)], ['refused 11' if more < 0 else None])
+                yield Writing(f'wroom{enc}', f'{enc}n', [Append(events, more)], ['refused 11' if more < 0 else None])
         head_ = len(f'% format EVT{enc}\n% geometry 64x48\n% generator eventcv\n% end\n')
         for more in [-head_ - 8, -head_ - 7, -head_, -9, -8, -7, -1, 0, 1]:
-            yield Writing(f'wroom{enc}', f'header{enc}', [Append(one_event(4097), more), Append(one_event(4098))], [f'refused 11 {head_ + 8}' if more < 0 else None])
+            yield Writing(f'wroom{enc}', f'{enc}h', [Append(one_event(4097), more), Append(one_event(4098))], [f'refused 11 {head_ + 8}' if more < 0 else None])
         for n in 1, 2, 7:
             for room in 96 + 8 * n - 1, 96 + 8 * n, 96 + 8 * n + 1:
                 events = [(t * 5000, t, t, t % 2) for t in range(n)]
-                yield Writing(f'wroom{enc}', f'header{enc}', [Append(events, room=room, size=(2**64 - 1, 2**64 - 1)), Append(events[-1:], room=room)])
+                yield Writing(f'wroom{enc}', f'{enc}h', [Append(events, room=room, size=(2**64 - 1, 2**64 - 1)), Append(events[-1:], room=room)])
         for room in 0, 1, 95, 96, 97, OUTPUT:
-            yield Writing(f'wempty{enc}', f'new{enc}', [Append(room=room)], [f'- {NEW[enc]}'])
-            yield Writing(f'wempty{enc}', f'header{enc}', [Append(room=room), Append(one_event(5)), Append(room=room)], [f'- {enc}:0,0,-,-,-,-'])
+            yield Writing(f'wempty{enc}', f'{enc}n', [Append(room=room)], [f'- {NEW[enc]}'])
+            yield Writing(f'wempty{enc}', f'{enc}h', [Append(room=room), Append(one_event(5)), Append(room=room)], [f'- {enc}:0,0,-,-,-,-'])
         for size in (64, 48), (0, 0), (0, 5), (7, 0), (1, 1), (9, 10), (99, 100), (1280, 720), (2**32, 2**32 - 1), (10**19, 10**19 - 1), (2**64 - 1, 2**64 - 1), (2**63, 12345678901234567890):
-            yield Writing(f'whead{enc}', f'header{enc}', [Append(one_event(5), size=size), Append(one_event(6), size=(3, 3))])
-            yield Writing(f'whead{enc}', f'header{enc}', [Append(one_event(5), -1, size=size), Append(one_event(5, p=2), size=size), Append(size=(8, 8)), Append(one_event(6), size=size)], ['refused 11', 'refused 7'])
+            yield Writing(f'whead{enc}', f'{enc}h', [Append(one_event(5), size=size), Append(one_event(6), size=(3, 3))])
+            yield Writing(f'whead{enc}', f'{enc}h', [Append(one_event(5), -1, size=size), Append(one_event(5, p=2), size=size), Append(size=(8, 8)), Append(one_event(6), size=size)], ['refused 11', 'refused 7'])
         yield Writing(f'whead{enc}', f'{enc}:0,4,{4097},-,-,-', [Append(one_event(4097)), Append(one_event(4097))])
 
 
@@ -816,26 +816,26 @@ def writer_words():
         for times in [0], [1], [g - 1], [g], [g + 1], [top], [top - g], [0, 0], [0, 1], [0, g - 1], [0, g], [g - 1, g], [g, g + 1], [g + 1, 2 * g], [g + 1, 2 * g + 1], [0, top], [top, top], [0, g, 2 * g, 3 * g], [5, 5, 6, 6], \
                 [top - g, top], [1, g + 1, 2 * g + 1], [2**23, 2**23 + 5], [g * 4095 % (top + 1), top]:
             events = [(t, 3, 4, i % 2) for i, t in enumerate(times)]
-            yield Writing(f'wtime{enc}', f'new{enc}', [Append(events)])
+            yield Writing(f'wtime{enc}', f'{enc}n', [Append(events)])
             if len(times) > 1:
-                yield Writing(f'wtime{enc}', f'new{enc}', [Append([e]) for e in events])
+                yield Writing(f'wtime{enc}', f'{enc}n', [Append([e]) for e in events])
         for x, y, p in itertools.product((0, 1, 2047), (0, 1, 2047), (0, 1)):
-            yield Writing(f'wfield{enc}', f'new{enc}', [Append(one_event(4097, x, y, p))])
+            yield Writing(f'wfield{enc}', f'{enc}n', [Append(one_event(4097, x, y, p))])
     runs = [[0, 1], [0, 1, 2], [5, 6, 7], [2045, 2046, 2047], [2040, 2041, 2047], [0, 11, 12], [0, 1, 11], [0, 1, 12], [0, 5, 12], [0, 1, 2, 12], [0, 1, 2, 23], [0, 1, 2, 24], [0, 1, 2, 3, 24], [0, 1, 2, 3, 35], [0, 1, 2, 3, 36],
             [0, 12, 24], [0, 12, 24, 36], [0, 1, 24, 25], [0, 1, 2, 3, 25], [0, 1, 2, 3, 4, 25, 49], [7, 8, 9, 10, 35], [7, 8, 9, 10, 31], [7, 8, 9, 10, 32], [0, 13, 26, 39, 40, 41, 42, 43], list(range(12)), list(range(13)), list(range(1, 25)),
             list(range(25)), list(range(36)), list(range(2036, 2048)), list(range(2012, 2048)), list(range(0, 48, 2)), list(range(0, 48, 5)), list(range(0, 48, 6)), list(range(0, 60, 7)), [0, 2047], [0, 1, 2047], [100] + list(range(112, 124)),
             [100] + list(range(111, 124)), [1, 2, 3, 40, 41, 42, 43, 44], [1, 2, 3, 4, 5, 6, 52, 53, 54], [2000, 2001, 2002, 2003, 2024, 2025, 2047], [2035, 2036, 2046], [2035, 2036, 2047], [2036, 2037, 2047], [2, 3, 3, 4], [3, 4, 5, 4, 5, 6], [9, 8, 7], [5, 5, 5]]
     for xs in runs:
         for p, y in (0, 7), (1, 2047):
-            yield Writing('wrun', 'new3', [Append(row_of(xs, 4097, y, p))])
-        yield Writing('wrun', 'new3', [Append(row_of(xs[:2], 4097)), Append(row_of(xs[2:], 4097), more=3), Append(row_of(xs, 4097))])
+            yield Writing('wrun', '3n', [Append(row_of(xs, 4097, y, p))])
+        yield Writing('wrun', '3n', [Append(row_of(xs[:2], 4097)), Append(row_of(xs[2:], 4097), more=3), Append(row_of(xs, 4097))])
     a, b = row_of([1, 2, 3, 4]), row_of([5, 6, 7, 8])
     ends = [b, [(4098, *e[1:]) for e in b], [(8192, *e[1:]) for e in b], [(*e[:2], 8, e[3]) for e in b], [(*e[:3], 1) for e in b], a, row_of([4, 5, 6]), row_of([3, 9, 10])]
     for end in ends:
-        yield Writing('wrunend', 'new3', [Append(a + end)])
-        yield Writing('wrunend', 'new3', [Append(a + end + a if end[-1][0] == 4097 else a + end)])
-        yield Writing('wrunend', 'new3', [Append(a), Append(end)])
-        yield Writing('wrunend', 'new2', [Append(a + end)])
+        yield Writing('wrunend', '3n', [Append(a + end)])
+        yield Writing('wrunend', '3n', [Append(a + end + a if end[-1][0] == 4097 else a + end)])
+        yield Writing('wrunend', '3n', [Append(a), Append(end)])
+        yield Writing('wrunend', '2n', [Append(a + end)])
 
 
 def writer_drawn():
@@ -882,7 +882,7 @@ def writer_drawn():
 
     for enc, count in (2, 40), (3, 80):
         for _ in range(count):
-            sink = r.choice(['new', 'new', 'header']) + str(enc)
+            sink = f"{enc}{r.choice('nnh')}"
             yield Writing(f'wlist{enc}', sink, some(enc, sink, 0))
         for _ in range(count // 2):
             last = r.choice([0, 1, GRAIN[enc], r.randrange(BOUND[enc]), r.randrange(20000), BOUND[enc] - 1])

@@ -38,6 +38,10 @@ fn command(word: &[u8]) -> Asked {
     if text::is(word, b"hdr") {
         return Asked::Hdr;
     }
+    library_command(word)
+}
+
+fn library_command(word: &[u8]) -> Asked {
     if text::is(word, b"read") {
         return Asked::Read;
     }

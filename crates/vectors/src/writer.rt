@@ -1,5 +1,7 @@
-// A writer as text: `new2` or `new3`, fresh, `header2` or `header3` where it sends a header, or
-// `3:sent,count,last,high,low,row`, with 1 for a header that was sent and `-` for nothing.
+// A writer as text: `3:sent,count,last,high,low,row`, with 1 for a header that was sent and `-` for
+// nothing; or `3n`, a fresh one, or `3h`, a fresh one that sends a header. EVT2 has 2 for 3.
+use crate::options;
+use crate::options::Version;
 use crate::show;
 use crate::text;
 use crate::text::Number;
@@ -25,6 +27,11 @@ enum Last {
     Bad,
 }
 
+enum Halves {
+    Of(EncoderState),
+    Bad,
+}
+
 fn read_half(s: &[u8]) -> Half {
     if text::is(s, b"-") {
         return Half::Of(Sent::Nothing);
@@ -45,63 +52,61 @@ fn read_last(s: &[u8]) -> Last {
     }
 }
 
-fn resumed(version: Encoding, s: &[u8]) -> Writer {
-    let Number::Value(header) = text::read_number(text::field(s, b',', 0)) else {
-        return Writer::Bad;
+// Two halves and a row.
+fn read_halves(s: &[u8]) -> Halves {
+    let Half::Of(time_high) = read_half(text::field(s, b',', 0)) else {
+        return Halves::Bad;
     };
+    let Half::Of(time_low) = read_half(text::field(s, b',', 1)) else {
+        return Halves::Bad;
+    };
+    let Half::Of(y) = read_half(text::field(s, b',', 2)) else {
+        return Halves::Bad;
+    };
+    Halves::Of(EncoderState {
+        time_high,
+        time_low,
+        y,
+    })
+}
+
+fn resumed(version: Encoding, s: &[u8]) -> Writer {
     let Number::Value(count) = text::read_number(text::field(s, b',', 1)) else {
         return Writer::Bad;
     };
     let Last::Of(last_t) = read_last(text::field(s, b',', 2)) else {
         return Writer::Bad;
     };
-    let Half::Of(time_high) = read_half(text::field(s, b',', 3)) else {
+    let Halves::Of(state) = read_halves(text::from_field(s, b',', 3)) else {
         return Writer::Bad;
-    };
-    let Half::Of(time_low) = read_half(text::field(s, b',', 4)) else {
-        return Writer::Bad;
-    };
-    let Half::Of(y) = read_half(text::field(s, b',', 5)) else {
-        return Writer::Bad;
-    };
-    let state = EncoderState {
-        time_high,
-        time_low,
-        y,
     };
     Writer::Of(RawEventSink {
         version,
-        header_written: header == 1,
+        header_written: text::at(s, 0) == b'1',
         n_events: count as usize,
         last_t,
         state,
     })
 }
 
-fn fresh(version: Encoding, header: bool) -> Writer {
-    Writer::Of(RawEventSink::to_writer(version, header))
+fn with_version(version: Encoding, kind: u8, s: &[u8]) -> Writer {
+    if kind == b'n' {
+        return Writer::Of(RawEventSink::to_writer(version, false));
+    }
+    if kind == b'h' {
+        return Writer::Of(RawEventSink::to_writer(version, true));
+    }
+    if kind == b':' {
+        return resumed(version, s);
+    }
+    Writer::Bad
 }
 
 pub fn read(s: &[u8]) -> Writer {
-    if text::is(s, b"new2") {
-        return fresh(Encoding::Evt2, false);
+    match options::read_encoding(text::part(s, 0, 1)) {
+        Version::Of(version) => with_version(version, text::at(s, 1), text::tail(s, 2)),
+        Version::Bad => Writer::Bad,
     }
-    if text::is(s, b"new3") {
-        return fresh(Encoding::Evt3, false);
-    }
-    if text::is(s, b"header2") {
-        return fresh(Encoding::Evt2, true);
-    }
-    if text::is(s, b"header3") {
-        return fresh(Encoding::Evt3, true);
-    }
-    if text::is(text::part(s, 0, 2), b"2:") {
-        return resumed(Encoding::Evt2, text::tail(s, 2));
-    }
-    if text::is(text::part(s, 0, 2), b"3:") {
-        return resumed(Encoding::Evt3, text::tail(s, 2));
-    }
-    Writer::Bad
 }
 
 fn show_half(s: Sent) {

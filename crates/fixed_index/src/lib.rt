@@ -1,11 +1,14 @@
-// An index whose records are held by value, in an array: for programs, which then lend no record themselves.
-// `open_into` and `open_words_into` lend the first records of an array to `index::open` and
-// `index::open_words`: they are proved by hand, their callers are not.
+// An index whose records are held by value, in an array: whoever opens and slices by these functions
+// lends no record, and needs no proof by hand. The contracts cite the definitions of index and slice.
+// `open_into`, `open_words_into` lend the first records of an array: they are proved by hand, by the
+// laws of specs/Front.antt.
 ghost use mathlib.Core.Path.{_≡_};
 ghost use Prim.Native.Nat.{_≤_, min};
-ghost use lib.ListN.{take, drop, replicate};
-ghost use Rattle.index.specs.Index.{OpensRaw, OpensWords};
-ghost use Rattle.index.specs.Nth.{blank};
+ghost use lib.ListN.{replicate};
+ghost use Rattle.index.specs.Index.{Opens, rawVerdict, rawAnswer, rawMade, wordsVerdict, wordsAnswer, wordsMade};
+ghost use Rattle.index.specs.Nth.{blank as blankRecord};
+use evt::Codec;
+use evt::Encoding;
 use index::Checkpoint;
 use index::OpenAnswer;
 use index::OpenOptions;
@@ -25,9 +28,62 @@ pub fn open_into(
     n: usize,
 ) -> FixedIndex
     requires { ⌜ n ≤ 64 ⌝ }
-    ensures { λ r. ⌜ OpensRaw (now (recording .entry)) options (r .answer) (take n records) (take n (r .records)) × (drop n (r .records) ≡ drop n records) ⌝ }
+    ensures { λ r. ⌜ Opens (rawVerdict (now (recording .entry)) options n) (rawAnswer (now (recording .entry)) options n) (rawMade (now (recording .entry)) options n) (r .answer) records (r .records) ⌝ }
 {
     let mut made = records;
     let answer = index::open(recording, &mut made[..n], options);
     FixedIndex { answer, records: made }
+}
+
+// The same for headerless words.
+pub fn open_words_into(
+    words: &[u8],
+    options: WordsOptions,
+    records: [Checkpoint; 64],
+    n: usize,
+) -> FixedIndex
+    requires { ⌜ n ≤ 64 ⌝ }
+    ensures { λ r. ⌜ Opens (wordsVerdict (now (words .entry)) options n) (wordsAnswer (now (words .entry)) options n) (wordsMade (now (words .entry)) options n) (r .answer) records (r .records) ⌝ }
+{
+    let mut made = records;
+    let answer = index::open_words(words, &mut made[..n], options);
+    FixedIndex { answer, records: made }
+}
+
+// A record before any is made.
+fn blank() -> Checkpoint
+    ensures { λ r. ⌜ r ≡ blankRecord ⌝ }
+{
+    Checkpoint {
+        byte_offset: 0,
+        event_index: 0,
+        time: 0,
+        codec: Codec::new(Encoding::Evt2),
+    }
+}
+
+fn clamp(room: usize) -> usize
+    ensures { λ r. ⌜ r ≡ min room 64 ⌝ }
+{
+    if room < 64 { room } else { 64 }
+}
+
+// Opens with room for `room` records, at most 64.
+pub fn open(recording: &[u8], options: OpenOptions, room: usize) -> FixedIndex
+    ensures { λ r. ⌜ Opens (rawVerdict (now (recording .entry)) options (min room 64)) (rawAnswer (now (recording .entry)) options (min room 64)) (rawMade (now (recording .entry)) options (min room 64)) (r .answer) (replicate 64 blankRecord) (r .records) ⌝ }
+{
+    let n = clamp(room);
+    let b = blank();
+    let records = [b; 64];
+    open_into(recording, options, records, n)
+}
+
+// The same for headerless words.
+pub fn open_words(words: &[u8], options: WordsOptions, room: usize) -> FixedIndex
+    ensures { λ r. ⌜ Opens (wordsVerdict (now (words .entry)) options (min room 64)) (wordsAnswer (now (words .entry)) options (min room 64)) (wordsMade (now (words .entry)) options (min room 64)) (r .answer) (replicate 64 blankRecord) (r .records) ⌝ }
+{
+    let n = clamp(room);
+    let b = blank();
+    let records = [b; 64];
+    open_words_into(words, options, records, n)
 }

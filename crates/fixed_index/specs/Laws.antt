@@ -1,0 +1,41 @@
+-- Opening into the first k records of a list says what becomes of the whole list.
+use mathlib.Core.Path.{_≡_, refl, sym, _∙_, ap, subst}
+use Prim.Native.Nat.{ℕ, zero, suc, _+_, _≤_}
+use native.Mathlib.Nat.{not-suc-le-zero, le-of-suc-le-suc}
+use native.Mathlib.Omega.{arith}
+use mathlib.Core.List.{List, [], _∷_, _++_, append-assoc}
+use lib.ListN.{length, take, drop, take-append-drop, length-append, replicate}
+use borrow.Table.Elements.{length-take-le}
+use Rattle.evt.specs.Told.{Told}
+use Rattle.index.specs.declared.Checkpoint.{Checkpoint}
+use Rattle.index.specs.declared.OpenAnswer.{OpenAnswer}
+use Rattle.index.specs.Index.{Opens}
+
+fewer : (a b n k : ℕ) → n ≡ a + b → n ≡ k → a ≤ k
+fewer a b n k e l = omega arith
+
+module _ {X : Type 0} where
+  drop-take : (j k : ℕ) (xs : List X) → j ≤ k → drop j (take k xs) ++ drop k xs ≡ drop j xs
+  drop-take zero k xs h = take-append-drop k xs
+  drop-take (suc j) zero xs h = absurd (not-suc-le-zero h)
+  drop-take (suc j) (suc k) [] h = refl
+  drop-take (suc j) (suc k) (x ∷ xs) h = drop-take j k xs (le-of-suc-le-suc h)
+
+  -- what is put in front of the first k is put in front of all
+  in-front : (made zs xs : List X) (k : ℕ) → length zs ≡ k → zs ≡ made ++ drop (length made) (take k xs) → zs ++ drop k xs ≡ made ++ drop (length made) xs
+  in-front made zs xs k l e =
+      ap (λ (ys : List X). ys ++ drop k xs) e ∙ append-assoc made (drop (length made) (take k xs)) (drop k xs)
+      ∙ ap (λ (ys : List X). made ++ ys) (drop-take (length made) k xs (fewer (length made) (length (drop (length made) (take k xs))) (length zs) k (ap length e ∙ length-append made (drop (length made) (take k xs))) l))
+
+-- `verdict`, `answer` and `made` are told how many records there is room for
+pub opens-whole : (verdict : ℕ → Told) (answer : ℕ → OpenAnswer) (made : ℕ → List Checkpoint) (r : OpenAnswer) (xs zs : List Checkpoint) (k : ℕ) → k ≤ length xs → length zs ≡ k
+    → Opens (verdict (length (take k xs))) (answer (length (take k xs))) (made (length (take k xs))) r (take k xs) zs → Opens (verdict k) (answer k) (made k) r xs (zs ++ drop k xs)
+opens-whole verdict answer made r xs zs k le l o =
+    let o′ : Opens (verdict k) (answer k) (made k) r (take k xs) zs = subst (λ (m : ℕ). Opens (verdict m) (answer m) (made m) r (take k xs) zs) (length-take-le k xs le) o in
+    record { is-told = o′ .is-told; is-answer = o′ .is-answer; is-records = in-front (made k) zs xs k l (o′ .is-records) }
+
+-- the same opening, at an equal room and equal blank records
+pub opens-at : (verdict : ℕ → Told) (answer : ℕ → OpenAnswer) (made : ℕ → List Checkpoint) (r : OpenAnswer) (n : ℕ) (xs : List Checkpoint) (k k′ : ℕ) (b b′ : Checkpoint) → k ≡ k′ → b ≡ b′
+    → Opens (verdict k) (answer k) (made k) r (replicate n b) xs → Opens (verdict k′) (answer k′) (made k′) r (replicate n b′) xs
+opens-at verdict answer made r n xs k k′ b b′ e e′ o =
+    subst (λ (m : ℕ). Opens (verdict m) (answer m) (made m) r (replicate n b′) xs) e (subst (λ (c : Checkpoint). Opens (verdict k) (answer k) (made k) r (replicate n c) xs) e′ o)

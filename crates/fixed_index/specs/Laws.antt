@@ -1,11 +1,14 @@
 -- Opening into the first k records of a list says what becomes of the whole list.
 use mathlib.Core.Path.{_≡_, refl, sym, _∙_, ap, subst}
-use Prim.Native.Nat.{ℕ, zero, suc, _+_, _≤_}
+use Prim.Native.Nat.{ℕ, zero, suc, _+_, _≤_, min}
 use native.Mathlib.Nat.{not-suc-le-zero, le-of-suc-le-suc}
 use native.Mathlib.Omega.{arith}
+use mathlib.Core.Bool.{Bool, true, false}
 use mathlib.Core.List.{List, [], _∷_, _++_, append-assoc}
 use lib.ListN.{length, take, drop, take-append-drop, length-append, replicate}
-use borrow.Table.Elements.{length-take-le}
+use lib.Dec.{ltb}
+use lib.Seq.{length-take-le, take-all}
+use borrow.Author.Tests.{ltb-true, ltb-false}
 use Rattle.evt.specs.Told.{Told}
 use Rattle.index.specs.declared.Checkpoint.{Checkpoint}
 use Rattle.index.specs.declared.OpenAnswer.{OpenAnswer}
@@ -39,3 +42,11 @@ pub opens-at : (verdict : ℕ → Told) (answer : ℕ → OpenAnswer) (made : �
     → Opens (verdict k) (answer k) (made k) r (replicate n b) xs → Opens (verdict k′) (answer k′) (made k′) r (replicate n b′) xs
 opens-at verdict answer made r n xs k k′ b b′ e e′ o =
     subst (λ (m : ℕ). Opens (verdict m) (answer m) (made m) r (replicate n b′) xs) e (subst (λ (c : Checkpoint). Opens (verdict k) (answer k) (made k) r (replicate n c) xs) e′ o)
+
+-- as many as there are, at most, are taken
+pub take-clamped : {X : Type 0} (m n k : ℕ) (xs : List X) → length xs ≡ m → k ≡ min n m → take k xs ≡ take n xs
+take-clamped {X} m n k xs len e = go (ltb n m) refl
+  where
+    go : (b : Bool) → ltb n m ≡ b → take k xs ≡ take n xs
+    go true q = let same : k ≡ n = omega (arith, ltb-true n m q) in ap (λ (j : ℕ). take j xs) same
+    go false q = take-all k xs (omega (arith, ltb-false n m q)) ∙ sym (take-all n xs (omega (arith, ltb-false n m q)))

@@ -1,3 +1,2 @@
 -- What each file is stands at its head.
-pub mod Front
 pub mod Laws

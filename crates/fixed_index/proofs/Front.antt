@@ -1,7 +1,7 @@
 -- The first k elements of an array in a local are lent as a slice for κ, and the array is whole again once κ is over. For any element type R whose machine values its relation tells and makes.
 -- Laws of the program logic, for the walks by hand; no contract cites them.
 use mathlib.Core.Path.{_≡_, refl, sym, _∙_, ap, subst}
-use Prim.Native.Nat.{ℕ, zero, _+_, _-_, _≤_}
+use Prim.Native.Nat.{ℕ, _+_, _-_, _≤_}
 use native.Mathlib.Omega.{arith}
 use mathlib.Core.List.{List, [], _∷_, _++_, map}
 use lib.ListN.{length, take, drop as rest, take-append-drop, length-drop, length-map}
@@ -13,7 +13,7 @@ use base.Logic.{SProp, ent, sep, ex, guard}
 use base.Fml.{Lft, GName, Fml, fat, fsep, fdead, flent}
 use prog.Wp.{Heap}
 use ghost.Atoms.{Atoms, sem}
-use types.Kit.{Given, ‵, raw, _⊛_, some, later, given, learn, _$_, _∵_, !, qed, by, move, keep, drop, use1, use2, use3, split, pick, rewrite, fsplit, fjoin, fpack, fpick, feqI, feqL, frame, await, updating, now as at-once, check, show, done}
+use types.Kit.{Given, ‵, _⊛_, some, later, given, learn, _$_, _∵_, !, qed, by, move, drop, use1, use2, use3, split, pick, rewrite, fsplit, fjoin, fpack, fpick, feqI, feqL, frame, await, updating, now as at-once, check, show, done}
 use types.SemTy.{cells, Arr}
 use types.Share.{arr-parts}
 use denote.RattleType.{RattleType}
@@ -25,7 +25,7 @@ use denote.Index.{row, whole-out, whole-in}
 use denote.Shadow.{shadow}
 use denote.Struct.Declared.{Declared, row as recordRow, field}
 use denote.Struct.Field.{array-field}
-use denote.Array.{Array, each, arrayVal, array-vals, array-tells, array-makes}
+use denote.Array.{Array, each, array-vals, array-tells, array-makes}
 use denote.ArrayMemory.{Single, array-apart, array-whole}
 use denote.Slice.{sliceVal, MutSlice, ShrSlice, Room, finally}
 use denote.Steps.{owned, peeks, only}

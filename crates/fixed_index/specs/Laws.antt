@@ -3,6 +3,7 @@ use mathlib.Core.Path.{_≡_, refl, sym, _∙_, ap, subst}
 use Prim.Native.Nat.{ℕ, zero, suc, _+_, _≤_, min}
 use native.Mathlib.Nat.{not-suc-le-zero, le-of-suc-le-suc}
 use native.Mathlib.Omega.{arith}
+use lib.IntN.{ℤ}
 use mathlib.Core.Bool.{Bool, true, false}
 use mathlib.Core.List.{List, [], _∷_, _++_, append-assoc}
 use lib.ListN.{length, take, drop, take-append-drop, length-append, replicate}
@@ -13,6 +14,9 @@ use Rattle.evt.specs.Told.{Told}
 use Rattle.index.specs.declared.Checkpoint.{Checkpoint}
 use Rattle.index.specs.declared.OpenAnswer.{OpenAnswer}
 use Rattle.index.specs.Index.{Opens}
+use Rattle.index.specs.declared.RawSliceSource.{RawSliceSource}
+use Rattle.slice.specs.declared.SliceAnswer.{SliceAnswer}
+use Rattle.slice.specs.Slice.{SlicesIndex, SlicesTime}
 
 fewer : (a b n k : ℕ) → n ≡ a + b → n ≡ k → a ≤ k
 fewer a b n k e l = omega arith
@@ -50,3 +54,16 @@ take-clamped {X} m n k xs len e = go (ltb n m) refl
     go : (b : Bool) → ltb n m ≡ b → take k xs ≡ take n xs
     go true q = let same : k ≡ n = omega (arith, ltb-true n m q) in ap (λ (j : ℕ). take j xs) same
     go false q = take-all k xs (omega (arith, ltb-false n m q)) ∙ sym (take-all n xs (omega (arith, ltb-false n m q)))
+
+-- ---- a slice over the first min n 64 of 64 records is one over the first n
+
+pub index-over : (recording : List ℕ) (s : RawSliceSource) (records : List Checkpoint) (n k i0 i1 : ℕ) → length records ≡ 64 → k ≡ min n 64 → {r : SliceAnswer} {x₀ y₀ : List ℕ} {t₀ : List ℤ} {p₀ x y : List ℕ} {t : List ℤ} {p : List ℕ}
+    → SlicesIndex recording s (take k records) i0 i1 r x₀ y₀ t₀ p₀ x y t p → SlicesIndex recording s (take n records) i0 i1 r x₀ y₀ t₀ p₀ x y t p
+index-over recording s records n k i0 i1 len e {r} {x₀} {y₀} {t₀} {p₀} {x} {y} {t} {p} h =
+    subst (λ (cs : List Checkpoint). SlicesIndex recording s cs i0 i1 r x₀ y₀ t₀ p₀ x y t p) (take-clamped 64 n k records len e) h
+
+pub time-over : (recording : List ℕ) (s : RawSliceSource) (records : List Checkpoint) (n k : ℕ) (t0 t1 a0 a1 : ℤ) → length records ≡ 64 → k ≡ min n 64 → a0 ≡ t0 → a1 ≡ t1 → {r : SliceAnswer} {x₀ y₀ : List ℕ} {t₀ : List ℤ} {p₀ x y : List ℕ} {t : List ℤ} {p : List ℕ}
+    → SlicesTime recording s (take k records) a0 a1 r x₀ y₀ t₀ p₀ x y t p → SlicesTime recording s (take n records) t0 t1 r x₀ y₀ t₀ p₀ x y t p
+time-over recording s records n k t0 t1 a0 a1 len e e₀ e₁ {r} {x₀} {y₀} {t₀} {p₀} {x} {y} {t} {p} h =
+    subst (λ (b : ℤ). SlicesTime recording s (take n records) t0 b r x₀ y₀ t₀ p₀ x y t p) e₁ (subst (λ (b : ℤ). SlicesTime recording s (take n records) b a1 r x₀ y₀ t₀ p₀ x y t p) e₀
+    (subst (λ (cs : List Checkpoint). SlicesTime recording s cs a0 a1 r x₀ y₀ t₀ p₀ x y t p) (take-clamped 64 n k records len e) h))

@@ -1,18 +1,21 @@
 // An index whose records are held by value, in an array: whoever opens and slices by these functions
 // lends no record, and needs no proof by hand. The contracts cite the definitions of index and slice.
-// `open_into`, `open_words_into` lend the first records of an array: they are proved by hand, by the
-// laws of specs/Front.antt.
+// `open_into`, `open_words_into`, `slice_index_in` and `slice_time_in` lend the first records of an
+// array: they are proved by hand, by the laws of proofs/Front.antt. The others are covered.
 ghost use mathlib.Core.Path.{_≡_};
 ghost use Prim.Native.Nat.{_≤_, min};
-ghost use lib.ListN.{replicate};
+ghost use lib.ListN.{replicate, take};
 ghost use Rattle.index.specs.Index.{Opens, rawVerdict, rawAnswer, rawMade, wordsVerdict, wordsAnswer, wordsMade};
 ghost use Rattle.index.specs.Nth.{blank as blankRecord};
+ghost use Rattle.slice.specs.Slice.{SlicesIndex, SlicesTime};
 use evt::Codec;
 use evt::Encoding;
 use index::Checkpoint;
 use index::OpenAnswer;
 use index::OpenOptions;
+use index::RawSliceSource;
 use index::WordsOptions;
+use slice::SliceAnswer;
 
 // How an opening was answered, and the records.
 pub struct FixedIndex {
@@ -86,4 +89,80 @@ pub fn open_words(words: &[u8], options: WordsOptions, room: usize) -> FixedInde
     let b = blank();
     let records = [b; 64];
     open_words_into(words, options, records, n)
+}
+
+// Slices by number over the first `n` of the records.
+pub fn slice_index_in(
+    recording: &[u8],
+    source: RawSliceSource,
+    records: [Checkpoint; 64],
+    n: usize,
+    i0: usize,
+    i1: usize,
+    xs: &mut [u16],
+    ys: &mut [u16],
+    ts: &mut [i64],
+    ps: &mut [u8],
+) -> SliceAnswer
+    requires { ⌜ n ≤ 64 ⌝ }
+    ensures { λ r. ⌜ SlicesIndex (now (recording .entry)) source (take n records) i0 i1 r (now (xs .entry)) (now (ys .entry)) (now (ts .entry)) (now (ps .entry)) (now (xs .exit)) (now (ys .exit)) (now (ts .exit)) (now (ps .exit)) ⌝ }
+{
+    slice::slice_index(recording, source, &records[..n], i0, i1, xs, ys, ts, ps)
+}
+
+// Slices by time over the first `n` of the records.
+pub fn slice_time_in(
+    recording: &[u8],
+    source: RawSliceSource,
+    records: [Checkpoint; 64],
+    n: usize,
+    t0: i64,
+    t1: i64,
+    xs: &mut [u16],
+    ys: &mut [u16],
+    ts: &mut [i64],
+    ps: &mut [u8],
+) -> SliceAnswer
+    requires { ⌜ n ≤ 64 ⌝ }
+    ensures { λ r. ⌜ SlicesTime (now (recording .entry)) source (take n records) t0 t1 r (now (xs .entry)) (now (ys .entry)) (now (ts .entry)) (now (ps .entry)) (now (xs .exit)) (now (ys .exit)) (now (ts .exit)) (now (ps .exit)) ⌝ }
+{
+    slice::slice_time(recording, source, &records[..n], t0, t1, xs, ys, ts, ps)
+}
+
+// Slices by number over the first `n` records, or all if there are no `n`.
+pub fn slice_index(
+    recording: &[u8],
+    source: RawSliceSource,
+    records: [Checkpoint; 64],
+    n: usize,
+    i0: usize,
+    i1: usize,
+    xs: &mut [u16],
+    ys: &mut [u16],
+    ts: &mut [i64],
+    ps: &mut [u8],
+) -> SliceAnswer
+    ensures { λ r. ⌜ SlicesIndex (now (recording .entry)) source (take n records) i0 i1 r (now (xs .entry)) (now (ys .entry)) (now (ts .entry)) (now (ps .entry)) (now (xs .exit)) (now (ys .exit)) (now (ts .exit)) (now (ps .exit)) ⌝ }
+{
+    let k = clamp(n);
+    slice_index_in(recording, source, records, k, i0, i1, &mut *xs, &mut *ys, &mut *ts, &mut *ps)
+}
+
+// Slices by time over the first `n` records, or all if there are no `n`.
+pub fn slice_time(
+    recording: &[u8],
+    source: RawSliceSource,
+    records: [Checkpoint; 64],
+    n: usize,
+    t0: i64,
+    t1: i64,
+    xs: &mut [u16],
+    ys: &mut [u16],
+    ts: &mut [i64],
+    ps: &mut [u8],
+) -> SliceAnswer
+    ensures { λ r. ⌜ SlicesTime (now (recording .entry)) source (take n records) t0 t1 r (now (xs .entry)) (now (ys .entry)) (now (ts .entry)) (now (ps .entry)) (now (xs .exit)) (now (ys .exit)) (now (ts .exit)) (now (ps .exit)) ⌝ }
+{
+    let k = clamp(n);
+    slice_time_in(recording, source, records, k, t0, t1, &mut *xs, &mut *ys, &mut *ts, &mut *ps)
 }

@@ -35,7 +35,10 @@ pub fn open_into(
 {
     let mut made = records;
     let answer = index::open(recording, &mut made[..n], options);
-    FixedIndex { answer, records: made }
+    FixedIndex {
+        answer,
+        records: made,
+    }
 }
 
 // The same for headerless words.
@@ -50,7 +53,10 @@ pub fn open_words_into(
 {
     let mut made = records;
     let answer = index::open_words(words, &mut made[..n], options);
-    FixedIndex { answer, records: made }
+    FixedIndex {
+        answer,
+        records: made,
+    }
 }
 
 // A record before any is made.
@@ -145,7 +151,18 @@ pub fn slice_index(
     ensures { λ r. ⌜ SlicesIndex (now (recording .entry)) source (take n records) i0 i1 r (now (xs .entry)) (now (ys .entry)) (now (ts .entry)) (now (ps .entry)) (now (xs .exit)) (now (ys .exit)) (now (ts .exit)) (now (ps .exit)) ⌝ }
 {
     let k = clamp(n);
-    slice_index_in(recording, source, records, k, i0, i1, &mut *xs, &mut *ys, &mut *ts, &mut *ps)
+    slice_index_in(
+        recording,
+        source,
+        records,
+        k,
+        i0,
+        i1,
+        &mut *xs,
+        &mut *ys,
+        &mut *ts,
+        &mut *ps,
+    )
 }
 
 // Slices by time over the first `n` records, or all if there are no `n`.
@@ -164,5 +181,16 @@ pub fn slice_time(
     ensures { λ r. ⌜ SlicesTime (now (recording .entry)) source (take n records) t0 t1 r (now (xs .entry)) (now (ys .entry)) (now (ts .entry)) (now (ps .entry)) (now (xs .exit)) (now (ys .exit)) (now (ts .exit)) (now (ps .exit)) ⌝ }
 {
     let k = clamp(n);
-    slice_time_in(recording, source, records, k, t0, t1, &mut *xs, &mut *ys, &mut *ts, &mut *ps)
+    slice_time_in(
+        recording,
+        source,
+        records,
+        k,
+        t0,
+        t1,
+        &mut *xs,
+        &mut *ys,
+        &mut *ts,
+        &mut *ps,
+    )
 }

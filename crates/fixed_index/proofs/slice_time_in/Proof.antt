@@ -64,8 +64,25 @@ use Rattle.fixed_index.proofs.slice_time_in.Statement as stated
 use Rattle.fixed_index.proofs.slice_time_in.Code as code
 
 abbrev stayed : Stays (f.ended .signature .params) (f.ended .kept)
-stayed = (stay-none-slice (0 ∷ []) tt (plain (λ _. u8)) yes, (stay-none (λ _. P.the-row) yes, (stay-none (λ _. AR) yes, (stay-none (λ _. usize) yes, (stay-none (λ _. i64) yes, (stay-none (λ _. i64) yes,
-    (gave-slice (1 ∷ []) tt (plain (λ _. u16)), (gave-slice (2 ∷ []) tt (plain (λ _. u16)), (gave-slice (3 ∷ []) tt (plain (λ _. i64)), (gave-slice (4 ∷ []) tt (plain (λ _. u8)), tt))))))))))
+stayed = (
+  stay-none-slice (0 ∷ []) tt (plain (λ _. u8)) yes,
+  (
+    stay-none (λ _. P.the-row) yes,
+    (
+      stay-none (λ _. AR) yes,
+      (
+        stay-none (λ _. usize) yes,
+        (
+          stay-none (λ _. i64) yes,
+          (
+            stay-none (λ _. i64) yes,
+            (gave-slice (1 ∷ []) tt (plain (λ _. u16)), (gave-slice (2 ∷ []) tt (plain (λ _. u16)), (gave-slice (3 ∷ []) tt (plain (λ _. i64)), (gave-slice (4 ∷ []) tt (plain (λ _. u8)), tt)))),
+          ),
+        ),
+      ),
+    ),
+  ),
+)
 
 abbrev Arg : Type 0
 Arg = RefT (List ℕ) × (RawSliceSource × (List Checkpoint × (ℕ × (ℤ × (ℤ × (RefT (List ℕ) × (RefT (List ℕ) × (RefT (List ℤ) × (RefT (List ℕ) × Unit {0})))))))))
@@ -197,10 +214,25 @@ module _ {M : Type 1} (𝓤 : URA M) (H : Heap 𝓤) (A : Atoms 𝓤) (W : Given
 f-meets : {M : Type 1} (𝓤 : URA M) (H : Heap 𝓤) (A : Atoms 𝓤) (W : Given 𝓤 H A) (at-mem : Memory → SProp 𝓤) (run : Routine → Fun 𝓤) (𝓣 : Tables 𝓤 H) → Triple 𝓤 (𝓣 .C #callee) (Callee 𝓤 H A at-mem run)
     → Meets 𝓤 H A f.signature (WpFn 𝓤 H (𝓣 .C) (𝓣 .Λ) code.function) (f.spec 𝓤 H A at-mem run)
 f-meets 𝓤 H A W at-mem run 𝓣 known =
-    walk-meets 𝓤 H A f.ended stayed W
-    (goes-none-slice 𝓤 H A W 5 (0 ∷ []) tt (plain (λ _. u8)) yes, (goes-none 𝓤 H A W 5 (λ _. P.the-row) yes (λ κs x f. refl), (goes-none 𝓤 H A W 5 (λ _. AR) yes (λ κs x f. refl), (goes-none 𝓤 H A W 5 (λ _. usize) yes (λ κs x f. refl),
-    (goes-none 𝓤 H A W 5 (λ _. i64) yes (λ κs x f. refl), (goes-none 𝓤 H A W 5 (λ _. i64) yes (λ κs x f. refl),
-    (goes-gave-slice 𝓤 H A W 5 1 tt (plain (λ _. u16)), (goes-gave-slice 𝓤 H A W 5 2 tt (plain (λ _. u16)), (goes-gave-slice 𝓤 H A W 5 3 tt (plain (λ _. i64)), (goes-gave-slice 𝓤 H A W 5 4 tt (plain (λ _. u8)), tt)))))))))) (f.clauses 𝓤 H A at-mem run)
+    walk-meets 𝓤 H A f.ended stayed W (
+      goes-none-slice 𝓤 H A W 5 (0 ∷ []) tt (plain (λ _. u8)) yes,
+      (
+        goes-none 𝓤 H A W 5 (λ _. P.the-row) yes (λ κs x f. refl),
+        (
+          goes-none 𝓤 H A W 5 (λ _. AR) yes (λ κs x f. refl),
+          (
+            goes-none 𝓤 H A W 5 (λ _. usize) yes (λ κs x f. refl),
+            (
+              goes-none 𝓤 H A W 5 (λ _. i64) yes (λ κs x f. refl),
+              (
+                goes-none 𝓤 H A W 5 (λ _. i64) yes (λ κs x f. refl),
+                (goes-gave-slice 𝓤 H A W 5 1 tt (plain (λ _. u16)), (goes-gave-slice 𝓤 H A W 5 2 tt (plain (λ _. u16)), (goes-gave-slice 𝓤 H A W 5 3 tt (plain (λ _. i64)), (goes-gave-slice 𝓤 H A W 5 4 tt (plain (λ _. u8)), tt)))),
+              ),
+            ),
+          ),
+        ),
+      ),
+    ) (f.clauses 𝓤 H A at-mem run)
     (WpFn 𝓤 H (𝓣 .C) (𝓣 .Λ) code.function) (WpFn-mono 𝓤 H (W .laws) 𝓣 code.function) (f-walks 𝓤 H A W at-mem run (𝓣 .C) (𝓣 .Λ) (fmOf 𝓤 H (W .laws) 𝓣) known)
 
 pub slice-time-in-spec : {M : Type 1} → stated.statement M

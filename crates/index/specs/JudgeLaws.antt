@@ -1,6 +1,6 @@
 -- Judging the records one after another comes to rule 10, and what an index in range has: records in range, whose counts and times never fall.
 use mathlib.Core.Path.{_≡_, refl, sym, ap, _∙_}
-use mathlib.Core.Bool.{Bool, true, false, not, cond, _&&_, and-assoc, and-comm, and-false}
+use mathlib.Core.Bool.{Bool, true, false, not, cond, _&&_, and-assoc, and-comm}
 use mathlib.Core.List.{List, [], _∷_}
 use Prim.Native.Nat.{ℕ, suc, _+_, _-_, _^_, _≤_, _<_}
 use native.Mathlib.Omega.{arith}
@@ -66,9 +66,16 @@ module _ (s : RawSliceSource) where
       let b = c .«byte_offset» in
       let n = c .«event_index» in
       rw (
-        cond-not (ltb b offset), cond-not (ltb offset b), cond-not (ltb n count), cond-not (ltb 8589934592 n), cond-not (ltb (s .«n_events») n),
+        cond-not (ltb b offset),
+        cond-not (ltb offset b),
+        cond-not (ltb n count),
+        cond-not (ltb 8589934592 n),
+        cond-not (ltb (s .«n_events») n),
         ← and-assoc (not (ltb b offset)) (not (ltb offset b)) (not (ltb n count) && (not (ltb 8589934592 n) && (not (ltb (s .«n_events») n) && leZ time (c .time)))),
-        not-both b offset, not-ltb n count, not-ltb 8589934592 n, not-ltb (s .«n_events») n
+        not-both b offset,
+        not-ltb n count,
+        not-ltb 8589934592 n,
+        not-ltb (s .«n_events») n,
       )
 
   admits-place : (offset count : ℕ) (time : ℤ) (c : Checkpoint) → offset < 2 ^ 64 → admitsOf (judging false offset count time) c ≡ recordInRange s offset count time c
@@ -115,7 +122,7 @@ module _ (s : RawSliceSource) (small : s .spacing ≤ 4194304) where
   -- behind a record that is fine
   passed : (o offset count : ℕ) (time : ℤ) (c : Checkpoint) (cs : List Checkpoint) (rest : Bool) → offset < 2 ^ 64 → o ≡ offset
       → ((past : Bool) (u : ℕ) → ltb 18446744073709551615 (offset + s .spacing) ≡ past → (past ≡ false → u ≡ offset + s .spacing)
-          → judgedAll (judging s past u (c .«event_index») (c .time)) cs .ok ≡ rest)
+      → judgedAll (judging s past u (c .«event_index») (c .time)) cs .ok ≡ rest)
       → judgedAll (onwardOf (judging s false o count time) c true) cs .ok ≡ rest
   passed o offset count time c cs rest h e next = go (ltb (18446744073709551615 - s .spacing) o) refl
     where
@@ -141,7 +148,7 @@ module _ (s : RawSliceSource) (small : s .spacing ≤ 4194304) where
 
       go : (b rest : Bool) → admitsOf (judging s false o count time) c ≡ b
           → ((past : Bool) (u : ℕ) → ltb 18446744073709551615 (offset + s .spacing) ≡ past → (past ≡ false → u ≡ offset + s .spacing)
-              → judgedAll (judging s past u (c .«event_index») (c .time)) cs .ok ≡ rest)
+          → judgedAll (judging s past u (c .«event_index») (c .time)) cs .ok ≡ rest)
           → judgedAll (judgedOf (judging s false o count time) c) cs .ok ≡ (b && rest)
       go true rest r ih = ap (λ (t : Bool). judgedAll (onwardOf (judging s false o count time) c t) cs .ok) r ∙ passed o offset count time c cs rest h (q refl) ih
       go false rest r ih = failed (judging s false o count time) c cs rest false r refl
@@ -226,10 +233,11 @@ module _ (s : RawSliceSource) where
   all-ranged offset count time (c ∷ cs) t h =
       let a = and-both (recordInRange s offset count time c) (recordsInRange s (offset + s .spacing) (c .«event_index») (c .time) cs) h in
       let p = tested offset count time c (a .0) in
-      let g = p .good t in
-      ((g, (p .counts, p .times)),
-      all-map (Ranged (c .«event_index») (c .time)) (Ranged count time) (λ d r. (r .0, (omega (arith, p .counts, r .1 .0), leZ-trans time (c .time) (d .time) (p .times) (r .1 .1)))) cs
-      (all-ranged (offset + s .spacing) (c .«event_index») (c .time) cs (g .since) (a .1)))
+      let g = p .good t in (
+        (g, (p .counts, p .times)),
+        all-map (Ranged (c .«event_index») (c .time)) (Ranged count time) (λ d r. (r .0, (omega (arith, p .counts, r .1 .0), leZ-trans time (c .time) (d .time) (p .times) (r .1 .1)))) cs
+            (all-ranged (offset + s .spacing) (c .«event_index») (c .time) cs (g .since) (a .1)),
+      )
 
   parted-from : (p : Checkpoint → Bool) → ((c d : Checkpoint) → Before c d → p c ≡ false → p d ≡ false)
       → (offset count : ℕ) (time : ℤ) (cs : List Checkpoint) → leZ (pos 0) time ≡ true → recordsInRange s offset count time cs ≡ true → Parted p cs
@@ -238,7 +246,7 @@ module _ (s : RawSliceSource) where
       let a = and-both (recordInRange s offset count time c) (recordsInRange s (offset + s .spacing) (c .«event_index») (c .time) cs) h in
       let since = tested offset count time c (a .0) .good t .since in (
         (λ q. all-map (Ranged (c .«event_index») (c .time)) (λ d. p d ≡ false) (λ d r. falls c d (record { counts = r .1 .0; times = r .1 .1 }) q) cs
-        (all-ranged (offset + s .spacing) (c .«event_index») (c .time) cs since (a .1))),
+            (all-ranged (offset + s .spacing) (c .«event_index») (c .time) cs since (a .1))),
         parted-from p falls (offset + s .spacing) (c .«event_index») (c .time) cs since (a .1),
       )
 
@@ -273,15 +281,20 @@ module _ (s : RawSliceSource) where
         go true = parted-time (asked .time)
         go false = parted-count (asked .index)
 
--- ---- the record that a slice starts at is one of them
+-- ---- the record that a slice starts at
 
-pub last-all : (P : Checkpoint → Type 0) (p : Checkpoint → Bool) (c : Checkpoint) (cs : List Checkpoint) → All P (c ∷ cs) → P (lastPassing p c cs)
-last-all P p c [] h = h .0
-last-all P p c (d ∷ ds) h = last-all P p (cond (p d) d c) ds (go (p d), h .1 .1)
+-- what holds of the first record, and of each that passes
+pub last-passes : (Q : Checkpoint → Type 0) (p : Checkpoint → Bool) (c : Checkpoint) (cs : List Checkpoint) → Q c → All (λ d. p d ≡ true → Q d) cs → Q (lastPassing p c cs)
+last-passes Q p c [] q h = q
+last-passes Q p c (d ∷ ds) q h = last-passes Q p (cond (p d) d c) ds (go (p d) refl) (h .1)
   where
-    go : (b : Bool) → P (cond b d c)
-    go true = h .1 .0
-    go false = h .0
+    go : (b : Bool) → p d ≡ b → Q (cond b d c)
+    go true e = h .0 e
+    go false e = q
+
+-- it is one of them
+pub last-all : (P : Checkpoint → Type 0) (p : Checkpoint → Bool) (c : Checkpoint) (cs : List Checkpoint) → All P (c ∷ cs) → P (lastPassing p c cs)
+last-all P p c cs h = last-passes P p c cs (h .0) (all-map P (λ d. p d ≡ true → P d) (λ d q _. q) cs (h .1))
 
 pub last-good : (s : RawSliceSource) (p : Checkpoint → Bool) (c : Checkpoint) (cs : List Checkpoint) → indexInRange s (c ∷ cs) ≡ true → Good s (lastPassing p c cs)
 last-good s p c cs ok = last-all (Good s) p c cs (all-good s (c ∷ cs) ok)

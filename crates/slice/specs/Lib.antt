@@ -3,3 +3,6 @@ pub mod Slice
 pub mod Times
 pub mod From
 pub mod Laws
+pub mod Own
+pub mod Opened
+pub mod Example

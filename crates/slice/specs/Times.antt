@@ -27,7 +27,7 @@ from-natural : (z : ℤ) (t : ℕ) → leZ z (pos t) ≡ leb (natural z) t
 from-natural (pos n) t = refl
 from-natural (negsuc n) t = sym (leb·zero t)
 
-before-natural : (z : ℤ) (t : ℕ) → ltZ (pos t) z ≡ ltb t (natural z)
+pub before-natural : (z : ℤ) (t : ℕ) → ltZ (pos t) z ≡ ltb t (natural z)
 before-natural (pos n) t = refl
 before-natural (negsuc n) t = sym (le-ltb t 0 (omega arith))
 

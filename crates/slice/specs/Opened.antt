@@ -1,0 +1,163 @@
+-- An index that opening made is one of its own recording (specs/Own.antt): slices over it are never refused for their state, and are exact.
+use mathlib.Core.Path.{_≡_, refl, sym, ap, _∙_}
+use mathlib.Core.Bool.{Bool, true, false, cond}
+use mathlib.Core.List.{List, [], _++_}
+use Prim.Native.Nat.{ℕ, _-_, _^_, _≤_}
+use native.Mathlib.Omega.{arith}
+use lib.Dec.{ltb, eqb·suc-zero}
+use lib.IntN.{ℤ}
+use lib.ListN.{length, take, drop}
+use lib.Seq.{take-at}
+use borrow.Author.Tests.{ltb-false, le-ltb}
+use Rattle.stream.specs.Slice.{sift}
+use Rattle.stream.specs.Order.{greatest}
+use Rattle.evt.specs.declared.Encoding.{Encoding}
+use Rattle.evt.specs.declared.Refusal.{Refusal}
+use Rattle.evt.specs.declared.Refusal.the-variants.{InvalidSensorSize, TooLong, InvalidSpacing, TooFewRecords}
+use Rattle.evt.specs.declared.SensorSize.{SensorSize}
+use Rattle.evt.specs.declared.SensorSize.the-variants.{Unknown, Known}
+use Rattle.evt.specs.Columns.{colX, colY}
+use Rattle.evt.specs.Event.{Event}
+use Rattle.header.specs.declared.Header as header
+use Rattle.header.specs.declared.HeaderAnswer.{HeaderAnswer}
+use Rattle.header.specs.declared.HeaderAnswer.the-variants.{Header, Refused as NoHeader}
+use Rattle.header.specs.Header.{hasZero, headerOf}
+use Rattle.header.specs.Laws.{of-accepted}
+use Rattle.read.specs.Read.{widthOf, heightOf, sizeless}
+use Rattle.index.specs.declared.Checkpoint.{Checkpoint}
+use Rattle.index.specs.declared.Opening.{Opening}
+use Rattle.index.specs.declared.OpenAnswer.{OpenAnswer}
+use Rattle.index.specs.declared.OpenAnswer.the-variants.{Opened, Refused}
+use Rattle.index.specs.declared.OpenOptions.{OpenOptions}
+use Rattle.index.specs.declared.WordsOptions.{WordsOptions}
+use Rattle.index.specs.Index.{keptEvents, recordCount, recordsOf, spacingOk, bodyAnswer, bodyMade, answerAfter, madeAfter, rawAnswer, rawMade, wordsAnswer, wordsMade, OpensRaw, OpensWords}
+use Rattle.index.specs.InRange.{indexInRange}
+use Rattle.index.specs.Laws.{length-firsts}
+use Rattle.slice.specs.Slice.{sizeOf, firstOf, endOf, indexEvents, isDuring, timeEvents, byRules}
+use Rattle.slice.specs.Own.{ownEvents, ownSource, ownRecords, OwnPast, own-in-range, own-number, own-time, own-rules}
+
+-- ---- what an acceptance says
+
+pub record OpenedAs (l : List ℕ) (start : ℕ) (e : Encoding) (size : SensorSize) (spacing : ℕ) (o : Opening) (records : List Checkpoint) : Type 0 where
+  pub within : start ≤ length l
+  pub long : length l ≤ 2 ^ 30
+  pub allowed : spacingOk e spacing ≡ true
+  pub positive : hasZero (sizeOf (ownSource size e start spacing l)) ≡ false
+  pub is-source : o .source ≡ ownSource size e start spacing l
+  pub is-records : take (o .records) records ≡ ownRecords size e start spacing l
+
+never : {P : Type 0} (r : Refusal) (o : Opening) → Refused r ≡ Opened o → P
+never r o e = let z : _≡_ {A = ℕ} 0 1 = cc in absurd (omega arith)
+
+same-opening : (a b : Opening) → Opened a ≡ Opened b → a ≡ b
+same-opening a b e = cc
+
+-- a size that isn't zero stays so, and one that is derived isn't
+positive-own : (size : SensorSize) (es : List Event) → hasZero size ≡ false → hasZero (Known (widthOf size es) (heightOf size es)) ≡ false
+unfolding hasZero
+positive-own Unknown es h = rw (eqb·suc-zero (greatest colX es), eqb·suc-zero (greatest colY es))
+positive-own (Known w k) es h = h
+
+module _ (l : List ℕ) (start : ℕ) (e : Encoding) (size : SensorSize) (spacing : ℕ) (o : Opening) (records₀ records : List Checkpoint) where
+  abbrev body : List ℕ
+  body = drop start l
+
+  abbrev need : ℕ
+  need = recordCount (length body) spacing
+
+  abbrev made : Opening
+  made = record { source = ownSource size e start spacing l; records = need }
+
+  length-own : length (ownRecords size e start spacing l) ≡ need
+  unfolding recordsOf
+  length-own = length-firsts _ need
+
+  opened-body : (room : ℕ) → start ≤ length l → length l ≤ 2 ^ 30 → hasZero size ≡ false
+      → bodyAnswer (length l) start e size spacing body room ≡ Opened o
+      → records ≡ bodyMade start e size spacing body room ++ drop (length (bodyMade start e size spacing body room)) records₀
+      → OpenedAs l start e size spacing o records
+  unfolding bodyAnswer bodyMade
+  opened-body room within long positive = go (spacingOk e spacing) refl (ltb room need) (sizeless size (keptEvents size e body))
+    where
+      go : (a : Bool) → spacingOk e spacing ≡ a → (b c : Bool)
+          → cond a (cond b (Refused (TooFewRecords need)) (cond c (Refused InvalidSensorSize) (Opened made))) (Refused InvalidSpacing) ≡ Opened o
+          → records ≡ cond a (cond b [] (cond c [] (ownRecords size e start spacing l))) [] ++ drop (length (cond a (cond b [] (cond c [] (ownRecords size e start spacing l))) [])) records₀
+          → OpenedAs l start e size spacing o records
+      go false p b c q u = never InvalidSpacing o q
+      go true p true c q u = never (TooFewRecords need) o q
+      go true p false true q u = never InvalidSensorSize o q
+      go true p false false q u =
+          let is : made ≡ o = same-opening made o q in
+          record {
+            within = within;
+            long = long;
+            allowed = p;
+            positive = positive-own size (ownEvents size e start l) positive;
+            is-source = ap (λ (x : Opening). x .source) (sym is);
+            is-records = (λ i. take (sym is i .records) (u i)) ∙ take-at (ownRecords size e start spacing l) (drop (length (ownRecords size e start spacing l)) records₀) need length-own;
+          }
+
+module _ (o : Opening) (r : OpenAnswer) (records₀ records : List Checkpoint) (accepted : r ≡ Opened o) where
+  pub opened-words : (words : List ℕ) (options : WordsOptions) → OpensWords words options r records₀ records
+      → OpenedAs words 0 (options .encoding) (options .«sensor_size») (options .spacing) o records
+  unfolding wordsAnswer wordsMade
+  opened-words words options h = go (ltb (2 ^ 30) (length words)) refl (hasZero (options .«sensor_size»)) refl (sym (h .is-answer) ∙ accepted) (h .is-records)
+    where
+      go : (a : Bool) → ltb (2 ^ 30) (length words) ≡ a → (b : Bool) → hasZero (options .«sensor_size») ≡ b
+          → cond a (Refused TooLong) (cond b (Refused InvalidSensorSize) (bodyAnswer (length words) 0 (options .encoding) (options .«sensor_size») (options .spacing) words (length records₀))) ≡ Opened o
+          → records ≡ cond a [] (cond b [] (bodyMade 0 (options .encoding) (options .«sensor_size») (options .spacing) words (length records₀)))
+          ++ drop (length (cond a [] (cond b [] (bodyMade 0 (options .encoding) (options .«sensor_size») (options .spacing) words (length records₀))))) records₀
+          → OpenedAs words 0 (options .encoding) (options .«sensor_size») (options .spacing) o records
+      go true p b q e u = never TooLong o e
+      go false p true q e u = never InvalidSensorSize o e
+      go false p false q e u =
+          opened-body words 0 (options .encoding) (options .«sensor_size») (options .spacing) o records₀ records (length records₀) (omega arith) (ltb-false (2 ^ 30) (length words) p) q e u
+
+  pub opened-raw : (recording : List ℕ) (options : OpenOptions) → OpensRaw recording options r records₀ records
+      → (h : header.Header) × (headerOf recording (options .«sensor_size») ≡ Header h)
+      × OpenedAs recording (h .«data_offset») (h .encoding) (h .«sensor_size») (options .spacing) o records
+  unfolding rawAnswer rawMade
+  opened-raw recording options h = go (headerOf recording (options .«sensor_size»)) refl (sym (h .is-answer) ∙ accepted) (h .is-records)
+    where
+      go : (a : HeaderAnswer) → headerOf recording (options .«sensor_size») ≡ a
+          → answerAfter a recording (options .spacing) (length records₀) ≡ Opened o
+          → records ≡ madeAfter a recording (options .spacing) (length records₀) ++ drop (length (madeAfter a recording (options .spacing) (length records₀))) records₀
+          → (h : header.Header) × (headerOf recording (options .«sensor_size») ≡ Header h)
+          × OpenedAs recording (h .«data_offset») (h .encoding) (h .«sensor_size») (options .spacing) o records
+      go (NoHeader q) p e u = never q o e
+      go (Header k) p e u =
+          let a = of-accepted recording (options .«sensor_size») k p in
+          (k, p, opened-body recording (k .«data_offset») (k .encoding) (k .«sensor_size») (options .spacing) o records₀ records (length records₀) (a .within) (a .short) (a .positive) e u)
+
+-- the other way: where no rule of the table applies, opening accepts
+pub words-opened : (words : List ℕ) (options : WordsOptions) (room : ℕ) → length words ≤ 2 ^ 30 → hasZero (options .«sensor_size») ≡ false → spacingOk (options .encoding) (options .spacing) ≡ true
+    → recordCount (length words) (options .spacing) ≤ room → sizeless (options .«sensor_size») (ownEvents (options .«sensor_size») (options .encoding) 0 words) ≡ false
+    → wordsAnswer words options room
+    ≡ Opened (record { source = ownSource (options .«sensor_size») (options .encoding) 0 (options .spacing) words; records = recordCount (length words) (options .spacing) })
+unfolding wordsAnswer bodyAnswer
+words-opened words options room long positive allowed enough sized =
+    rw (le-ltb (2 ^ 30) (length words) long, positive, allowed, le-ltb room (recordCount (length words) (options .spacing)) enough, sized)
+
+-- ---- slices over it
+
+module _ (l : List ℕ) (start : ℕ) (e : Encoding) (size : SensorSize) (spacing : ℕ) (o : Opening) (records : List Checkpoint) (w : OpenedAs l start e size spacing o records) where
+  abbrev lent : List Checkpoint
+  lent = take (o .records) records
+
+  -- never 10
+  pub opened-in-range : indexInRange (o .source) lent ≡ true
+  opened-in-range = (λ i. indexInRange (w .is-source i) (w .is-records i)) ∙ own-in-range size e start spacing l (w .within) (w .long) (w .allowed)
+
+  -- nor 4, 1, 8
+  pub opened-rules : {A : Type 0} (is4 is1 is8 is10 passed : A) → byRules l (o .source) lent is4 is1 is8 is10 passed ≡ passed
+  opened-rules is4 is1 is8 is10 passed =
+      (λ i. byRules l (w .is-source i) (w .is-records i) is4 is1 is8 is10 passed)
+      ∙ own-rules size e start spacing l (w .within) (w .long) (w .allowed) (w .positive) is4 is1 is8 is10 passed
+
+  pub opened-number : (i0 i1 : ℕ) → indexEvents l (o .source) lent i0 i1 ≡ take (endOf (o .source) i0 i1 - firstOf (o .source) i0) (drop (firstOf (o .source) i0) (ownEvents size e start l))
+  opened-number i0 i1 =
+      (λ i. indexEvents l (w .is-source i) (w .is-records i) i0 i1) ∙ own-number size e start spacing l (w .within) (w .long) (w .allowed) i0 i1
+      ∙ sym (λ i. take (endOf (w .is-source i) i0 i1 - firstOf (w .is-source i) i0) (drop (firstOf (w .is-source i) i0) (ownEvents size e start l)))
+
+  pub opened-time : (t0 t1 : ℤ) → OwnPast size e start l t0 t1 → timeEvents l (o .source) lent t0 t1 ≡ sift (isDuring t0 t1) (ownEvents size e start l)
+  opened-time t0 t1 past = (λ i. timeEvents l (w .is-source i) (w .is-records i) t0 t1) ∙ own-time size e start spacing l (w .within) (w .long) (w .allowed) t0 t1 past

@@ -10,4 +10,5 @@ pub mod Judge
 pub mod InRange
 pub mod Start
 pub mod JudgeLaws
+pub mod Halves
 pub mod Search

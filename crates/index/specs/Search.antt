@@ -1,8 +1,8 @@
--- The search by halves for the record that a slice starts at, and that it finds it.
+-- The search by halves finds the record that a slice starts at.
 use mathlib.Core.Path.{_≡_, refl, sym, ap, _∙_, subst}
 use mathlib.Core.Bool.{Bool, true, false, cond, true≢false}
 use mathlib.Core.List.{List, [], _∷_}
-use Prim.Native.Nat.{ℕ, zero, suc, _+_, _-_, _/_, _≤_, _<_}
+use Prim.Native.Nat.{ℕ, zero, suc, _+_, _-_, _≤_, _<_}
 use native.Mathlib.Nat.{not-suc-le-zero, le-of-suc-le-suc}
 use native.Mathlib.Omega.{arith}
 use lib.Dec.{ltb}
@@ -15,38 +15,22 @@ use Rattle.index.specs.declared.Search.{Search}
 use Rattle.index.specs.Nth.{nth, blank}
 use Rattle.index.specs.Start.{Parted, lastPassing}
 use Rattle.index.specs.Choose.{passesOf, Chose}
+use Rattle.index.specs.Halves.{middleOf, placeOf, bracketOf, narrowed}
 
--- ---- what the code does
+-- ---- by the outcome of each test
 
-abbrev pub middleOf : (lo hi : ℕ) → ℕ
-middleOf lo hi = lo + (hi - lo) / 2
-
--- where lo and hi have met: the record before them, or else the first
-abbrev pub placeOf : (lo hi : ℕ) → ℕ
-placeOf lo hi = cond (ltb lo hi) (middleOf lo hi) (lo - 1)
-
-abbrev pub bracketOf : (more : Bool) → (lo hi : ℕ) → Choice → (best : Checkpoint) → Search
-bracketOf more lo hi asked best = record { more = more; at = placeOf lo hi; lo = lo; hi = hi; asked = asked; best = best }
-
-abbrev pub narrowed : Search → Checkpoint → Search
-narrowed s c =
-    cond (ltb (s .lo) (s .hi))
-    (cond (passesOf (s .asked) c) (bracketOf true (middleOf (s .lo) (s .hi) + 1) (s .hi) (s .asked) c) (bracketOf true (s .lo) (middleOf (s .lo) (s .hi)) (s .asked) c))
-    (bracketOf false (s .lo) (s .hi) (s .asked) c)
-
--- by the outcome of each test
 pub place-between : (lo hi : ℕ) → lo < hi → placeOf lo hi ≡ middleOf lo hi
 place-between lo hi h = rw (lt-ltb lo hi h)
 
 pub place-met : (lo hi : ℕ) → hi ≤ lo → placeOf lo hi ≡ lo - 1
 place-met lo hi h = rw (le-ltb lo hi h)
 
-pub narrow-by : (s : Search) (c : Checkpoint) (v : Bool) → s .lo < s .hi → passesOf (s .asked) c ≡ v
-    → narrowed s c ≡ cond v (bracketOf true (middleOf (s .lo) (s .hi) + 1) (s .hi) (s .asked) c) (bracketOf true (s .lo) (middleOf (s .lo) (s .hi)) (s .asked) c)
-narrow-by s c v h e = rw (lt-ltb (s .lo) (s .hi) h, e)
+pub narrow-by : (s : Search) (c : Checkpoint) (v : Bool) (m : ℕ) (r : Search) → s .lo < s .hi → m ≡ middleOf (s .lo) (s .hi) → passesOf (s .asked) c ≡ v
+    → r ≡ cond v (bracketOf true (m + 1) (s .hi) (s .asked) c) (bracketOf true (s .lo) m (s .asked) c) → r ≡ narrowed s c
+narrow-by s c v m r h q e is = is ∙ rw (q, lt-ltb (s .lo) (s .hi) h, e)
 
-pub narrow-met : (s : Search) (c : Checkpoint) → s .hi ≤ s .lo → narrowed s c ≡ bracketOf false (s .lo) (s .hi) (s .asked) c
-narrow-met s c h = rw (le-ltb (s .lo) (s .hi) h)
+pub narrow-met : (s : Search) (c : Checkpoint) (r : Search) → s .hi ≤ s .lo → r ≡ bracketOf false (s .lo) (s .hi) (s .asked) c → r ≡ narrowed s c
+narrow-met s c r h is = is ∙ rw (le-ltb (s .lo) (s .hi) h)
 
 -- ---- records that are parted
 
@@ -124,7 +108,7 @@ module _ (p : Checkpoint → Bool) where
       back = λ h i a b. parted-at p l h (middleOf lo hi) i a b e;
     }
 
--- ---- the search, with fewer than m turns of halving left
+-- ---- the search, with at most m turns left
 
 pub record Searching (asked : Choice) (l : List Checkpoint) (m : ℕ) (t : Search) : Type 0 where
   pub is-asked : t .asked ≡ asked
@@ -192,7 +176,7 @@ module _ (asked : Choice) (l : List Checkpoint) where
       found = λ h′. absurd (true≢false h′);
     }
 
-    -- by whether ends have met, and whether the record passes
+    -- by whether the ends have met, and whether the record passes
     turn-by : (b v : Bool) → ltb lo hi ≡ b → ok c ≡ v
         → Searching asked l m (cond b (cond v (bracketOf true (middleOf lo hi + 1) hi (t .asked) c) (bracketOf true lo (middleOf lo hi) (t .asked) c)) (bracketOf false lo hi (t .asked) c))
     turn-by true true q v =

@@ -12,7 +12,7 @@ ghost use Rattle.index.specs.Index.{spacingOk, recordCount, OpensRaw, Op
 ghost use Rattle.index.specs.Build.{Fit, Advanced, firstOf, idle, bodyJob, rawJob, refusedJob, wholeWindow, wordsJob, concluded};
 ghost use Rattle.index.specs.Choose.{passesOf, Chose};
 ghost use Rattle.index.specs.Nth.{blank};
-ghost use Rattle.index.specs.Search.{middleOf, placeOf, bracketOf, narrowed};
+ghost use Rattle.index.specs.Halves.{middleOf, placeOf, bracketOf, narrowed};
 ghost use Rattle.index.specs.Judge.{isOther, standsOf, aheadOf, onwardOf, admitsOf, judgedOf, judgedAll};
 use evt::Codec;
 use evt::Encoding;

@@ -50,7 +50,8 @@ use Rattle.index.specs.declared.Choice.{Choice}
 use Rattle.index.specs.declared.Search.{Search}
 use Rattle.index.specs.Nth.{nth, blank}
 use Rattle.index.specs.Choose.{Chose}
-use Rattle.index.specs.Search.{bracketOf, narrowed, Searching, search-start, search-stops, search-place, search-turn}
+use Rattle.index.specs.Halves.{bracketOf, narrowed}
+use Rattle.index.specs.Search.{Searching, search-start, search-stops, search-place, search-turn}
 use Rattle.index.proofs.Checkpoint as T
 use Rattle.index.proofs.Checkpoint.Laws as T′
 use Rattle.index.proofs.Choice as P

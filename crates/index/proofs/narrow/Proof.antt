@@ -1,8 +1,7 @@
-use mathlib.Core.Path.{_≡_, refl, sym, ap, _∙_}
+use mathlib.Core.Path.{sym, _∙_}
 use mathlib.Core.Bool.{true, false}
-use Prim.Native.Nat.{ℕ, _+_}
 use borrow.Author.Needs.{needs}
-use Rattle.index.specs.Search.{bracketOf, narrow-by, narrow-met}
+use Rattle.index.specs.Search.{narrow-by, narrow-met}
 use Rattle.index.proofs.narrow.Statement.{statement}
 use Rattle.index.proofs.narrow.Tie as tie
 use Rattle.index.proofs.narrow.Reads as reads
@@ -29,10 +28,7 @@ bracket-requires c κs = search needs
 
 -- src/lib.rt:499:13
 returns : tie.Need-returns
-returns c =
-    let s = c .before .before .before .before .before .before .before .args .s in
-    let d = c .before .before .before .before .before .before .before .args .c in
-    c .bracket .ensures ∙ ap (λ (m : ℕ). bracketOf true (m + 1) (s .hi) (s .asked) d) (c .before .before .before .middle .ensures) ∙ sym (narrow-by s d true (c .before .before .before .before .if1 .taken) (sym (c .before .before .passes .ensures) ∙ c .before .if2 .taken))
+returns c = narrow-by (c .before .before .before .before .before .before .before .args .s) (c .before .before .before .before .before .before .before .args .c) true (c .before .before .before .middle .result) (c .bracket .result) (c .before .before .before .before .if1 .taken) (c .before .before .before .middle .ensures) (sym (c .before .before .passes .ensures) ∙ c .before .if2 .taken) (c .bracket .ensures)
 
 -- src/lib.rt:501:9
 bracket-requires-2 : tie.Need-bracket-requires-2
@@ -40,10 +36,7 @@ bracket-requires-2 c κs = search needs
 
 -- src/lib.rt:501:9
 returns-2 : tie.Need-returns-2
-returns-2 c =
-    let s = c .before .before .before .before .before .before .before .args .s in
-    let d = c .before .before .before .before .before .before .before .args .c in
-    c .bracket2 .ensures ∙ ap (λ (m : ℕ). bracketOf true (s .lo) m (s .asked) d) (c .before .before .before .middle .ensures) ∙ sym (narrow-by s d false (c .before .before .before .before .if1 .taken) (sym (c .before .before .passes .ensures) ∙ c .before .if2 .left))
+returns-2 c = narrow-by (c .before .before .before .before .before .before .before .args .s) (c .before .before .before .before .before .before .before .args .c) false (c .before .before .before .middle .result) (c .bracket2 .result) (c .before .before .before .before .if1 .taken) (c .before .before .before .middle .ensures) (sym (c .before .before .passes .ensures) ∙ c .before .if2 .left) (c .bracket2 .ensures)
 
 -- src/lib.rt:503:5
 bracket-requires-3 : tie.Need-bracket-requires-3
@@ -51,7 +44,7 @@ bracket-requires-3 c κs = search needs
 
 -- src/lib.rt:492:1
 returns-3 : tie.Need-returns-3
-returns-3 c = c .bracket3 .ensures ∙ sym (narrow-met (c .before .before .before .before .args .s) (c .before .before .before .before .args .c) (c .before .if1 .left))
+returns-3 c = narrow-met (c .before .before .before .before .args .s) (c .before .before .before .before .args .c) (c .bracket3 .result) (c .before .if1 .left) (c .bracket3 .ensures)
 
 pub narrow-spec : {M : Type 1} → statement M
 narrow-spec =

@@ -2,19 +2,19 @@
 use mathlib.Core.Path.{_≡_}
 use mathlib.Core.Bool.{Bool, true, false, cond}
 use mathlib.Core.List.{List, []}
-use Prim.Native.Nat.{ℕ, _-_, _*_, _/_, _≤_, _^_, min}
+use Prim.Native.Nat.{ℕ, _-_, _≤_, _^_, min}
 use lib.Dec.{ltb}
 use lib.IntN.{ℤ, pos}
 use lib.ListN.{length, drop}
 use Rattle.evt.specs.declared.Refusal.the-variants.{InvalidSensorSize, TooLong, ColumnsTooShort, InvalidSpacing, StateOutOfRange}
 use Rattle.evt.specs.declared.codec.Codec.{Codec}
-use Rattle.evt.specs.declared.codec.Codec.the-variants.{Evt2, Evt3}
-use Rattle.evt.specs.Codec.{inRangeC}
+use Rattle.evt.specs.Codec.{encodingOf, inRangeC}
 use Rattle.evt.specs.Event.{Event}
 use Rattle.header.specs.Header.{hasZero}
 use Rattle.window.specs.declared.Window.{Window}
 use Rattle.select.specs.Pass.{handedOver}
 use Rattle.read.specs.Read.{shortest, Handed}
+use Rattle.read.specs.Laws.{mostEvents}
 use Rattle.index.specs.declared.Checkpoint.{Checkpoint}
 use Rattle.index.specs.declared.RawSliceSource.{RawSliceSource}
 use Rattle.index.specs.Index.{spacingOk}
@@ -46,8 +46,7 @@ passedFrom recording win c = handedOver win (c .«event_index») (c .codec) (dro
 
 -- more events than this n bytes can't have
 abbrev pub mostFrom : Codec → (n : ℕ) → ℕ
-mostFrom (Evt2 d) n = n / 4
-mostFrom (Evt3 d) n = n / 2 * 12
+mostFrom c n = mostEvents (encodingOf c) n
 
 -- nor a window of numbers n0 to before n1
 abbrev pub mostOver : Window → Codec → (n : ℕ) → ℕ

@@ -4,6 +4,7 @@ use mathlib.Core.Bool.{Bool, true, false, cond}
 use mathlib.Core.List.{List, [], _∷_}
 use Prim.Native.Nat.{ℕ, _+_, _-_}
 use lib.Dec.{ltb}
+use lib.IntN.{pos}
 use lib.Signed.{leZ}
 use Rattle.evt.specs.declared.Encoding.{Encoding}
 use Rattle.evt.specs.declared.Encoding.the-variants as Enc
@@ -12,6 +13,7 @@ use Rattle.evt.specs.declared.codec.Codec.{Codec}
 use Rattle.evt.specs.declared.codec.Codec.the-variants.{Evt2, Evt3}
 use Rattle.index.specs.declared.Checkpoint.{Checkpoint}
 use Rattle.index.specs.declared.Judging.{Judging}
+use Rattle.index.specs.declared.RawSliceSource.{RawSliceSource}
 
 -- a record of the other encoding
 abbrev pub isOther : Codec → Encoding → Bool
@@ -19,6 +21,19 @@ isOther (Evt2 d) Enc.Evt2 = false
 isOther (Evt2 d) Enc.Evt3 = true
 isOther (Evt3 d) Enc.Evt2 = true
 isOther (Evt3 d) Enc.Evt3 = false
+
+-- before the first of n records: without one the index is out of range, and from 2^64 on the body's start is no place at all
+abbrev pub firstJudging : RawSliceSource → (n : ℕ) → Judging
+firstJudging s n = record {
+  ok = ltb 0 n;
+  past = ltb 18446744073709551615 (s .«data_offset»);
+  offset = s .«data_offset»;
+  spacing = s .spacing;
+  encoding = s .encoding;
+  total = s .«n_events»;
+  count = 0;
+  time = pos 0;
+}
 
 -- a wrong offset, a count that falls, is over 2^33 or over the total, a time that falls: the first record's is compared with 0
 abbrev pub standsOf : Judging → Checkpoint → Bool

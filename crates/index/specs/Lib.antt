@@ -9,3 +9,5 @@ pub mod Choose
 pub mod Judge
 pub mod InRange
 pub mod Start
+pub mod JudgeLaws
+pub mod Search

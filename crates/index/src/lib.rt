@@ -6,10 +6,13 @@
 ghost use mathlib.Core.Path.{_≡_};
 ghost use mathlib.Core.Bool.{true};
 ghost use Prim.Native.Nat.{_≤_, _<_, _^_, min, max};
+ghost use lib.Dec.{ltb};
 ghost use lib.ListN.{length};
 ghost use Rattle.index.specs.Index.{spacingOk, recordCount, OpensRaw, OpensWords};
 ghost use Rattle.index.specs.Build.{Fit, Advanced, firstOf, idle, bodyJob, rawJob, refusedJob, wholeWindow, wordsJob, concluded};
-ghost use Rattle.index.specs.Choose.{passesOf, bestOf, consideredOf, chosenOf};
+ghost use Rattle.index.specs.Choose.{passesOf, Chose};
+ghost use Rattle.index.specs.Nth.{blank};
+ghost use Rattle.index.specs.Search.{middleOf, placeOf, bracketOf, narrowed};
 ghost use Rattle.index.specs.Judge.{isOther, standsOf, aheadOf, onwardOf, admitsOf, judgedOf, judgedAll};
 use evt::Codec;
 use evt::Encoding;
@@ -142,7 +145,7 @@ const EVT2_ALIGNMENT: usize = 4;
 const EVT3_ALIGNMENT: usize = 4;
 
 // A spacing that rule 8 allows.
-fn spacing_ok(encoding: Encoding, spacing: usize) -> bool
+pub fn spacing_ok(encoding: Encoding, spacing: usize) -> bool
     ensures { λ r. ⌜ r ≡ spacingOk encoding spacing ⌝ }
 {
     if spacing < 4 {
@@ -408,62 +411,110 @@ pub fn open_words<'a, 'b>(
     conclude(t)
 }
 
-// A search for the record to start at: the last whose count is at most `index`, or, by time, whose
-// time is below `time`; or else the first.
+// What a slice asks of the record it starts at: a count at most `index`, or, by time, a time below
+// `time`.
 pub struct Choice {
-    pub some: bool,
     pub by_time: bool,
     pub index: usize,
     pub time: i64,
+}
+
+// A search by halves: the records before `lo` pass, those from `hi` on don't. Record `at` is read
+// next, and `best` was read last.
+pub struct Search {
+    pub more: bool,
+    pub at: usize,
+    pub lo: usize,
+    pub hi: usize,
+    pub asked: Choice,
     pub best: Checkpoint,
 }
 
-fn passes(s: Choice, c: Checkpoint) -> bool
-    ensures { λ r. ⌜ r ≡ passesOf s c ⌝ }
+fn passes(asked: Choice, c: Checkpoint) -> bool
+    ensures { λ r. ⌜ r ≡ passesOf asked c ⌝ }
 {
-    if s.by_time {
-        return c.time < s.time;
+    if asked.by_time {
+        return c.time < asked.time;
     }
-    c.event_index <= s.index
+    c.event_index <= asked.index
 }
 
-fn with_best(s: Choice, c: Checkpoint) -> Choice
-    ensures { λ r. ⌜ r ≡ bestOf s c ⌝ }
+fn middle(lo: usize, hi: usize) -> usize
+    requires { ⌜ lo < hi ⌝ }
+    ensures { λ r. ⌜ r ≡ middleOf lo hi ⌝ }
 {
-    Choice {
-        some: true,
-        by_time: s.by_time,
-        index: s.index,
-        time: s.time,
-        best: c,
+    lo + (hi - lo) / 2
+}
+
+// The record to read next: one in the middle, or, where `lo` and `hi` have met, the last that
+// passes, or else the first.
+fn place(lo: usize, hi: usize) -> usize
+    ensures { λ r. ⌜ r ≡ placeOf lo hi ⌝ }
+{
+    if lo < hi {
+        return middle(lo, hi);
+    }
+    if lo < 1 {
+        return 0;
+    }
+    lo - 1
+}
+
+fn bracket(more: bool, lo: usize, hi: usize, asked: Choice, best: Checkpoint) -> Search
+    ensures { λ r. ⌜ r ≡ bracketOf more lo hi asked best ⌝ }
+{
+    let at = place(lo, hi);
+    Search {
+        more,
+        at,
+        lo,
+        hi,
+        asked,
+        best,
     }
 }
 
-// One record more.
-pub fn consider(s: Choice, c: Checkpoint) -> Choice
-    ensures { λ r. ⌜ r ≡ consideredOf s c ⌝ }
+// Before any of `n` records is read.
+pub fn first_search(n: usize, asked: Choice) -> Search
+    ensures { λ r. ⌜ r ≡ bracketOf (ltb 0 n) 0 n asked blank ⌝ }
 {
-    if passes(s, c) {
-        return with_best(s, c);
-    }
-    if s.some {
-        return s;
-    }
-    with_best(s, c)
+    let codec = Codec::new(Encoding::Evt2);
+    let best = Checkpoint {
+        byte_offset: 0,
+        event_index: 0,
+        time: 0,
+        codec,
+    };
+    bracket(0 < n, 0, n, asked, best)
 }
 
-// All records, each read singly into a copy.
-pub fn choose(records: &[Checkpoint], s: Choice) -> Choice
-    ensures { λ r. ⌜ r ≡ chosenOf s (now (records .entry)) ⌝ }
+// Record `at` is read: one in the middle halves what is left, any other is the one looked for.
+pub fn narrow(s: Search, c: Checkpoint) -> Search
+    ensures { λ r. ⌜ r ≡ narrowed s c ⌝ }
 {
-    let mut t = s;
-    let mut i = 0;
-    while i < records.len() {
+    let asked = s.asked;
+    if s.lo < s.hi {
+        let half = middle(s.lo, s.hi);
+        if passes(asked, c) {
+            return bracket(true, half + 1, s.hi, asked, c);
+        }
+        return bracket(true, s.lo, half, asked, c);
+    }
+    bracket(false, s.lo, s.hi, asked, c)
+}
+
+// The last record that passes, or else the first, by halves. Without a record: a blank one.
+pub fn choose(records: &[Checkpoint], asked: Choice) -> Checkpoint
+    ensures { λ r. ⌜ Chose asked (now (records .entry)) r ⌝ }
+{
+    let n = records.len();
+    let mut t = first_search(n, asked);
+    while t.more {
+        let i = t.at;
         let c = records[i];
-        t = consider(t, c);
-        i += 1;
+        t = narrow(t, c);
     }
-    t
+    t.best
 }
 
 // The judging of records one after another (rule 10): record by record what the next one's offset

@@ -1,0 +1,47 @@
+-- Times of slices as natural numbers: a negative bound acts as 0, since no event and no decoder has a negative time.
+use mathlib.Core.Path.{_≡_, refl, sym}
+use mathlib.Core.Bool.{_&&_}
+use mathlib.Core.List.{List}
+use Prim.Native.Nat.{ℕ}
+use native.Mathlib.Omega.{arith}
+use lib.Dec.{leb, ltb, leb·zero}
+use lib.IntN.{ℤ, pos, negsuc}
+use lib.Signed.{leZ, ltZ}
+use borrow.Author.Tests.{le-ltb}
+use Rattle.stream.specs.Machine.{emits}
+use Rattle.stream.specs.Slice.{sift, until, within}
+use Rattle.stream.specs.Words.{wordsOf}
+use Rattle.evt.specs.declared.SensorSize.the-variants.{Known}
+use Rattle.evt.specs.declared.codec.Codec.{Codec}
+use Rattle.evt.specs.declared.codec.Codec.the-variants.{Evt2, Evt3}
+use Rattle.evt.specs.Evt2.{reader2}
+use Rattle.evt.specs.Evt3.{reader3}
+use Rattle.sensor.specs.Inside.{inside, clock}
+use Rattle.encode.specs.Columns.{natural}
+use Rattle.window.specs.declared.Window.{Window}
+use Rattle.select.specs.Uses.{isTimely, untilOver}
+use Rattle.read.specs.Read.{kept}
+use Rattle.slice.specs.Slice.{isDuring, isAt, eventsUntil}
+
+from-natural : (z : ℤ) (t : ℕ) → leZ z (pos t) ≡ leb (natural z) t
+from-natural (pos n) t = refl
+from-natural (negsuc n) t = sym (leb·zero t)
+
+before-natural : (z : ℤ) (t : ℕ) → ltZ (pos t) z ≡ ltb t (natural z)
+before-natural (pos n) t = refl
+before-natural (negsuc n) t = sym (le-ltb t 0 (omega arith))
+
+pub during-natural : (t0 t1 : ℤ) → isDuring t0 t1 ≡ within clock (natural t0) (natural t1)
+during-natural t0 t1 = λ i e. from-natural t0 (e .t) i && before-natural t1 (e .t) i
+
+pub at-natural : (t1 : ℤ) → isAt t1 ≡ (λ started time. started && leb (natural t1) time)
+at-natural t1 = λ i started time. started && from-natural t1 time i
+
+-- the events of a slice by time, by the window of a pass: n0 and n1 are its numbers
+module _ (w h n0 n1 : ℕ) (t0 t1 : ℤ) where
+  abbrev pub timeWindow : Window
+  timeWindow = record { width = w; height = h; n0 = n0; n1 = n1; t0 = natural t0; t1 = natural t1 }
+
+  pub time-over : (c : Codec) (l : List ℕ) → sift (isDuring t0 t1) (kept (Known w h) (eventsUntil t1 c l)) ≡ sift (isTimely timeWindow) (untilOver timeWindow c l)
+  time-over (Evt2 d) l = λ i. sift (during-natural t0 t1 i) (sift (inside w h) (emits reader2 d (until reader2 (λ d. at-natural t1 i (d .initialised) (d .time)) d (wordsOf 4 l))))
+  time-over (Evt3 d) l = λ i. sift (during-natural t0 t1 i) (sift (inside w h) (emits reader3 d (until reader3 (λ d. at-natural t1 i (d .initialised) (d .time)) d (wordsOf 2 l))))

@@ -1,15 +1,24 @@
 // The library for C and for Rust programs that link it: structs of numbers in, structs of numbers
-// out, and lent buffers. No function has a `requires`; a buffer that isn't there, or two that overlap,
-// lie outside of any contract (include/prophesee_raw.h). specs/Options.antt says what the numbers of
-// an option mean, specs/Reading.antt which numbers are returned, specs/Writer.antt how a writer is held
-// in numbers, all over the definitions that the
-// library's own contracts cite.
+// out, and lent buffers. No exported function has a `requires`; a buffer that isn't there, or two that
+// overlap, lie outside of any contract (include/prophesee_raw.h). All is said over the definitions that
+// the library's own contracts cite: specs/Options.antt what the numbers of an option mean,
+// specs/Reading.antt, Opening.antt and Slicing.antt which numbers are returned, specs/Writer.antt and
+// Records.antt how a writer and the records of an index are held in numbers. specs/Laws.antt,
+// Making.antt and Lookup.antt are for the proofs.
+mod opening;
 mod options;
 mod reading;
+mod records;
 mod refusal;
+mod slices;
 mod writer;
 
+pub use opening::PropheseeOpenOptions;
+pub use opening::PropheseeOpening;
+pub use opening::PropheseeSource;
 pub use options::PropheseeOptions;
 pub use reading::PropheseeReading;
+pub use records::PropheseeRecord;
+pub use slices::PropheseeSlice;
 pub use writer::PropheseeAppended;
 pub use writer::PropheseeSink;

@@ -22,6 +22,12 @@ pub fn is_set(n: u8) -> bool
     n != 0
 }
 
+pub fn is_set_wide(n: u64) -> bool
+    ensures { λ r. ⌜ r ≡ flag n ⌝ }
+{
+    n != 0
+}
+
 pub fn size_of(sized: u8, width: usize, height: usize) -> SensorSize
     ensures { λ r. ⌜ r ≡ sizeOf sized width height ⌝ }
 {

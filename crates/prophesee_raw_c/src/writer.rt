@@ -100,7 +100,7 @@ fn sink_of(flat: PropheseeSink) -> RawEventSink
     }
 }
 
-fn bit_of(b: bool) -> u8
+pub fn bit_of(b: bool) -> u8
     ensures { λ r. ⌜ r ≡ bit b ⌝ }
 {
     if b { 1 } else { 0 }

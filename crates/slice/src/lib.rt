@@ -24,10 +24,10 @@ pub enum SliceAnswer {
 
 // What a slice asks for: how the records are judged, which of them it starts at, and which events
 // it hands over.
-struct Asked {
-    judging: Judging,
-    choice: Choice,
-    window: Window,
+pub struct Asked {
+    pub judging: Judging,
+    pub choice: Choice,
+    pub window: Window,
 }
 
 fn less(a: usize, b: usize) -> usize
@@ -60,7 +60,7 @@ fn first_judging(source: RawSliceSource, n: usize) -> Judging
 }
 
 // By number, the ends clamped to the total; n is how many records there are.
-fn by_number(source: RawSliceSource, n: usize, i0: usize, i1: usize) -> Asked
+pub fn by_number(source: RawSliceSource, n: usize, i0: usize, i1: usize) -> Asked
     ensures { λ r. ⌜ r ≡ askedByNumber source n i0 i1 ⌝ }
 {
     let first = less(i0, source.n_events);
@@ -87,7 +87,7 @@ fn by_number(source: RawSliceSource, n: usize, i0: usize, i1: usize) -> Asked
 }
 
 // By time: a negative bound acts as 0.
-fn by_time(source: RawSliceSource, n: usize, t0: i64, t1: i64) -> Asked
+pub fn by_time(source: RawSliceSource, n: usize, t0: i64, t1: i64) -> Asked
     ensures { λ r. ⌜ r ≡ askedByTime source n t0 t1 ⌝ }
 {
     let judging = first_judging(source, n);
@@ -190,7 +190,7 @@ fn deliver(
 
 // The slice from the record `start` on; `ok` tells whether the records are in range. `requires`:
 // that one of theirs can be started at.
-fn slice_from(
+pub fn slice_from(
     recording: &[u8],
     source: RawSliceSource,
     window: Window,

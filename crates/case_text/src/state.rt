@@ -40,7 +40,7 @@ fn number(fields: &[u8], k: usize, into: &mut [u64]) -> bool {
 }
 
 // As many numbers as `into` has places.
-fn numbers(fields: &[u8], into: &mut [u64]) -> bool {
+pub fn numbers(fields: &[u8], into: &mut [u64]) -> bool {
     let mut k = 0;
     while k < into.len() {
         if !number(fields, k, into) {

@@ -13,18 +13,33 @@ use case_text::show;
 use case_text::text;
 use libc::STDIN_FILENO;
 
-fn answer(case: &[u8]) {
-    let word = text::field(case, b' ', 1);
+enum Asked {
+    Open,
+    OpenWords,
+    Slice,
+    Unknown,
+}
+
+fn command(word: &[u8]) -> Asked {
     if text::is(word, b"open") {
-        return opening::raw(case);
+        return Asked::Open;
     }
     if text::is(word, b"openw") {
-        return opening::words(case);
+        return Asked::OpenWords;
     }
     if text::is(word, b"slice") {
-        return slicing::answer(case);
+        return Asked::Slice;
     }
-    show::text(b"badcase command");
+    Asked::Unknown
+}
+
+fn answer(case: &[u8]) {
+    match command(text::field(case, b' ', 1)) {
+        Asked::Open => opening::raw(case),
+        Asked::OpenWords => opening::words(case),
+        Asked::Slice => slicing::answer(case),
+        Asked::Unknown => show::text(b"badcase command"),
+    }
 }
 
 fn replay(case: &[u8]) {

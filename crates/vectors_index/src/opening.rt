@@ -29,35 +29,32 @@ enum Entry {
 
 // A case but for its bytes.
 struct Call {
-    entry: Entry,
     sensor_size: SensorSize,
     spacing: usize,
     room: usize,
 }
 
 fn open(c: Call, bytes: &[u8]) -> FixedIndex {
-    let entry = c.entry;
     let sensor_size = c.sensor_size;
-    let spacing = c.spacing;
+    let options = OpenOptions {
+        sensor_size,
+        spacing: c.spacing,
+    };
     let n = columns::at_most(c.room, 64);
     let marks = record::marks();
-    match entry {
-        Entry::Raw => {
-            let options = OpenOptions {
-                sensor_size,
-                spacing,
-            };
-            fixed_index::open_into(bytes, options, marks, n)
-        }
-        Entry::Words(encoding) => {
-            let options = WordsOptions {
-                encoding,
-                sensor_size,
-                spacing,
-            };
-            fixed_index::open_words_into(bytes, options, marks, n)
-        }
-    }
+    fixed_index::open_into(bytes, options, marks, n)
+}
+
+fn open_words(c: Call, encoding: Encoding, bytes: &[u8]) -> FixedIndex {
+    let sensor_size = c.sensor_size;
+    let options = WordsOptions {
+        encoding,
+        sensor_size,
+        spacing: c.spacing,
+    };
+    let n = columns::at_most(c.room, 64);
+    let marks = record::marks();
+    fixed_index::open_words_into(bytes, options, marks, n)
 }
 
 fn show_answer(made: FixedIndex) {
@@ -81,10 +78,17 @@ fn show_answer(made: FixedIndex) {
     }
 }
 
-fn with_bytes(c: Call, s: &[u8]) {
+fn run(entry: Entry, c: Call, bytes: &[u8]) {
+    match entry {
+        Entry::Raw => show_answer(open(c, bytes)),
+        Entry::Words(encoding) => show_answer(open_words(c, encoding, bytes)),
+    }
+}
+
+fn with_bytes(entry: Entry, c: Call, s: &[u8]) {
     let mut buffer = given::buffer();
     match given::read(s, &mut buffer) {
-        Bytes::Count(n) => show_answer(open(c, text::part(&buffer, 0, n))),
+        Bytes::Count(n) => run(entry, c, text::part(&buffer, 0, n)),
         Bytes::Bad => show::text(b"badcase bytes"),
     }
 }
@@ -102,12 +106,11 @@ fn with_entry(case: &[u8], entry: Entry, at: usize) {
         return show::text(b"badcase room");
     };
     let c = Call {
-        entry,
         sensor_size,
         spacing: spacing as usize,
         room: room as usize,
     };
-    with_bytes(c, text::field(rest, b' ', 3));
+    with_bytes(entry, c, text::field(rest, b' ', 3));
 }
 
 pub fn raw(case: &[u8]) {

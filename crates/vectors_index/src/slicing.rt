@@ -39,16 +39,17 @@ enum Asked {
 }
 
 fn dispatch(
+    c: Call,
     query: Query,
-    source: RawSliceSource,
-    records: [Checkpoint; 64],
-    n: usize,
     bytes: &[u8],
     xs: &mut [u16],
     ys: &mut [u16],
     ts: &mut [i64],
     ps: &mut [u8],
 ) -> SliceAnswer {
+    let source = c.source;
+    let records = c.records;
+    let n = c.n;
     match query {
         Query::Time(t0, t1) => {
             fixed_index::slice_time(
@@ -91,19 +92,14 @@ fn lend(
     ts: &mut [i64],
     ps: &mut [u8],
 ) -> SliceAnswer {
-    let source = c.source;
-    let records = c.records;
-    let n = c.n;
     let room = c.room;
     let x = columns::at_most(room.x, xs.len());
     let y = columns::at_most(room.y, ys.len());
     let t = columns::at_most(room.t, ts.len());
     let p = columns::at_most(room.p, ps.len());
     dispatch(
+        c,
         query,
-        source,
-        records,
-        n,
         bytes,
         &mut xs[..x],
         &mut ys[..y],

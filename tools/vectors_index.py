@@ -448,6 +448,23 @@ def altered():
         yield case(Index((enc, 4, 0, len(words2), 64, 48, 5), [(0, 0, 0, leave)]), some, words2)
 
 
+def backward():
+    """Times that step back: a time slice may depend on the checkpoint, as in the Rust. Of the first words that is written here."""
+    for enc, window, found in (3, ('t', 4101, 4102), 'ok 1 : 4101,1,0,0'), (2, ('t', 64, 65), 'ok 1 : 64,1,1,1'):
+        data = joined(enc, BACK[enc])
+        for spacing in 4, 8, 65536, 4194304:
+            yield Slices('iback', index_of(enc, data, ALL, spacing, False), data, [window, ('n', 0, 1)], expect=[found if spacing == 4 or (enc, spacing) == (2, 8) else 'ok 0 :', 'ok 1 :'])
+    lists = {3: [[0x8002, 0x2001, 0x8001, 0x6005, 0x2002, 0x8003, 0x2003, 0x6FFF, 0x6001, 0x2004, 0x8001, 0x2005], [0x8005, 0x6064, 0x2001, 0x6005, 0x2002, 0x6003, 0x2003, 0x6FFF, 0x2004, 0x8004, 0x2005, 0x8006]],
+             2: [[0x80000003, 0x10400801, 0x80000001, 0x10000802, 0x1FC00803, 0x80000002, 0x10400804, 0x10000805, 0x80000003, 0x10000806], [0x80000009, 0x80000003, 0x1FC00801, 0x10000802, 0x10400803, 0x80000002, 0x1FC00804, 0x80000004]]}
+    for enc in 2, 3:
+        for words_, spacing in itertools.product(lists[enc], (4, 8, 12, 65536)):
+            data = joined(enc, words_)
+            index = index_of(enc, data, ALL, spacing, False)
+            times = sorted({t + d for t in [r[2] for r in index.records] + [r[3][3] for r in index.records] for d in (0, 1)})
+            windows = [('t', a, b) for a, b in itertools.product(times, times) if a < b]
+            yield Slices('iback', index, data, windows[::max(1, len(windows) // 24)])
+
+
 def percent():
     """Words that begin with `%`: no byte of theirs is header."""
     for enc, firsts in (2, [0x80000025, 0x80000A25]), (3, [0x8025, 0x0A25, 0x2025]):
@@ -521,5 +538,5 @@ def drawn():
 
 def cases(oracle):
     ORACLE.path = oracle
-    for part in table, order, spacings, recordings, cuts, ranges, altered, percent, longs, drawn:
+    for part in table, order, spacings, recordings, cuts, ranges, altered, backward, percent, longs, drawn:
         yield from part()

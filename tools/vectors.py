@@ -1,14 +1,14 @@
 #!/usr/bin/env python3
-"""vectors.py ORACLE: makes crates/vectors/stdin and crates/vectors/stdout anew.
+"""vectors.py ORACLE [PROGRAM]: makes stdin and stdout of crates/vectors and crates/vectors_index anew, or those of one.
 
-ORACLE is the program built from the Rust original (docs/VECTORS.md). The cases are made here, always the same ones.
+ORACLE is the program built from the Rust original (docs/VECTORS.md). The cases are made here and in vectors_index.py, always the same ones.
 An expected answer is the oracle's, except where the table of refusals has a number that the Rust lacks.
-A layer of the library is a function that yields cases; LAYERS at the end lists them.
+A layer of the library is a function that yields cases; LAYERS at the end lists those of crates/vectors.
 """
 import itertools, random, subprocess, sys
 from pathlib import Path
 
-HERE = Path(__file__).resolve().parent.parent / 'crates' / 'vectors'
+CRATES = Path(__file__).resolve().parent.parent / 'crates'
 
 
 class Case:
@@ -900,24 +900,27 @@ def writing():
 LAYERS = [decoding, reading, writing]
 
 
+LOST = 'err io No_such_file'
+
+
 def answers_of(oracle, cases):
-    """The oracle's answers to what the cases ask, in order."""
-    lines = [f'{i} {a}\n' for i, c in enumerate(cases) for a in c.asked]
-    out = subprocess.run([oracle], input=''.join(lines), capture_output=True, text=True, check=True).stdout.splitlines()
-    assert len(out) == len(lines), 'the oracle left lines out'
+    """The oracle's answers to what the cases ask, in order. With many recordings it may lose a file between two of one line: such lines are asked anew."""
+    lines = [f'{i} {a}' for i, c in enumerate(cases) for a in c.asked]
+    told = {}
+    while left := [line for line in dict.fromkeys(lines) if line not in told]:
+        out = subprocess.run([oracle], input='\n'.join(left) + '\n', capture_output=True, text=True, check=True).stdout.splitlines()
+        assert len(out) == len(left), 'the oracle left lines out'
+        told.update((line, answer.split(' ', 1)[1]) for line, answer in zip(left, out) if LOST not in answer)
     found = [[] for _ in cases]
-    for line in out:
-        i, answer = line.split(' ', 1)
-        assert answer.split()[0] not in ('badcase', 'panic', 'MISMATCH'), line
-        found[int(i)].append(answer)
+    for line in lines:
+        assert told[line].split()[0] not in ('badcase', 'panic', 'MISMATCH'), (line, told[line])
+        found[int(line.split(' ', 1)[0])].append(told[line])
     return found
 
 
-def main():
-    if len(sys.argv) != 2:
-        sys.exit(__doc__)
-    cases = [c for layer in LAYERS for c in layer()]
-    told = [c.judge(a) for c, a in zip(cases, answers_of(sys.argv[1], cases))]
+def write(program, oracle, cases):
+    """A program's cases and their expected answers; the same case once."""
+    told = [c.judge(a) for c, a in zip(cases, answers_of(oracle, cases))]
     count, seen, read, written = {}, set(), [], []
     for c, answer in zip(cases, told):
         if c.words in seen:
@@ -926,11 +929,22 @@ def main():
         count[c.group] = count.get(c.group, 0) + 1
         read.append(f'{c.group}.{count[c.group]} {c.words}\n')
         written.append(f'{c.group}.{count[c.group]} {answer}\n')
-    (HERE / 'stdin').write_text(''.join(read))
-    (HERE / 'stdout').write_text(''.join(written))
+    (CRATES / program / 'stdin').write_text(''.join(read))
+    (CRATES / program / 'stdout').write_text(''.join(written))
     refused = sum(' refused ' in w for w in written)
-    print(f'{len(read)} cases, {refused} of them refused, {sum(map(len, read))} and {sum(map(len, written))} bytes')
+    print(f'{program}: {len(read)} cases, {refused} of them refused, {sum(map(len, read))} and {sum(map(len, written))} bytes')
     print(', '.join(f'{g} {n}' for g, n in count.items()))
+
+
+def main():
+    import vectors_index
+    if len(sys.argv) not in (2, 3):
+        sys.exit(__doc__)
+    oracle, programs = sys.argv[1], sys.argv[2:] or ['vectors', 'vectors_index']
+    if 'vectors' in programs:
+        write('vectors', oracle, [c for layer in LAYERS for c in layer()])
+    if 'vectors_index' in programs:
+        write('vectors_index', oracle, list(vectors_index.cases(oracle)))
 
 
 if __name__ == '__main__':

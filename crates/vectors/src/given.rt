@@ -1,9 +1,9 @@
 // Columns that a case gives: numbers with commas between them, none for an empty column. They go to
 // the front of the lent array.
-use crate::text;
-use crate::text::Bytes;
-use crate::text::Number;
-use crate::text::Signed;
+use case_text::text;
+use case_text::text::Bytes;
+use case_text::text::Number;
+use case_text::text::Signed;
 
 // A number at place k; whether it is one and finds room.
 fn put_short(s: &[u8], k: usize, into: &mut [u16]) -> bool {

@@ -1,10 +1,10 @@
 // `ID hdr SIZE HEX`: `header::parse_header`. Answers `ok EVT3 BODYSTART WxH`, `-` for no size, or
 // `refused N`.
-use crate::options;
-use crate::options::Size;
-use crate::show;
-use crate::text;
-use crate::text::Bytes;
+use case_text::options;
+use case_text::options::Size;
+use case_text::show;
+use case_text::text;
+use case_text::text::Bytes;
 use evt::SensorSize;
 use header::Header;
 use header::HeaderAnswer;

@@ -1,21 +1,16 @@
 // Replays cases: a case on each line of standard input, an answer line for each on standard output.
 // A case is `ID COMMAND WORDS`, its answer `ID` and what the command answers. docs/VECTORS.md says
 // where the cases and the expected answers come from. A command has a module of its own.
-ghost use mathlib.Core.Path.{_≡_};
-ghost use lib.ListN.{length};
-
-mod columns;
 mod given;
 mod hdr;
-mod options;
 mod reading;
-mod show;
-mod state;
 mod step;
-mod text;
 mod write;
 mod writer;
 
+use case_text::room;
+use case_text::show;
+use case_text::text;
 use libc::STDIN_FILENO;
 
 enum Asked {
@@ -89,13 +84,6 @@ fn lines(cases: &[u8]) {
         }
         at = next;
     }
-}
-
-// Room for all cases. The `ensures` keeps the array itself out of `main`'s proof.
-fn room() -> [u8; 1048576]
-    ensures { λ r. ⌜ 1048576 ≡ length r ⌝ }
-{
-    [0; 1048576]
 }
 
 fn main() {

@@ -2,16 +2,16 @@
 // `ID words ENC SIZE LIMIT ROOM HEX`: `read::decode_words`.
 // Both answer `ok EVT3 W H N : events` or `refused N`, with the count that 5 tells; and ` dirty`
 // behind it if an entry behind the events changed, or any one by a refused call.
-use crate::columns;
-use crate::options;
-use crate::options::Most;
-use crate::options::Room;
-use crate::options::Rooms;
-use crate::options::Size;
-use crate::options::Version;
-use crate::show;
-use crate::text;
-use crate::text::Bytes;
+use case_text::columns;
+use case_text::options;
+use case_text::options::Most;
+use case_text::options::Room;
+use case_text::options::Rooms;
+use case_text::options::Size;
+use case_text::options::Version;
+use case_text::show;
+use case_text::text;
+use case_text::text::Bytes;
 use evt::Encoding;
 use read::LoadOptions;
 use read::ReadAnswer;

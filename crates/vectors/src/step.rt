@@ -1,11 +1,11 @@
 // `ID step STATE HEX`: every whole word of the bytes, one after another, each by `Codec::step`.
 // `ID word STATE HEX`: one `Codec::step` over all the bytes, which takes the first word alone.
 // Both answer `ok STATE N : events`, or `refused 10` as soon as a step is refused.
-use crate::show;
-use crate::state;
-use crate::state::State;
-use crate::text;
-use crate::text::Bytes;
+use case_text::show;
+use case_text::state;
+use case_text::state::State;
+use case_text::text;
+use case_text::text::Bytes;
 use evt::Codec;
 use evt::DecodeAnswer;
 use evt::EventVector;

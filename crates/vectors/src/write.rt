@@ -2,16 +2,16 @@
 // APPEND is `WxH:ROOM:XS:YS:TS:PS`, ROOM the length of the output. Answers `ok` and for each append
 // ` | HEX SINK`, `-` for no bytes, or ` | refused N SINK`, with the count that 11 tells; and ` dirty`
 // behind it if a byte behind those handed over changed, or any one by a refused call.
-use crate::columns;
 use crate::given;
-use crate::options;
-use crate::options::Size;
-use crate::show;
-use crate::text;
-use crate::text::Bytes;
-use crate::text::Number;
 use crate::writer;
 use crate::writer::Writer;
+use case_text::columns;
+use case_text::options;
+use case_text::options::Size;
+use case_text::show;
+use case_text::text;
+use case_text::text::Bytes;
+use case_text::text::Number;
 use evt::SensorSize;
 use sink::AppendAnswer;
 use sink::Appended;

@@ -1,11 +1,11 @@
 // A writer as text: `3:sent,count,last,high,low,row`, with 1 for a header that was sent and `-` for
 // nothing; or `3n`, a fresh one, or `3h`, a fresh one that sends a header. EVT2 has 2 for 3.
-use crate::options;
-use crate::options::Version;
-use crate::show;
-use crate::text;
-use crate::text::Number;
-use crate::text::Signed;
+use case_text::options;
+use case_text::options::Version;
+use case_text::show;
+use case_text::text;
+use case_text::text::Number;
+use case_text::text::Signed;
 use encode::EncoderState;
 use evt::Encoding;
 use evt::Sent;

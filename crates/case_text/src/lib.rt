@@ -1,0 +1,18 @@
+// What the programs that replay cases share: reading a case's text and printing its answer.
+// docs/VECTORS.md says what a case is. Every function is proved safe and to end; those that make
+// room for a call say how long it is.
+ghost use mathlib.Core.Path.{_≡_};
+ghost use lib.ListN.{length};
+
+pub mod columns;
+pub mod options;
+pub mod show;
+pub mod state;
+pub mod text;
+
+// Room for all cases. The `ensures` keeps the array itself out of its callers' proofs.
+pub fn room() -> [u8; 1048576]
+    ensures { λ r. ⌜ 1048576 ≡ length r ⌝ }
+{
+    [0; 1048576]
+}

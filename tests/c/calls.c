@@ -67,6 +67,108 @@ static void reading(void)
     print_reading("decode_evt3, 0x5", prophesee_decode_evt3(evt3, sizeof evt3, zero, xs, ROOM, ys, ROOM, ts, ROOM, ps, ROOM));
 }
 
+static void print_opening(const char *what, prophesee_opening o)
+{
+    printf("%s: refusal %u told %zu encoding %u records %zu spacing %zu from %zu of %zu size %zux%zu events %zu\n", what, o.refusal, o.told, o.encoding,
+           o.records, o.source.spacing, o.source.data_offset, o.source.len, o.source.width, o.source.height, o.source.n_events);
+}
+
+static void print_record(prophesee_record r)
+{
+    printf("  at %llu: %llu before, time %llu; decoder %llu %llu %llu %llu %llu %llu %llu\n", (unsigned long long)r.byte_offset, (unsigned long long)r.event_index,
+           (unsigned long long)r.time, (unsigned long long)r.initialised, (unsigned long long)r.time_base, (unsigned long long)r.decoder_time,
+           (unsigned long long)r.high_loops, (unsigned long long)r.y, (unsigned long long)r.base_x, (unsigned long long)r.polarity);
+}
+
+static void print_slice(const char *what, prophesee_slice s)
+{
+    printf("%s: refusal %u told %zu count %zu\n", what, s.refusal, s.told, s.count);
+    print_events(s.count);
+}
+
+static void slices(void)
+{
+    const prophesee_open_options four = {.sized = 0, .spacing = 4};
+    const prophesee_open_options six = {.sized = 0, .spacing = 6};
+    uint8_t recording[sizeof header - 1 + sizeof evt3];
+    prophesee_record records[4];
+    memcpy(recording, header, sizeof header - 1);
+    memcpy(recording + sizeof header - 1, evt3, sizeof evt3);
+    memset(records, 0xee, sizeof records);
+
+    print_opening("open, spacing 6", prophesee_open(recording, sizeof recording, (uint64_t *)records, 4 * PROPHESEE_ENTRIES, six));
+    print_opening("open, 29 entries", prophesee_open(recording, sizeof recording, (uint64_t *)records, 29, four));
+    printf("  records: %s\n", records[0].byte_offset == 0xeeeeeeeeeeeeeeee ? "untouched" : "altered");
+    prophesee_opening o = prophesee_open(recording, sizeof recording, (uint64_t *)records, 4 * PROPHESEE_ENTRIES, four);
+    print_opening("open", o);
+    for (size_t i = 0; i < o.records; i++)
+        print_record(records[i]);
+    printf("  behind: %s\n", records[o.records].byte_offset == 0xeeeeeeeeeeeeeeee ? "untouched" : "altered");
+
+    const uint64_t *lent = (const uint64_t *)records;
+    const size_t n = o.records * PROPHESEE_ENTRIES;
+    clear();
+    print_slice("slice_index 1..9", prophesee_slice_index_evt3(recording, sizeof recording, o.source, lent, n, 1, 9, xs, ROOM, ys, ROOM, ts, ROOM, ps, ROOM));
+    clear();
+    print_slice("slice_time 4097..4098", prophesee_slice_time_evt3(recording, sizeof recording, o.source, lent, n, 4097, 4098, xs, ROOM, ys, ROOM, ts, ROOM, ps, ROOM));
+    clear();
+    print_slice("slice_time -5..4097", prophesee_slice_time_evt3(recording, sizeof recording, o.source, lent, n, -5, 4097, xs, ROOM, ys, ROOM, ts, ROOM, ps, ROOM));
+    print_slice("slice_index, a column of 1", prophesee_slice_index_evt3(recording, sizeof recording, o.source, lent, n, 0, 9, xs, ROOM, ys, 1, ts, ROOM, ps, ROOM));
+    print_slice("slice_index of EVT2", prophesee_slice_index_evt2(recording, sizeof recording, o.source, lent, n, 0, 9, xs, ROOM, ys, ROOM, ts, ROOM, ps, ROOM));
+    print_slice("slice_index, no record", prophesee_slice_index_evt3(recording, sizeof recording, o.source, lent, 9, 0, 9, xs, ROOM, ys, ROOM, ts, ROOM, ps, ROOM));
+    records[2].y = 2048;
+    print_slice("slice_index, row 2048", prophesee_slice_index_evt3(recording, sizeof recording, o.source, lent, n, 0, 9, xs, ROOM, ys, ROOM, ts, ROOM, ps, ROOM));
+    records[2].y = 7;
+    records[2].time = UINT64_MAX;
+    print_slice("slice_time, a negative time", prophesee_slice_time_evt3(recording, sizeof recording, o.source, lent, n, 0, 9, xs, ROOM, ys, ROOM, ts, ROOM, ps, ROOM));
+
+    prophesee_opening w = prophesee_open_evt2(evt2, sizeof evt2, (uint64_t *)records, 2 * PROPHESEE_ENTRIES, four);
+    print_opening("open_evt2", w);
+    for (size_t i = 0; i < w.records; i++)
+        print_record(records[i]);
+    clear();
+    print_slice("slice_index", prophesee_slice_index_evt2(evt2, sizeof evt2, w.source, lent, w.records * PROPHESEE_ENTRIES, 0, 1, xs, ROOM, ys, ROOM, ts, ROOM, ps, ROOM));
+    clear();
+    print_slice("slice_time", prophesee_slice_time_evt2(evt2, sizeof evt2, w.source, lent, w.records * PROPHESEE_ENTRIES, 100, 101, xs, ROOM, ys, ROOM, ts, ROOM, ps, ROOM));
+    print_opening("open_evt3", prophesee_open_evt3(evt3, sizeof evt3, (uint64_t *)records, 4 * PROPHESEE_ENTRIES, four));
+}
+
+static uint8_t output[256];
+
+static prophesee_sink print_appended(const char *what, prophesee_appended a)
+{
+    printf("%s: refusal %u told %zu written %zu\n  bytes:", what, a.refusal, a.told, a.written);
+    for (size_t i = 0; i < a.written; i++)
+        if (output[i] >= 32 && output[i] < 127)
+            printf(" %c", output[i]);
+        else
+            printf(" %02x", output[i]);
+    prophesee_sink s = a.sink;
+    printf("\n  sink: %u events %zu header %u last %u %lld high %u %llu low %u %llu row %u %llu\n", s.evt3 + 2u, s.n_events, s.header_written, s.has_last_t,
+           (long long)s.last_t, s.has_time_high, (unsigned long long)s.time_high, s.has_time_low, (unsigned long long)s.time_low, s.has_y, (unsigned long long)s.y);
+    return s;
+}
+
+static void writing(void)
+{
+    const uint16_t cx[] = {10, 11, 13}, cy[] = {7, 7, 7}, far[] = {2048};
+    const int64_t ct[] = {4097, 4097, 4097}, early[] = {4096}, late[] = {4098};
+    const uint8_t cp[] = {0, 0, 0}, one[] = {1};
+
+    prophesee_sink s = prophesee_writer_evt3(1);
+    print_appended("append, 3 bytes", prophesee_append(s, 64, 48, cx, 3, cy, 3, ct, 3, cp, 3, output, 3));
+    s = print_appended("append", prophesee_append(s, 64, 48, cx, 3, cy, 3, ct, 3, cp, 3, output, sizeof output));
+    print_appended("append, a time that falls", prophesee_append(s, 64, 48, cx, 1, cy, 1, early, 1, cp, 1, output, sizeof output));
+    print_appended("append, x 2048", prophesee_append(s, 64, 48, far, 1, cy, 1, late, 1, cp, 1, output, sizeof output));
+    print_appended("append, columns of 2 and 1", prophesee_append(s, 64, 48, cx, 2, cy, 1, late, 1, cp, 1, output, sizeof output));
+    s = print_appended("append", prophesee_append(s, 64, 48, cx, 1, cy, 1, late, 1, one, 1, output, sizeof output));
+    s.y = 2048;
+    print_appended("append, row 2048", prophesee_append(s, 64, 48, cx, 1, cy, 1, late, 1, one, 1, output, sizeof output));
+    s = prophesee_writer_evt2(0);
+    print_appended("append, EVT2", prophesee_append(s, 64, 48, cx, 1, cy, 1, early, 1, one, 1, output, sizeof output));
+    print_appended("append, nothing", prophesee_append(s, 64, 48, cx, 0, cy, 0, early, 0, one, 0, output, sizeof output));
+}
+
 /* Refusal 4: one byte over 2^30, and not at 2^30. */
 static void longest(void)
 {
@@ -95,6 +197,8 @@ static void longest(void)
 int main(void)
 {
     reading();
+    slices();
+    writing();
     clear();
     longest();
     return 0;

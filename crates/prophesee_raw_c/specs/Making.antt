@@ -221,8 +221,10 @@ body-count l start e size spacing room = go (Index.spacingOk e spacing) (ltb roo
   where
     need : ℕ
     need = Index.recordCount (length (drop start l)) spacing
+
     es : List Event
     es = Index.keptEvents size e (drop start l)
+
     go : (a b c : Bool)
         → length (cond a (cond b [] (cond c [] (firsts (Index.recordAt size e start spacing (drop start l)) need))) [])
         ≡ cond a (cond b (idle (TooFewRecords need)) (cond c (idle InvalidSensorSize) (buildJob (length l) start e size spacing need es))) (idle InvalidSpacing) .cap

@@ -126,7 +126,15 @@ pub extern "C" fn prophesee_decode_evt2(
 ) -> PropheseeReading
     ensures { λ r. ⌜ DecodesWords (now (words .entry)) Evt2 options r (now (xs .entry)) (now (ys .entry)) (now (ts .entry)) (now (ps .entry)) (now (xs .exit)) (now (ys .exit)) (now (ts .exit)) (now (ps .exit)) ⌝ }
 {
-    decode(words, Encoding::Evt2, options, &mut *xs, &mut *ys, &mut *ts, &mut *ps)
+    decode(
+        words,
+        Encoding::Evt2,
+        options,
+        &mut *xs,
+        &mut *ys,
+        &mut *ts,
+        &mut *ps,
+    )
 }
 
 #[no_mangle]
@@ -140,5 +148,13 @@ pub extern "C" fn prophesee_decode_evt3(
 ) -> PropheseeReading
     ensures { λ r. ⌜ DecodesWords (now (words .entry)) Evt3 options r (now (xs .entry)) (now (ys .entry)) (now (ts .entry)) (now (ps .entry)) (now (xs .exit)) (now (ys .exit)) (now (ts .exit)) (now (ps .exit)) ⌝ }
 {
-    decode(words, Encoding::Evt3, options, &mut *xs, &mut *ys, &mut *ts, &mut *ps)
+    decode(
+        words,
+        Encoding::Evt3,
+        options,
+        &mut *xs,
+        &mut *ys,
+        &mut *ts,
+        &mut *ps,
+    )
 }

@@ -119,7 +119,7 @@ version-back : (e : Encoding) → versionOf (evt3Of e) ≡ e
 version-back Evt2 = refl
 version-back Evt3 = refl
 
-bit-back : (b : Bool) → flag (bit b) ≡ b
+pub bit-back : (b : Bool) → flag (bit b) ≡ b
 bit-back true = refl
 bit-back false = refl
 

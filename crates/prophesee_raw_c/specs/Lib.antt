@@ -9,3 +9,4 @@ pub mod Entries
 pub mod Lookup
 pub mod Making
 pub mod Laws
+pub mod Back

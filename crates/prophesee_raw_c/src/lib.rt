@@ -3,8 +3,9 @@
 // overlap, lie outside of any contract (include/prophesee_raw.h). All is said over the definitions that
 // the library's own contracts cite: specs/Options.antt what the numbers of an option mean,
 // specs/Reading.antt, Opening.antt and Slicing.antt which numbers are returned, specs/Writer.antt and
-// Records.antt how a writer and the records of an index are held in numbers. specs/Laws.antt,
-// Making.antt and Lookup.antt are for the proofs.
+// Records.antt how a writer and the records of an index are held in numbers. specs/Entries.antt, Laws.antt,
+// Making.antt and Lookup.antt are for the proofs; specs/Laws.antt (`sink-back`) and Back.antt
+// (`records-back`) have that nothing is lost between numbers and the library's own structs.
 mod opening;
 mod options;
 mod reading;

@@ -178,7 +178,7 @@ fn shortfall(
 }
 
 // Appends events. A refusal returns the sink as it was, and leaves the output alone.
-pub(crate) fn append(
+pub fn append(
     sink: RawEventSink,
     width: usize,
     height: usize,

@@ -1,0 +1,97 @@
+// Comparing what was read with the given events.
+ghost use mathlib.Core.Path.{_≡_};
+ghost use mathlib.Core.Bool.{true};
+ghost use Prim.Native.Nat.{_-_, _≤_};
+ghost use lib.ListN.{length, take, drop};
+use crate::given;
+
+// What a call handed over: the number of its refusal (0 if there was none), the count, the columns.
+pub struct Got {
+    pub refused: u64,
+    pub count: usize,
+    pub xs: [u16; 16],
+    pub ys: [u16; 16],
+    pub ts: [i64; 16],
+    pub ps: [u8; 16],
+}
+
+fn same_shorts(a: &[u16], b: &[u16]) -> bool
+    ensures { λ r. ⌜ (r ≡ true → now (a .entry) ≡ now (b .entry)) × (now (a .entry) ≡ now (b .entry) → r ≡ true) ⌝ }
+{
+    if a.len() != b.len() {
+        return false;
+    }
+    let mut i = 0;
+    while i < a.len() {
+        if a[i] != b[i] {
+            return false;
+        }
+        i += 1;
+    }
+    true
+}
+
+fn same_longs(a: &[i64], b: &[i64]) -> bool
+    ensures { λ r. ⌜ (r ≡ true → now (a .entry) ≡ now (b .entry)) × (now (a .entry) ≡ now (b .entry) → r ≡ true) ⌝ }
+{
+    if a.len() != b.len() {
+        return false;
+    }
+    let mut i = 0;
+    while i < a.len() {
+        if a[i] != b[i] {
+            return false;
+        }
+        i += 1;
+    }
+    true
+}
+
+// How what was got differs from what was asked for.
+pub enum Difference {
+    Nothing,
+    Refusal(u64),
+    Count(usize),
+    Column(u8),
+}
+
+// Whether the first n entries of each column are the given ones from number `from` on.
+fn columns_differ(got: Got, from: usize, to: usize) -> Difference
+    requires { ⌜ (from ≤ to) × (to ≤ 16) ⌝ }
+{
+    let n = to - from;
+    let xs = got.xs;
+    let ys = got.ys;
+    let ts = got.ts;
+    let ps = got.ps;
+    let given_xs = given::columns();
+    let given_ys = given::rows();
+    let given_ts = given::times();
+    let given_ps = given::polarities();
+    if same_shorts(&xs[..n], &given_xs[from..to]) {} else {
+        return Difference::Column(b'x');
+    }
+    if same_shorts(&ys[..n], &given_ys[from..to]) {} else {
+        return Difference::Column(b'y');
+    }
+    if same_longs(&ts[..n], &given_ts[from..to]) {} else {
+        return Difference::Column(b't');
+    }
+    if check::same(&ps[..n], &given_ps[from..to]) {} else {
+        return Difference::Column(b'p');
+    }
+    Difference::Nothing
+}
+
+// How they differ from the given events from number `from` on, up to `to`.
+pub fn judge(got: Got, from: usize, to: usize) -> Difference
+    requires { ⌜ (from ≤ to) × (to ≤ 16) ⌝ }
+{
+    if got.refused != 0 {
+        return Difference::Refusal(got.refused);
+    }
+    if got.count != to - from {
+        return Difference::Count(got.count);
+    }
+    columns_differ(got, from, to)
+}

@@ -578,7 +578,326 @@ def reading():
         yield from part()
 
 
-LAYERS = [decoding, reading]
+# ---- the writer: `write SINK APPEND ..`
+
+OUTPUT = 4096       # the bytes of the program's output
+BOUND, MOST = {2: 2**34, 3: 2**24}, 2**62
+NEW = {2: '2:1,0,-,-,-,-', 3: '3:1,0,-,-,-,-'}
+SIZED = (64, 48)
+
+
+class Append:
+    """Columns of one append, and the output lent to it: `room` bytes, or what is needed plus `more`, which may be negative.
+    `short` says that a given room is too short; the oracle's bytes have to agree."""
+    def __init__(self, events=(), more=0, room=None, short=False, size=SIZED, columns=None):
+        self.columns = columns or tuple([e[k] for e in events] for k in (1, 2, 0, 3))
+        self.more, self.room, self.size = more, room, size
+        self.short = short if room is not None else more < 0
+
+    def text(self, need):
+        room = need + self.more if self.room is None else self.room
+        assert 0 <= room <= OUTPUT
+        return f'{shown(self.size)}:{room}:' + ':'.join(','.join(map(str, c)) for c in self.columns)
+
+    def asked(self):
+        return f'{shown(self.size)}:' + '/'.join(f'{t},{x},{y},{min(p, 1)}' for x, y, t, p in zip(*self.columns))
+
+
+def fields(sink):
+    """Encoding, header sent, count, last time, high half, low half, row."""
+    return int(sink[0]), *(None if f == '-' else int(f) for f in sink[2:].split(','))
+
+
+def writer_in_range(sink):
+    """Document 01, 'Out of range (10)', for a writer."""
+    enc, sent, count, last, high, low, row = fields(sink)
+    if last is None:
+        return (count, high, low, row) == (0, None, None, None)
+    if not (0 <= last < BOUND[enc] and count <= MOST and high in (None, last // GRAIN[enc])):
+        return False
+    return low in (None, last % 4096) and (row is None or row <= 2047) if enc == 3 else (low, row) == (None, None)
+
+
+def number_of(enc, usable, last, a):
+    """The table's number for an append but 11, in its order (4 can't be had), or 0."""
+    xs, ys, ts, ps = a.columns
+    if not usable:
+        return 10
+    if len({len(xs), len(ys), len(ts), len(ps)}) > 1:
+        return 12
+    if any(t < s for s, t in zip(([] if last is None else [last]) + ts, ts if last is not None else ts[1:])):
+        return 6
+    good = all(x <= 2047 for x in xs + ys) and all(p <= 1 for p in ps) and all(0 <= t < BOUND[enc] for t in ts)
+    return 0 if good else 7
+
+
+class Writing(Case):
+    """A list of appends to one writer. The Rust is asked for the list without the appends that the table alone refuses, which leave the writer as it was;
+    of those with falling times it has to say so too. What an output that is too short would have needed it is asked separately."""
+    def __init__(self, group, sink, appends, expect=()):
+        self.group, self.sink, self.appends, self.expect = group, sink, appends, expect
+        fresh = sink[1] != ':'
+        self.start = f'{sink[0]}:{int(sink[1] == "n")},0,-,-,-,-' if fresh else sink
+        enc, _, count, last, *_ = fields(self.start)
+        usable, kept, self.numbers, extra = writer_in_range(self.start), [], [], []
+        begin = f'write enc={enc} header={int(sink[1] == "h")}' + ('' if fresh else f' wstate={sink[2:]}') + ' a='
+        for a in appends:
+            n = number_of(enc, usable, last, a)
+            if n == 0 and a.short:
+                n = 11
+                extra.append(begin + ';'.join(b.asked() for b in kept + [a]))
+            elif n in (0, 6):
+                kept.append(a)
+            if n == 0 and a.columns[2]:
+                last, count = a.columns[2][-1], count + len(a.columns[2])
+                usable = count <= MOST
+            self.numbers.append(n)
+        self.asked = [begin + ';'.join(a.asked() for a in kept)] * bool(kept) + extra
+
+    def judge(self, answers):
+        parts = iter(answers[0].split(' = ')[0].split(' | ')[1:]) if any(n in (0, 6) for n in self.numbers) else None
+        extra = iter(answers[1:] if parts else answers)
+        sink, said, words = self.start, [], []
+        for a, n in zip(self.appends, self.numbers):
+            need = 0
+            if n == 0:
+                ok, told, state = next(parts).split()
+                need, sink = len(told) // 2, sink[:2] + state[1:-1]
+                assert ok == 'ok' and (a.room is None or need <= a.room)
+                said.append(f'{told} {sink}')
+            elif n == 6:
+                err, order, _, told, state = next(parts).split()
+                assert (err, order, told) == ('err', 'order', '-') and state[1:-1] == sink[2:]
+                said.append(f'refused 6 {sink}')
+            elif n == 11:
+                ok, told, _ = next(extra).split(' = ')[0].split(' | ')[-1].split()
+                need = len(told) // 2
+                assert ok == 'ok' and (a.room is None or a.room < need)
+                said.append(f'refused 11 {need} {sink}')
+            else:
+                said.append(f'refused {n} {sink}')
+            words.append(a.text(need if n in (0, 11) else max(-a.more, 0)))
+        self.words = ' '.join(['write', self.sink] + words)
+        for e, r in zip(self.expect, said):
+            assert e is None or (r + ' ').startswith(e + ' '), (self.words, e, r)
+        return ' | '.join(['ok'] + said)
+
+
+def hexed(enc, words):
+    return joined(enc, words).hex()
+
+
+def one_event(t, x=5, y=7, p=1):
+    return [(t, x, y, p)]
+
+
+def row_of(xs, t=4097, y=7, p=0):
+    return [(t, x, y, p) for x in xs]
+
+
+def writer_bench():
+    """Document 01's bench values of the writer, and the table's own examples but 4: its shortest case has 268,435,457 events."""
+    start = [0x8001, 0x6001, 0x0007]
+    for room in dict(more=0), dict(room=OUTPUT):
+        yield Writing('wbench', '2n', [Append(one_event(100), **room)], [hexed(2, [0x80000001, 0x19002807])])
+        yield Writing('wbench', '3n', [Append(one_event(4097), **room)], [hexed(3, start + [0x2805])])
+        yield Writing('wbench', '3n', [Append(row_of([10, 11, 13]), **room)], [hexed(3, start + [0x300A, 0x400B])])
+        yield Writing('wbench', '3n', [Append(row_of([10, 20, 21]), **room)], [hexed(3, start + [0x300A, 0x4C01])])
+        yield Writing('wbench', '3n', [Append(row_of([10, 20, 22]), **room)], [hexed(3, start + [0x200A, 0x2014, 0x2016])])
+    for enc in 2, 3:
+        yield Writing('wtable', f'{enc}n', [Append(one_event(5) + one_event(4))], ['refused 6'])
+        yield Writing('wtable', f'{enc}n', [Append(one_event(5, x=2048))], ['refused 7'])
+        yield Writing('wtable', f'{enc}n', [Append(one_event(4097), room=3, short=True)], ['refused 11 8'])
+        yield Writing('wtable', f'{enc}n', [Append(columns=([5, 6], [7], [5, 5], [1, 1]))], ['refused 12'])
+
+
+def writer_states():
+    """Rule 10 for writers, each condition by itself: the list says which are refused, by the table. 10 comes first, also before an empty append."""
+    top2, top3 = 2**34 - 1, 2**24 - 1
+    good = ['2:1,0,-,-,-,-', '2:0,0,-,-,-,-', '2:1,1,100,1,-,-', '2:1,0,100,1,-,-', '2:0,5,100,1,-,-', '2:1,1,100,-,-,-', f'2:1,1,{top2},{top2 // 64},-,-', '2:1,1,0,0,-,-', f'2:1,{MOST},100,1,-,-',
+            '3:1,0,-,-,-,-', '3:0,0,-,-,-,-', '3:1,1,4097,1,1,7', '3:1,0,4097,1,1,7', '3:0,9,4097,1,1,7', '3:1,1,4097,-,1,7', '3:1,1,4097,1,-,7', '3:1,1,4097,1,1,-', '3:1,1,4097,-,-,-',
+            f'3:1,1,{top3},4095,4095,2047', '3:1,1,0,0,0,0', '3:1,1,4096,1,0,2047', f'3:1,{MOST},4097,1,1,7', f'3:1,{MOST - 1},4097,1,1,7']
+    bad = ['2:1,1,100,0,-,-', '2:1,1,100,2,-,-', '2:1,1,100,100,-,-', f'2:1,1,100,{2**64 - 1},-,-', '2:1,1,64,0,-,-', '2:1,1,63,1,-,-', f'2:1,1,100,{2**28 + 1},-,-',
+           '2:1,1,100,1,36,-', '2:1,1,100,1,0,-', '2:1,1,100,-,36,-', '2:1,1,100,1,-,7', '2:1,1,100,1,-,0', '2:1,1,100,-,-,0',
+           f'2:1,1,{2**34},{2**28},-,-', f'2:1,1,{2**34},-,-,-', f'2:1,1,{2**63 - 1},-,-,-', '2:1,1,-1,-,-,-', '2:1,1,-1,0,-,-', f'2:1,1,{-2**63},-,-,-', '2:1,1,-64,-,-,-',
+           '2:1,0,-,0,-,-', '2:1,0,-,-,0,-', '2:1,0,-,-,-,0', '2:1,1,-,-,-,-', '2:0,1,-,-,-,-', '2:1,3,-,1,-,-', f'2:1,{2**64 - 1},-,-,-,-', f'2:1,{MOST + 1},100,1,-,-', f'2:1,{2**64 - 1},100,1,-,-',
+           '3:1,1,4097,0,1,7', '3:1,1,4097,2,1,7', '3:1,1,4097,4097,1,7', '3:1,1,4095,1,4095,7', '3:1,1,4096,0,0,7', f'3:1,1,4097,{2**64 - 1},1,7',
+           '3:1,1,4097,1,0,7', '3:1,1,4097,1,2,7', '3:1,1,4097,1,4097,7', '3:1,1,4097,-,0,7', f'3:1,1,4097,1,{2**64 - 1},7', '3:1,1,4096,1,4096,7',
+           '3:1,1,4097,1,1,2048', '3:1,1,4097,-,-,2048', '3:1,1,4097,1,1,65535', '3:1,1,4097,1,1,65543', f'3:1,1,4097,1,1,{2**64 - 1}',
+           f'3:1,1,{2**24},4096,0,7', f'3:1,1,{2**24},-,-,-', f'3:1,1,{2**34 - 1},-,-,-', f'3:1,1,{2**63 - 1},-,-,-', '3:1,1,-1,-,-,-', '3:1,1,-1,0,0,0', f'3:1,1,{-2**63},-,-,-',
+           '3:1,0,-,0,-,-', '3:1,0,-,-,0,-', '3:1,0,-,-,-,0', '3:1,0,-,-,-,2047', '3:1,1,-,-,-,-', '3:0,1,-,-,-,-', '3:1,3,-,1,1,7', f'3:1,{2**64 - 1},-,-,-,-', f'3:1,{MOST + 1},4097,1,1,7', f'3:1,{2**64 - 1},4097,1,1,7']
+    for sink in good + bad:
+        assert writer_in_range(sink) == (sink in good), sink
+        enc, _, _, last, *_ = fields(sink)
+        t = max(0, min(BOUND[enc] - 1, last or 0))
+        expect = None if sink in good else 'refused 10'
+        for list_ in [Append(one_event(t))], [Append(), Append(one_event(min(t + 5000, BOUND[enc] - 1), 2047, 2047, 0), room=OUTPUT)]:
+            yield Writing(f'wstate{enc}', sink, list_, [expect] * len(list_))
+    for enc, state in (2, f'2:1,{MOST},100,1,-,-'), (3, f'3:1,{MOST},4097,1,1,7'):
+        yield Writing('wleave', state, [Append(), Append(one_event(9000)), Append(one_event(9000)), Append()], [None, None, 'refused 10', 'refused 10'])
+        state = state.replace(str(MOST), str(MOST - 2))
+        yield Writing('wleave', state, [Append(one_event(9000)), Append(one_event(9000)), Append(), Append(one_event(9000) * 2), Append(one_event(9000))], [None] * 4 + ['refused 10'])
+
+
+def writer_order():
+    """Every meeting of 10, 12, 6, 7 and 11: the first in that order is given."""
+    sinks = {2: '2:1,1,100,1,-,-', 3: '3:1,1,4097,1,1,7'}
+    broken = {2: '2:1,1,100,1,-,0', 3: '3:1,1,4097,1,2,7'}
+    for enc, is10, is12, is6, is7, is11 in itertools.product((2, 3), *[(False, True)] * 5):
+        t = {2: 100, 3: 4097}[enc]
+        for k in range(4):
+            xs, ys, ts, ps = [5, 6], [7, 7], [t, t + 9], [1, 1]
+            if is6:
+                ts = [[t + 9, t], [t - 1, t + 9], [t + 9, -1], [t - 1, t - 1]][k]
+            if is7:
+                (xs, ys, ps, ts)[k][1] = [2048, 2048, 2, BOUND[enc] if ts[0] >= t else -1][k]
+            if is12:
+                (xs, ys, ts, ps)[k].append((xs, ys, ts, ps)[k][1])
+            expect = 'refused 10' if is10 else 'refused 12' if is12 else 'refused 6' if is6 else 'refused 7' if is7 else 'refused 11' if is11 else None
+            if k and not (is12 or is6 or is7):
+                continue
+            yield Writing(f'wmeet{enc}', (broken if is10 else sinks)[enc], [Append(columns=(xs, ys, ts, ps), room=0 if is11 else 40, short=is11)], [expect])
+
+
+def writer_columns():
+    """12: each column shorter, longer and empty. 7: each bound, just inside and outside, at the first, middle and last event. 6: at each place, inside and between."""
+    for enc in 2, 3:
+        t = 5000
+        for k, n in itertools.product(range(4), (0, 1, 2, 4)):
+            columns = [[1, 2, 3], [7, 7, 7], [t, t, t], [0, 0, 0]]
+            columns[k] = (columns[k] * 2)[:n]
+            yield Writing(f'wlength{enc}', f'{enc}h', [Append(columns=columns, room=200), Append(one_event(9))], ['refused 12'])
+        for k, n in itertools.product(range(4), (0, 1)):
+            columns = [[1] * (k == j) or [1] * n for j in range(4)] if n == 0 else [[1] * (k != j) for j in range(4)]
+            yield Writing(f'wlength{enc}', f'{enc}n', [Append(columns=columns, room=99)], ['refused 12'])
+        values = [(0, 2047, 1), (0, 2048, 0), (0, 4095, 0), (0, 65535, 0), (1, 2047, 1), (1, 2048, 0), (1, 65535, 0), (3, 1, 1), (3, 2, 0), (3, 3, 0), (3, 255, 0), (3, 128, 0)]
+        for (k, v, ok), place in itertools.product(values, range(3)):
+            columns = [[1, 2, 3], [7, 8, 7], [t, t, t], [0, 0, 0]]
+            columns[k][place] = v
+            yield Writing(f'wrange{enc}', f'{enc}n', [Append(columns=columns), Append(row_of([4, 5], t))], [None if ok else 'refused 7'])
+        for t0, ok in (0, 1), (-1, 0), (-2**63, 0), (BOUND[enc] - 1, 1), (BOUND[enc], 0), (2**63 - 1, 0), (BOUND[enc] + 4097, 0), (2**32, enc == 2):
+            yield Writing(f'wrange{enc}', f'{enc}n', [Append(one_event(t0)), Append(one_event(BOUND[enc] - 1))], [None if ok else 'refused 7'])
+            times = sorted([t0, t, t + 1])
+            yield Writing(f'wrange{enc}', f'{enc}n', [Append([(t, 1, 1, 1) for t in times]), Append(one_event(6000))], [None if ok else 'refused 7'])
+        for times in [5, 4], [5, 5, 4], [5, 4, 5], [0, -1], [4097, 4096], [4096, 4095], [64, 63], [BOUND[enc] - 1, 0], [1, 2, 3, 4, 3], [-1, -2], [2**63 - 1, -2**63], [BOUND[enc] + 1, BOUND[enc]]:
+            yield Writing(f'wfall{enc}', f'{enc}n', [Append([(t, 1, 1, 1) for t in times])], ['refused 6'])
+        for last, t in (5, 4), (5, 5), (5, 6), (64, 63), (4096, 4095), (4096, 0), (BOUND[enc] - 1, BOUND[enc] - 2), (BOUND[enc] - 1, BOUND[enc] - 1), (5, -1), (0, -1), (0, 0):
+            yield Writing(f'wfall{enc}', f'{enc}n', [Append(one_event(last)), Append(one_event(t)), Append(), Append(one_event(last) + one_event(last))], [None, 'refused 6' if t < last else None])
+        yield Writing(f'wfall{enc}', f'{enc}n', [Append(one_event(9000), more=-1), Append(one_event(8000)), Append(one_event(9000, x=2048)), Append(one_event(7999)), Append(one_event(8000))], ['refused 11', None, 'refused 7', 'refused 6'])
+
+
+def writer_rooms():
+    """11: every length of the output up to what is needed and a little more; around 96 bytes and 8 for each event; headers."""
+    for enc in 2, 3:
+        lists = [one_event(4097), row_of([10, 11, 13]) + one_event(4098) + one_event(70000, 6, 8, 0)]
+        for events, need in zip(lists, {2: (8, 28), 3: (8, 28)}[enc]):
+            for more in range(-need if enc == 2 or events is lists[0] else -20, 3):
+                yield Writing(f'wroom{enc}', f'{enc}n', [Append(events, more)], ['refused 11' if more < 0 else None])
+        head_ = len(f'% format EVT{enc}\n% geometry 64x48\n% generator eventcv\n% end\n')
+        for more in [-head_ - 8, -head_ - 7, -head_, -9, -8, -7, -1, 0, 1]:
+            yield Writing(f'wroom{enc}', f'{enc}h', [Append(one_event(4097), more), Append(one_event(4098))], [f'refused 11 {head_ + 8}' if more < 0 else None])
+        for n in 1, 2, 7:
+            for room in 96 + 8 * n - 1, 96 + 8 * n, 96 + 8 * n + 1:
+                events = [(t * 5000, t, t, t % 2) for t in range(n)]
+                yield Writing(f'wroom{enc}', f'{enc}h', [Append(events, room=room, size=(2**64 - 1, 2**64 - 1)), Append(events[-1:], room=room)])
+        for room in 0, 1, 95, 96, 97, OUTPUT:
+            yield Writing(f'wempty{enc}', f'{enc}n', [Append(room=room)], [f'- {NEW[enc]}'])
+            yield Writing(f'wempty{enc}', f'{enc}h', [Append(room=room), Append(one_event(5)), Append(room=room)], [f'- {enc}:0,0,-,-,-,-'])
+        for size in (64, 48), (0, 0), (0, 5), (7, 0), (1, 1), (9, 10), (99, 100), (1280, 720), (2**32, 2**32 - 1), (10**19, 10**19 - 1), (2**64 - 1, 2**64 - 1), (2**63, 12345678901234567890):
+            yield Writing(f'whead{enc}', f'{enc}h', [Append(one_event(5), size=size), Append(one_event(6), size=(3, 3))])
+            yield Writing(f'whead{enc}', f'{enc}h', [Append(one_event(5), -1, size=size), Append(one_event(5, p=2), size=size), Append(size=(8, 8)), Append(one_event(6), size=size)], ['refused 11', 'refused 7'])
+        yield Writing(f'whead{enc}', f'{enc}:0,4,{4097},-,-,-', [Append(one_event(4097)), Append(one_event(4097))])
+
+
+def writer_words():
+    """Times around each half; in EVT3 runs: which end one, dense ones, gaps of 12, 24 and 25 columns, first and last columns and rows, both sides of the rule for vectors."""
+    for enc in 2, 3:
+        g, top = GRAIN[enc], BOUND[enc] - 1
+        for times in [0], [1], [g - 1], [g], [g + 1], [top], [top - g], [0, 0], [0, 1], [0, g - 1], [0, g], [g - 1, g], [g, g + 1], [g + 1, 2 * g], [g + 1, 2 * g + 1], [0, top], [top, top], [0, g, 2 * g, 3 * g], [5, 5, 6, 6], \
+                [top - g, top], [1, g + 1, 2 * g + 1], [2**23, 2**23 + 5], [g * 4095 % (top + 1), top]:
+            events = [(t, 3, 4, i % 2) for i, t in enumerate(times)]
+            yield Writing(f'wtime{enc}', f'{enc}n', [Append(events)])
+            if len(times) > 1:
+                yield Writing(f'wtime{enc}', f'{enc}n', [Append([e]) for e in events])
+        for x, y, p in itertools.product((0, 1, 2047), (0, 1, 2047), (0, 1)):
+            yield Writing(f'wfield{enc}', f'{enc}n', [Append(one_event(4097, x, y, p))])
+    runs = [[0, 1], [0, 1, 2], [5, 6, 7], [2045, 2046, 2047], [2040, 2041, 2047], [0, 11, 12], [0, 1, 11], [0, 1, 12], [0, 5, 12], [0, 1, 2, 12], [0, 1, 2, 23], [0, 1, 2, 24], [0, 1, 2, 3, 24], [0, 1, 2, 3, 35], [0, 1, 2, 3, 36],
+            [0, 12, 24], [0, 12, 24, 36], [0, 1, 24, 25], [0, 1, 2, 3, 25], [0, 1, 2, 3, 4, 25, 49], [7, 8, 9, 10, 35], [7, 8, 9, 10, 31], [7, 8, 9, 10, 32], [0, 13, 26, 39, 40, 41, 42, 43], list(range(12)), list(range(13)), list(range(1, 25)),
+            list(range(25)), list(range(36)), list(range(2036, 2048)), list(range(2012, 2048)), list(range(0, 48, 2)), list(range(0, 48, 5)), list(range(0, 48, 6)), list(range(0, 60, 7)), [0, 2047], [0, 1, 2047], [100] + list(range(112, 124)),
+            [100] + list(range(111, 124)), [1, 2, 3, 40, 41, 42, 43, 44], [1, 2, 3, 4, 5, 6, 52, 53, 54], [2000, 2001, 2002, 2003, 2024, 2025, 2047], [2035, 2036, 2046], [2035, 2036, 2047], [2036, 2037, 2047], [2, 3, 3, 4], [3, 4, 5, 4, 5, 6], [9, 8, 7], [5, 5, 5]]
+    for xs in runs:
+        for p, y in (0, 7), (1, 2047):
+            yield Writing('wrun', '3n', [Append(row_of(xs, 4097, y, p))])
+        yield Writing('wrun', '3n', [Append(row_of(xs[:2], 4097)), Append(row_of(xs[2:], 4097), more=3), Append(row_of(xs, 4097))])
+    a, b = row_of([1, 2, 3, 4]), row_of([5, 6, 7, 8])
+    ends = [b, [(4098, *e[1:]) for e in b], [(8192, *e[1:]) for e in b], [(*e[:2], 8, e[3]) for e in b], [(*e[:3], 1) for e in b], a, row_of([4, 5, 6]), row_of([3, 9, 10])]
+    for end in ends:
+        yield Writing('wrunend', '3n', [Append(a + end)])
+        yield Writing('wrunend', '3n', [Append(a + end + a if end[-1][0] == 4097 else a + end)])
+        yield Writing('wrunend', '3n', [Append(a), Append(end)])
+        yield Writing('wrunend', '2n', [Append(a + end)])
+
+
+def writer_drawn():
+    """Random lists of appends, refused ones among them, to fresh writers and to resumed ones (fixed seed)."""
+    r = random.Random(1022)
+
+    def events(enc, last):
+        t, out = last, []
+        for _ in range(r.choice([0, 1, 1, 2, 3, 4])):
+            t = min(BOUND[enc] - 1, t + r.choice([0, 0, 0, 1, r.randrange(64), r.randrange(5000), r.randrange(BOUND[enc] // 4)]))
+            y, p, x = r.choice([0, 7, 2047, r.randrange(2048)]), r.randrange(2), r.choice([0, r.randrange(64), r.randrange(2048), 2047])
+            out.append((t, x, y, p))
+            for _ in range(r.choice([0, 0, 1, 3, 6, 14])):
+                x += r.choice([1, 1, 1, 1, 2, 3, 12, 24, 25, 0])
+                out += [(t, x, y, p)] * (x <= 2047)
+        return out
+
+    def append(enc, last):
+        es, size = events(enc, last), r.choice([SIZED, SIZED, (r.randrange(2000), r.randrange(2000))])
+        kind = r.randrange(10)
+        if kind == 0 and len(es) > 1:
+            k = r.randrange(1, len(es))
+            es[k:] = [(es[k - 1][0] - r.choice([1, 1, 64, 5000]), *e[1:]) for e in es[k:]]
+        if kind == 1 and last:
+            es = [(last - r.randrange(1, last + 1), 5, 6, 1)] + es
+        if kind == 2 and es:
+            es[r.randrange(len(es))] = (es[-1][0], r.choice([2048, 60000, 3]), r.choice([2048, 5]), r.choice([2, 0]))
+        if kind == 3 and es:
+            columns = [[e[k] for e in es] for k in (1, 2, 0, 3)]
+            columns[r.randrange(4)].pop()
+            return Append(columns=columns, room=300, size=size)
+        if kind == 4 and es:
+            return Append(es, -r.choice([1, 1, 2]), size=size)
+        return Append(es, r.choice([0, 0, 1, 5, 200]), size=size)
+
+    def some(enc, sink, last):
+        list_ = []
+        for _ in range(r.randrange(1, 6)):
+            a = append(enc, last)
+            list_.append(a)
+            if number_of(enc, True, last, a) == 0 and not a.short and a.columns[2]:
+                last = a.columns[2][-1]
+        return list_
+
+    for enc, count in (2, 40), (3, 80):
+        for _ in range(count):
+            sink = f"{enc}{r.choice('nnh')}"
+            yield Writing(f'wlist{enc}', sink, some(enc, sink, 0))
+        for _ in range(count // 2):
+            last = r.choice([0, 1, GRAIN[enc], r.randrange(BOUND[enc]), r.randrange(20000), BOUND[enc] - 1])
+            or_none = lambda v: r.choice([v, v, v, '-'])
+            low, row = (or_none(last % 4096), or_none(r.choice([0, 7, 2047]))) if enc == 3 else ('-', '-')
+            sink = f'{enc}:{r.choice([1, 1, 0])},{r.choice([0, 1, r.randrange(10**6), r.randrange(MOST)])},{last},{or_none(last // GRAIN[enc])},{low},{row}'
+            yield Writing(f'wresume{enc}', sink, some(enc, sink, last))
+
+
+def writing():
+    for part in writer_bench, writer_states, writer_order, writer_columns, writer_rooms, writer_words, writer_drawn:
+        yield from part()
+
+
+LAYERS = [decoding, reading, writing]
 
 
 def answers_of(oracle, cases):

@@ -145,7 +145,7 @@ const EVT2_ALIGNMENT: usize = 4;
 const EVT3_ALIGNMENT: usize = 4;
 
 // A spacing that rule 8 allows.
-fn spacing_ok(encoding: Encoding, spacing: usize) -> bool
+pub fn spacing_ok(encoding: Encoding, spacing: usize) -> bool
     ensures { λ r. ⌜ r ≡ spacingOk encoding spacing ⌝ }
 {
     if spacing < 4 {

@@ -4,3 +4,5 @@ pub mod Times
 pub mod Own
 pub mod Opened
 pub mod Example
+pub mod From
+pub mod Laws

@@ -37,7 +37,8 @@ use Rattle.index.specs.Judge.{isOther}
 use Rattle.index.specs.Open.{spaced, count-within, kept-inside}
 use Rattle.index.specs.JudgeLaws.{last-passes}
 use Rattle.slice.specs.Slice.{startingAt, sizeOf, firstOf, endOf, indexEvents, isDuring, eventsUntil, timeEvents, byRules}
-use Rattle.slice.specs.Times.{natural, before-natural, during-natural, timeWindow, time-over}
+use Rattle.slice.specs.Times.{before-natural, during-natural, timeWindow, time-over}
+use Rattle.encode.specs.Columns.{natural}
 
 -- ---- lists of records
 

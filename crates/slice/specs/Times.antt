@@ -17,14 +17,11 @@ use Rattle.evt.specs.declared.codec.Codec.the-variants.{Evt2, Evt3}
 use Rattle.evt.specs.Evt2.{reader2}
 use Rattle.evt.specs.Evt3.{reader3}
 use Rattle.sensor.specs.Inside.{inside, clock}
+use Rattle.encode.specs.Columns.{natural}
 use Rattle.window.specs.declared.Window.{Window}
 use Rattle.select.specs.Uses.{isTimely, untilOver}
 use Rattle.read.specs.Read.{kept}
 use Rattle.slice.specs.Slice.{isDuring, isAt, eventsUntil}
-
-abbrev pub natural : ℤ → ℕ
-natural (pos n) = n
-natural (negsuc n) = 0
 
 from-natural : (z : ℤ) (t : ℕ) → leZ z (pos t) ≡ leb (natural z) t
 from-natural (pos n) t = refl

@@ -1,5 +1,6 @@
 // Four columns to lend, filled with a mark, so that a store to any entry shows.
 ghost use mathlib.Core.Path.{_≡_};
+ghost use Prim.Native.Nat.{_≤_};
 ghost use lib.ListN.{length};
 use crate::show;
 use evt::RawEvent;
@@ -27,6 +28,13 @@ pub fn bytes() -> [u8; 4096]
     ensures { λ r. ⌜ 4096 ≡ length r ⌝ }
 {
     [BYTE; 4096]
+}
+
+// How many entries of a column are lent, where a case says n.
+pub fn at_most(n: usize, most: usize) -> usize
+    ensures { λ r. ⌜ r ≤ most ⌝ }
+{
+    if n < most { n } else { most }
 }
 
 fn clean_shorts(s: &[u16], from: usize) -> bool {
@@ -78,6 +86,12 @@ fn clean(xs: &[u16], ys: &[u16], ts: &[i64], ps: &[u8], from: usize) -> bool {
 
 pub fn show_dirty(xs: &[u16], ys: &[u16], ts: &[i64], ps: &[u8], from: usize) {
     if !clean(xs, ys, ts, ps, from) {
+        show::text(b" dirty");
+    }
+}
+
+pub fn show_dirty_bytes(s: &[u8], from: usize) {
+    if !clean_bytes(s, from) {
         show::text(b" dirty");
     }
 }

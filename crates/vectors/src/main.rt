@@ -5,6 +5,7 @@ ghost use mathlib.Core.Path.{_≡_};
 ghost use lib.ListN.{length};
 
 mod columns;
+mod given;
 mod hdr;
 mod options;
 mod reading;
@@ -12,6 +13,8 @@ mod show;
 mod state;
 mod step;
 mod text;
+mod write;
+mod writer;
 
 use libc::STDIN_FILENO;
 
@@ -21,6 +24,7 @@ enum Asked {
     Hdr,
     Read,
     Words,
+    Write,
     Unknown,
 }
 
@@ -34,11 +38,18 @@ fn command(word: &[u8]) -> Asked {
     if text::is(word, b"hdr") {
         return Asked::Hdr;
     }
+    library_command(word)
+}
+
+fn library_command(word: &[u8]) -> Asked {
     if text::is(word, b"read") {
         return Asked::Read;
     }
     if text::is(word, b"words") {
         return Asked::Words;
+    }
+    if text::is(word, b"write") {
+        return Asked::Write;
     }
     Asked::Unknown
 }
@@ -50,6 +61,7 @@ fn answer(case: &[u8]) {
         Asked::Hdr => hdr::answer(case),
         Asked::Read => reading::raw(case),
         Asked::Words => reading::words(case),
+        Asked::Write => write::answer(case),
         Asked::Unknown => show::text(b"badcase command"),
     }
 }

@@ -2,7 +2,6 @@
 // `ID words ENC SIZE LIMIT ROOM HEX`: `read::decode_words`.
 // Both answer `ok EVT3 W H N : events` or `refused N`, with the count that 5 tells; and ` dirty`
 // behind it if an entry behind the events changed, or any one by a refused call.
-ghost use Prim.Native.Nat.{_≤_};
 use crate::columns;
 use crate::options;
 use crate::options::Most;
@@ -59,12 +58,6 @@ fn dispatch(
     }
 }
 
-fn at_most(n: usize, most: usize) -> usize
-    ensures { λ r. ⌜ r ≤ most ⌝ }
-{
-    if n < most { n } else { most }
-}
-
 // Lends the first entries of the columns, as many as the case says.
 fn lend(
     c: Call,
@@ -77,10 +70,10 @@ fn lend(
     let entry = c.entry;
     let options = c.options;
     let room = c.room;
-    let x = at_most(room.x, xs.len());
-    let y = at_most(room.y, ys.len());
-    let t = at_most(room.t, ts.len());
-    let p = at_most(room.p, ps.len());
+    let x = columns::at_most(room.x, xs.len());
+    let y = columns::at_most(room.y, ys.len());
+    let t = columns::at_most(room.t, ts.len());
+    let p = columns::at_most(room.p, ps.len());
     dispatch(
         entry,
         options,

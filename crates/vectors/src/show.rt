@@ -1,4 +1,4 @@
-// Printing to standard output: text, numbers, events, encodings, refusals.
+// Printing to standard output: text, numbers, bytes, events, encodings, refusals.
 use evt::Encoding;
 use evt::RawEvent;
 use evt::Refusal;
@@ -45,6 +45,29 @@ pub fn event(e: RawEvent) {
     next(b',', e.x as u64);
     next(b',', e.y as u64);
     next(b',', e.p as u64);
+}
+
+fn nibble(n: u8) -> u8 {
+    if n < 10 {
+        return n + b'0';
+    }
+    if n < 16 {
+        return n + 87;
+    }
+    b'?'
+}
+
+// Two hex digits for each byte, `-` for none.
+pub fn hex(s: &[u8]) {
+    if s.len() == 0 {
+        byte(b'-');
+    }
+    let mut i = 0;
+    while i < s.len() {
+        byte(nibble(s[i] / 16));
+        byte(nibble(s[i] % 16));
+        i += 1;
+    }
 }
 
 // The table's number.

@@ -1,0 +1,275 @@
+-- The parts of a slice come to what specs/Slice.antt defines.
+use mathlib.Core.Path.{_≡_, refl, sym, ap, _∙_}
+use mathlib.Core.Bool.{Bool, true, false, cond, _&&_, true≢false}
+use mathlib.Core.List.{List, [], _∷_}
+use Prim.Native.Nat.{ℕ, suc, _+_, _-_, _*_, _≤_, _<_, _^_, min, max}
+use native.Mathlib.Omega.{arith}
+use lib.Dec.{leb, ltb}
+use lib.IntN.{ℤ}
+use lib.Signed.{ltZ}
+use lib.ListN.{length, take, drop, length-drop, drop-of-length-le}
+use borrow.Author.Tests.{leb-true, leb-false, ltb-true, ltb-false, lt-ltb, le-ltb}
+use Rattle.stream.specs.Slice.{onto, sift}
+use Rattle.stream.specs.Select as Select
+use Rattle.stream.specs.Select.{byNumber}
+use Rattle.stream.specs.Words.{wordsOf}
+use Rattle.evt.specs.declared.Refusal.the-variants.{InvalidSensorSize, TooLong, ColumnsTooShort, InvalidSpacing, StateOutOfRange}
+use Rattle.evt.specs.declared.codec.Codec.{Codec}
+use Rattle.evt.specs.declared.codec.Codec.the-variants.{Evt2, Evt3}
+use Rattle.evt.specs.Codec.{eventsFrom}
+use Rattle.evt.specs.Columns.{Wrote, Fits}
+use Rattle.evt.specs.Event.{Event}
+use Rattle.evt.specs.Told.{accepted, refused, short}
+use Rattle.header.specs.Header.{hasZero}
+use Rattle.decode.specs.Loops.{few2, few3}
+use Rattle.window.specs.declared.Window.{Window}
+use Rattle.window.specs.Window.{spanOf, reading2, reading3}
+use Rattle.select.specs.declared.Tally.{Tally}
+use Rattle.select.specs.declared.Filled.{Filled}
+use Rattle.select.specs.Pass.{Ready, Able, handedOver, surveyed, filled}
+use Rattle.select.specs.Uses.{able-range, numberedOver, over-few, over-by-number, over-by-time}
+use Rattle.read.specs.Read.{kept, shortest}
+use Rattle.read.specs.Laws.{fits-room, handed-wrote, handed-none, rest-of}
+use Rattle.index.specs.declared.Checkpoint.{Checkpoint}
+use Rattle.index.specs.declared.Judging.{Judging}
+use Rattle.index.specs.declared.RawSliceSource.{RawSliceSource}
+use Rattle.index.specs.Index.{spacingOk}
+use Rattle.index.specs.InRange.{indexInRange}
+use Rattle.index.specs.Choose.{passesOf, Chose}
+use Rattle.index.specs.Judge.{firstJudging, judgedAll}
+use Rattle.index.specs.JudgeLaws.{judged-in-range, Good, parted-passes, last-good}
+use Rattle.index.specs.Open.{spaced}
+use Rattle.index.specs.Start.{lastPassing}
+use Rattle.slice.specs.declared.SliceAnswer.{SliceAnswer}
+use Rattle.slice.specs.declared.SliceAnswer.the-variants.{Sliced, Refused}
+use Rattle.slice.specs.declared.Asked.{Asked}
+use Rattle.slice.specs.Slice.{startingAt, sizeOf, firstOf, endOf, indexEvents, isDuring, eventsUntil, timeEvents, toldSlice, byRules, sliceVerdict, sliceHanded, sliceAnswer, Slices, SlicesIndex, SlicesTime}
+use Rattle.slice.specs.Times.{timeWindow, time-over}
+use Rattle.slice.specs.From.{numberWindow, askedByNumber, askedByTime, passedFrom, mostFrom, mostOver, answerTo, handedTo, Answers, rulesOf, SlicesFrom, Startable}
+
+-- ---- a pass hands over no more than its window has numbers, nor than its bytes have events
+
+module _ {S : Type 0} (R : Select.Reading S ℕ Event) (span : Select.Window) where
+  chosen-span : (k : ℕ) (es : List Event) → length (Select.chosen R span k es) ≤ span .n1 - max (span .n0) k
+  chosen-span k [] = omega arith
+  chosen-span k (e ∷ es) = go (leb (span .n0) k) refl (ltb k (span .n1)) refl (leb (span .t0) (R .clock e) && ltb (R .clock e) (span .t1)) (chosen-span (suc k) es)
+    where
+      go : (a : Bool) → leb (span .n0) k ≡ a → (b : Bool) → ltb k (span .n1) ≡ b → (c : Bool) → length (Select.chosen R span (suc k) es) ≤ span .n1 - max (span .n0) (suc k)
+          → length (onto (a && (b && c)) e (Select.chosen R span (suc k) es)) ≤ span .n1 - max (span .n0) k
+      go false p b q c h = omega arith
+      go true p false q c h = omega arith
+      go true p true q false h = omega arith
+      go true p true q true h = omega (arith, h, leb-true (span .n0) k p, ltb-true k (span .n1) q)
+
+  handed-span : (k : ℕ) (s : S) (ws : List ℕ) → length (Select.handed R span k s ws) ≤ span .n1 - span .n0
+  handed-span k s ws = rw Select.handed-after (omega (arith, chosen-span k (Select.numbered R s (take (Select.ended R span k s ws .consumed) ws))))
+
+most-small : (c : Codec) (n : ℕ) → mostFrom c n ≤ 6 * n
+most-small (Evt2 d) n = omega arith
+most-small (Evt3 d) n = omega arith
+
+module _ (win : Window) (k : ℕ) (c : Codec) (bytes : List ℕ) where
+  abbrev over : List Event
+  over = handedOver win k c bytes
+
+  over-span : length over ≤ win .n1 - win .n0
+  over-span = go c
+    where
+      go : (c : Codec) → length (handedOver win k c bytes) ≤ win .n1 - win .n0
+      go (Evt2 d) = handed-span (reading2 win) (spanOf win) k d (wordsOf 4 bytes)
+      go (Evt3 d) = handed-span (reading3 win) (spanOf win) k d (wordsOf 2 bytes)
+
+  pub numbered-most : length (numberedOver win c bytes) ≤ mostFrom c (length bytes)
+  numbered-most = go c
+    where
+      go : (c : Codec) → length (numberedOver win c bytes) ≤ mostFrom c (length bytes)
+      go (Evt2 d) = few2 (win .width) (win .height) d bytes
+      go (Evt3 d) = omega (arith, few3 (win .width) (win .height) d bytes)
+
+  pub few-over : (least : ℕ) → least ≡ mostOver win c (length bytes) → length over ≤ least
+  few-over least e = omega (arith, over-span, over-few win k c bytes, numbered-most)
+
+  -- ---- 5, or the events
+
+  pub can-fill : (n x y t p : ℕ) → Ready c k (length bytes) → n ≡ min (min x y) (min t p) → length over ≤ n → Ready c k (length bytes) × Fits (length over) x y t p
+  can-fill n x y t p ready room few = (ready, fits-room (length over) x y t p (omega arith))
+
+  pub is-count : (t : Tally) → t ≡ surveyed win k c bytes → t .count ≡ length over
+  is-count t is = ap (λ (t : Tally). t .count) is
+
+  module _ {xs₀ ys₀ : List ℕ} {ts₀ : List ℤ} {ps₀ : List ℕ} (n : ℕ) (room : n ≡ shortest xs₀ ys₀ ts₀ ps₀) where
+    pub answers-all : (t : Filled) {xs ys : List ℕ} {ts : List ℤ} {ps : List ℕ} → length over ≤ n → t ≡ filled win k c bytes → Wrote over 0 xs₀ ys₀ ts₀ ps₀ xs ys ts ps
+        → Answers over (Sliced (t .count)) xs₀ ys₀ ts₀ ps₀ xs ys ts ps
+    answers-all t few is w =
+        let enough = le-ltb (shortest xs₀ ys₀ ts₀ ps₀) (length over) (rw (← room) few) in
+        record { answer = rw (enough, is); columns = rw enough (handed-wrote w) }
+
+    pub answers-none : (t : Tally) → t ≡ surveyed win k c bytes → n < t .count → Answers over (Refused (ColumnsTooShort (t .count))) xs₀ ys₀ ts₀ ps₀ xs₀ ys₀ ts₀ ps₀
+    answers-none t is h =
+        let short : ltb (shortest xs₀ ys₀ ts₀ ps₀) (length over) ≡ true = lt-ltb (shortest xs₀ ys₀ ts₀ ps₀) (length over) (rw (← room, ← is-count t is) h) in
+        record { answer = rw (short, is); columns = rw short handed-none }
+
+-- ---- 4, 1, 8, 10, and so on
+
+-- from an offset on, clamped to the end
+pub rest-from : (l : List ℕ) (a at : ℕ) → at ≡ min a (length l) → take (length l - at) (drop at l) ≡ drop a l
+rest-from l a at e = rest-of l at ∙ ap (λ (k : ℕ). drop k l) e ∙ clamped (leb a (length l)) refl
+  where
+    clamped : (b : Bool) → leb a (length l) ≡ b → drop (min a (length l)) l ≡ drop a l
+    clamped true p = let h = leb-true a (length l) p in let m : min a (length l) ≡ a = omega arith in rw m
+    clamped false p =
+        let h = leb-false a (length l) p in
+        let m : min a (length l) ≡ length l = omega arith in
+        rw m (drop-of-length-le l {i = length l} (omega arith) ∙ sym (drop-of-length-le l {i = a} (omega arith)))
+
+pub ready-from : (recording : List ℕ) (s : RawSliceSource) (ok : Bool) (c : Checkpoint) → length recording ≤ 2 ^ 30 → spacingOk (s .encoding) (s .spacing) ≡ true → ok ≡ true → Startable s ok c
+    → Ready (c .codec) (c .«event_index») (length (drop (c .«byte_offset») recording))
+ready-from recording s ok c h p q able =
+    let a = able p q in
+    let l : length (drop (c .«byte_offset») recording) ≤ 2 ^ 30 = omega (arith, length-drop (c .«byte_offset») recording) in
+    record { able = able-range (c .codec) (length (drop (c .«byte_offset») recording)) (a .0) l; long = l; low = omega (arith, a .1) }
+
+module _ (recording : List ℕ) (s : RawSliceSource) (ok : Bool) (es : List Event) {xs₀ ys₀ : List ℕ} {ts₀ : List ℤ} {ps₀ : List ℕ} where
+  pub from-long : 2 ^ 30 < length recording → SlicesFrom recording s ok es (Refused TooLong) xs₀ ys₀ ts₀ ps₀ xs₀ ys₀ ts₀ ps₀
+  from-long h = record { answer = rw (lt-ltb (2 ^ 30) (length recording) h); columns = rw (lt-ltb (2 ^ 30) (length recording) h) handed-none }
+
+  module _ (fits : length recording ≤ 2 ^ 30) where
+    pub from-zero : hasZero (sizeOf s) ≡ true → SlicesFrom recording s ok es (Refused InvalidSensorSize) xs₀ ys₀ ts₀ ps₀ xs₀ ys₀ ts₀ ps₀
+    from-zero z = record { answer = rw (le-ltb (2 ^ 30) (length recording) fits, z); columns = rw (le-ltb (2 ^ 30) (length recording) fits, z) handed-none }
+
+    module _ (sized : hasZero (sizeOf s) ≡ false) where
+      pub from-spacing : spacingOk (s .encoding) (s .spacing) ≡ false → SlicesFrom recording s ok es (Refused InvalidSpacing) xs₀ ys₀ ts₀ ps₀ xs₀ ys₀ ts₀ ps₀
+      from-spacing p = record { answer = rw (le-ltb (2 ^ 30) (length recording) fits, sized, p); columns = rw (le-ltb (2 ^ 30) (length recording) fits, sized, p) handed-none }
+
+      module _ (spaced : spacingOk (s .encoding) (s .spacing) ≡ true) where
+        pub from-range : ok ≡ false → SlicesFrom recording s ok es (Refused StateOutOfRange) xs₀ ys₀ ts₀ ps₀ xs₀ ys₀ ts₀ ps₀
+        from-range p = record { answer = rw (le-ltb (2 ^ 30) (length recording) fits, sized, spaced, p); columns = rw (le-ltb (2 ^ 30) (length recording) fits, sized, spaced, p) handed-none }
+
+        pub from-all : {r : SliceAnswer} {xs ys : List ℕ} {ts : List ℤ} {ps : List ℕ} → ok ≡ true → Answers es r xs₀ ys₀ ts₀ ps₀ xs ys ts ps → SlicesFrom recording s ok es r xs₀ ys₀ ts₀ ps₀ xs ys ts ps
+        from-all p a = record { answer = rw (le-ltb (2 ^ 30) (length recording) fits, sized, spaced, p) (a .answer); columns = rw (le-ltb (2 ^ 30) (length recording) fits, sized, spaced, p) (a .columns) }
+
+-- ---- what an answer tells is the verdict, and with the records judged all is as specs/Slice.antt has it
+
+told-answer : (recording : List ℕ) (s : RawSliceSource) (records : List Checkpoint) (es : List Event) (room : ℕ) → toldSlice (sliceAnswer recording s records es room) ≡ sliceVerdict recording s records es room
+unfolding sliceAnswer sliceVerdict
+told-answer recording s records es room = go (ltb (2 ^ 30) (length recording)) (hasZero (sizeOf s)) (spacingOk (s .encoding) (s .spacing)) (indexInRange s records) (ltb room (length es))
+  where
+    go : (a b c d e : Bool)
+        → toldSlice (cond a (Refused TooLong) (cond b (Refused InvalidSensorSize) (cond c (cond d (cond e (Refused (ColumnsTooShort (length es))) (Sliced (length es))) (Refused StateOutOfRange)) (Refused InvalidSpacing))))
+        ≡ cond a (refused 4) (cond b (refused 1) (cond c (cond d (cond e (short 5 (length es)) (accepted (length es ∷ []))) (refused 10)) (refused 8)))
+    go true b c d e = refl
+    go false true c d e = refl
+    go false false false d e = refl
+    go false false true false e = refl
+    go false false true true true = refl
+    go false false true true false = refl
+
+module _ (recording : List ℕ) (s : RawSliceSource) (records : List Checkpoint) (ok : Bool) (from es : List Event)
+    (judged : spacingOk (s .encoding) (s .spacing) ≡ true → ok ≡ indexInRange s records)
+    (same : length recording ≤ 2 ^ 30 → indexInRange s records ≡ true → from ≡ es) where
+  same-rules : {A : Type 0} (f : List Event → A) (is4 is1 is8 is10 : A) → rulesOf recording s ok is4 is1 is8 is10 (f from) ≡ byRules recording s records is4 is1 is8 is10 (f es)
+  same-rules f is4 is1 is8 is10 = go (ltb (2 ^ 30) (length recording)) refl (hasZero (sizeOf s)) (spacingOk (s .encoding) (s .spacing)) refl (indexInRange s records) refl
+    where
+      go : (a : Bool) → ltb (2 ^ 30) (length recording) ≡ a → (b c : Bool) → spacingOk (s .encoding) (s .spacing) ≡ c → (d : Bool) → indexInRange s records ≡ d
+          → cond a is4 (cond b is1 (cond c (cond ok (f from) is10) is8)) ≡ cond a is4 (cond b is1 (cond c (cond d (f es) is10) is8))
+      go true p b c q d r = refl
+      go false p true c q d r = refl
+      go false p false false q d r = refl
+      go false p false true q true r = rw (judged q ∙ r) (ap f (same (ltb-false (2 ^ 30) (length recording) p) r))
+      go false p false true q false r = rw (judged q ∙ r)
+
+  pub slices-from : {r : SliceAnswer} {xs₀ ys₀ : List ℕ} {ts₀ : List ℤ} {ps₀ xs ys : List ℕ} {ts : List ℤ} {ps : List ℕ} → SlicesFrom recording s ok from r xs₀ ys₀ ts₀ ps₀ xs ys ts ps
+      → Slices recording s records es r xs₀ ys₀ ts₀ ps₀ xs ys ts ps
+  unfolding sliceAnswer sliceHanded
+  slices-from {r} {xs₀} {ys₀} {ts₀} {ps₀} {xs} {ys} {ts} {ps} h =
+      let room = shortest xs₀ ys₀ ts₀ ps₀ in
+      let a : r ≡ sliceAnswer recording s records es room = h .answer ∙ same-rules (λ es. answerTo es room) (Refused TooLong) (Refused InvalidSensorSize) (Refused InvalidSpacing) (Refused StateOutOfRange) in
+      record {
+        is-told = ap toldSlice a ∙ told-answer recording s records es room;
+        is-answer = a;
+        columns = rw (same-rules (λ es. handedTo es room) [] [] [] []) at (h .columns);
+      }
+
+-- ---- the record that a slice starts at
+
+pub record Began (s : RawSliceSource) (records : List Checkpoint) (asked : Asked) (judged : Judging) (start : Checkpoint) : Type 0 where
+  pub first : asked .judging ≡ firstJudging s (length records)
+  pub all : judged ≡ judgedAll (asked .judging) records
+  pub chose : Chose (asked .choice) records start
+
+module _ (s : RawSliceSource) (records : List Checkpoint) (asked : Asked) (judged : Judging) (start : Checkpoint) (b : Began s records asked judged start) where
+  judged-is : spacingOk (s .encoding) (s .spacing) ≡ true → judged .ok ≡ indexInRange s records
+  judged-is p =
+      ap (λ (j : Judging). j .ok) (b .all ∙ ap (λ (j : Judging). judgedAll j records) (b .first)) ∙ judged-in-range s (spaced (s .encoding) (s .spacing) p .high) records
+
+  -- in range it is the one by the definition, and good
+  start-is : (p : Checkpoint → Bool) → passesOf (asked .choice) ≡ p → (c : Checkpoint) (cs : List Checkpoint) → records ≡ c ∷ cs → indexInRange s (c ∷ cs) ≡ true → start ≡ lastPassing p c cs
+  start-is p e c cs r ok = rw (← e) (rw r at (b .chose) (parted-passes s (c ∷ cs) ok (asked .choice)))
+
+  start-good : indexInRange s records ≡ true → Good s start
+  unfolding indexInRange
+  start-good = go records refl
+    where
+      go : (l : List Checkpoint) → records ≡ l → indexInRange s l ≡ true → Good s start
+      go [] r ok = absurd (true≢false (sym ok))
+      go (c ∷ cs) r ok = rw (start-is (passesOf (asked .choice)) refl c cs r ok) (last-good s (passesOf (asked .choice)) c cs ok)
+
+  pub startable : Startable s (judged .ok) start
+  startable p q = let g = start-good (sym (judged-is p) ∙ q) in (g .decoder, g .few)
+
+  -- what is decoded from there on
+  starting : (p : Checkpoint → Bool) (f : Checkpoint → List Event) → passesOf (asked .choice) ≡ p → indexInRange s records ≡ true → f start ≡ startingAt p f records
+  unfolding indexInRange
+  starting p f e = go records refl
+    where
+      go : (l : List Checkpoint) → records ≡ l → indexInRange s l ≡ true → f start ≡ startingAt p f l
+      go [] r ok = absurd (true≢false (sym ok))
+      go (c ∷ cs) r ok = ap f (start-is p e c cs r ok)
+
+  module _ (recording : List ℕ) (short : length recording ≤ 2 ^ 30) (ok : indexInRange s records ≡ true) where
+    able-start : Able (length (drop (start .«byte_offset») recording)) (start .codec)
+    able-start = able-range (start .codec) (length (drop (start .«byte_offset») recording)) (start-good ok .decoder) (omega (arith, length-drop (start .«byte_offset») recording))
+
+    same-number : (i0 i1 : ℕ) → passesOf (asked .choice) ≡ (λ c. leb (c .«event_index») (firstOf s i0)) → asked .window ≡ numberWindow s i0 i1
+        → passedFrom recording (asked .window) start ≡ indexEvents recording s records i0 i1
+    unfolding indexEvents
+    same-number i0 i1 e w =
+        let f : Checkpoint → List Event = λ c. byNumber (firstOf s i0) (endOf s i0 i1) (c .«event_index») (kept (sizeOf s) (eventsFrom (c .codec) (drop (c .«byte_offset») recording))) in
+        ap (λ (win : Window). passedFrom recording win start) w
+        ∙ over-by-number (numberWindow s i0 i1) (start .codec) (drop (start .«byte_offset») recording) able-start refl (omega arith) (start .«event_index»)
+        ∙ starting (λ c. leb (c .«event_index») (firstOf s i0)) f e ok
+
+    same-time : (t0 t1 : ℤ) → passesOf (asked .choice) ≡ (λ c. ltZ (c .time) t0) → asked .window ≡ timeWindow (s .width) (s .height) 0 18446744073709551615 t0 t1
+        → passedFrom recording (asked .window) start ≡ timeEvents recording s records t0 t1
+    unfolding timeEvents
+    same-time t0 t1 e w =
+        let win = timeWindow (s .width) (s .height) 0 18446744073709551615 t0 t1 in
+        let rest = drop (start .«byte_offset») recording in
+        let f : Checkpoint → List Event = λ c. sift (isDuring t0 t1) (kept (sizeOf s) (eventsUntil t1 (c .codec) (drop (c .«byte_offset») recording))) in
+        let few : start .«event_index» + length (numberedOver win (start .codec) rest) < 18446744073709551615 =
+        omega (arith, start-good ok .few, numbered-most win 0 (start .codec) rest, most-small (start .codec) (length rest), length-drop (start .«byte_offset») recording) in
+        ap (λ (win : Window). passedFrom recording win start) w
+        ∙ over-by-time win (start .«event_index») (start .codec) rest (omega arith) few
+        ∙ sym (time-over (s .width) (s .height) 0 18446744073709551615 t0 t1 (start .codec) rest)
+        ∙ starting (λ c. ltZ (c .time) t0) f e ok
+
+-- ---- by number and by time
+
+module _ (recording : List ℕ) (s : RawSliceSource) (records : List Checkpoint) (asked : Asked) (judged : Judging) (start : Checkpoint) where
+  module _ (i0 i1 : ℕ) (is : asked ≡ askedByNumber s (length records) i0 i1) (all : judged ≡ judgedAll (asked .judging) records) (chose : Chose (asked .choice) records start) where
+    pub began-index : Began s records asked judged start
+    began-index = record { first = ap (λ (a : Asked). a .judging) is; all = all; chose = chose }
+
+    pub slices-index : {r : SliceAnswer} {xs₀ ys₀ : List ℕ} {ts₀ : List ℤ} {ps₀ xs ys : List ℕ} {ts : List ℤ} {ps : List ℕ}
+        → SlicesFrom recording s (judged .ok) (passedFrom recording (asked .window) start) r xs₀ ys₀ ts₀ ps₀ xs ys ts ps → SlicesIndex recording s records i0 i1 r xs₀ ys₀ ts₀ ps₀ xs ys ts ps
+    slices-index = slices-from recording s records (judged .ok) (passedFrom recording (asked .window) start) (indexEvents recording s records i0 i1) (judged-is s records asked judged start began-index)
+        (λ short ok. same-number s records asked judged start began-index recording short ok i0 i1 (ap (λ (a : Asked). passesOf (a .choice)) is) (ap (λ (a : Asked). a .window) is))
+
+  module _ (t0 t1 : ℤ) (is : asked ≡ askedByTime s (length records) t0 t1) (all : judged ≡ judgedAll (asked .judging) records) (chose : Chose (asked .choice) records start) where
+    pub began-time : Began s records asked judged start
+    began-time = record { first = ap (λ (a : Asked). a .judging) is; all = all; chose = chose }
+
+    pub slices-time : {r : SliceAnswer} {xs₀ ys₀ : List ℕ} {ts₀ : List ℤ} {ps₀ xs ys : List ℕ} {ts : List ℤ} {ps : List ℕ}
+        → SlicesFrom recording s (judged .ok) (passedFrom recording (asked .window) start) r xs₀ ys₀ ts₀ ps₀ xs ys ts ps → SlicesTime recording s records t0 t1 r xs₀ ys₀ ts₀ ps₀ xs ys ts ps
+    slices-time = slices-from recording s records (judged .ok) (passedFrom recording (asked .window) start) (timeEvents recording s records t0 t1) (judged-is s records asked judged start began-time)
+        (λ short ok. same-time s records asked judged start began-time recording short ok t0 t1 (ap (λ (a : Asked). passesOf (a .choice)) is) (ap (λ (a : Asked). a .window) is))

@@ -1,8 +1,6 @@
 // Comparing what was read with the given events.
-ghost use mathlib.Core.Path.{_≡_};
-ghost use mathlib.Core.Bool.{true};
-ghost use Prim.Native.Nat.{_-_, _≤_};
-ghost use lib.ListN.{length, take, drop};
+ghost use Prim.Native.Nat.{_≤_};
+ghost use Rattle.handover_demo.specs.Compare.{Same, Judges, JudgesColumns};
 use crate::given;
 
 // What a call handed over: the number of its refusal (0 if there was none), the count, the columns.
@@ -16,7 +14,7 @@ pub struct Got {
 }
 
 fn same_shorts(a: &[u16], b: &[u16]) -> bool
-    ensures { λ r. ⌜ (r ≡ true → now (a .entry) ≡ now (b .entry)) × (now (a .entry) ≡ now (b .entry) → r ≡ true) ⌝ }
+    ensures { λ r. ⌜ Same r (now (a .entry)) (now (b .entry)) ⌝ }
 {
     if a.len() != b.len() {
         return false;
@@ -32,7 +30,7 @@ fn same_shorts(a: &[u16], b: &[u16]) -> bool
 }
 
 fn same_longs(a: &[i64], b: &[i64]) -> bool
-    ensures { λ r. ⌜ (r ≡ true → now (a .entry) ≡ now (b .entry)) × (now (a .entry) ≡ now (b .entry) → r ≡ true) ⌝ }
+    ensures { λ r. ⌜ Same r (now (a .entry)) (now (b .entry)) ⌝ }
 {
     if a.len() != b.len() {
         return false;
@@ -47,7 +45,6 @@ fn same_longs(a: &[i64], b: &[i64]) -> bool
     true
 }
 
-// How what was got differs from what was asked for.
 pub enum Difference {
     Nothing,
     Refusal(u64),
@@ -55,9 +52,10 @@ pub enum Difference {
     Column(u8),
 }
 
-// Whether the first n entries of each column are the given ones from number `from` on.
-fn columns_differ(got: Got, from: usize, to: usize) -> Difference
+// Which column, if any, isn't that of the given events from number `from` on, up to `to`.
+fn judge_columns(got: Got, from: usize, to: usize) -> Difference
     requires { ⌜ (from ≤ to) × (to ≤ 16) ⌝ }
+    ensures { λ r. ⌜ JudgesColumns got from to r ⌝ }
 {
     let n = to - from;
     let xs = got.xs;
@@ -83,9 +81,10 @@ fn columns_differ(got: Got, from: usize, to: usize) -> Difference
     Difference::Nothing
 }
 
-// How they differ from the given events from number `from` on, up to `to`.
+// How what was got differs from the given events from number `from` on, up to `to`.
 pub fn judge(got: Got, from: usize, to: usize) -> Difference
     requires { ⌜ (from ≤ to) × (to ≤ 16) ⌝ }
+    ensures { λ r. ⌜ Judges got from to r ⌝ }
 {
     if got.refused != 0 {
         return Difference::Refusal(got.refused);
@@ -93,5 +92,5 @@ pub fn judge(got: Got, from: usize, to: usize) -> Difference
     if got.count != to - from {
         return Difference::Count(got.count);
     }
-    columns_differ(got, from, to)
+    judge_columns(got, from, to)
 }

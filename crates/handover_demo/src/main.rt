@@ -11,6 +11,7 @@ use evt::Encoding;
 use evt::Evt2Decoder;
 
 mod compare;
+mod exact;
 mod given;
 mod print;
 mod reading;
@@ -39,8 +40,8 @@ fn check_cut(encoding: Encoding, stream: &[u8], cut: usize) -> bool
     write::copy(&stream[..kept], &mut joined);
     let end = write::resume(encoding, whole, &mut joined, kept);
     print::cut(cut, whole, end);
-    let first = reading::exact(encoding, &stream[..cut], whole, b" before the cut");
-    let second = reading::exact(encoding, &joined[..end], 16, b" joined");
+    let first = exact::reads(encoding, &stream[..cut], whole, b" before the cut");
+    let second = exact::reads(encoding, &joined[..end], 16, b" joined");
     let exact = both(first, second);
     if exact {
         print::text(b" exact");

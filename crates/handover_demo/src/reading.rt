@@ -1,13 +1,15 @@
-// Bytes read back: decoded, and sliced by an index.
-ghost use Prim.Native.Nat.{_≤_};
-use crate::compare;
-use crate::compare::Difference;
+// Bytes read back, into columns of 16: decoded whole, or a slice by an index of them.
 use crate::compare::Got;
 use crate::print;
 use evt::Encoding;
 use evt::Limit;
 use evt::SensorSize;
+use fixed_index::FixedIndex;
+use index::Checkpoint;
+use index::RawSliceSource;
+use index::WordsOptions;
 use read::ReadAnswer;
+use slice::SliceAnswer;
 
 // A refusal's number, or 0, and a count.
 struct Outcome {
@@ -28,7 +30,20 @@ fn read_outcome(answer: ReadAnswer) -> Outcome {
     }
 }
 
-fn decode(encoding: Encoding, bytes: &[u8]) -> Got {
+fn slice_outcome(answer: SliceAnswer) -> Outcome {
+    match answer {
+        SliceAnswer::Sliced(n) => Outcome {
+            refused: 0,
+            count: n,
+        },
+        SliceAnswer::Refused(why) => Outcome {
+            refused: print::table(why),
+            count: 0,
+        },
+    }
+}
+
+pub fn decode(encoding: Encoding, bytes: &[u8]) -> Got {
     let mut xs = [0; 16];
     let mut ys = [0; 16];
     let mut ts = [0; 16];
@@ -54,39 +69,81 @@ fn decode(encoding: Encoding, bytes: &[u8]) -> Got {
     }
 }
 
-fn differs(d: Difference) {
-    match d {
-        Difference::Nothing => {}
-        Difference::Refusal(n) => {
-            print::text(b" refused ");
-            print::number(n);
-        }
-        Difference::Count(n) => {
-            print::text(b" count ");
-            print::number(n as u64);
-        }
-        Difference::Column(b) => {
-            print::text(b" column ");
-            print::byte(b);
-        }
+pub fn open(encoding: Encoding, bytes: &[u8], spacing: usize) -> FixedIndex {
+    let options = WordsOptions {
+        encoding,
+        sensor_size: SensorSize::Known(2048, 2048),
+        spacing,
+    };
+    fixed_index::open_words(bytes, options, 64)
+}
+
+pub fn by_number(
+    bytes: &[u8],
+    source: RawSliceSource,
+    records: [Checkpoint; 64],
+    n: usize,
+    i0: usize,
+    i1: usize,
+) -> Got {
+    let mut xs = [0; 16];
+    let mut ys = [0; 16];
+    let mut ts = [0; 16];
+    let mut ps = [0; 16];
+    let answer = fixed_index::slice_index(
+        bytes,
+        source,
+        records,
+        n,
+        i0,
+        i1,
+        &mut xs,
+        &mut ys,
+        &mut ts,
+        &mut ps,
+    );
+    let o = slice_outcome(answer);
+    Got {
+        refused: o.refused,
+        count: o.count,
+        xs,
+        ys,
+        ts,
+        ps,
     }
 }
 
-// Whether nothing differs; what does is told.
-fn told(d: Difference, bytes: &[u8], call: &[u8]) -> bool {
-    if let Difference::Nothing = d {
-        return true;
+pub fn by_time(
+    bytes: &[u8],
+    source: RawSliceSource,
+    records: [Checkpoint; 64],
+    n: usize,
+    t0: i64,
+    t1: i64,
+) -> Got {
+    let mut xs = [0; 16];
+    let mut ys = [0; 16];
+    let mut ts = [0; 16];
+    let mut ps = [0; 16];
+    let answer = fixed_index::slice_time(
+        bytes,
+        source,
+        records,
+        n,
+        t0,
+        t1,
+        &mut xs,
+        &mut ys,
+        &mut ts,
+        &mut ps,
+    );
+    let o = slice_outcome(answer);
+    Got {
+        refused: o.refused,
+        count: o.count,
+        xs,
+        ys,
+        ts,
+        ps,
     }
-    print::text(bytes);
-    print::text(call);
-    differs(d);
-    false
-}
-
-// Whether some bytes are read as the first `count` of the given events.
-pub fn exact(encoding: Encoding, bytes: &[u8], count: usize, name: &[u8]) -> bool
-    requires { ⌜ count ≤ 16 ⌝ }
-{
-    let got = decode(encoding, bytes);
-    told(compare::judge(got, 0, count), name, b" decoded")
 }

@@ -18,23 +18,16 @@ abbrev pub Agree : {A : Type 0} → (from n : ℕ) → (got given : List A) → 
 Agree from n got given = take n got ≡ take n (drop from given)
 
 module _ (got : Got) (from to : ℕ) where
-  pub record Columns : Type 0 where
+  -- got are the given events from number `from` on, up to `to`
+  pub record Matches : Type 0 where
+    pub accepted : got .refused ≡ 0
+    pub count : got .count ≡ to - from
     pub xs : Agree from (to - from) (got .xs) givenXs
     pub ys : Agree from (to - from) (got .ys) givenYs
     pub ts : Agree from (to - from) (got .ts) givenTs
     pub ps : Agree from (to - from) (got .ps) givenPs
 
-  -- got are the given events from number `from` on, up to `to`
-  pub record Matches : Type 0 where
-    pub accepted : got .refused ≡ 0
-    pub count : got .count ≡ to - from
-    pub columns : Columns
-
   -- nothing differs exactly if they are
   pub record Judges (r : Difference) : Type 0 where
     pub if-nothing : r ≡ Nothing → Matches
     pub if-matches : Matches → r ≡ Nothing
-
-  pub record JudgesColumns (r : Difference) : Type 0 where
-    pub if-nothing : r ≡ Nothing → Columns
-    pub if-matches : Columns → r ≡ Nothing

@@ -2,7 +2,7 @@
 use mathlib.Core.Path.{_≡_, refl, sym, ap, subst, _∙_}
 use mathlib.Core.Bool.{Bool, true, false}
 use mathlib.Core.List.{List, [], _∷_, _++_}
-use Prim.Native.Nat.{ℕ, suc, _+_, _-_, _≤_, _<_}
+use Prim.Native.Nat.{ℕ, suc, _+_, _≤_, _<_}
 use native.Mathlib.Nat.{zero-add}
 use native.Mathlib.Numerals.{add-one}
 use native.Mathlib.Omega.{arith}
@@ -11,7 +11,7 @@ use lib.Dec.{T}
 use lib.ListN.{length, take, drop, getD, set, length-set, drop-of-length-le}
 use lib.Seq.{drop-cons, ext-getD, sets, sets-eq}
 use Rattle.stream.specs.Slice.{onto, sift}
-use Rattle.handover_demo.specs.Compare.{Same, Agree, Columns, JudgesColumns, Matches, Judges}
+use Rattle.handover_demo.specs.Compare.{Same, Agree, Matches, Judges}
 use Rattle.handover_demo.specs.declared.compare.Got.{Got}
 use Rattle.handover_demo.specs.declared.compare.Difference.{Difference}
 use Rattle.handover_demo.specs.declared.compare.Difference.the-variants.{Nothing, Refusal, Count, Column}
@@ -75,7 +75,7 @@ module _ {A : Type 0} (d : A) (a b : List A) where
   differ-at i h = ((λ e. never e), λ e. absurd (h (ap (λ (l : List A). getD l i d) e)))
 
 -- a column as it was given, compared with one that was got
-module _ {A : Type 0} {from n : ℕ} {got g given : List A} (as-given : g ≡ given) {r : Bool} (same : Same r (take n got) (take n (drop from g))) where
+module _ {A : Type 0} (from n : ℕ) (got : List A) {g given : List A} (as-given : g ≡ given) {r : Bool} (same : Same r (take n got) (take n (drop from g))) where
   pub agrees : r ≡ true → Agree from n got given
   agrees e = same .0 e ∙ ap (λ (l : List A). take n (drop from l)) as-given
 
@@ -84,18 +84,14 @@ module _ {A : Type 0} {from n : ℕ} {got g given : List A} (as-given : g ≡ gi
 
 -- ---- what is told of a difference
 
-module _ (got : Got) (from to : ℕ) where
-  pub judged-column : (b : ℕ) → (Columns got from to → ⊥) → JudgesColumns got from to (Column b)
-  judged-column b h = record { if-nothing = λ e. absurd (let z : _≡_ {A = ℕ} 0 1 = cc in omega arith); if-matches = λ m. absurd (h m) }
+abbrev pub some : Difference → ℕ
+some Nothing = 0
+some (Refusal n) = 1
+some (Count n) = 1
+some (Column b) = 1
 
-  pub judged-refusal : (got .refused ≡ 0 → ⊥) → Judges got from to (Refusal (got .refused))
-  judged-refusal h = record { if-nothing = λ e. absurd (let z : _≡_ {A = ℕ} 0 1 = cc in omega arith); if-matches = λ m. absurd (h (m .accepted)) }
-
-  pub judged-count : (got .count ≡ to - from → ⊥) → Judges got from to (Count (got .count))
-  judged-count h = record { if-nothing = λ e. absurd (let z : _≡_ {A = ℕ} 0 1 = cc in omega arith); if-matches = λ m. absurd (h (m .count)) }
-
-  pub judged-all : {r : Difference} → got .refused ≡ 0 → got .count ≡ to - from → JudgesColumns got from to r → Judges got from to r
-  judged-all a n j = record { if-nothing = λ e. record { accepted = a; count = n; columns = j .if-nothing e }; if-matches = λ m. j .if-matches (m .columns) }
+pub judged-other : (got : Got) (from to : ℕ) (r : Difference) → some r ≡ 1 → (Matches got from to → ⊥) → Judges got from to r
+judged-other got from to r e h = record { if-nothing = λ k. absurd (let z : _≡_ {A = ℕ} 1 0 = sym e ∙ ap some k in omega arith); if-matches = λ m. absurd (h m) }
 
 -- ---- copying to the front: the first i are stored
 

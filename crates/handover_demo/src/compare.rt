@@ -1,6 +1,6 @@
 // Comparing what was read with the given events.
 ghost use Prim.Native.Nat.{_≤_};
-ghost use Rattle.handover_demo.specs.Compare.{Same, Judges, JudgesColumns};
+ghost use Rattle.handover_demo.specs.Compare.{Same, Judges};
 use crate::given;
 
 // What a call handed over: the number of its refusal (0 if there was none), the count, the columns.
@@ -52,35 +52,6 @@ pub enum Difference {
     Column(u8),
 }
 
-// Which column, if any, isn't that of the given events from number `from` on, up to `to`.
-fn judge_columns(got: Got, from: usize, to: usize) -> Difference
-    requires { ⌜ (from ≤ to) × (to ≤ 16) ⌝ }
-    ensures { λ r. ⌜ JudgesColumns got from to r ⌝ }
-{
-    let n = to - from;
-    let xs = got.xs;
-    let ys = got.ys;
-    let ts = got.ts;
-    let ps = got.ps;
-    let given_xs = given::columns();
-    let given_ys = given::rows();
-    let given_ts = given::times();
-    let given_ps = given::polarities();
-    if same_shorts(&xs[..n], &given_xs[from..to]) {} else {
-        return Difference::Column(b'x');
-    }
-    if same_shorts(&ys[..n], &given_ys[from..to]) {} else {
-        return Difference::Column(b'y');
-    }
-    if same_longs(&ts[..n], &given_ts[from..to]) {} else {
-        return Difference::Column(b't');
-    }
-    if check::same(&ps[..n], &given_ps[from..to]) {} else {
-        return Difference::Column(b'p');
-    }
-    Difference::Nothing
-}
-
 // How what was got differs from the given events from number `from` on, up to `to`.
 pub fn judge(got: Got, from: usize, to: usize) -> Difference
     requires { ⌜ (from ≤ to) × (to ≤ 16) ⌝ }
@@ -89,8 +60,29 @@ pub fn judge(got: Got, from: usize, to: usize) -> Difference
     if got.refused != 0 {
         return Difference::Refusal(got.refused);
     }
-    if got.count != to - from {
+    let n = to - from;
+    if got.count != n {
         return Difference::Count(got.count);
     }
-    judge_columns(got, from, to)
+    let xs = got.xs;
+    let given_xs = given::columns();
+    if same_shorts(&xs[..n], &given_xs[from..to]) {} else {
+        return Difference::Column(b'x');
+    }
+    let ys = got.ys;
+    let given_ys = given::rows();
+    if same_shorts(&ys[..n], &given_ys[from..to]) {} else {
+        return Difference::Column(b'y');
+    }
+    let ts = got.ts;
+    let given_ts = given::times();
+    if same_longs(&ts[..n], &given_ts[from..to]) {} else {
+        return Difference::Column(b't');
+    }
+    let ps = got.ps;
+    let given_ps = given::polarities();
+    if check::same(&ps[..n], &given_ps[from..to]) {} else {
+        return Difference::Column(b'p');
+    }
+    Difference::Nothing
 }

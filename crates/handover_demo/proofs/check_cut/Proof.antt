@@ -1,111 +1,87 @@
+-- `handover_demo::check_cut` is safe and ends. Assumes nothing.
+use mathlib.Core.Path.{_≡_, sym}
+use Prim.Native.Nat.{_-_, _%_}
+use native.Mathlib.Nat.{mod-le}
+use native.Mathlib.Omega.{arith}
+use lib.ListN.{length, take}
+use lib.Seq.{length-take-le}
 use borrow.Author.Needs.{needs}
 use Rattle.handover_demo.proofs.check_cut.Statement.{statement}
 use Rattle.handover_demo.proofs.check_cut.Tie as tie
-use Rattle.handover_demo.proofs.check_cut.Reads as reads
-use Rattle.handover_demo.proofs.check_cut.Lts as lts
-use Rattle.handover_demo.proofs.both.Reads as both-reads
-use Rattle.handover_demo.proofs.exact.reads.Reads as reads-reads
-use Rattle.handover_demo.proofs.given.whole_before.Reads as whole-before-reads
-use Rattle.handover_demo.proofs.print.cut.Reads as cut-reads
-use Rattle.handover_demo.proofs.print.text.Reads as text-reads
-use Rattle.handover_demo.proofs.word_size.Reads as word-size-reads
-use Rattle.handover_demo.proofs.write.copy.Reads as copy-reads
-use Rattle.handover_demo.proofs.write.resume.Reads as resume-reads
-use Rattle.handover_demo.proofs.write.room.Reads as room-reads
 
--- src/main.rt:37:9
 whole-before-requires : tie.Need-whole-before-requires
 whole-before-requires c κs = search needs
 
--- src/main.rt:38:28
 word-size-requires : tie.Need-word-size-requires
 word-size-requires c κs = search needs
 
--- src/main.rt:38:22
 rem-kept : tie.Need-rem-kept
 rem-kept c = search needs
 
--- src/main.rt:38:16
 sub-kept : tie.Need-sub-kept
-sub-kept c = ?
+sub-kept c = mod-le _ _
 
--- src/main.rt:39:22
 room-requires : tie.Need-room-requires
 room-requires c κs = search needs
 
--- src/main.rt:40:17
 slice-aggregate-copy : tie.Need-slice-aggregate-copy
-slice-aggregate-copy c = ?
+slice-aggregate-copy c = sym (length-take-le _ _ (omega (arith, c .before .before .before .before .before .pre .0)))
 
--- src/main.rt:40:34
 slice-aggregate-copy-2 : tie.Need-slice-aggregate-copy-2
 slice-aggregate-copy-2 c = search needs
 
--- src/main.rt:40:5
 copy-requires : tie.Need-copy-requires
-copy-requires c κs = ?
+copy-requires c κs = 
+    let n = c .before .before .before .before .before .before .args .cut - c .before .before .before .before .before .before .args .cut % c .before .before .before .word-size .result in
+    let stream = c .before .before .before .before .before .before .args .stream .now in
+    let long : length (take n stream) ≡ n = length-take-le n stream (omega (arith, c .before .before .before .before .before .before .pre .0)) in
+    omega (arith, c .before .before .before .before .before .before .pre .0, c .before .before .before .before .before .before .pre .1, c .before .before .room .ensures)
 
--- src/main.rt:41:46
 slice-aggregate-resume : tie.Need-slice-aggregate-resume
 slice-aggregate-resume c = search needs
 
--- src/main.rt:41:9
 resume-requires : tie.Need-resume-requires
 resume-requires c κs = search needs
 
--- src/main.rt:42:5
 cut-requires : tie.Need-cut-requires
 cut-requires c κs = search needs
 
--- src/main.rt:43:40
 slice-aggregate-reads : tie.Need-slice-aggregate-reads
-slice-aggregate-reads c = ?
+slice-aggregate-reads c = sym (length-take-le _ _ (c .before .before .before .before .before .before .before .before .before .before .before .before .before .pre .0))
 
--- src/main.rt:43:63
 slice-aggregate-reads-2 : tie.Need-slice-aggregate-reads-2
 slice-aggregate-reads-2 c = search needs
 
--- src/main.rt:43:9
 reads-requires : tie.Need-reads-requires
 reads-requires c κs = search needs
 
--- src/main.rt:44:41
 array-share-prefix-joined : tie.Need-array-share-prefix-joined
 array-share-prefix-joined c = search needs
 
--- src/main.rt:44:41
 slice-aggregate-reads-3 : tie.Need-slice-aggregate-reads-3
-slice-aggregate-reads-3 c = ?
+slice-aggregate-reads-3 c = sym (length-take-le _ _ (search needs))
 
--- src/main.rt:44:61
 slice-aggregate-reads-4 : tie.Need-slice-aggregate-reads-4
 slice-aggregate-reads-4 c = search needs
 
--- src/main.rt:44:9
 reads-requires-2 : tie.Need-reads-requires-2
 reads-requires-2 c κs = search needs
 
--- src/main.rt:45:9
 both-requires : tie.Need-both-requires
 both-requires c κs = search needs
 
--- src/main.rt:47:21
 slice-aggregate-text : tie.Need-slice-aggregate-text
 slice-aggregate-text c = search needs
 
--- src/main.rt:47:9
 text-requires : tie.Need-text-requires
 text-requires c κs = search needs
 
--- src/main.rt:49:17
 slice-aggregate-text-2 : tie.Need-slice-aggregate-text-2
 slice-aggregate-text-2 c = search needs
 
--- src/main.rt:49:5
 text-requires-2 : tie.Need-text-requires-2
 text-requires-2 c κs = search needs
 
--- src/main.rt:34:1
 returns : tie.Need-returns
 returns c = search needs
 

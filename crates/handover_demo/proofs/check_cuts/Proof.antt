@@ -1,43 +1,36 @@
+-- `handover_demo::check_cuts` is safe and ends. Assumes nothing.
+use Prim.Native.Nat.{_+_, _-_}
+use borrow.Author.Needs.{needs}
+use lib.ListN.{length}
 use Rattle.handover_demo.proofs.check_cuts.Statement.{statement}
 use Rattle.handover_demo.proofs.check_cuts.Tie as tie
-use Rattle.handover_demo.proofs.check_cuts.Reads as reads
-use Rattle.handover_demo.proofs.check_cuts.Lts as lts
-use Rattle.handover_demo.proofs.both.Reads as both-reads
-use Rattle.handover_demo.proofs.check_cut.Reads as check-cut-reads
 
 abbrev Inv-loop : tie.InvT-loop
-Inv-loop encoding stream all₀ cut₀ all cut = ?
+Inv-loop encoding stream all₀ cut₀ all cut = Unit {0}
 
 abbrev μ-loop : tie.MeasureT-loop
-μ-loop encoding stream all₀ cut₀ all cut = ?
+μ-loop encoding stream all₀ cut₀ all cut = length stream + 1 - cut
 
--- src/main.rt:58:5
 loop-holds : tie.Need-loop-holds Inv-loop μ-loop
-loop-holds c = ?
+loop-holds c = search needs
 
--- src/main.rt:59:13
 check-cut-requires : tie.Need-check-cut-requires Inv-loop μ-loop
-check-cut-requires c κs = ?
+check-cut-requires c κs = search needs
 
--- src/main.rt:60:9
 both-requires : tie.Need-both-requires Inv-loop μ-loop
-both-requires c κs = ?
+both-requires c κs = search needs
 
--- src/main.rt:61:9
 add-cut : tie.Need-add-cut Inv-loop μ-loop
-add-cut c = ?
+add-cut c = search needs
 
--- src/main.rt:58:5
 loop-less : tie.Need-loop-less Inv-loop μ-loop
-loop-less c = ?
+loop-less c = search needs
 
--- src/main.rt:58:5
 loop-again : tie.Need-loop-again Inv-loop μ-loop
-loop-again c = ?
+loop-again c = search needs
 
--- src/main.rt:53:1
 returns : tie.Need-returns Inv-loop μ-loop
-returns c = ?
+returns c = search needs
 
 pub check-cuts-spec : {M : Type 1} → statement M
 check-cuts-spec =

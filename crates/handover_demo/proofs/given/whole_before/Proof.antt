@@ -1,26 +1,24 @@
+-- `handover_demo::given::whole_before` meets its contract. Assumes nothing.
+use mathlib.Core.Path.{ap, _∙_}
+use mathlib.Core.List.{List}
+use Prim.Native.Nat.{ℕ}
+use native.Mathlib.Omega.{arith}
+use Rattle.handover_demo.specs.Given.{upTo}
 use borrow.Author.Needs.{needs}
 use Rattle.handover_demo.proofs.given.whole_before.Statement.{statement}
 use Rattle.handover_demo.proofs.given.whole_before.Tie as tie
-use Rattle.handover_demo.proofs.given.whole_before.Reads as reads
-use Rattle.handover_demo.proofs.given.whole_before.Lts as lts
-use Rattle.handover_demo.proofs.given.count_to.Reads as count-to-reads
-use Rattle.handover_demo.proofs.given.word_ends.Reads as word-ends-reads
 
--- src/given.rt:67:16
 word-ends-requires : tie.Need-word-ends-requires
 word-ends-requires c κs = search needs
 
--- src/given.rt:68:14
 slice-aggregate-count-to : tie.Need-slice-aggregate-count-to
 slice-aggregate-count-to c = search needs
 
--- src/given.rt:68:5
 count-to-requires : tie.Need-count-to-requires
 count-to-requires c κs = search needs
 
--- src/given.rt:64:1
 returns : tie.Need-returns
-returns c = ?
+returns c = (c .count-to .ensures .0 ∙ ap (λ (l : List ℕ). upTo (c .before .before .before .args .cut) l) (c .before .before .word-ends .ensures .0), omega (arith, c .count-to .ensures .1, c .before .before .word-ends .ensures .1))
 
 pub whole-before-spec : {M : Type 1} → statement M
 whole-before-spec =

@@ -1,0 +1,12 @@
+-- `handover_demo::given::rows` meets its contract. Assumes nothing.
+use mathlib.Core.Path.{refl}
+use Rattle.handover_demo.specs.Given.{givenYs}
+use Rattle.handover_demo.proofs.given.rows.Statement.{statement}
+use Rattle.handover_demo.proofs.given.rows.Tie as tie
+
+returns : tie.Need-returns
+unfolding givenYs
+returns c = (refl, refl)
+
+pub rows-spec : {M : Type 1} → statement M
+rows-spec = tie.close (tie.spec returns)

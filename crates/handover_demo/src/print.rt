@@ -1,0 +1,102 @@
+// Printing to standard output.
+ghost use Prim.Native.Nat.{_<_};
+use evt::Encoding;
+use evt::Refusal;
+use libc::STDOUT_FILENO;
+use sink::AppendAnswer;
+
+pub fn text(s: &[u8]) {
+    io::write_all(STDOUT_FILENO, s);
+}
+
+pub fn byte(b: u8) {
+    let s = [b];
+    text(&s);
+}
+
+pub fn number(n: u64) {
+    io::print_decimal(STDOUT_FILENO, n);
+}
+
+pub fn encoding(e: Encoding) {
+    match e {
+        Encoding::Evt2 => text(b"EVT2"),
+        Encoding::Evt3 => text(b"EVT3"),
+    }
+}
+
+fn wide(b: u8) -> u64 {
+    b as u64
+}
+
+// A word's last byte is its highest.
+fn word(s: &[u8]) {
+    text(b" ");
+    let mut i = s.len();
+    while i > 0 {
+        i -= 1;
+        io::print_hex(STDOUT_FILENO, wide(s[i]), 2);
+    }
+}
+
+pub fn words(s: &[u8], size: usize)
+    requires { ⌜ 0 < size ⌝ }
+{
+    let mut at = 0;
+    while size <= s.len() - at {
+        let end = at + size;
+        word(&s[at..end]);
+        at = end;
+    }
+    text(b"\n");
+}
+
+// The table's number.
+pub fn table(r: Refusal) -> u64 {
+    match r {
+        Refusal::InvalidSensorSize => 1,
+        Refusal::UnknownEncoding => 2,
+        Refusal::HeaderNotAscii => 3,
+        Refusal::TooLong => 4,
+        Refusal::ColumnsTooShort(_) => 5,
+        Refusal::TimeOrder => 6,
+        Refusal::EventOutOfRange => 7,
+        Refusal::InvalidSpacing => 8,
+        Refusal::TooFewRecords(_) => 9,
+        Refusal::StateOutOfRange => 10,
+        Refusal::OutputTooShort(_) => 11,
+        Refusal::ColumnLengths => 12,
+    }
+}
+
+fn answer(a: AppendAnswer) {
+    match a {
+        AppendAnswer::Written(n) => {
+            number(n as u64);
+            text(b" bytes\n");
+        }
+        AppendAnswer::Refused(why) => {
+            text(b"refused ");
+            number(table(why));
+            text(b"\n");
+        }
+    }
+}
+
+// How an append of n events was answered.
+pub fn append(n: u64, a: AppendAnswer) {
+    text(b"append of ");
+    number(n);
+    text(b" events: ");
+    answer(a);
+}
+
+pub fn cut(cut: usize, whole: usize, end: usize) {
+    text(b"cut ");
+    number(cut as u64);
+    text(b": ");
+    number(whole as u64);
+    text(b" whole, joined ");
+    number(end as u64);
+    text(b" bytes,");
+}

@@ -1,0 +1,149 @@
+// Bytes read back, into columns of 16: decoded whole, or a slice by an index of them.
+use crate::compare::Got;
+use crate::print;
+use evt::Encoding;
+use evt::Limit;
+use evt::SensorSize;
+use fixed_index::FixedIndex;
+use index::Checkpoint;
+use index::RawSliceSource;
+use index::WordsOptions;
+use read::ReadAnswer;
+use slice::SliceAnswer;
+
+// A refusal's number, or 0, and a count.
+struct Outcome {
+    refused: u64,
+    count: usize,
+}
+
+fn read_outcome(answer: ReadAnswer) -> Outcome {
+    match answer {
+        ReadAnswer::Read(r) => Outcome {
+            refused: 0,
+            count: r.count,
+        },
+        ReadAnswer::Refused(why) => Outcome {
+            refused: print::table(why),
+            count: 0,
+        },
+    }
+}
+
+fn slice_outcome(answer: SliceAnswer) -> Outcome {
+    match answer {
+        SliceAnswer::Sliced(n) => Outcome {
+            refused: 0,
+            count: n,
+        },
+        SliceAnswer::Refused(why) => Outcome {
+            refused: print::table(why),
+            count: 0,
+        },
+    }
+}
+
+pub fn decode(encoding: Encoding, bytes: &[u8]) -> Got {
+    let mut xs = [0; 16];
+    let mut ys = [0; 16];
+    let mut ts = [0; 16];
+    let mut ps = [0; 16];
+    let answer = read::decode_words(
+        bytes,
+        encoding,
+        SensorSize::Known(2048, 2048),
+        Limit::Unlimited,
+        &mut xs,
+        &mut ys,
+        &mut ts,
+        &mut ps,
+    );
+    let o = read_outcome(answer);
+    Got {
+        refused: o.refused,
+        count: o.count,
+        xs,
+        ys,
+        ts,
+        ps,
+    }
+}
+
+pub fn open(encoding: Encoding, bytes: &[u8], spacing: usize) -> FixedIndex {
+    let options = WordsOptions {
+        encoding,
+        sensor_size: SensorSize::Known(2048, 2048),
+        spacing,
+    };
+    fixed_index::open_words(bytes, options, 64)
+}
+
+pub fn by_number(
+    bytes: &[u8],
+    source: RawSliceSource,
+    records: [Checkpoint; 64],
+    n: usize,
+    i0: usize,
+    i1: usize,
+) -> Got {
+    let mut xs = [0; 16];
+    let mut ys = [0; 16];
+    let mut ts = [0; 16];
+    let mut ps = [0; 16];
+    let answer = fixed_index::slice_index(
+        bytes,
+        source,
+        records,
+        n,
+        i0,
+        i1,
+        &mut xs,
+        &mut ys,
+        &mut ts,
+        &mut ps,
+    );
+    let o = slice_outcome(answer);
+    Got {
+        refused: o.refused,
+        count: o.count,
+        xs,
+        ys,
+        ts,
+        ps,
+    }
+}
+
+pub fn by_time(
+    bytes: &[u8],
+    source: RawSliceSource,
+    records: [Checkpoint; 64],
+    n: usize,
+    t0: i64,
+    t1: i64,
+) -> Got {
+    let mut xs = [0; 16];
+    let mut ys = [0; 16];
+    let mut ts = [0; 16];
+    let mut ps = [0; 16];
+    let answer = fixed_index::slice_time(
+        bytes,
+        source,
+        records,
+        n,
+        t0,
+        t1,
+        &mut xs,
+        &mut ys,
+        &mut ts,
+        &mut ps,
+    );
+    let o = slice_outcome(answer);
+    Got {
+        refused: o.refused,
+        count: o.count,
+        xs,
+        ys,
+        ts,
+        ps,
+    }
+}

@@ -1,0 +1,138 @@
+// Appending: what is given, and what a second writer goes on with.
+ghost use mathlib.Core.Path.{_≡_};
+ghost use mathlib.Core.List.{_++_};
+ghost use Prim.Native.Nat.{_≤_};
+ghost use lib.ListN.{length, drop};
+use crate::given;
+use crate::print;
+use evt::Encoding;
+use sink::AppendAnswer;
+use sink::RawEventSink;
+
+// A writer, how many bytes of the output are written, and how the last append was answered.
+struct Progress {
+    sink: RawEventSink,
+    at: usize,
+    answer: AppendAnswer,
+}
+
+// Room for a stream. The `ensures` keeps the array itself out of its callers' proofs.
+pub fn room() -> [u8; 256]
+    ensures { λ r. ⌜ 256 ≡ length r ⌝ }
+{
+    [0; 256]
+}
+
+// A fresh writer that sends no header, and `at` bytes that stand already.
+fn fresh(encoding: Encoding, at: usize) -> Progress
+    ensures { λ r. ⌜ r .at ≡ at ⌝ }
+{
+    Progress {
+        sink: RawEventSink::to_writer(encoding, false),
+        at,
+        answer: AppendAnswer::Written(0),
+    }
+}
+
+fn bytes_told(answer: AppendAnswer) -> usize {
+    match answer {
+        AppendAnswer::Written(n) => n,
+        AppendAnswer::Refused(_) => 0,
+    }
+}
+
+// n more than `at`, within the output.
+fn forward(at: usize, n: usize, len: usize) -> usize
+    requires { ⌜ at ≤ len ⌝ }
+    ensures { λ r. ⌜ r ≤ len ⌝ }
+{
+    if n <= len - at { at + n } else { len }
+}
+
+// Appends behind what is written.
+fn append(w: Progress, xs: &[u16], ys: &[u16], ts: &[i64], ps: &[u8], out: &mut [u8]) -> Progress
+    requires { ⌜ w .at ≤ length (now out) ⌝ }
+    ensures { λ r. ⌜ r .at ≤ length (now (out .entry)) ⌝ }
+{
+    let sink = w.sink;
+    let at = w.at;
+    let len = out.len();
+    let appended = sink::append(sink, 2048, 2048, xs, ys, ts, ps, &mut out[at..]);
+    let next = appended.sink;
+    let answer = appended.answer;
+    let told = bytes_told(answer);
+    let end = forward(at, told, len);
+    Progress {
+        sink: next,
+        at: end,
+        answer,
+    }
+}
+
+// Appends the given events from number `from` on, up to `to`.
+fn append_given(w: Progress, from: usize, to: usize, out: &mut [u8]) -> Progress
+    requires { ⌜ (w .at ≤ length (now out)) × ((from ≤ to) × (to ≤ 16)) ⌝ }
+    ensures { λ r. ⌜ r .at ≤ length (now (out .entry)) ⌝ }
+{
+    let xs = given::columns();
+    let ys = given::rows();
+    let ts = given::times();
+    let ps = given::polarities();
+    append(
+        w,
+        &xs[from..to],
+        &ys[from..to],
+        &ts[from..to],
+        &ps[from..to],
+        &mut *out,
+    )
+}
+
+// Two events whose times fall.
+fn append_falling(w: Progress, out: &mut [u8]) -> Progress
+    requires { ⌜ w .at ≤ length (now out) ⌝ }
+    ensures { λ r. ⌜ r .at ≤ length (now (out .entry)) ⌝ }
+{
+    let xs = [1, 2];
+    let ys = [7, 7];
+    let ts = [4096, 4095];
+    let ps = [0, 0];
+    append(w, &xs, &ys, &ts, &ps, &mut *out)
+}
+
+// The appends that are given, by a fresh writer. Answers how long the stream is.
+pub fn appends(encoding: Encoding, out: &mut [u8]) -> usize
+    ensures { λ r. ⌜ r ≤ length (now (out .entry)) ⌝ }
+{
+    let first = append_given(fresh(encoding, 0), 0, 7, &mut *out);
+    let a = first.answer;
+    print::append(7, a);
+    let second = append_falling(first, &mut *out);
+    let b = second.answer;
+    print::append(2, b);
+    let third = append_given(second, 7, 16, &mut *out);
+    let c = third.answer;
+    print::append(9, c);
+    third.at
+}
+
+// A fresh writer goes on at `at` with the given events from number `from` on. Answers where it ends.
+pub fn resume(encoding: Encoding, from: usize, out: &mut [u8], at: usize) -> usize
+    requires { ⌜ (from ≤ 16) × (at ≤ length (now out)) ⌝ }
+    ensures { λ r. ⌜ r ≤ length (now (out .entry)) ⌝ }
+{
+    let w = append_given(fresh(encoding, at), from, 16, &mut *out);
+    w.at
+}
+
+// Copies to the front of `to`.
+pub fn copy(from: &[u8], to: &mut [u8])
+    requires { ⌜ length (now from) ≤ length (now to) ⌝ }
+    ensures { λ r. ⌜ now (to .exit) ≡ now (from .entry) ++ drop (length (now (from .entry))) (now (to .entry)) ⌝ }
+{
+    let mut i = 0;
+    while i < from.len() {
+        to[i] = from[i];
+        i += 1;
+    }
+}

@@ -17,10 +17,11 @@ use Rattle.index.specs.declared.Judging.{Judging}
 use Rattle.index.specs.declared.Search.{Search}
 use Rattle.index.specs.Choose.{Chose}
 use Rattle.index.specs.Index.{firsts}
+use Rattle.index.specs.Halves.{bracketOf, narrowed}
 use Rattle.index.specs.Judge.{judgedOf, judgedAll}
 use Rattle.index.specs.Laws.{length-firsts}
 use Rattle.index.specs.Nth.{nth, blank}
-use Rattle.index.specs.Search.{bracketOf, narrowed, Searching, search-start, search-place, search-turn}
+use Rattle.index.specs.Search.{Searching, search-start, search-place, search-turn}
 use Rattle.prophesee_raw_c.specs.Records.{roomOf, recordAt, recordsIn}
 
 judged-more : (s : Judging) (l : List Checkpoint) (c : Checkpoint) → judgedAll s (l ++ (c ∷ [])) ≡ judgedOf (judgedAll s l) c

@@ -98,11 +98,7 @@ fn indexed(encoding: Encoding, bytes: &[u8], spacing: usize, count: usize, name:
             let second = by_time(bytes, source, records, n, count, name);
             both(first, second)
         }
-        OpenAnswer::Refused(why) => told(
-            Difference::Refusal(print::table(why)),
-            name,
-            b" opened",
-        ),
+        OpenAnswer::Refused(why) => told(Difference::Refusal(print::table(why)), name, b" opened"),
     }
 }
 

@@ -31,7 +31,7 @@ slice-aggregate-copy-2 : tie.Need-slice-aggregate-copy-2
 slice-aggregate-copy-2 c = search needs
 
 copy-requires : tie.Need-copy-requires
-copy-requires c κs = 
+copy-requires c κs =
     let n = c .before .before .before .before .before .before .args .cut - c .before .before .before .before .before .before .args .cut % c .before .before .before .word-size .result in
     let stream = c .before .before .before .before .before .before .args .stream .now in
     let long : length (take n stream) ≡ n = length-take-le n stream (omega (arith, c .before .before .before .before .before .before .pre .0)) in

@@ -47,7 +47,7 @@ words-requires : tie.Need-words-requires
 words-requires c κs = search needs
 
 check-cuts-requires : tie.Need-check-cuts-requires
-check-cuts-requires c κs = 
+check-cuts-requires c κs =
     let n = c .before .before .before .before .before .before .before .appends .result in
     let out = c .before .before .before .before .before .before .before .appends .last .1 .0 in
     let long : length (take n out) ≡ n = length-take-le n out (search needs) in

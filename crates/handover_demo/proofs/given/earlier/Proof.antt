@@ -25,7 +25,7 @@ count-earlier-requires : tie.Need-count-earlier-requires
 count-earlier-requires c κs = search needs
 
 returns : tie.Need-returns
-returns c = 
+returns c =
     let count = c .before .before .before .args .count in
     let ts = c .before .before .times .result in
     let long : length (take count ts) ≡ count = length-take-le count ts (omega (arith, c .before .before .times .ensures .1, c .before .before .before .pre)) in

@@ -1,14 +1,14 @@
-// The index of a recording: checkpoints at every `spacing` bytes of its body, made into lent records.
-// specs/Index.antt has what an index holds and what opening answers, by document 01's table;
-// specs/Judge.antt when records are out of range (10), specs/Choose.antt which one a slice starts at.
-// `open`, `open_words`, `judge_all` and `choose` are lent records: they are proved by hand over the
-// other functions, which take a record by value.
+// The index of a recording: checkpoints at every `spacing` bytes of its body. specs/Index.antt has what
+// an index holds and what opening answers, by document 01's table; specs/Judge.antt when records are
+// out of range (10), specs/Choose.antt which one a slice starts at. The functions take a record by
+// value, but for `judge_all` and `choose`, which are lent records and proved by hand. Crate `open` has
+// the entries that make an index.
 ghost use mathlib.Core.Path.{_≡_};
 ghost use mathlib.Core.Bool.{true};
 ghost use Prim.Native.Nat.{_≤_, _<_, _^_, min, max};
 ghost use lib.Dec.{ltb};
 ghost use lib.ListN.{length};
-ghost use Rattle.index.specs.Index.{spacingOk, recordCount, OpensRaw, OpensWords};
+ghost use Rattle.index.specs.Index.{spacingOk, recordCount};
 ghost use Rattle.index.specs.Build.{Fit, Advanced, firstOf, idle, bodyJob, rawJob, refusedJob, wholeWindow, wordsJob, concluded};
 ghost use Rattle.index.specs.Choose.{passesOf, Chose};
 ghost use Rattle.index.specs.Nth.{blank};
@@ -371,44 +371,6 @@ pub fn conclude(run: Run) -> OpenAnswer
             })
         }
     }
-}
-
-// Makes the index of a recording into the lent records. Refused, no record is touched.
-pub fn open<'a, 'b>(
-    recording: &'a [u8],
-    records: &'b mut [Checkpoint],
-    options: OpenOptions,
-) -> OpenAnswer
-    ensures { λ r. ⌜ OpensRaw (now (recording .entry)) options r (now (records .entry)) (now (records .exit)) ⌝ }
-{
-    let room = records.len();
-    let mut t = prepare(recording, options, room);
-    while t.more {
-        let i = t.at;
-        let m = advance(recording, t);
-        records[i] = m.record;
-        t = m.next;
-    }
-    conclude(t)
-}
-
-// The same for headerless words.
-pub fn open_words<'a, 'b>(
-    words: &'a [u8],
-    records: &'b mut [Checkpoint],
-    options: WordsOptions,
-) -> OpenAnswer
-    ensures { λ r. ⌜ OpensWords (now (words .entry)) options r (now (records .entry)) (now (records .exit)) ⌝ }
-{
-    let room = records.len();
-    let mut t = prepare_words(words, options, room);
-    while t.more {
-        let i = t.at;
-        let m = advance(words, t);
-        records[i] = m.record;
-        t = m.next;
-    }
-    conclude(t)
 }
 
 // What a slice asks of the record it starts at: a count at most `index`, or, by time, a time below

@@ -1,5 +1,5 @@
--- `index::open_words` meets its contract: a walk of its MIR with a loop, by hand. The borrow of the records is opened once, before the loop, and closed once, after it.
--- `prepare_words` says what is to be made, a turn stores the record that `advance` hands back, and `conclude` makes the answer.
+-- `open::open` meets its contract: a walk of its MIR with a loop, by hand. The borrow of the records is opened once, before the loop, and closed once, after it.
+-- `prepare` says what is to be made, a turn stores the record that `advance` hands back, and `conclude` makes the answer.
 use mathlib.Core.Path.{_≡_, refl, sym, _∙_, ap, subst}
 use Prim.Native.Nat.{ℕ, zero, suc, _+_, _*_, _<_, _≤_, _^_}
 use native.Mathlib.Nat.{lt-suc-self}
@@ -48,42 +48,42 @@ use denote.Triple.Spec.{Meets, tripleOf}
 use denote.Triple.Table.{entered, cited}
 use denote.Triple.Walked.{says, needs, Stays, stay-none-slice, stay-slice, stay-none, walkOf, goes-none-slice, goes-slice, goes-none, Walks, ends-at, walked, walk-meets}
 use denote.Exit.{yes}
 use Rattle.index.specs.declared.Checkpoint.{Checkpoint}
 use Rattle.index.specs.declared.OpenAnswer.{OpenAnswer}
-use Rattle.index.specs.declared.WordsOptions.{WordsOptions}
+use Rattle.index.specs.declared.OpenOptions.{OpenOptions}
 use Rattle.index.specs.declared.Run.{Run}
 use Rattle.index.specs.declared.Ran.{Ran}
 use Rattle.index.specs.Nth.{blank}
-use Rattle.index.specs.Build.{Fit, Advanced, Job, firstOf, wordsJob, concluded}
-use Rattle.index.specs.Index.{OpensWords}
-use Rattle.index.specs.Stage.{Stage, Ended, stage-start, stage-fit, stage-place, stage-next, stage-stops, stage-end, allowed-words, opens-words}
+use Rattle.index.specs.Build.{Fit, Advanced, Job, firstOf, rawJob, concluded}
+use Rattle.index.specs.Index.{OpensRaw}
+use Rattle.index.specs.Stage.{Stage, Ended, stage-start, stage-fit, stage-place, stage-next, stage-stops, stage-end, allowed-raw, opens-raw}
 use Rattle.index.proofs.Checkpoint as T
 use Rattle.index.proofs.Checkpoint.Laws as T′
 use Rattle.index.proofs.Ran as D
 use Rattle.index.proofs.Ran.Laws as D′
 use Rattle.index.proofs.Run as S
 use Rattle.index.proofs.Run.Laws as S′
-use Rattle.index.proofs.WordsOptions as P
-use Rattle.index.proofs.WordsOptions.Laws as P′
+use Rattle.index.proofs.OpenOptions as P
+use Rattle.index.proofs.OpenOptions.Laws as P′
 use Rattle.index.proofs.OpenAnswer as E
 use Rattle.index.proofs.OpenAnswer.Laws as E′
 use Rattle.index.proofs.advance as advance
 use Rattle.index.proofs.advance.Symbol as advance-def
 use Rattle.index.proofs.advance.Symbol.{name as #index·advance}
 use Rattle.index.proofs.advance.Met as advance-thm
-use Rattle.index.proofs.prepare_words as prepare
-use Rattle.index.proofs.prepare_words.Symbol as prepare-def
-use Rattle.index.proofs.prepare_words.Symbol.{name as #index·prepare_words}
-use Rattle.index.proofs.prepare_words.Met as prepare-thm
+use Rattle.index.proofs.prepare as prepare
+use Rattle.index.proofs.prepare.Symbol as prepare-def
+use Rattle.index.proofs.prepare.Symbol.{name as #index·prepare}
+use Rattle.index.proofs.prepare.Met as prepare-thm
 use Rattle.index.proofs.conclude as conclude
 use Rattle.index.proofs.conclude.Symbol as conclude-def
 use Rattle.index.proofs.conclude.Symbol.{name as #index·conclude}
 use Rattle.index.proofs.conclude.Met as conclude-thm
-use Rattle.index.proofs.open_words.Key.{name as #index·open_words}
-use Rattle.index.proofs.open_words as f
-use Rattle.index.proofs.open_words.Statement as stated
-use Rattle.index.proofs.open_words.Code as code
-use Rattle.index.proofs.open_words.Code.Mir as mir
+use Rattle.open.proofs.open.Key.{name as #open·open}
+use Rattle.open.proofs.open as f
+use Rattle.open.proofs.open.Statement as stated
+use Rattle.open.proofs.open.Code as code
+use Rattle.open.proofs.open.Code.Mir as mir
 
 far : (i n : ℕ) → i < n → n * 72 < 2 ^ 63 → i * 72 < 2 ^ 64
 far i n l room = omega arith
@@ -99,7 +99,7 @@ abbrev slice : Ty
 slice = sliceTy (tyRef (named 1) mut (pointee (T.the-row .written)))
 
 abbrev Arg : Type 0
-Arg = RefT (List ℕ) × (RefT (List Checkpoint) × (WordsOptions × Unit {0}))
+Arg = RefT (List ℕ) × (RefT (List Checkpoint) × (OpenOptions × Unit {0}))
 
 abbrev stayed : Stays (f.ended .signature .params) (f.ended .kept)
 stayed = (stay-none-slice (0 ∷ []) tt (plain (λ _. u8)) yes, (stay-slice (1 ∷ []) tt (plain (λ _. T.the-row)), (stay-none (λ _. P.the-row) yes, tt)))
@@ -110,7 +110,7 @@ mach d = LL.val T.the-type T′.the-laws d
 abbrev machS : Run → Val
 machS d = LL.val S.the-type S′.the-laws d
 
-abbrev machP : WordsOptions → Val
+abbrev machP : OpenOptions → Val
 machP d = LL.val P.the-type P′.the-laws d
 
 abbrev machE : OpenAnswer → Val
@@ -119,14 +119,14 @@ machE d = EL.val E.the-type E′.the-laws d
 abbrev IsS : Run → Type 0
 IsS d = Is S.the-row d (machS d ∷ [])
 
-abbrev IsP : WordsOptions → Type 0
+abbrev IsP : OpenOptions → Type 0
 IsP d = Is P.the-row d (machP d ∷ [])
 
 abbrev IsE : OpenAnswer → Type 0
 IsE d = Is E.the-row d (machE d ∷ [])
 
-abbrev Starts : List ℕ → WordsOptions → ℕ → Run → Type 0
-Starts l o room r = r ≡ firstOf (wordsJob l o room)
+abbrev Starts : List ℕ → OpenOptions → ℕ → Run → Type 0
+Starts l o room r = r ≡ firstOf (rawJob l o room)
 
 module _ {M : Type 1} (𝓤 : URA M) (H : Heap 𝓤) (A : Atoms 𝓤) (at-mem : Memory → SProp 𝓤) (run : Routine → Fun 𝓤) where
   abbrev Advance : Contract 𝓤
@@ -138,7 +138,7 @@ module _ {M : Type 1} (𝓤 : URA M) (H : Heap 𝓤) (A : Atoms 𝓤) (at-mem : 
   abbrev Prepare : Contract 𝓤
   Prepare = tripleOf 𝓤 H A prepare.signature (prepare.spec 𝓤 H A at-mem run)
 
-  prep-of : (κ : Lft) (bs : RefT (List ℕ)) (o : WordsOptions) (n : ℕ) (r : Run) → ent 𝓤 (ensured 𝓤 H A prepare.ended (prepare.clauses 𝓤 H A at-mem run) (κ, tt) (bs, (o, (n, tt))) tt r) (fact 𝓤 (Starts (bs .now) o n r))
+  prep-of : (κ : Lft) (bs : RefT (List ℕ)) (o : OpenOptions) (n : ℕ) (r : Run) → ent 𝓤 (ensured 𝓤 H A prepare.ended (prepare.clauses 𝓤 H A at-mem run) (κ, tt) (bs, (o, (n, tt))) tt r) (fact 𝓤 (Starts (bs .now) o n r))
   prep-of κ bs o n r = exE 𝓤 _ (λ ws. snd∗ 𝓤 (sem 𝓤 H A (lasts prepare.ended (κ, tt) (bs, (o, (n, tt))) ws)) (fact 𝓤 (Starts (bs .now) o n r)))
 
   abbrev Conclude : Contract 𝓤
@@ -147,7 +147,7 @@ module _ {M : Type 1} (𝓤 : URA M) (H : Heap 𝓤) (A : Atoms 𝓤) (at-mem : 
   conc-of : (t : Run) (r : OpenAnswer) → ent 𝓤 (ensured 𝓤 H A conclude.ended (conclude.clauses 𝓤 H A at-mem run) tt (t, tt) tt r) (fact 𝓤 (r ≡ concluded t))
   conc-of t r = exE 𝓤 _ (λ ws. snd∗ 𝓤 (sem 𝓤 H A (lasts conclude.ended tt (t, tt) ws)) (fact 𝓤 (r ≡ concluded t)))
 
-module _ {M : Type 1} (𝓤 : URA M) (H : Heap 𝓤) (A : Atoms 𝓤) (W : Given 𝓤 H A) (at-mem : Memory → SProp 𝓤) (run : Routine → Fun 𝓤) (κ κ′ : Lft) (q q′ : Share) (xb : RefT (List ℕ)) (b o : ℕ) (γ : GName) (ys : List Checkpoint) (s : WordsOptions) where
+module _ {M : Type 1} (𝓤 : URA M) (H : Heap 𝓤) (A : Atoms 𝓤) (W : Given 𝓤 H A) (at-mem : Memory → SProp 𝓤) (run : Routine → Fun 𝓤) (κ κ′ : Lft) (q q′ : Share) (xb : RefT (List ℕ)) (b o : ℕ) (γ : GName) (ys : List Checkpoint) (s : OpenOptions) where
   abbrev n : ℕ
   n = length ys
 
@@ -155,7 +155,7 @@ module _ {M : Type 1} (𝓤 : URA M) (H : Heap 𝓤) (A : Atoms 𝓤) (W : Given
   bs = xb .now
 
   abbrev job : Job
-  job = wordsJob bs s n
+  job = rawJob bs s n
 
   abbrev bval : Val
   bval = sliceVal (xb .ptr) (length bs)
@@ -175,7 +175,7 @@ module _ {M : Type 1} (𝓤 : URA M) (H : Heap 𝓤) (A : Atoms 𝓤) (W : Given
   abbrev OwnB : Fml
   OwnB = ShrSlice (named 0) κ u8 .own xb (bval ∷ [])
 
-  exits : (zs : List Checkpoint) (r : OpenAnswer) → Room T.the-row n → length zs ≡ n → OpensWords bs s r ys zs → IsP s → IsE r
+  exits : (zs : List Checkpoint) (r : OpenAnswer) → Room T.the-row n → length zs ≡ n → OpensRaw bs s r ys zs → IsP s → IsE r
       → ent 𝓤 (⋆ 𝓤 H A (‵ (fobs γ (codedHoleys T.the-row .code (heres T.the-row zs))) ∷ ‵ (fbor κ′ (Held T.the-row (length zs) b o γ)) ∷ ‵ (flft κ′ q′) ∷ ‵ (flft κ q) ∷ ‵ OwnB ∷ [])) (Post (machE r))
   exits zs r gn len e₁ gs gr =
       qed W (‵ (fobs γ (codedHoleys T.the-row .code (heres T.the-row zs))) ∷ ‵ (fbor κ′ (Held T.the-row (length zs) b o γ)) ∷ ‵ (flft κ′ q′) ∷ ‵ (flft κ q) ∷ ‵ OwnB ∷ []) ∵
@@ -205,7 +205,7 @@ module _ {M : Type 1} (𝓤 : URA M) (H : Heap 𝓤) (A : Atoms 𝓤) (W : Given
   goes-conc : (t : Run) → ent 𝓤 (sem 𝓤 H A (S.the-row .own t (machS t ∷ []))) (Conclude 𝓤 H A at-mem run .pre (to-conc t))
   goes-conc t = qed W (‵ (S.the-row .own t (machS t ∷ [])) ∷ []) ∵ nothing ! $ move ! (1 ∷ 0 ∷ []) $ join ! $ nothing ! $ join ! $ frame ! $ done !
 
-  module _ (𝓣 : Tables 𝓤 H) (known : Triple 𝓤 (𝓣 .C #index·advance) (Advance 𝓤 H A at-mem run)) (known-prep : Triple 𝓤 (𝓣 .C #index·prepare_words) (Prepare 𝓤 H A at-mem run)) (known-conc : Triple 𝓤 (𝓣 .C #index·conclude) (Conclude 𝓤 H A at-mem run))
+  module _ (𝓣 : Tables 𝓤 H) (known : Triple 𝓤 (𝓣 .C #index·advance) (Advance 𝓤 H A at-mem run)) (known-prep : Triple 𝓤 (𝓣 .C #index·prepare) (Prepare 𝓤 H A at-mem run)) (known-conc : Triple 𝓤 (𝓣 .C #index·conclude) (Conclude 𝓤 H A at-mem run))
       (g : Room T.the-row n) (gs : IsP s) (l₀ l₁ l₂ l₃ l₄ l₅ l₆ l₇ l₈ l₉ l₁₀ : ℕ) where
     abbrev C : Calls 𝓤 H
     C = 𝓣 .C
@@ -300,24 +300,24 @@ module _ {M : Type 1} (𝓤 : URA M) (H : Heap 𝓤) (A : Atoms 𝓤) (W : Given
         returns ! (look ! 11 refl) $ forget ! 3 refl $ forget ! 6 refl $ forget ! 9 refl $ forget ! 10 refl $ forget ! 11 refl $ forget ! 13 refl $ forget ! 16 refl $
         move ! (11 ∷ 17 ∷ []) $ free1 ! $ move ! (12 ∷ 16 ∷ []) $ free1 ! $ move ! (9 ∷ 15 ∷ []) $ free1 ! $ move ! (9 ∷ 14 ∷ []) $ free1 ! $ move ! (12 ∷ 13 ∷ []) $ free1 ! $ move ! (3 ∷ 12 ∷ []) $ free1 ! $
         move ! (3 ∷ 11 ∷ []) $ free1 ! $ move ! (3 ∷ 10 ∷ []) $ free1 ! $ move ! (3 ∷ 9 ∷ []) $ free1 ! $ move ! (3 ∷ 8 ∷ []) $ free1 ! $ move ! (3 ∷ 7 ∷ []) $ free1 ! $ free0 ! $
-        keep ! (0 ∷ 1 ∷ 2 ∷ 4 ∷ 5 ∷ []) $ by ! (exits zs r g len (opens-words bs s ys zs t end r e) gs (subst (λ (u : Val). Is E.the-row r (u ∷ [])) (ap only (EL.tells E.the-type E′.the-laws r _ is)) is))))))
+        keep ! (0 ∷ 1 ∷ 2 ∷ 4 ∷ 5 ∷ []) $ by ! (exits zs r g len (opens-raw bs s ys zs t end r e) gs (subst (λ (u : Val). Is E.the-row r (u ∷ [])) (ap only (EL.tells E.the-type E′.the-laws r _ is)) is))))))
 
     turn-at : (m : ℕ) (t : Run) (zs : List Checkpoint) (v : Bool) → t .more ≡ v → Facts m t zs → ent 𝓤 (⋆ 𝓤 H A (At t zs)) (Wp 𝓤 H C Λ En mir.turn-1 (afterTurn 𝓤 H (Below m) Left))
-    turn-at m t zs false e fs = ends t zs (Below m) e (fs .0 .laid .long) (stage-end job bs ys (allowed-words bs s n) m t zs e (fs .0)) (fs .1)
-    turn-at zero t zs true e fs = absurd (stage-stops job bs ys (allowed-words bs s n) t zs (fs .0) e)
-    turn-at (suc m) t zs true e fs = more t zs (Below (suc m)) e (stage-fit job bs ys (allowed-words bs s n) m t zs (fs .0)) small (subst (λ (j : ℕ). t .at < j) (sym (fs .0 .laid .long)) small) (fs .1) (λ r y gr.
-        via 𝓤 (Inv m) (inv-in m (r .next) (set zs (t .at) (r .record)) (stage-next job bs ys (allowed-words bs s n) m t zs (fs .0) r y, gr))
+    turn-at m t zs false e fs = ends t zs (Below m) e (fs .0 .laid .long) (stage-end job bs ys (allowed-raw bs s n) m t zs e (fs .0)) (fs .1)
+    turn-at zero t zs true e fs = absurd (stage-stops job bs ys (allowed-raw bs s n) t zs (fs .0) e)
+    turn-at (suc m) t zs true e fs = more t zs (Below (suc m)) e (stage-fit job bs ys (allowed-raw bs s n) m t zs (fs .0)) small (subst (λ (j : ℕ). t .at < j) (sym (fs .0 .laid .long)) small) (fs .1) (λ r y gr.
+        via 𝓤 (Inv m) (inv-in m (r .next) (set zs (t .at) (r .record)) (stage-next job bs ys (allowed-raw bs s n) m t zs (fs .0) r y, gr))
         (via 𝓤 (guard 𝓤 (m < suc m) (Inv m)) (guardI 𝓤 (m < suc m) (Inv m) (lt-suc-self m)) (exI 𝓤 (λ (u : ℕ). guard 𝓤 (u < suc m) (Inv u)) m)))
       where
         small : t .at < n
-        small = stage-place job bs ys (allowed-words bs s n) m t zs (fs .0)
+        small = stage-place job bs ys (allowed-raw bs s n) m t zs (fs .0)
 
     turns : (m : ℕ) → ent 𝓤 (Inv m) (Wp 𝓤 H C Λ En mir.turn-1 (afterTurn 𝓤 H (Below m) Left))
     turns m = exE 𝓤 (λ (t : Run). ex 𝓤 (λ (zs : List Checkpoint). guard 𝓤 (Facts m t zs) (⋆ 𝓤 H A (At t zs)))) (λ t.
         exE 𝓤 (λ (zs : List Checkpoint). guard 𝓤 (Facts m t zs) (⋆ 𝓤 H A (At t zs))) (λ zs. guardE 𝓤 (Facts m t zs) (⋆ 𝓤 H A (At t zs)) (λ fs. turn-at m t zs (t .more) refl fs)))
 
     loops : (t : Run) → Starts bs s n t → IsS t → ent 𝓤 (⋆ 𝓤 H A (At t ys)) (Wp 𝓤 H C Λ En (loop mir.turn-1) Left)
-    loops t is gt = via 𝓤 (Inv (job .cap)) (inv-in (job .cap) t ys (stage-start job bs ys (allowed-words bs s n) t is, gt)) (loop-rule 𝓤 H (W .laws) 𝓣 _<_ (Nat·lt-wfRel .wf) En mir.turn-1 Left Inv turns (job .cap))
+    loops t is gt = via 𝓤 (Inv (job .cap)) (inv-in (job .cap) t ys (stage-start job bs ys (allowed-raw bs s n) t is, gt)) (loop-rule 𝓤 H (W .laws) 𝓣 _<_ (Nat·lt-wfRel .wf) En mir.turn-1 Left Inv turns (job .cap))
 
     starts : (t : Run) → Starts bs s n t → IsS t → Sq W (At t ys) (runs C Λ En mir.t-3 (atRet En Post))
     starts t is gt = by ! (loops t is gt)
@@ -338,7 +338,7 @@ module _ {M : Type 1} (𝓤 : URA M) (H : Heap 𝓤) (A : Atoms 𝓤) (W : Given
         starts r e (subst (λ (u : Val). Is S.the-row r (u ∷ [])) (ap only (LL.tells S.the-type S′.the-laws r _ is)) is)))))
 
   -- the MIR: the borrow is opened once, before its first statement
-  walk : (𝓣 : Tables 𝓤 H) → Triple 𝓤 (𝓣 .C #index·advance) (Advance 𝓤 H A at-mem run) → Triple 𝓤 (𝓣 .C #index·prepare_words) (Prepare 𝓤 H A at-mem run) → Triple 𝓤 (𝓣 .C #index·conclude) (Conclude 𝓤 H A at-mem run) → Room u8 (length bs) → Room T.the-row n → IsP s
+  walk : (𝓣 : Tables 𝓤 H) → Triple 𝓤 (𝓣 .C #index·advance) (Advance 𝓤 H A at-mem run) → Triple 𝓤 (𝓣 .C #index·prepare) (Prepare 𝓤 H A at-mem run) → Triple 𝓤 (𝓣 .C #index·conclude) (Conclude 𝓤 H A at-mem run) → Room u8 (length bs) → Room T.the-row n → IsP s
       → ent 𝓤 (onEntry 𝓤 H A f.signature (κ, (κ′, tt)) (q, (q′, tt)) x at) (WpFn 𝓤 H (𝓣 .C) (𝓣 .Λ) code.function (bval ∷ sliceVal (b, o) n ∷ machP s ∷ []) Post)
   walk 𝓣 known known-prep known-conc gb g gs =
       qed W ((‵ (flft κ q) ⊛ ‵ (flft κ′ q′) ⊛ ‵ ftrue) ∷ ‵ (owns (ShrSlice (named 0) κ u8 ∷ MutSlice (named 1) κ′ T.the-row ∷ P.the-row ∷ []) x at) ∷ []) ∵ enter ! (𝓣 .C) (𝓣 .Λ) code.function (bval ∷ sliceVal (b, o) n ∷ machP s ∷ []) _ $
@@ -349,22 +349,22 @@ module _ {M : Type 1} (𝓤 : URA M) (H : Heap 𝓤) (A : Atoms 𝓤) (W : Given
       keep ! (0 ∷ 19 ∷ 17 ∷ 15 ∷ 13 ∷ 11 ∷ 9 ∷ 25 ∷ 23 ∷ 29 ∷ 1 ∷ 2 ∷ 3 ∷ 6 ∷ 27 ∷ 5 ∷ 8 ∷ 21 ∷ 30 ∷ 28 ∷ 26 ∷ 24 ∷ 22 ∷ 20 ∷ 18 ∷ 16 ∷ 14 ∷ 12 ∷ 10 ∷ []) $ begins 𝓣 known known-prep known-conc g gs l₀ l₁ l₂ l₃ l₄ l₅ l₆ l₇ l₈ l₉ l₁₀)))))))))))
 
 module _ {M : Type 1} (𝓤 : URA M) (H : Heap 𝓤) (A : Atoms 𝓤) (W : Given 𝓤 H A) (at-mem : Memory → SProp 𝓤) (run : Routine → Fun 𝓤) where
-  f-walks : (𝓣 : Tables 𝓤 H) → Triple 𝓤 (𝓣 .C #index·advance) (Advance 𝓤 H A at-mem run) → Triple 𝓤 (𝓣 .C #index·prepare_words) (Prepare 𝓤 H A at-mem run) → Triple 𝓤 (𝓣 .C #index·conclude) (Conclude 𝓤 H A at-mem run) → Walks 𝓤 H A f.ended stayed (WpFn 𝓤 H (𝓣 .C) (𝓣 .Λ) code.function) (f.clauses 𝓤 H A at-mem run)
+  f-walks : (𝓣 : Tables 𝓤 H) → Triple 𝓤 (𝓣 .C #index·advance) (Advance 𝓤 H A at-mem run) → Triple 𝓤 (𝓣 .C #index·prepare) (Prepare 𝓤 H A at-mem run) → Triple 𝓤 (𝓣 .C #index·conclude) (Conclude 𝓤 H A at-mem run) → Walks 𝓤 H A f.ended stayed (WpFn 𝓤 H (𝓣 .C) (𝓣 .Λ) code.function) (f.clauses 𝓤 H A at-mem run)
   f-walks 𝓣 known known-prep known-conc = walked 𝓤 H A f.ended stayed (f.clauses 𝓤 H A at-mem run) (WpFn 𝓤 H (𝓣 .C) (𝓣 .Λ) code.function) (λ κs. (slice-vals, (slice-vals, (LL.vals P.the-type P′.the-laws, tt)))) (λ κs. (shr-slice-tells (named 0) (κs .0) u8, (mut-slice-tells (named 1) (κs .1 .0) T.the-row, (LL.tells P.the-type P′.the-laws, tt))))
       (λ κs qs bounds a _ are. via 𝓤 _ (fst∗ 𝓤 _ (emp 𝓤)) (walk 𝓤 H A W at-mem run (κs .0) (κs .1 .0) (qs .0) (qs .1 .0) (a .0) (a .1 .0 .ptr .0) (a .1 .0 .ptr .1) (a .1 .0 .name) (a .1 .0 .now) (a .1 .1 .0) 𝓣 known known-prep known-conc (are .0 .0 .1) (are .1 .0 .0 .1) (are .1 .1 .0)))
 
-f-meets : {M : Type 1} (𝓤 : URA M) (H : Heap 𝓤) (A : Atoms 𝓤) (W : Given 𝓤 H A) (at-mem : Memory → SProp 𝓤) (run : Routine → Fun 𝓤) (𝓣 : Tables 𝓤 H) → Triple 𝓤 (𝓣 .C #index·advance) (Advance 𝓤 H A at-mem run) → Triple 𝓤 (𝓣 .C #index·prepare_words) (Prepare 𝓤 H A at-mem run) → Triple 𝓤 (𝓣 .C #index·conclude) (Conclude 𝓤 H A at-mem run)
+f-meets : {M : Type 1} (𝓤 : URA M) (H : Heap 𝓤) (A : Atoms 𝓤) (W : Given 𝓤 H A) (at-mem : Memory → SProp 𝓤) (run : Routine → Fun 𝓤) (𝓣 : Tables 𝓤 H) → Triple 𝓤 (𝓣 .C #index·advance) (Advance 𝓤 H A at-mem run) → Triple 𝓤 (𝓣 .C #index·prepare) (Prepare 𝓤 H A at-mem run) → Triple 𝓤 (𝓣 .C #index·conclude) (Conclude 𝓤 H A at-mem run)
     → Meets 𝓤 H A f.signature (WpFn 𝓤 H (𝓣 .C) (𝓣 .Λ) code.function) (f.spec 𝓤 H A at-mem run)
 f-meets 𝓤 H A W at-mem run 𝓣 known known-prep known-conc =
     walk-meets 𝓤 H A f.ended stayed W (goes-none-slice 𝓤 H A W 2 (0 ∷ []) tt (plain (λ _. u8)) yes, (goes-slice 𝓤 H A W 2 1 tt (plain (λ _. T.the-row)), (goes-none 𝓤 H A W 2 (λ _. P.the-row) yes (λ κs x f. refl), tt))) (f.clauses 𝓤 H A at-mem run)
     (WpFn 𝓤 H (𝓣 .C) (𝓣 .Λ) code.function) (WpFn-mono 𝓤 H (W .laws) 𝓣 code.function) (f-walks 𝓤 H A W at-mem run 𝓣 known known-prep known-conc)
 
-pub open-words-spec : {M : Type 1} → stated.statement M
+pub open-spec : {M : Type 1} → stated.statement M
 unfolding code.routine tablesOf
-open-words-spec 𝓤 H 𝓜 𝓖 𝓡 =
+open-spec 𝓤 H 𝓜 𝓖 𝓡 =
     entered 𝓤 H (tripleOf 𝓤 H (𝓖 .A) f.signature (f.spec 𝓤 H (𝓖 .A) (𝓜 .mem) (𝓡 .run)))
-    (tables 𝓤 H 𝓜 𝓡 code.env .C) (tables 𝓤 H 𝓜 𝓡 code.env .Λ) #index·open_words code.function (code.unfolded 𝓤 H 𝓜 𝓡)
+    (tables 𝓤 H 𝓜 𝓡 code.env .C) (tables 𝓤 H 𝓜 𝓡 code.env .Λ) #open·open code.function (code.unfolded 𝓤 H 𝓜 𝓡)
     (f-meets 𝓤 H (𝓖 .A) (givenOf 𝓤 H 𝓜 𝓖) (𝓜 .mem) (𝓡 .run) (tablesOf 𝓤 H 𝓜 (tables 𝓤 H 𝓜 𝓡 code.env))
     (cited 𝓤 H (Advance 𝓤 H (𝓖 .A) (𝓜 .mem) (𝓡 .run)) 𝓜 𝓡 code.env #index·advance advance-def.routine code.calls-index·advance (advance-thm.met 𝓤 H 𝓜 𝓖 𝓡))
-    (cited 𝓤 H (Prepare 𝓤 H (𝓖 .A) (𝓜 .mem) (𝓡 .run)) 𝓜 𝓡 code.env #index·prepare_words prepare-def.routine code.calls-index·prepare-words (prepare-thm.met 𝓤 H 𝓜 𝓖 𝓡))
+    (cited 𝓤 H (Prepare 𝓤 H (𝓖 .A) (𝓜 .mem) (𝓡 .run)) 𝓜 𝓡 code.env #index·prepare prepare-def.routine code.calls-index·prepare (prepare-thm.met 𝓤 H 𝓜 𝓖 𝓡))
     (cited 𝓤 H (Conclude 𝓤 H (𝓖 .A) (𝓜 .mem) (𝓡 .run)) 𝓜 𝓡 code.env #index·conclude conclude-def.routine code.calls-index·conclude (conclude-thm.met 𝓤 H 𝓜 𝓖 𝓡)))

@@ -33,7 +33,9 @@ use Rattle.read.specs.declared.Reading.{Reading}
 use Rattle.read.specs.declared.ReadAnswer.{ReadAnswer}
 use Rattle.read.specs.declared.ReadAnswer.the-variants.{Read, Refused}
 use Rattle.read.specs.Read.{toldRead, bodyEvents, sizeless, widthOf, heightOf, answerOf, handedOf, answerAfter, handedAfter, rawAnswer, rawHanded, shortest, Handed, ReadsRaw}
-use Rattle.read.specs.Laws.{spanOf, mostEvents, few-events, body-all}
+use Rattle.deliver.specs.Deliver.{mostFrom}
+use Rattle.deliver.specs.Laws.{few-inside}
+use Rattle.read.specs.Laws.{spanOf, body-all}
 use Rattle.listing_text.specs.declared.Begun.{Begun}
 use Rattle.listing_text.specs.Listing.{field, space, newline, tooLong, refusedLine, readLine, eventLine, eventLines, mostBytes, listOptions, listRoom, answerText, listingOf}
 use Rattle.listing_text.specs.Store.{Stored, stored-then, stored-weaken}
@@ -113,9 +115,9 @@ headOf recording = cond (ltb mostBytes (length recording)) tooLong (headLine (ra
 
 -- at most 12 events for each word
 body-few : (size : SensorSize) (e : Encoding) (body : List ℕ) → length body ≤ mostBytes → length (bodyEvents e size Unlimited body) ≤ listRoom
-body-few size e body h = rw (body-all size e body (omega arith)) (go e (few-events (spanOf size .width) (spanOf size .height) e body))
+body-few size e body h = rw (body-all size e body (omega arith)) (go e (few-inside (spanOf size .width) (spanOf size .height) (freshC e) body))
   where
-    go : (e : Encoding) {n : ℕ} → n ≤ mostEvents e (length body) → n ≤ listRoom
+    go : (e : Encoding) {n : ℕ} → n ≤ mostFrom (freshC e) (length body) → n ≤ listRoom
     go Evt2 k = omega arith
     go Evt3 k = omega arith
 

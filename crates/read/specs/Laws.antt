@@ -36,8 +36,10 @@ use Rattle.decode.specs.declared.Survey.{Survey}
 use Rattle.decode.specs.Decode.{Bounded, insideEvents, tallyOf, surveyOf}
 use Rattle.decode.specs.Turn.{Fits}
 use Rattle.read.specs.declared.Span.{Span}
-use Rattle.read.specs.declared.Delivered.{Delivered}
-use Rattle.read.specs.declared.Delivered.the-variants.{Written, Needed}
+use Rattle.deliver.specs.declared.Delivered.{Delivered}
+use Rattle.deliver.specs.declared.Delivered.the-variants.{Written, Needed}
+use Rattle.deliver.specs.Deliver.{Delivers}
+pub use Rattle.deliver.specs.Laws.{handed-none, handed-wrote, fits-room}
 use Rattle.read.specs.declared.ReadAnswer.{ReadAnswer}
 use Rattle.read.specs.declared.ReadAnswer.the-variants.{Read, Refused}
 use Rattle.header.specs.declared.HeaderAnswer.{HeaderAnswer}
@@ -58,16 +60,8 @@ abbrev pub spanOf : SensorSize → Span
 spanOf Unknown = record { width = 65536; height = 65536 }
 spanOf (Known w h) = record { width = w; height = h }
 
-abbrev pub mostEvents : Encoding → ℕ → ℕ
-mostEvents Evt2 n = n / 4
-mostEvents Evt3 n = n / 2 * 12
-
 abbrev pub sensorEvents : (width height : ℕ) → Encoding → List ℕ → List Event
 sensorEvents width height e body = insideEvents width height (freshC e) body
-
-pub few-events : (width height : ℕ) (e : Encoding) (body : List ℕ) → length (sensorEvents width height e body) ≤ mostEvents e (length body)
-few-events width height Evt2 body = few2 width height fresh2 body
-few-events width height Evt3 body = omega (arith, few3 width height fresh3 body)
 
 -- ---- the first n events, as a window
 
@@ -112,88 +106,6 @@ pub body-some : (size : SensorSize) (e : Encoding) (n : ℕ) (body : List ℕ) �
 unfolding bodyEvents
 body-some size e n body h = ap (take n) (kept-inside size e body h)
 
--- ---- all events or none
-
-abbrev pub deliveredOf : List Event → (room : ℕ) → Delivered
-deliveredOf es room = cond (leb (length es) room) (Written (length es)) (Needed (length es))
-
-abbrev pub fitting : List Event → (room : ℕ) → List Event
-fitting es room = cond (leb (length es) room) es []
-
-pub record Delivers (es : List Event) (r : Delivered) (xs₀ ys₀ : List ℕ) (ts₀ : List ℤ) (ps₀ xs ys : List ℕ) (ts : List ℤ) (ps : List ℕ) : Type 0 where
-  pub answer : r ≡ deliveredOf es (shortest xs₀ ys₀ ts₀ ps₀)
-  pub columns : Handed (fitting es (shortest xs₀ ys₀ ts₀ ps₀)) xs₀ ys₀ ts₀ ps₀ xs ys ts ps
-
-handed-one : {E A : Type 0} (f : E → A) (es : List E) (old now : List A) → now ≡ written old 0 (map f es) → now ≡ map f es ++ drop (length es) old
-unfolding written
-handed-one f es old now e = e ∙ rw (zero-add, length-map)
-
-pub fits-room : (n a b c d : ℕ) → n ≤ min (min a b) (min c d) → Fits n a b c d
-fits-room n a b c d h = record { fit-x = omega arith; fit-y = omega arith; fit-t = omega arith; fit-p = omega arith }
-
-module _ {xs₀ ys₀ : List ℕ} {ts₀ : List ℤ} {ps₀ : List ℕ} where
-  pub handed-wrote : {es : List Event} {xs ys : List ℕ} {ts : List ℤ} {ps : List ℕ} → Wrote es 0 xs₀ ys₀ ts₀ ps₀ xs ys ts ps → Handed es xs₀ ys₀ ts₀ ps₀ xs ys ts ps
-  handed-wrote {es} w = record {
-    column-x = handed-one colX es xs₀ _ (w .is-x);
-    column-y = handed-one colY es ys₀ _ (w .is-y);
-    column-t = handed-one colT es ts₀ _ (w .is-t);
-    column-p = handed-one colP es ps₀ _ (w .is-p);
-  }
-
-  pub handed-none : Handed [] xs₀ ys₀ ts₀ ps₀ xs₀ ys₀ ts₀ ps₀
-  handed-none = record { column-x = refl; column-y = refl; column-t = refl; column-p = refl }
-
-  pub delivers-all : (es : List Event) (n : ℕ) {xs ys : List ℕ} {ts : List ℤ} {ps : List ℕ} → length es ≤ shortest xs₀ ys₀ ts₀ ps₀ → n ≡ length es → Wrote es 0 xs₀ ys₀ ts₀ ps₀ xs ys ts ps
-      → Delivers es (Written n) xs₀ ys₀ ts₀ ps₀ xs ys ts ps
-  delivers-all es n h e w = record { answer = rw (le-leb (length es) (shortest xs₀ ys₀ ts₀ ps₀) h, e); columns = rw (le-leb (length es) (shortest xs₀ ys₀ ts₀ ps₀) h) (handed-wrote w) }
-
-  pub delivers-none : (es : List Event) (n : ℕ) → shortest xs₀ ys₀ ts₀ ps₀ < length es → n ≡ length es → Delivers es (Needed n) xs₀ ys₀ ts₀ ps₀ xs₀ ys₀ ts₀ ps₀
-  delivers-none es n h e = record { answer = rw (lt-leb (length es) (shortest xs₀ ys₀ ts₀ ps₀) h, e); columns = rw (lt-leb (length es) (shortest xs₀ ys₀ ts₀ ps₀) h) handed-none }
-
--- ---- filling and counting from a fresh codec
-
-pub room-is : (a b c d r₁ r₂ r₃ : ℕ) → r₁ ≡ min a b → r₂ ≡ min c d → r₃ ≡ min r₁ r₂ → r₃ ≡ min (min a b) (min c d)
-room-is a b c d r₁ r₂ r₃ p q r = omega arith
-
-module _ (width height : ℕ) (e : Encoding) (body : List ℕ) (codec : Codec) (is-fresh : codec ≡ freshC e) where
-  pub can-fill : (n a b c d : ℕ) → length body ≤ 2 ^ 30 → n ≡ min (min a b) (min c d) → length (sensorEvents width height e body) ≤ n
-      → Bounded (length body) codec × Fits (length (insideEvents width height codec body)) a b c d
-  can-fill n a b c d h room few = rw is-fresh (bounded-fresh e (length body) h, fits-room (length (sensorEvents width height e body)) a b c d (omega arith))
-
-  pub is-count : (s : Survey) → s ≡ surveyOf width height codec body → s .count ≡ length (sensorEvents width height e body)
-  is-count s is = ap (λ (s : Survey). s .count) is ∙ rw is-fresh
-
-  pub delivers-filled : (n : ℕ) (t : Tally) {xs₀ ys₀ : List ℕ} {ts₀ : List ℤ} {ps₀ : List ℕ} {xs ys : List ℕ} {ts : List ℤ} {ps : List ℕ} → n ≡ shortest xs₀ ys₀ ts₀ ps₀
-      → length (sensorEvents width height e body) ≤ n → t ≡ tallyOf width height codec body → Wrote (insideEvents width height codec body) 0 xs₀ ys₀ ts₀ ps₀ xs ys ts ps
-      → Delivers (sensorEvents width height e body) (Written (t .count)) xs₀ ys₀ ts₀ ps₀ xs ys ts ps
-  delivers-filled n t room few is w = delivers-all (sensorEvents width height e body) (t .count) (rw (← room) few) (ap (λ (t : Tally). t .count) is ∙ rw is-fresh) (rw is-fresh at w)
-
--- ---- the same for the first `limit` events
-
-module _ (width height limit : ℕ) (e : Encoding) (body : List ℕ) (short : length body ≤ 2 ^ 30) (codec : Codec) (is-fresh : codec ≡ freshC e) (win : Window) (is-window : win ≡ limitWindow width height limit) where
-  abbrev some : List Event
-  some = take limit (sensorEvents width height e body)
-
-  handed-some : handedOver win 0 codec body ≡ some
-  handed-some = rw (is-fresh, is-window) (handed-limit width height limit e body short)
-
-  pub ready-some : Ready codec 0 (length body)
-  ready-some = rw is-fresh (ready-fresh e (length body) short)
-
-  pub few-some : (most least : ℕ) → most ≡ mostEvents e (length body) → least ≡ min limit most → length some ≤ least
-  few-some most least m l = rw length-take (omega (arith, few-events width height e body))
-
-  pub can-fill-some : (n a b c d : ℕ) → n ≡ min (min a b) (min c d) → length some ≤ n → Ready codec 0 (length body) × Fits (length (handedOver win 0 codec body)) a b c d
-  can-fill-some n a b c d room few = (ready-some, rw handed-some (fits-room (length some) a b c d (omega arith)))
-
-  pub is-count-some : (t : SelectTally) → t ≡ surveyed win 0 codec body → t .count ≡ length some
-  is-count-some t is = ap (λ (t : SelectTally). t .count) is ∙ rw handed-some
-
-  pub delivers-filled-some : (n : ℕ) (t : Filled) {xs₀ ys₀ : List ℕ} {ts₀ : List ℤ} {ps₀ : List ℕ} {xs ys : List ℕ} {ts : List ℤ} {ps : List ℕ} → n ≡ shortest xs₀ ys₀ ts₀ ps₀
-      → length some ≤ n → t ≡ filled win 0 codec body → Wrote (handedOver win 0 codec body) 0 xs₀ ys₀ ts₀ ps₀ xs ys ts ps
-      → Delivers some (Written (t .count)) xs₀ ys₀ ts₀ ps₀ xs ys ts ps
-  delivers-filled-some n t room few is w = delivers-all some (t .count) (rw (← room) few) (ap (λ (t : Filled). t .count) is ∙ rw handed-some) (rw handed-some at w)
-
 -- ---- the size
 
 abbrev pub sizedOf : Encoding → SensorSize → ℕ → List ℕ → List ℕ → ReadAnswer
@@ -214,16 +126,22 @@ abbrev pub refusalOf : HeaderAnswer → ReadAnswer
 refusalOf (NoHeader r) = Refused r
 refusalOf (Header h) = Refused UnknownEncoding
 
-module _ (size : SensorSize) (e : Encoding) (limit : Limit) where
+module _ (size : SensorSize) (e : Encoding) (limit : Limit) (codec : Codec) (is-fresh : codec ≡ freshC e) where
   pub delivers-body-all : (body : List ℕ) (span : Span) {r : Delivered} {xs₀ ys₀ : List ℕ} {ts₀ : List ℤ} {ps₀ xs ys : List ℕ} {ts : List ℤ} {ps : List ℕ}
       → length body ≤ 2 ^ 30 → span ≡ spanOf size → limit ≡ Unlimited
-      → Delivers (sensorEvents (span .width) (span .height) e body) r xs₀ ys₀ ts₀ ps₀ xs ys ts ps → Delivers (bodyEvents e size limit body) r xs₀ ys₀ ts₀ ps₀ xs ys ts ps
-  delivers-body-all body span h s l d = rw (l, body-all size e body h, ← s) d
+      → Delivers (insideEvents (span .width) (span .height) codec body) r xs₀ ys₀ ts₀ ps₀ xs ys ts ps → Delivers (bodyEvents e size limit body) r xs₀ ys₀ ts₀ ps₀ xs ys ts ps
+  delivers-body-all body span h s l d = rw (l, body-all size e body h, ← s, ← is-fresh) d
 
-  pub delivers-body-some : (n : ℕ) (body : List ℕ) (span : Span) {r : Delivered} {xs₀ ys₀ : List ℕ} {ts₀ : List ℤ} {ps₀ xs ys : List ℕ} {ts : List ℤ} {ps : List ℕ}
-      → length body ≤ 2 ^ 30 → span ≡ spanOf size → limit ≡ AtMost n
-      → Delivers (take n (sensorEvents (span .width) (span .height) e body)) r xs₀ ys₀ ts₀ ps₀ xs ys ts ps → Delivers (bodyEvents e size limit body) r xs₀ ys₀ ts₀ ps₀ xs ys ts ps
-  delivers-body-some n body span h s l d = rw (l, body-some size e n body h, ← s) d
+  pub delivers-body-some : (n : ℕ) (body : List ℕ) (span : Span) (win : Window) {r : Delivered} {xs₀ ys₀ : List ℕ} {ts₀ : List ℤ} {ps₀ xs ys : List ℕ} {ts : List ℤ} {ps : List ℕ}
+      → length body ≤ 2 ^ 30 → span ≡ spanOf size → limit ≡ AtMost n → win ≡ limitWindow (span .width) (span .height) n
+      → Delivers (handedOver win 0 codec body) r xs₀ ys₀ ts₀ ps₀ xs ys ts ps → Delivers (bodyEvents e size limit body) r xs₀ ys₀ ts₀ ps₀ xs ys ts ps
+  delivers-body-some n body span win h s l w d = rw (l, body-some size e n body h, ← s, ← handed-limit (span .width) (span .height) n e body h, ← w, ← is-fresh) d
+
+  pub bounded-new : (n : ℕ) → n ≤ 2 ^ 30 → Bounded n codec
+  bounded-new n h = rw is-fresh (bounded-fresh e n h)
+
+  pub ready-new : (n : ℕ) → n ≤ 2 ^ 30 → Ready codec 0 n
+  ready-new n h = rw is-fresh (ready-fresh e n h)
 
 -- ---- what was delivered comes to the answer
 

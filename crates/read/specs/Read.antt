@@ -1,8 +1,8 @@
 -- What reading answers, and the events that it hands over.
 use mathlib.Core.Path.{_≡_}
 use mathlib.Core.Bool.{Bool, true, false, cond}
-use mathlib.Core.List.{List, [], _∷_, _++_, map}
-use Prim.Native.Nat.{ℕ, suc, _^_, min}
+use mathlib.Core.List.{List, [], _∷_}
+use Prim.Native.Nat.{ℕ, suc, _^_}
 use lib.Dec.{ltb}
 use lib.IntN.{ℤ}
 use lib.ListN.{length, take, drop}
@@ -15,10 +15,11 @@ use Rattle.evt.specs.declared.Refusal.the-variants.{InvalidSensorSize, TooLong,
 use Rattle.evt.specs.declared.SensorSize.{SensorSize}
 use Rattle.evt.specs.declared.SensorSize.the-variants.{Unknown, Known}
 use Rattle.evt.specs.Codec.{freshC, eventsFrom}
-use Rattle.evt.specs.Columns.{colX, colY, colT, colP}
+use Rattle.evt.specs.Columns.{colX, colY}
 use Rattle.evt.specs.Event.{Event}
 use Rattle.evt.specs.Told.{Told, told, accepted, refused, short}
 use Rattle.sensor.specs.Inside.{inside}
+pub use Rattle.deliver.specs.Deliver.{shortest, Handed}
 use Rattle.header.specs.declared.HeaderAnswer.{HeaderAnswer}
 use Rattle.header.specs.declared.HeaderAnswer.the-variants.{Header, Refused as NoHeader}
 use Rattle.header.specs.Header.{encodingNumber, hasZero, headerOf}
@@ -128,17 +129,7 @@ answerAfter (Header h) recording limit room =
 unfoldable pub rawAnswer : List ℕ → LoadOptions → (room : ℕ) → ReadAnswer
 rawAnswer recording o room = answerAfter (headerOf recording (o .«sensor_size»)) recording (o .«max_events») room
 
--- ---- columns
-
-abbrev pub shortest : (xs ys : List ℕ) (ts : List ℤ) (ps : List ℕ) → ℕ
-shortest xs ys ts ps = min (min (length xs) (length ys)) (min (length ts) (length ps))
-
--- the events stand in front, and behind them all is as it was
-pub record Handed (es : List Event) (xs₀ ys₀ : List ℕ) (ts₀ : List ℤ) (ps₀ xs ys : List ℕ) (ts : List ℤ) (ps : List ℕ) : Type 0 where
-  pub column-x : xs ≡ map colX es ++ drop (length es) xs₀
-  pub column-y : ys ≡ map colY es ++ drop (length es) ys₀
-  pub column-t : ts ≡ map colT es ++ drop (length es) ts₀
-  pub column-p : ps ≡ map colP es ++ drop (length es) ps₀
+-- ---- promises
 
 -- what a reading promises: `verdict`, `answer` and `es` by the definitions above
 pub record Reads (verdict : Told) (answer : ReadAnswer) (es : List Event) (r : ReadAnswer)

@@ -1,10 +1,12 @@
 // Reading a whole recording, or headerless words, into four lent columns. Both entries are total;
 // specs/Read.antt has what they answer and hand over, by document 01's table.
 ghost use mathlib.Core.Path.{_≡_};
-ghost use Prim.Native.Nat.{_≤_, _^_, min};
-ghost use lib.ListN.{length, take};
+ghost use Prim.Native.Nat.{_≤_, _^_};
+ghost use lib.ListN.{length};
+ghost use Rattle.deliver.specs.Deliver.{Delivers};
 ghost use Rattle.read.specs.Read.{bodyEvents, ReadsBody, DecodesWords, ReadsRaw};
-ghost use Rattle.read.specs.Laws.{spanOf, mostEvents, sensorEvents, limitWindow, Delivers, Holds, sizedOf, settledOf, refusalOf};
+ghost use Rattle.read.specs.Laws.{spanOf, limitWindow, Holds, sizedOf, settledOf, refusalOf};
+use deliver::Delivered;
 use evt::Codec;
 use evt::Encoding;
 use evt::Limit;
@@ -31,12 +33,6 @@ pub enum ReadAnswer {
     Refused(Refusal),
 }
 
-// How many events were written, or how many places they need.
-enum Delivered {
-    Written(usize),
-    Needed(usize),
-}
-
 // A sensor's sides; 65,536 each, which holds every event, where the size is unknown.
 struct Span {
     width: u64,
@@ -58,71 +54,6 @@ fn span_of(size: SensorSize) -> Span
     }
 }
 
-fn less(a: usize, b: usize) -> usize
-    ensures { λ r. ⌜ r ≡ min a b ⌝ }
-{
-    if a < b { a } else { b }
-}
-
-// More events than this a body of n bytes can't have.
-fn most_events(encoding: Encoding, n: usize) -> usize
-    requires { ⌜ n ≤ 2 ^ 30 ⌝ }
-    ensures { λ r. ⌜ r ≡ mostEvents encoding n ⌝ }
-{
-    match encoding {
-        Encoding::Evt2 => n / 4,
-        Encoding::Evt3 => n / 2 * 12,
-    }
-}
-
-// Writes all events inside the span, if the columns hold them. Where they surely do, the body is
-// decoded once. `requires`: both entries have refused longer ones (4).
-fn deliver_all(
-    body: &[u8],
-    encoding: Encoding,
-    width: u64,
-    height: u64,
-    xs: &mut [u16],
-    ys: &mut [u16],
-    ts: &mut [i64],
-    ps: &mut [u8],
-) -> Delivered
-    requires { ⌜ length (now body) ≤ 2 ^ 30 ⌝ }
-    ensures { λ r. ⌜ Delivers (sensorEvents width height encoding (now (body .entry))) r (now (xs .entry)) (now (ys .entry)) (now (ts .entry)) (now (ps .entry)) (now (xs .exit)) (now (ys .exit)) (now (ts .exit)) (now (ps .exit)) ⌝ }
-{
-    let codec = Codec::new(encoding);
-    let room = less(less(xs.len(), ys.len()), less(ts.len(), ps.len()));
-    let most = most_events(encoding, body.len());
-    if most <= room {
-        let t = decode::fill_all(
-            body,
-            codec,
-            width,
-            height,
-            &mut *xs,
-            &mut *ys,
-            &mut *ts,
-            &mut *ps,
-        );
-        return Delivered::Written(t.count);
-    }
-    let count = decode::count_all(body, codec, width, height).count;
-    if count <= room {
-        let t = decode::fill_all(
-            body,
-            codec,
-            width,
-            height,
-            &mut *xs,
-            &mut *ys,
-            &mut *ts,
-            &mut *ps,
-        );
-        return Delivered::Written(t.count);
-    }
-    Delivered::Needed(count)
-}
-
 // The window of the first `limit` events.
 fn limit_window(width: u64, height: u64, limit: usize) -> Window
     ensures { λ r. ⌜ r ≡ limitWindow width height limit ⌝ }
@@ -135,36 +66,6 @@ fn limit_window(width: u64, height: u64, limit: usize) -> Window
         t0: 0,
         t1: 18446744073709551615,
     }
-}
-
-// The same for the first `limit` events, in a pass that stops there.
-fn deliver_some(
-    body: &[u8],
-    encoding: Encoding,
-    width: u64,
-    height: u64,
-    limit: usize,
-    xs: &mut [u16],
-    ys: &mut [u16],
-    ts: &mut [i64],
-    ps: &mut [u8],
-) -> Delivered
-    requires { ⌜ length (now body) ≤ 2 ^ 30 ⌝ }
-    ensures { λ r. ⌜ Delivers (take limit (sensorEvents width height encoding (now (body .entry)))) r (now (xs .entry)) (now (ys .entry)) (now (ts .entry)) (now (ps .entry)) (now (xs .exit)) (now (ys .exit)) (now (ts .exit)) (now (ps .exit)) ⌝ }
-{
-    let codec = Codec::new(encoding);
-    let win = limit_window(width, height, limit);
-    let room = less(less(xs.len(), ys.len()), less(ts.len(), ps.len()));
-    if less(limit, most_events(encoding, body.len())) <= room {
-        let t = select::fill(body, codec, win, 0, &mut *xs, &mut *ys, &mut *ts, &mut *ps);
-        return Delivered::Written(t.count);
-    }
-    let n = select::survey(body, codec, win, 0).count;
-    if n <= room {
-        let t = select::fill(body, codec, win, 0, &mut *xs, &mut *ys, &mut *ts, &mut *ps);
-        return Delivered::Written(t.count);
-    }
-    Delivered::Needed(n)
 }
 
 // The answer where n events were written: without a size it is derived from them, and none is no size.
@@ -211,7 +112,9 @@ fn settle(
     }
 }
 
-fn deliver(
+// Hands over the events of a body that the limit leaves: without a limit by the plain loop.
+// `requires`: both entries have refused longer ones (4).
+fn hand_over(
     body: &[u8],
     encoding: Encoding,
     size: SensorSize,
@@ -224,14 +127,15 @@ fn deliver(
     requires { ⌜ length (now body) ≤ 2 ^ 30 ⌝ }
     ensures { λ r. ⌜ Delivers (bodyEvents encoding size limit (now (body .entry))) r (now (xs .entry)) (now (ys .entry)) (now (ts .entry)) (now (ps .entry)) (now (xs .exit)) (now (ys .exit)) (now (ts .exit)) (now (ps .exit)) ⌝ }
 {
+    let codec = Codec::new(encoding);
     let span = span_of(size);
     let width = span.width;
     let height = span.height;
     match limit {
         Limit::Unlimited => {
-            deliver_all(
+            deliver::deliver_all(
                 body,
-                encoding,
+                codec,
                 width,
                 height,
                 &mut *xs,
@@ -241,12 +145,12 @@ fn deliver(
             )
         }
         Limit::AtMost(n) => {
-            deliver_some(
+            let window = limit_window(width, height, n);
+            deliver::deliver(
                 body,
-                encoding,
-                width,
-                height,
-                n,
+                codec,
+                window,
+                0,
                 &mut *xs,
                 &mut *ys,
                 &mut *ts,
@@ -270,7 +174,7 @@ fn read_body(
     requires { ⌜ length (now body) ≤ 2 ^ 30 ⌝ }
     ensures { λ r. ⌜ ReadsBody encoding size (bodyEvents encoding size limit (now (body .entry))) r (now (xs .entry)) (now (ys .entry)) (now (ts .entry)) (now (ps .entry)) (now (xs .exit)) (now (ys .exit)) (now (ts .exit)) (now (ps .exit)) ⌝ }
 {
-    let d = deliver(
+    let d = hand_over(
         body,
         encoding,
         size,

@@ -4,16 +4,16 @@ use Rattle.read.proofs.read_body.Statement.{statement}
 use Rattle.read.proofs.read_body.Tie as tie
 use Rattle.read.proofs.read_body.Reads as reads
 use Rattle.read.proofs.read_body.Lts as lts
-use Rattle.read.proofs.deliver.Reads as deliver-reads
+use Rattle.read.proofs.hand_over.Reads as hand-over-reads
 use Rattle.read.proofs.settle.Reads as settle-reads
 
 -- src/lib.rt:253:9
-deliver-requires : tie.Need-deliver-requires
-deliver-requires c κs = search needs
+hand-over-requires : tie.Need-hand-over-requires
+hand-over-requires c κs = search needs
 
 -- src/lib.rt:254:5
 settle-requires : tie.Need-settle-requires
-settle-requires c κs = holds-delivered _ (c .before .before .before .before .before .before .before .before .before .deliver .result) (c .before .before .before .before .before .before .before .before .before .deliver .ensures)
+settle-requires c κs = holds-delivered _ (c .before .before .before .before .before .before .before .before .before .hand-over .result) (c .before .before .before .before .before .before .before .before .before .hand-over .ensures)
 
 -- src/lib.rt:240:1
 same-length : tie.Need-same-length
@@ -33,13 +33,13 @@ same-length-4 c = search needs
 
 -- src/lib.rt:240:1
 returns : tie.Need-returns
-returns c = reads-body _ (c .before .before .before .before .before .before .before .before .before .before .deliver .result) (c .before .before .before .before .before .before .before .before .before .before .deliver .ensures) (c .before .before .before .before .before .before .before .before .before .before .before .before .before .before .before .before .before .before .before .args .encoding) (c .before .before .before .before .before .before .before .before .before .before .before .before .before .before .before .before .before .before .before .args .size) (c .settle .result) (c .settle .ensures)
+returns c = reads-body _ (c .before .before .before .before .before .before .before .before .before .before .hand-over .result) (c .before .before .before .before .before .before .before .before .before .before .hand-over .ensures) (c .before .before .before .before .before .before .before .before .before .before .before .before .before .before .before .before .before .before .before .args .encoding) (c .before .before .before .before .before .before .before .before .before .before .before .before .before .before .before .before .before .before .before .args .size) (c .settle .result) (c .settle .ensures)
 
 pub read-body-spec : {M : Type 1} → statement M
 read-body-spec =
     tie.close
     (tie.spec
-    deliver-requires
+    hand-over-requires
     settle-requires
     same-length
     same-length-2

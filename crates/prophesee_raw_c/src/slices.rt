@@ -1,98 +1,13 @@
 // Slices by number and by time, over records as entries.
-ghost use mathlib.Core.Path.{_≡_};
 ghost use Rattle.evt.specs.declared.Encoding.the-variants.{Evt2, Evt3};
-ghost use Rattle.index.specs.Choose.{Chose};
-ghost use Rattle.index.specs.Judge.{judgedAll};
-ghost use Rattle.slice.specs.Slice.{toldSlice};
-ghost use Rattle.prophesee_raw_c.specs.Opening.{sourceOf};
-ghost use Rattle.prophesee_raw_c.specs.Records.{recordsIn};
-ghost use Rattle.prophesee_raw_c.specs.Slicing.{slicedOf, SlicesIndex, SlicesTime};
-use crate::opening::PropheseeSource;
-use crate::records::record_at;
-use crate::refusal::count_of;
-use crate::refusal::number_of;
+ghost use Rattle.flat.specs.Slicing.{SlicesIndex, SlicesTime};
 use evt::Encoding;
-use evt::Refusal;
-use index::Checkpoint;
-use index::Choice;
-use index::Judging;
-use index::RawSliceSource;
-use slice::SliceAnswer;
-
-// `refusal` 0: `count` events stand at the front of the columns. Else document 01's number, `told`
-// being the count that a 5 tells.
-#[repr(C)]
-pub struct PropheseeSlice {
-    pub refusal: u32,
-    pub told: usize,
-    pub count: usize,
-}
-
-fn source_of(encoding: Encoding, s: PropheseeSource) -> RawSliceSource
-    ensures { λ r. ⌜ r ≡ sourceOf encoding s ⌝ }
-{
-    RawSliceSource {
-        encoding,
-        spacing: s.spacing,
-        data_offset: s.data_offset,
-        len: s.len,
-        width: s.width,
-        height: s.height,
-        n_events: s.n_events,
-    }
-}
-
-// All whole records, one after another.
-fn judge_entries(encoding: Encoding, records: &[u64], s: Judging) -> Judging
-    ensures { λ r. ⌜ r ≡ judgedAll s (recordsIn encoding (now (records .entry))) ⌝ }
-{
-    let n = records.len() / 10;
-    let mut t = s;
-    let mut i: usize = 0;
-    while i < n {
-        let c = record_at(encoding, records, i * 10);
-        t = index::judge(t, c);
-        i += 1;
-    }
-    t
-}
-
-// The record that a slice starts at, by halves.
-fn choose_entries(encoding: Encoding, records: &[u64], asked: Choice) -> Checkpoint
-    ensures { λ r. ⌜ Chose asked (recordsIn encoding (now (records .entry))) r ⌝ }
-{
-    let n = records.len() / 10;
-    let mut t = index::first_search(n, asked);
-    while t.more {
-        let i = t.at;
-        let c = record_at(encoding, records, i * 10);
-        t = index::narrow(t, c);
-    }
-    t.best
-}
-
-fn refused_numbers(r: Refusal) -> PropheseeSlice
-    ensures { λ n. ⌜ n ≡ slicedOf (toldSlice (SliceAnswer.Refused r)) ⌝ }
-{
-    PropheseeSlice {
-        refusal: number_of(r),
-        told: count_of(r),
-        count: 0,
-    }
-}
-
-fn slice_of(answer: SliceAnswer) -> PropheseeSlice
-    ensures { λ n. ⌜ n ≡ slicedOf (toldSlice answer) ⌝ }
-{
-    match answer {
-        SliceAnswer::Sliced(n) => PropheseeSlice {
-            refusal: 0,
-            told: 0,
-            count: n,
-        },
-        SliceAnswer::Refused(r) => refused_numbers(r),
-    }
-}
+use flat::opening::PropheseeSource;
+use flat::slices::PropheseeSlice;
+use flat::slices::choose_entries;
+use flat::slices::judge_entries;
+use flat::slices::slice_of;
+use flat::slices::source_of;
 
 fn slice_index(
     encoding: Encoding,

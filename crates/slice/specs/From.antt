@@ -2,19 +2,19 @@
 use mathlib.Core.Path.{_≡_}
 use mathlib.Core.Bool.{Bool, true, false, cond}
 use mathlib.Core.List.{List, []}
-use Prim.Native.Nat.{ℕ, _-_, _≤_, _^_, min}
+use Prim.Native.Nat.{ℕ, _≤_, _^_}
 use lib.Dec.{ltb}
 use lib.IntN.{ℤ, pos}
 use lib.ListN.{length, drop}
 use Rattle.evt.specs.declared.Refusal.the-variants.{InvalidSensorSize, TooLong, ColumnsTooShort, InvalidSpacing, StateOutOfRange}
-use Rattle.evt.specs.declared.codec.Codec.{Codec}
-use Rattle.evt.specs.Codec.{encodingOf, inRangeC}
+use Rattle.evt.specs.Codec.{inRangeC}
 use Rattle.evt.specs.Event.{Event}
 use Rattle.header.specs.Header.{hasZero}
 use Rattle.window.specs.declared.Window.{Window}
 use Rattle.select.specs.Pass.{handedOver}
-use Rattle.read.specs.Read.{shortest, Handed}
-use Rattle.read.specs.Laws.{mostEvents}
+use Rattle.deliver.specs.declared.Delivered.{Delivered}
+use Rattle.deliver.specs.declared.Delivered.the-variants.{Written, Needed}
+use Rattle.deliver.specs.Deliver.{shortest, Handed}
 use Rattle.index.specs.declared.Checkpoint.{Checkpoint}
 use Rattle.index.specs.declared.RawSliceSource.{RawSliceSource}
 use Rattle.index.specs.Index.{spacingOk}
@@ -44,14 +44,6 @@ askedByTime s n t0 t1 = record { judging = firstJudging s n; choice = record { �
 abbrev pub passedFrom : List ℕ → Window → Checkpoint → List Event
 passedFrom recording win c = handedOver win (c .«event_index») (c .codec) (drop (c .«byte_offset») recording)
 
--- more events than this n bytes can't have
-abbrev pub mostFrom : Codec → (n : ℕ) → ℕ
-mostFrom c n = mostEvents (encodingOf c) n
-
--- nor a window of numbers n0 to before n1
-abbrev pub mostOver : Window → Codec → (n : ℕ) → ℕ
-mostOver win c n = min (win .n1 - win .n0) (mostFrom c n)
-
 -- ---- all events or none: 5
 
 abbrev pub answerTo : List Event → (room : ℕ) → SliceAnswer
@@ -60,9 +52,9 @@ answerTo es room = cond (ltb room (length es)) (Refused (ColumnsTooShort (length
 abbrev pub handedTo : List Event → (room : ℕ) → List Event
 handedTo es room = cond (ltb room (length es)) [] es
 
-pub record Answers (es : List Event) (r : SliceAnswer) (xs₀ ys₀ : List ℕ) (ts₀ : List ℤ) (ps₀ xs ys : List ℕ) (ts : List ℤ) (ps : List ℕ) : Type 0 where
-  pub answer : r ≡ answerTo es (shortest xs₀ ys₀ ts₀ ps₀)
-  pub columns : Handed (handedTo es (shortest xs₀ ys₀ ts₀ ps₀)) xs₀ ys₀ ts₀ ps₀ xs ys ts ps
+abbrev pub answerOf : Delivered → SliceAnswer
+answerOf (Written n) = Sliced n
+answerOf (Needed n) = Refused (ColumnsTooShort n)
 
 -- ---- 4, 1, 8, 10 where the records are in range or not, and so on
 

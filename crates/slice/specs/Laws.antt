@@ -28,8 +28,12 @@ use Rattle.select.specs.declared.Tally.{Tally}
 use Rattle.select.specs.declared.Filled.{Filled}
 use Rattle.select.specs.Pass.{Ready, Able, handedOver, surveyed, filled}
 use Rattle.select.specs.Uses.{able-range, numberedOver, over-few, over-by-number, over-by-time}
-use Rattle.read.specs.Read.{kept, shortest}
-use Rattle.read.specs.Laws.{fits-room, handed-wrote, handed-none, rest-of}
+use Rattle.read.specs.Read.{kept}
+use Rattle.deliver.specs.declared.Delivered.{Delivered}
+use Rattle.deliver.specs.declared.Delivered.the-variants.{Written, Needed}
+use Rattle.deliver.specs.Deliver.{shortest, Handed, Delivers, mostFrom}
+use Rattle.deliver.specs.Laws.{numbered-most, handed-none}
+use Rattle.read.specs.Laws.{rest-of}
 use Rattle.index.specs.declared.Checkpoint.{Checkpoint}
 use Rattle.index.specs.declared.Judging.{Judging}
 use Rattle.index.specs.declared.RawSliceSource.{RawSliceSource}
@@ -45,69 +49,31 @@ use Rattle.slice.specs.declared.SliceAnswer.the-variants.{Sliced, Refuse
 use Rattle.slice.specs.declared.Asked.{Asked}
 use Rattle.slice.specs.Slice.{startingAt, sizeOf, firstOf, endOf, indexEvents, isDuring, eventsUntil, timeEvents, toldSlice, byRules, sliceVerdict, sliceHanded, sliceAnswer, Slices, SlicesIndex, SlicesTime}
 use Rattle.slice.specs.Times.{timeWindow, time-over}
-use Rattle.slice.specs.From.{numberWindow, askedByNumber, askedByTime, passedFrom, mostFrom, mostOver, answerTo, handedTo, Answers, rulesOf, SlicesFrom, Startable}
-
--- ---- a pass hands over no more than its window has numbers, nor than its bytes have events
-
-module _ {S : Type 0} (R : Select.Reading S ℕ Event) (span : Select.Window) where
-  chosen-span : (k : ℕ) (es : List Event) → length (Select.chosen R span k es) ≤ span .n1 - max (span .n0) k
-  chosen-span k [] = omega arith
-  chosen-span k (e ∷ es) = go (leb (span .n0) k) refl (ltb k (span .n1)) refl (leb (span .t0) (R .clock e) && ltb (R .clock e) (span .t1)) (chosen-span (suc k) es)
-    where
-      go : (a : Bool) → leb (span .n0) k ≡ a → (b : Bool) → ltb k (span .n1) ≡ b → (c : Bool) → length (Select.chosen R span (suc k) es) ≤ span .n1 - max (span .n0) (suc k)
-          → length (onto (a && (b && c)) e (Select.chosen R span (suc k) es)) ≤ span .n1 - max (span .n0) k
-      go false p b q c h = omega arith
-      go true p false q c h = omega arith
-      go true p true q false h = omega arith
-      go true p true q true h = omega (arith, h, leb-true (span .n0) k p, ltb-true k (span .n1) q)
-
-  handed-span : (k : ℕ) (s : S) (ws : List ℕ) → length (Select.handed R span k s ws) ≤ span .n1 - span .n0
-  handed-span k s ws = rw Select.handed-after (omega (arith, chosen-span k (Select.numbered R s (take (Select.ended R span k s ws .consumed) ws))))
+use Rattle.slice.specs.From.{numberWindow, askedByNumber, askedByTime, passedFrom, answerTo, handedTo, answerOf, rulesOf, SlicesFrom, Startable}
 
 most-small : (c : Codec) (n : ℕ) → mostFrom c n ≤ 6 * n
 most-small (Evt2 d) n = omega arith
 most-small (Evt3 d) n = omega arith
 
-module _ (win : Window) (k : ℕ) (c : Codec) (bytes : List ℕ) where
-  abbrev over : List Event
-  over = handedOver win k c bytes
+-- ---- 5, or the events
 
-  over-span : length over ≤ win .n1 - win .n0
-  over-span = go c
+module _ {es : List Event} {d : Delivered} {xs₀ ys₀ : List ℕ} {ts₀ : List ℤ} {ps₀ xs ys : List ℕ} {ts : List ℤ} {ps : List ℕ} (h : Delivers es d xs₀ ys₀ ts₀ ps₀ xs ys ts ps) where
+  abbrev room : ℕ
+  room = shortest xs₀ ys₀ ts₀ ps₀
+
+  delivered-answer : answerOf d ≡ answerTo es room
+  delivered-answer = ap answerOf (h .answer) ∙ go (leb (length es) room) refl
     where
-      go : (c : Codec) → length (handedOver win k c bytes) ≤ win .n1 - win .n0
-      go (Evt2 d) = handed-span (reading2 win) (spanOf win) k d (wordsOf 4 bytes)
-      go (Evt3 d) = handed-span (reading3 win) (spanOf win) k d (wordsOf 2 bytes)
+      go : (b : Bool) → leb (length es) room ≡ b → answerOf (cond b (Written (length es)) (Needed (length es))) ≡ answerTo es room
+      go true p = rw (le-ltb room (length es) (leb-true (length es) room p))
+      go false p = rw (lt-ltb room (length es) (leb-false (length es) room p))
 
-  pub numbered-most : length (numberedOver win c bytes) ≤ mostFrom c (length bytes)
-  numbered-most = go c
+  delivered-columns : Handed (handedTo es room) xs₀ ys₀ ts₀ ps₀ xs ys ts ps
+  delivered-columns = rw (go (leb (length es) room) refl) (h .columns)
     where
-      go : (c : Codec) → length (numberedOver win c bytes) ≤ mostFrom c (length bytes)
-      go (Evt2 d) = few2 (win .width) (win .height) d bytes
-      go (Evt3 d) = omega (arith, few3 (win .width) (win .height) d bytes)
-
-  pub few-over : (least : ℕ) → least ≡ mostOver win c (length bytes) → length over ≤ least
-  few-over least e = omega (arith, over-span, over-few win k c bytes, numbered-most)
-
-  -- ---- 5, or the events
-
-  pub can-fill : (n x y t p : ℕ) → Ready c k (length bytes) → n ≡ min (min x y) (min t p) → length over ≤ n → Ready c k (length bytes) × Fits (length over) x y t p
-  can-fill n x y t p ready room few = (ready, fits-room (length over) x y t p (omega arith))
-
-  pub is-count : (t : Tally) → t ≡ surveyed win k c bytes → t .count ≡ length over
-  is-count t is = ap (λ (t : Tally). t .count) is
-
-  module _ {xs₀ ys₀ : List ℕ} {ts₀ : List ℤ} {ps₀ : List ℕ} (n : ℕ) (room : n ≡ shortest xs₀ ys₀ ts₀ ps₀) where
-    pub answers-all : (t : Filled) {xs ys : List ℕ} {ts : List ℤ} {ps : List ℕ} → length over ≤ n → t ≡ filled win k c bytes → Wrote over 0 xs₀ ys₀ ts₀ ps₀ xs ys ts ps
-        → Answers over (Sliced (t .count)) xs₀ ys₀ ts₀ ps₀ xs ys ts ps
-    answers-all t few is w =
-        let enough = le-ltb (shortest xs₀ ys₀ ts₀ ps₀) (length over) (rw (← room) few) in
-        record { answer = rw (enough, is); columns = rw enough (handed-wrote w) }
-
-    pub answers-none : (t : Tally) → t ≡ surveyed win k c bytes → n < t .count → Answers over (Refused (ColumnsTooShort (t .count))) xs₀ ys₀ ts₀ ps₀ xs₀ ys₀ ts₀ ps₀
-    answers-none t is h =
-        let short : ltb (shortest xs₀ ys₀ ts₀ ps₀) (length over) ≡ true = lt-ltb (shortest xs₀ ys₀ ts₀ ps₀) (length over) (rw (← room, ← is-count t is) h) in
-        record { answer = rw (short, is); columns = rw short handed-none }
+      go : (b : Bool) → leb (length es) room ≡ b → handedTo es room ≡ cond b es []
+      go true p = rw (le-ltb room (length es) (leb-true (length es) room p))
+      go false p = rw (lt-ltb room (length es) (leb-false (length es) room p))
 
 -- ---- 4, 1, 8, 10, and so on
 
@@ -145,8 +111,11 @@ module _ (recording : List ℕ) (s : RawSliceSource) (ok : Bool) (es : List Even
         pub from-range : ok ≡ false → SlicesFrom recording s ok es (Refused StateOutOfRange) xs₀ ys₀ ts₀ ps₀ xs₀ ys₀ ts₀ ps₀
         from-range p = record { answer = rw (le-ltb (2 ^ 30) (length recording) fits, sized, spaced, p); columns = rw (le-ltb (2 ^ 30) (length recording) fits, sized, spaced, p) handed-none }
 
-        pub from-all : {r : SliceAnswer} {xs ys : List ℕ} {ts : List ℤ} {ps : List ℕ} → ok ≡ true → Answers es r xs₀ ys₀ ts₀ ps₀ xs ys ts ps → SlicesFrom recording s ok es r xs₀ ys₀ ts₀ ps₀ xs ys ts ps
-        from-all p a = record { answer = rw (le-ltb (2 ^ 30) (length recording) fits, sized, spaced, p) (a .answer); columns = rw (le-ltb (2 ^ 30) (length recording) fits, sized, spaced, p) (a .columns) }
+        pub from-all : (d : Delivered) (r : SliceAnswer) {xs ys : List ℕ} {ts : List ℤ} {ps : List ℕ} → ok ≡ true → Delivers es d xs₀ ys₀ ts₀ ps₀ xs ys ts ps → r ≡ answerOf d → SlicesFrom recording s ok es r xs₀ ys₀ ts₀ ps₀ xs ys ts ps
+        from-all d r p h e = record {
+          answer = rw (le-ltb (2 ^ 30) (length recording) fits, sized, spaced, p) (e ∙ delivered-answer h);
+          columns = rw (le-ltb (2 ^ 30) (length recording) fits, sized, spaced, p) (delivered-columns h);
+        }
 
 -- ---- what an answer tells is the verdict, and with the records judged all is as specs/Slice.antt has it
 

@@ -2,13 +2,11 @@
 // specs/Slice.antt has what they answer and hand over, by document 01's table; specs/From.antt what
 // the parts say.
 ghost use mathlib.Core.Path.{_≡_};
-ghost use Prim.Native.Nat.{_≤_, _^_, min, max, _-_};
-ghost use lib.ListN.{length};
-ghost use Rattle.select.specs.Pass.{Ready, handedOver};
+ghost use Prim.Native.Nat.{max};
 ghost use Rattle.index.specs.Judge.{firstJudging};
 ghost use Rattle.slice.specs.Slice.{SlicesIndex, SlicesTime};
-ghost use Rattle.slice.specs.From.{askedByNumber, askedByTime, passedFrom, mostFrom, mostOver, Answers, SlicesFrom, Startable};
-use evt::Codec;
+ghost use Rattle.slice.specs.From.{askedByNumber, askedByTime, passedFrom, answerOf, SlicesFrom, Startable};
+use deliver::Delivered;
 use evt::Refusal;
 use evt::SensorSize;
 use index::Checkpoint;
@@ -28,12 +26,6 @@ pub struct Asked {
     pub judging: Judging,
     pub choice: Choice,
     pub window: Window,
-}
-
-fn less(a: usize, b: usize) -> usize
-    ensures { λ r. ⌜ r ≡ min a b ⌝ }
-{
-    if a < b { a } else { b }
 }
 
 fn greater(a: usize, b: usize) -> usize
@@ -63,8 +55,8 @@ fn first_judging(source: RawSliceSource, n: usize) -> Judging
 pub fn by_number(source: RawSliceSource, n: usize, i0: usize, i1: usize) -> Asked
     ensures { λ r. ⌜ r ≡ askedByNumber source n i0 i1 ⌝ }
 {
-    let first = less(i0, source.n_events);
-    let end = greater(first, less(i1, source.n_events));
+    let first = deliver::less(i0, source.n_events);
+    let end = greater(first, deliver::less(i1, source.n_events));
     let judging = first_judging(source, n);
     let choice = Choice {
         by_time: false,
@@ -111,81 +103,13 @@ pub fn by_time(source: RawSliceSource, n: usize, t0: i64, t1: i64) -> Asked
     }
 }
 
-// More events than this n bytes can't have.
-fn most_from(codec: Codec, n: usize) -> usize
-    requires { ⌜ n ≤ 2 ^ 30 ⌝ }
-    ensures { λ r. ⌜ r ≡ mostFrom codec n ⌝ }
+fn answer_of(delivered: Delivered) -> SliceAnswer
+    ensures { λ r. ⌜ r ≡ answerOf delivered ⌝ }
 {
-    match codec {
-        Codec::Evt2(_) => n / 4,
-        Codec::Evt3(_) => n / 2 * 12,
+    match delivered {
+        Delivered::Written(n) => SliceAnswer::Sliced(n),
+        Delivered::Needed(n) => SliceAnswer::Refused(Refusal::ColumnsTooShort(n)),
     }
-}
-
-// How many numbers a window has.
-fn numbers(window: Window) -> u64
-    ensures { λ r. ⌜ r ≡ window .n1 - window .n0 ⌝ }
-{
-    if window.n0 < window.n1 {
-        window.n1 - window.n0
-    } else {
-        0
-    }
-}
-
-// More events than this a pass can't hand over.
-fn most_over(window: Window, codec: Codec, n: usize) -> usize
-    requires { ⌜ n ≤ 2 ^ 30 ⌝ }
-    ensures { λ r. ⌜ r ≡ mostOver window codec n ⌝ }
-{
-    less(numbers(window) as usize, most_from(codec, n))
-}
-
-// Writes what a pass hands over, if the columns hold it, or refuses (5). Where they surely do, the
-// bytes are decoded once. `requires`: both entries have refused longer ones (4) and a decoder out of
-// range (10).
-fn deliver(
-    bytes: &[u8],
-    codec: Codec,
-    window: Window,
-    number: u64,
-    xs: &mut [u16],
-    ys: &mut [u16],
-    ts: &mut [i64],
-    ps: &mut [u8],
-) -> SliceAnswer
-    requires { ⌜ Ready codec number (length (now bytes)) ⌝ }
-    ensures { λ r. ⌜ Answers (handedOver window number codec (now (bytes .entry))) r (now (xs .entry)) (now (ys .entry)) (now (ts .entry)) (now (ps .entry)) (now (xs .exit)) (now (ys .exit)) (now (ts .exit)) (now (ps .exit)) ⌝ }
-{
-    let room = less(less(xs.len(), ys.len()), less(ts.len(), ps.len()));
-    if most_over(window, codec, bytes.len()) <= room {
-        let t = select::fill(
-            bytes,
-            codec,
-            window,
-            number,
-            &mut *xs,
-            &mut *ys,
-            &mut *ts,
-            &mut *ps,
-        );
-        return SliceAnswer::Sliced(t.count);
-    }
-    let n = select::survey(bytes, codec, window, number).count;
-    if n <= room {
-        let t = select::fill(
-            bytes,
-            codec,
-            window,
-            number,
-            &mut *xs,
-            &mut *ys,
-            &mut *ts,
-            &mut *ps,
-        );
-        return SliceAnswer::Sliced(t.count);
-    }
-    SliceAnswer::Refused(Refusal::ColumnsTooShort(n))
 }
 
 // The slice from the record `start` on; `ok` tells whether the records are in range. `requires`:
@@ -213,10 +137,10 @@ pub fn slice_from(
     let encoding = source.encoding;
     if index::spacing_ok(encoding, source.spacing) {
         if ok {
-            let at = less(start.byte_offset, recording.len());
+            let at = deliver::less(start.byte_offset, recording.len());
             let codec = start.codec;
             let number = start.event_index as u64;
-            return deliver(
+            let delivered = deliver::deliver(
                 &recording[at..],
                 codec,
                 window,
@@ -226,6 +150,7 @@ pub fn slice_from(
                 &mut *ts,
                 &mut *ps,
             );
+            return answer_of(delivered);
         }
         return SliceAnswer::Refused(Refusal::StateOutOfRange);
     }

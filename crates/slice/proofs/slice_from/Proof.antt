@@ -8,8 +8,9 @@ use Rattle.slice.proofs.slice_from.Reads as reads
 use Rattle.slice.proofs.slice_from.Lts as lts
 use Rattle.header.proofs.has_zero.Reads as has-zero-reads
 use Rattle.index.proofs.spacing_ok.Reads as spacing-ok-reads
-use Rattle.slice.proofs.deliver.Reads as deliver-reads
-use Rattle.slice.proofs.less.Reads as less-reads
+use Rattle.deliver.proofs.deliver.Reads as deliver-reads
+use Rattle.deliver.proofs.less.Reads as less-reads
+use Rattle.slice.proofs.answer_of.Reads as answer-of-reads
 
 -- src/lib.rt:99:9
 returns : tie.Need-returns
@@ -47,6 +48,9 @@ part-deliver-end c = search needs
 deliver-requires : tie.Need-deliver-requires
 deliver-requires c κs = rw (rest-from (c .before .before .before .before .before .before .before .before .before .before .before .before .before .before .before .before .args .recording .now) (c .before .before .before .before .before .before .before .before .before .before .before .before .before .before .before .before .args .start .«byte_offset») (c .before .before .before .before .before .less .result) (c .before .before .before .before .before .less .ensures)) (ready-from (c .before .before .before .before .before .before .before .before .before .before .before .before .before .before .before .before .args .recording .now) (c .before .before .before .before .before .before .before .before .before .before .before .before .before .before .before .before .args .source) (c .before .before .before .before .before .before .before .before .before .before .before .before .before .before .before .before .args .ok) (c .before .before .before .before .before .before .before .before .before .before .before .before .before .before .before .before .args .start) (c .before .before .before .before .before .before .before .before .before .before .before .if1 .left) (sym (c .before .before .before .before .before .before .before .before .spacing-ok .ensures) ∙ c .before .before .before .before .before .before .before .if3 .taken) (c .before .before .before .before .before .before .if4 .taken) (c .before .before .before .before .before .before .before .before .before .before .before .before .before .before .before .before .pre))
 
+answer-of-requires : tie.Need-answer-of-requires
+answer-of-requires c κs = search needs
+
 -- src/lib.rt:110:13
 same-length : tie.Need-same-length
 same-length c = search needs
@@ -65,7 +69,7 @@ same-length-4 c = search needs
 
 -- src/lib.rt:110:13
 returns-3 : tie.Need-returns-3
-returns-3 c = from-all (c .before .before .before .before .before .before .before .before .before .before .before .before .before .before .before .before .before .before .before .before .before .before .before .before .args .recording .now) (c .before .before .before .before .before .before .before .before .before .before .before .before .before .before .before .before .before .before .before .before .before .before .before .before .args .source) (c .before .before .before .before .before .before .before .before .before .before .before .before .before .before .before .before .before .before .before .before .before .before .before .before .args .ok) (passedFrom (c .before .before .before .before .before .before .before .before .before .before .before .before .before .before .before .before .before .before .before .before .before .before .before .before .args .recording .now) (c .before .before .before .before .before .before .before .before .before .before .before .before .before .before .before .before .before .before .before .before .before .before .before .before .args .window) (c .before .before .before .before .before .before .before .before .before .before .before .before .before .before .before .before .before .before .before .before .before .before .before .before .args .start)) (c .before .before .before .before .before .before .before .before .before .before .before .before .before .before .before .before .before .before .before .if1 .left) (sym (c .before .before .before .before .before .before .before .before .before .before .before .before .before .before .before .before .before .before .has-zero .ensures) ∙ c .before .before .before .before .before .before .before .before .before .before .before .before .before .before .before .before .before .if2 .left) (sym (c .before .before .before .before .before .before .before .before .before .before .before .before .before .before .before .before .spacing-ok .ensures) ∙ c .before .before .before .before .before .before .before .before .before .before .before .before .before .before .before .if3 .taken) (c .before .before .before .before .before .before .before .before .before .before .before .before .before .before .if4 .taken) (rw (rest-from (c .before .before .before .before .before .before .before .before .before .before .before .before .before .before .before .before .before .before .before .before .before .before .before .before .args .recording .now) (c .before .before .before .before .before .before .before .before .before .before .before .before .before .before .before .before .before .before .before .before .before .before .before .before .args .start .«byte_offset») (c .before .before .before .before .before .before .before .before .before .before .before .before .before .less .result) (c .before .before .before .before .before .before .before .before .before .before .before .before .before .less .ensures)) at (c .before .before .before .before .before .before .before .deliver .ensures))
+returns-3 c = from-all (c .before .before .before .before .before .before .before .before .before .before .before .before .before .before .before .before .before .before .before .before .before .before .before .before .before .args .recording .now) (c .before .before .before .before .before .before .before .before .before .before .before .before .before .before .before .before .before .before .before .before .before .before .before .before .before .args .source) (c .before .before .before .before .before .before .before .before .before .before .before .before .before .before .before .before .before .before .before .before .before .before .before .before .before .args .ok) (passedFrom (c .before .before .before .before .before .before .before .before .before .before .before .before .before .before .before .before .before .before .before .before .before .before .before .before .before .args .recording .now) (c .before .before .before .before .before .before .before .before .before .before .before .before .before .before .before .before .before .before .before .before .before .before .before .before .before .args .window) (c .before .before .before .before .before .before .before .before .before .before .before .before .before .before .before .before .before .before .before .before .before .before .before .before .before .args .start)) (c .before .before .before .before .before .before .before .before .before .before .before .before .before .before .before .before .before .before .before .before .if1 .left) (sym (c .before .before .before .before .before .before .before .before .before .before .before .before .before .before .before .before .before .before .before .has-zero .ensures) ∙ c .before .before .before .before .before .before .before .before .before .before .before .before .before .before .before .before .before .before .if2 .left) (sym (c .before .before .before .before .before .before .before .before .before .before .before .before .before .before .before .before .before .spacing-ok .ensures) ∙ c .before .before .before .before .before .before .before .before .before .before .before .before .before .before .before .before .if3 .taken) (c .before .before .before .before .before .before .before .before .deliver .result) (c .answer-of .result) (c .before .before .before .before .before .before .before .before .before .before .before .before .before .before .before .if4 .taken) (rw (rest-from (c .before .before .before .before .before .before .before .before .before .before .before .before .before .before .before .before .before .before .before .before .before .before .before .before .before .args .recording .now) (c .before .before .before .before .before .before .before .before .before .before .before .before .before .before .before .before .before .before .before .before .before .before .before .before .before .args .start .«byte_offset») (c .before .before .before .before .before .before .before .before .before .before .before .before .before .before .less .result) (c .before .before .before .before .before .before .before .before .before .before .before .before .before .before .less .ensures)) at (c .before .before .before .before .before .before .before .before .deliver .ensures)) (c .answer-of .ensures)
 
 -- src/lib.rt:121:9
 returns-4 : tie.Need-returns-4
@@ -88,6 +92,7 @@ slice-from-spec =
     part-deliver-start
     part-deliver-end
     deliver-requires
+    answer-of-requires
     same-length
     same-length-2
     same-length-3

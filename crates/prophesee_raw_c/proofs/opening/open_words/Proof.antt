@@ -2,9 +2,9 @@ use mathlib.Core.Path.{ap, _∙_}
 use Rattle.index.specs.declared.WordsOptions.{WordsOptions}
 use Rattle.index.specs.Build.{firstOf, wordsJob}
 use Rattle.index.specs.Stage.{allowed-words}
-use Rattle.prophesee_raw_c.specs.Making.{prepared, opens-words-entries}
-use Rattle.prophesee_raw_c.specs.Opening.{wordsOptionsOf}
-use Rattle.prophesee_raw_c.specs.Records.{roomOf}
+use Rattle.flat.specs.Making.{prepared, opens-words-entries}
+use Rattle.flat.specs.Opening.{wordsOptionsOf}
+use Rattle.flat.specs.Records.{roomOf}
 use borrow.Author.Needs.{needs}
 use Rattle.prophesee_raw_c.proofs.opening.open_words.Statement.{statement}
 use Rattle.prophesee_raw_c.proofs.opening.open_words.Tie as tie
@@ -12,9 +12,9 @@ use Rattle.prophesee_raw_c.proofs.opening.open_words.Reads as reads
 use Rattle.prophesee_raw_c.proofs.opening.open_words.Lts as lts
 use Rattle.index.proofs.conclude.Reads as conclude-reads
 use Rattle.index.proofs.prepare_words.Reads as prepare-words-reads
-use Rattle.prophesee_raw_c.proofs.opening.make_records.Reads as make-records-reads
-use Rattle.prophesee_raw_c.proofs.opening.opening_of.Reads as opening-of-reads
-use Rattle.prophesee_raw_c.proofs.opening.words_options_of.Reads as words-options-of-reads
+use Rattle.flat.proofs.opening.make_records.Reads as make-records-reads
+use Rattle.flat.proofs.opening.opening_of.Reads as opening-of-reads
+use Rattle.flat.proofs.opening.words_options_of.Reads as words-options-of-reads
 
 -- src/opening.rt:166:9
 words-options-of-requires : tie.Need-words-options-of-requires

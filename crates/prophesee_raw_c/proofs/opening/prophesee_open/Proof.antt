@@ -2,9 +2,9 @@ use mathlib.Core.Path.{ap, _∙_}
 use Rattle.index.specs.declared.OpenOptions.{OpenOptions}
 use Rattle.index.specs.Build.{firstOf, rawJob}
 use Rattle.index.specs.Stage.{allowed-raw}
-use Rattle.prophesee_raw_c.specs.Making.{prepared, opens-raw-entries}
-use Rattle.prophesee_raw_c.specs.Opening.{optionsOf}
-use Rattle.prophesee_raw_c.specs.Records.{roomOf}
+use Rattle.flat.specs.Making.{prepared, opens-raw-entries}
+use Rattle.flat.specs.Opening.{optionsOf}
+use Rattle.flat.specs.Records.{roomOf}
 use borrow.Author.Needs.{needs}
 use Rattle.prophesee_raw_c.proofs.opening.prophesee_open.Statement.{statement}
 use Rattle.prophesee_raw_c.proofs.opening.prophesee_open.Tie as tie
@@ -12,9 +12,9 @@ use Rattle.prophesee_raw_c.proofs.opening.prophesee_open.Reads as reads
 use Rattle.prophesee_raw_c.proofs.opening.prophesee_open.Lts as lts
 use Rattle.index.proofs.conclude.Reads as conclude-reads
 use Rattle.index.proofs.prepare.Reads as prepare-reads
-use Rattle.prophesee_raw_c.proofs.opening.make_records.Reads as make-records-reads
-use Rattle.prophesee_raw_c.proofs.opening.opening_of.Reads as opening-of-reads
-use Rattle.prophesee_raw_c.proofs.opening.options_of.Reads as options-of-reads
+use Rattle.flat.proofs.opening.make_records.Reads as make-records-reads
+use Rattle.flat.proofs.opening.opening_of.Reads as opening-of-reads
+use Rattle.flat.proofs.opening.options_of.Reads as options-of-reads
 
 -- src/opening.rt:150:9
 options-of-requires : tie.Need-options-of-requires

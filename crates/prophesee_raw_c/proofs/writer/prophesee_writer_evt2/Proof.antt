@@ -1,12 +1,12 @@
 use mathlib.Core.Path.{ap, _∙_}
-use Rattle.prophesee_raw_c.specs.Writer.{flatSink}
+use Rattle.flat.specs.Writer.{flatSink}
 use borrow.Author.Needs.{needs}
 use Rattle.prophesee_raw_c.proofs.writer.prophesee_writer_evt2.Statement.{statement}
 use Rattle.prophesee_raw_c.proofs.writer.prophesee_writer_evt2.Tie as tie
 use Rattle.prophesee_raw_c.proofs.writer.prophesee_writer_evt2.Reads as reads
 use Rattle.prophesee_raw_c.proofs.writer.prophesee_writer_evt2.Lts as lts
-use Rattle.prophesee_raw_c.proofs.options.is_set.Reads as is-set-reads
-use Rattle.prophesee_raw_c.proofs.writer.flat_of.Reads as flat-of-reads
+use Rattle.flat.proofs.options.is_set.Reads as is-set-reads
+use Rattle.flat.proofs.writer.flat_of.Reads as flat-of-reads
 use Rattle.sink.proofs.RawEventSink.to_writer.Reads as to-writer-reads
 
 -- src/writer.rt:183:53

@@ -34,7 +34,7 @@ pub fn open_into(
     ensures { λ r. ⌜ Opens (rawVerdict (now (recording .entry)) options n) (rawAnswer (now (recording .entry)) options n) (rawMade (now (recording .entry)) options n) (r .answer) records (r .records) ⌝ }
 {
     let mut made = records;
-    let answer = index::open(recording, &mut made[..n], options);
+    let answer = open::open(recording, &mut made[..n], options);
     FixedIndex {
         answer,
         records: made,
@@ -52,7 +52,7 @@ pub fn open_words_into(
     ensures { λ r. ⌜ Opens (wordsVerdict (now (words .entry)) options n) (wordsAnswer (now (words .entry)) options n) (wordsMade (now (words .entry)) options n) (r .answer) records (r .records) ⌝ }
 {
     let mut made = records;
-    let answer = index::open_words(words, &mut made[..n], options);
+    let answer = open::open_words(words, &mut made[..n], options);
     FixedIndex {
         answer,
         records: made,

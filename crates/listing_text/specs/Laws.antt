@@ -33,6 +33,7 @@ use Rattle.read.specs.declared.Reading.{Reading}
 use Rattle.read.specs.declared.ReadAnswer.{ReadAnswer}
 use Rattle.read.specs.declared.ReadAnswer.the-variants.{Read, Refused}
 use Rattle.read.specs.Read.{toldRead, bodyEvents, sizeless, widthOf, heightOf, answerOf, handedOf, answerAfter, handedAfter, rawAnswer, rawHanded, shortest, Handed, ReadsRaw}
+use Rattle.evt.specs.Codec.{freshC}
 use Rattle.deliver.specs.Deliver.{mostFrom}
 use Rattle.deliver.specs.Laws.{few-inside}
 use Rattle.read.specs.Laws.{spanOf, body-all}

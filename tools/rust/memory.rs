@@ -8,33 +8,32 @@ extern "C" {
 }
 const READ: i32 = 1;
 const WRITE: i32 = 2;
+const SHARED: i32 = 1;
 const PRIVATE: i32 = 2;
 const ANONYMOUS: i32 = 0x20;
 const NO_RESERVE: i32 = 0x4000;
 
 /// A file's bytes, mapped as the original maps them.
-pub struct Mapped {
-    at: *mut u8,
-    n: usize,
-}
+pub struct Mapped(&'static [u8]);
 
 impl Mapped {
     pub fn new(path: &str) -> Self {
         let file = std::fs::File::open(path).unwrap_or_else(|e| panic!("{path}: {e}"));
         let n = file.metadata().unwrap().len() as usize;
-        let at = unsafe { mmap(std::ptr::null_mut(), n, READ, PRIVATE, file.as_raw_fd(), 0) };
+        let at = unsafe { mmap(std::ptr::null_mut(), n, READ, SHARED, file.as_raw_fd(), 0) };
         assert!(at as isize != -1, "{path} can't be mapped");
-        Mapped { at, n }
+        Mapped(unsafe { std::slice::from_raw_parts(at, n) })
     }
 
+    /// They are there for as long as the map is.
     pub fn bytes(&self) -> &[u8] {
-        unsafe { std::slice::from_raw_parts(self.at, self.n) }
+        self.0
     }
 }
 
 impl Drop for Mapped {
     fn drop(&mut self) {
-        unsafe { munmap(self.at, self.n) };
+        unsafe { munmap(self.0.as_ptr().cast_mut(), self.0.len()) };
     }
 }
 

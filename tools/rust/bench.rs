@@ -134,6 +134,7 @@ fn main() {
     println!("peak of resident memory, both sides, recordings and columns: {} MiB", memory::kib("VmHWM") / 1024);
     if let Some(path) = &a.table {
         let names: Vec<&str> = files.iter().map(|f| f.1).collect();
-        std::fs::write(path, table(&names, &times)).unwrap();
+        let text = table(&names, &times);
+        if path == "-" { print!("{text}") } else { std::fs::write(path, text).unwrap() }
     }
 }

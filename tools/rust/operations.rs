@@ -24,8 +24,8 @@ pub type Operation = fn(&Recording, &Setup, &mut Lent) -> Times;
 pub const OPERATIONS: [(&str, &str, &str, Operation); 10] = [
     ("read", "ms", "reading, columns surely long enough", read),
     ("read_exact", "ms", "reading, columns that hold just the events", read_exact),
-    ("read_words", "ms", "the same as `decode_words`, which allocates", read_words),
-    ("read_file", "ms", "the same as `read_raw`, which maps and allocates", read_file),
+    ("read_words", "ms", "reading, beside its `decode_words`, which allocates", read_words),
+    ("read_file", "ms", "reading a file, beside its `read_raw`, which allocates", read_file),
     ("open", "ms", "opening", open),
     ("slice_index", "µs", "slice of 1,000 events by number", slice_index),
     ("slice_time", "µs", "slice of 10 ms, columns surely long enough", slice_time),
@@ -58,7 +58,7 @@ fn seconds() -> f64 {
     told[0] as f64 + told[1] as f64 * 1e-9
 }
 
-/// A pair that takes longer than this many seconds has three runs and no more.
+/// Once a pair has taken this many seconds it has no more than three runs.
 const LONG: f64 = 15.0;
 
 /// Both in turn, and of each the best time; what they answer must be the same.
@@ -83,9 +83,19 @@ fn pair(runs: usize, mut ours: impl FnMut() -> usize, mut theirs: impl FnMut() -
 
 // ---- reading
 
+/// Writes over what an earlier call left, so that a comparison can't be with that.
+fn spoil(c: &mut Lent, n: usize) {
+    let c = c.first(n);
+    c.xs.fill(0xAAAA);
+    c.ys.fill(0xBBBB);
+    c.ts.fill(-7);
+    c.ps.fill(0xCC);
+}
+
 /// The original decodes into columns that it was handed: what the others add is its allocations.
 fn read_places(r: &Recording, s: &Setup, c: &mut Lent, places: usize, n: usize) -> Times {
     let mut warm = probe::warm(n);
+    spoil(c, n);
     assert_eq!(r.read(&mut c.first(places)), probe::decode_warm(&mut warm, r.encoding, r.body(), r.width, r.height));
     let ts = unsafe { std::slice::from_raw_parts(c.ts.as_ptr().cast::<u64>(), n) };
     assert!(probe::warm_same(&warm, c.xs, c.ys, ts, c.ps), "the columns differ");
@@ -111,15 +121,21 @@ fn same(c: &Lent, stream: &EventStream) {
 fn read_words(r: &Recording, s: &Setup, c: &mut Lent) -> Times {
     let sized = Options { sized: 1, width: r.width, height: r.height, ..Options::default() };
     let theirs = || original::decode_words(r.body(), r.version(), r.width, r.height).unwrap();
+    let stream = theirs();
+    spoil(c, stream.len());
     archive::decode_words(r.body(), r.evt3, sized, c);
-    same(c, &theirs());
+    same(c, &stream);
+    drop(stream);
     pair(s.runs, || archive::decode_words(r.body(), r.evt3, sized, c).count, || theirs().len())
 }
 
 fn read_file(r: &Recording, s: &Setup, c: &mut Lent) -> Times {
     let theirs = || original::read_raw(&r.path, &LoadOptions::default()).unwrap();
+    let stream = theirs();
+    spoil(c, stream.len());
     r.read(c);
-    same(c, &theirs());
+    same(c, &stream);
+    drop(stream);
     let ours = |c: &mut Lent| archive::read_raw(Mapped::new(&r.path).bytes(), Options::default(), c).count;
     pair(s.runs, || ours(c), || theirs().len())
 }
@@ -216,6 +232,7 @@ fn slice_index(r: &Recording, s: &Setup, c: &mut Lent) -> Times {
     };
     let theirs = |a: usize| i.source.slice_index(a, a + SLICE_EVENTS).unwrap();
     for a in &starts {
+        spoil(c, SLICE_EVENTS);
         assert_eq!(ours(c, *a), SLICE_EVENTS);
         same(c, &theirs(*a));
     }
@@ -235,6 +252,7 @@ fn slice_times(r: &Recording, s: &Setup, c: &mut Lent, places: impl Fn(usize) ->
     };
     for q in &starts {
         let stream = theirs(q.0);
+        spoil(c, stream.len());
         assert_eq!(ours(c, *q), stream.len());
         same(c, &stream);
     }
@@ -294,28 +312,29 @@ fn append_theirs(r: &Recording, lists: &[EventStream], out: &mut Vec<u8>) -> usi
     sink.into_inner().unwrap().len()
 }
 
-fn appends(r: &Recording, s: &Setup, c: &mut Lent, exact: bool) -> Times {
-    let (ours, theirs) = lists(r, c);
-    let long = ours.len() * (96 + 8 * APPEND);
-    let (mut out, mut warm) = (vec![0xEE; long], vec![0xEE; long]);
-    let n = append_theirs(r, &theirs, &mut warm);
-    assert_eq!(append_ours(r, &ours, &mut out, |_| long), n);
-    assert!(out[..n] == warm[..], "the bytes differ");
-    let ends = if exact { ends(r, &ours, &mut out) } else { vec![long; ours.len()] };
-    pair(s.runs, || append_ours(r, &ours, &mut out, |k| ends[k]), || append_theirs(r, &theirs, &mut warm))
-}
-
 /// Where the bytes of each append end.
 fn ends(r: &Recording, lists: &[Columns], out: &mut [u8]) -> Vec<usize> {
     let mut sink = archive::writer(r.evt3, false);
     let mut at = 0;
-    let mut end = |c: &Columns| {
+    let end = |c: &Columns| {
         let a = archive::append(sink, r.width, r.height, c, &mut out[at..]);
         sink = a.sink;
         at += a.written;
         at
     };
-    lists.iter().map(&mut end).collect()
+    lists.iter().map(end).collect()
+}
+
+fn appends(r: &Recording, s: &Setup, c: &mut Lent, exact: bool) -> Times {
+    let (ours, theirs) = lists(r, c);
+    let long = ours.len() * (96 + 8 * APPEND);
+    let (mut out, mut warm) = (vec![0xEE; long], vec![0xEE; long]);
+    let ends = if exact { ends(r, &ours, &mut out) } else { vec![long; ours.len()] };
+    out.fill(0xEE);
+    let n = append_theirs(r, &theirs, &mut warm);
+    assert_eq!(append_ours(r, &ours, &mut out, |k| ends[k]), n);
+    assert!(out[..n] == warm[..], "the bytes differ");
+    pair(s.runs, || append_ours(r, &ours, &mut out, |k| ends[k]), || append_theirs(r, &theirs, &mut warm))
 }
 
 fn append(r: &Recording, s: &Setup, c: &mut Lent) -> Times {

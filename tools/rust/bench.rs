@@ -1,9 +1,13 @@
 //! Times this library's archive and the Rust original in one process, on the same bytes: tools/bench.sh builds
-//! it and says how it is called. operations.rs has what is timed and how.
+//! it and says how it is called. bench/operations.rs has what is timed and how.
 mod archive;
+#[path = "bench/memory.rs"]
 mod memory;
+#[path = "bench/operations.rs"]
 mod operations;
+#[path = "bench/plot.rs"]
 mod plot;
+#[path = "bench/recordings.rs"]
 mod recordings;
 
 use operations::{Operation, Setup, Times, OPERATIONS, SPACING, STACK};

@@ -1,0 +1,94 @@
+//! The recordings that both sides are timed on.
+use crate::archive::{self, Lend, Options};
+use crate::memory::Mapped;
+use evt::io::probed::probe;
+use evt::io::prophesee_raw as original;
+
+/// Name of the file, and what the table calls it.
+pub const RECORDINGS: [(&str, &str); 4] =
+    [("evt2", "EVT2"), ("evt3", "EVT3 typical"), ("evt3dense", "EVT3 dense"), ("evt3long", "EVT3 typical, 1 GiB")];
+
+pub struct Recording {
+    pub path: String,
+    mapped: Mapped,
+    data_offset: usize,
+    pub encoding: probe::Encoding2,
+    pub evt3: bool,
+    pub width: usize,
+    pub height: usize,
+}
+
+impl Recording {
+    pub fn new(path: &str) -> Self {
+        let head = probe::header(path.as_ref(), None).unwrap();
+        let (width, height) = head.size.unwrap();
+        let evt3 = head.enc == probe::Encoding2::E3;
+        let mapped = Mapped::new(path);
+        Recording { path: path.to_owned(), mapped, data_offset: head.offset as usize, encoding: head.enc, evt3, width, height }
+    }
+
+    pub fn bytes(&self) -> &[u8] {
+        self.mapped.bytes()
+    }
+
+    pub fn body(&self) -> &[u8] {
+        &self.bytes()[self.data_offset..]
+    }
+
+    /// Columns of this many places are sure to hold its events.
+    pub fn most(&self) -> usize {
+        if self.evt3 { self.bytes().len() / 2 * 12 } else { self.bytes().len() / 4 }
+    }
+
+    pub fn version(&self) -> original::EvtVersion {
+        if self.evt3 { original::EvtVersion::Evt3 } else { original::EvtVersion::Evt2 }
+    }
+
+    pub fn read(&self, c: &mut impl Lend) -> usize {
+        let r = archive::read_raw(self.bytes(), Options::default(), c);
+        assert_eq!(r.refusal, 0);
+        r.count
+    }
+}
+
+/// A gibibyte: the typical recording again and again, its clock going on from one to the next.
+fn make_long(dir: &str, path: &str) {
+    let bytes = std::fs::read(format!("{dir}/evt3.raw")).unwrap();
+    let start = Recording::new(&format!("{dir}/evt3.raw")).data_offset;
+    let words: Vec<u16> = bytes[start..].chunks_exact(2).map(|b| u16::from_le_bytes([b[0], b[1]])).collect();
+    let coarse = |w: &u16| *w >> 12 == 8;
+    let step = words.iter().rev().find(|w| coarse(w)).unwrap() + 1;
+    let mut out = bytes[..start].to_vec();
+    out.reserve_exact((1 << 30) - start);
+    for k in 0u16.. {
+        let later = |w: &u16| if coarse(w) { 0x8000 | w.wrapping_add(step.wrapping_mul(k)) & 0xFFF } else { *w };
+        let left = ((1 << 30) - out.len()) / 2;
+        out.extend(words.iter().take(left).flat_map(|w| later(w).to_le_bytes()));
+        if left <= words.len() {
+            break;
+        }
+    }
+    put(path, &out);
+}
+
+/// Under its name only once it is whole: another process may have it mapped.
+fn put(path: &str, bytes: &[u8]) {
+    let part = format!("{path}.{}", std::process::id());
+    std::fs::write(&part, bytes).unwrap();
+    std::fs::rename(&part, path).unwrap();
+}
+
+/// The path of a recording, or of its first `mib` MiB.
+pub fn recording(dir: &str, name: &str, mib: Option<usize>) -> String {
+    let path = format!("{dir}/{name}.raw");
+    if name == "evt3long" && !std::path::Path::new(&path).exists() {
+        make_long(dir, &path);
+    }
+    let Some(mib) = mib else { return path };
+    let part = format!("{dir}/{name}-{mib}.raw");
+    if !std::path::Path::new(&part).exists() {
+        let whole = Mapped::new(&path);
+        put(&part, &whole.bytes()[..whole.bytes().len().min(mib << 20)]);
+    }
+    part
+}

@@ -1,5 +1,5 @@
-// `ID open SIZE SPACING ROOM BYTES`: `index::open`.
-// `ID openw ENC SIZE SPACING ROOM BYTES`: `index::open_words`.
+// `ID open SIZE SPACING ROOM BYTES`: `open::open`.
+// `ID openw ENC SIZE SPACING ROOM BYTES`: `open::open_words`.
 // ROOM is how many records are lent. Both answer `ok SOURCE N : records` or `refused N`, with the
 // count that 9 tells; and ` dirty` behind it if a record behind those changed, or any one by a
 // refused call.

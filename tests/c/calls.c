@@ -169,6 +169,57 @@ static void writing(void)
     print_appended("append, nothing", prophesee_append(s, 64, 48, cx, 0, cy, 0, early, 0, one, 0, output, sizeof output));
 }
 
+/* Refusal 4 comes before each other one: what is answered at 2^30 bytes, and at one more. */
+static void told(size_t n, const char *what, uint32_t refusal)
+{
+    printf("%zu bytes, %s: refusal %u\n", n, what, refusal);
+}
+
+/* The bytes begin with a time word and an event of EVT2. */
+static void longest_events(const uint8_t *bytes, size_t n)
+{
+    const prophesee_options sized = {.sized = 1, .width = 64, .height = 48}, zero = {.sized = 1};
+    const prophesee_open_options open = {.sized = 1, .width = 64, .height = 48, .spacing = 4194304}, none = {.sized = 1, .spacing = 4194304};
+    const prophesee_open_options odd = {.sized = 1, .width = 64, .height = 48, .spacing = 2};
+    const prophesee_source index = {.spacing = 4, .width = 64, .height = 48, .n_events = 1}, flat = {.spacing = 4, .n_events = 1};
+    const prophesee_source close = {.spacing = 2, .width = 64, .height = 48, .n_events = 1};
+    const uint64_t first[PROPHESEE_ENTRIES] = {0};
+    uint64_t records[PROPHESEE_ENTRIES];
+
+    told(n, "decode, size 0", prophesee_decode_evt2(bytes, n, zero, xs, ROOM, ys, ROOM, ts, ROOM, ps, ROOM).refusal);
+    told(n, "decode, no places", prophesee_decode_evt2(bytes, n, sized, xs, 0, ys, 0, ts, 0, ps, 0).refusal);
+    told(n, "open, size 0", prophesee_open_evt2(bytes, n, records, PROPHESEE_ENTRIES, none).refusal);
+    told(n, "open, spacing 2", prophesee_open_evt2(bytes, n, records, PROPHESEE_ENTRIES, odd).refusal);
+    told(n, "open, one record", prophesee_open_evt2(bytes, n, records, PROPHESEE_ENTRIES, open).refusal);
+    told(n, "slice_index, size 0", prophesee_slice_index_evt2(bytes, n, flat, first, PROPHESEE_ENTRIES, 0, 1, xs, ROOM, ys, ROOM, ts, ROOM, ps, ROOM).refusal);
+    told(n, "slice_index, spacing 2", prophesee_slice_index_evt2(bytes, n, close, first, PROPHESEE_ENTRIES, 0, 1, xs, ROOM, ys, ROOM, ts, ROOM, ps, ROOM).refusal);
+    told(n, "slice_index, no record", prophesee_slice_index_evt2(bytes, n, index, first, 0, 0, 1, xs, ROOM, ys, ROOM, ts, ROOM, ps, ROOM).refusal);
+    told(n, "slice_index, no places", prophesee_slice_index_evt2(bytes, n, index, first, PROPHESEE_ENTRIES, 0, 1, xs, 0, ys, 0, ts, 0, ps, 0).refusal);
+    told(n, "slice_time, size 0", prophesee_slice_time_evt2(bytes, n, flat, first, PROPHESEE_ENTRIES, 0, 200, xs, ROOM, ys, ROOM, ts, ROOM, ps, ROOM).refusal);
+    told(n, "slice_time, spacing 2", prophesee_slice_time_evt2(bytes, n, close, first, PROPHESEE_ENTRIES, 0, 200, xs, ROOM, ys, ROOM, ts, ROOM, ps, ROOM).refusal);
+    told(n, "slice_time, no record", prophesee_slice_time_evt2(bytes, n, index, first, 0, 0, 200, xs, ROOM, ys, ROOM, ts, ROOM, ps, ROOM).refusal);
+    told(n, "slice_time, no places", prophesee_slice_time_evt2(bytes, n, index, first, PROPHESEE_ENTRIES, 0, 200, xs, 0, ys, 0, ts, 0, ps, 0).refusal);
+}
+
+static void longest_pairs(uint8_t *bytes)
+{
+    const prophesee_options plain = {0};
+    const prophesee_open_options open = {.spacing = 4194304};
+    uint64_t records[256 * PROPHESEE_ENTRIES];
+    for (size_t n = LONGEST; n <= LONGEST + 1u; n++) {
+        memset(bytes, 0, sizeof evt2);
+        told(n, "decode, no size, no event", prophesee_decode_evt2(bytes, n, plain, xs, ROOM, ys, ROOM, ts, ROOM, ps, ROOM).refusal);
+        told(n, "open, no size, no event", prophesee_open_evt2(bytes, n, records, sizeof records / sizeof *records, open).refusal);
+        memcpy(bytes, evt2, sizeof evt2);
+        longest_events(bytes, n);
+        memcpy(bytes, "%\n", 2);
+        told(n, "read_raw, no encoding", prophesee_read_raw(bytes, n, plain, xs, ROOM, ys, ROOM, ts, ROOM, ps, ROOM).refusal);
+        told(n, "open, no encoding", prophesee_open(bytes, n, records, 0, open).refusal);
+        bytes[1] = 0x80;
+        told(n, "open, a header byte 80", prophesee_open(bytes, n, records, 0, open).refusal);
+    }
+}
+
 /* Refusal 4: one byte over 2^30, and not at 2^30. */
 static void longest(void)
 {
@@ -191,7 +242,24 @@ static void longest(void)
         printf("%zu bytes, the first 25 80\n", n);
         print_reading("read_raw", prophesee_read_raw(bytes, n, sized, xs, ROOM, ys, ROOM, ts, ROOM, ps, ROOM));
     }
+    longest_pairs(bytes);
     munmap(bytes, LONGEST + 1u);
+}
+
+/* Refusal 4 of an append: one event over 2^28, and not at 2^28, where the output is too short (11). */
+static void longest_append(void)
+{
+    const size_t most = 268435456, bytes = (most + 1) * sizeof(int64_t);
+    void *zeros = mmap(NULL, bytes, PROT_READ, MAP_PRIVATE | MAP_ANONYMOUS | MAP_NORESERVE, -1, 0);
+    if (zeros == MAP_FAILED) {
+        perror("mmap");
+        return;
+    }
+    for (size_t n = most; n <= most + 1; n++) {
+        prophesee_appended a = prophesee_append(prophesee_writer_evt3(0), 64, 48, zeros, n, zeros, n, zeros, n, zeros, n, output, 8);
+        printf("append, %zu events: refusal %u told %zu written %zu\n", n, a.refusal, a.told, a.written);
+    }
+    munmap(zeros, bytes);
 }
 
 int main(void)
@@ -201,5 +269,6 @@ int main(void)
     writing();
     clear();
     longest();
+    longest_append();
     return 0;
 }

@@ -1,2 +1,3 @@
 pub mod Deliver
 pub mod Laws
+pub mod Timed

@@ -1,15 +1,19 @@
 // Handing events over into four lent columns: all of them, or none where the columns are too short
 // (5). `deliver_all` has every event inside a sensor, for reading; `deliver` what a pass under a
-// window selects, for reading with a limit and for both slices. specs/Deliver.antt says what is
-// answered and what the columns hold.
+// window selects, for reading with a limit and for both slices; timed.rt has it for a window that is
+// open in numbers. specs/Deliver.antt says what is answered and what the columns hold.
 ghost use mathlib.Core.Path.{_≡_};
+ghost use mathlib.Core.Bool.{true};
 ghost use Prim.Native.Nat.{_≤_, _^_, min, _-_};
 ghost use lib.ListN.{length};
 ghost use Rattle.decode.specs.Decode.{Bounded, insideEvents};
 ghost use Rattle.select.specs.Pass.{Ready, handedOver};
 ghost use Rattle.deliver.specs.Deliver.{mostFrom, mostOver, Enough, Delivers};
+ghost use Rattle.deliver.specs.Timed.{Timed};
 use evt::Codec;
 use select::Window;
+
+mod timed;
 
 // How many events were written, or how many places they need.
 pub enum Delivered {
@@ -118,9 +122,8 @@ fn need(bytes: &[u8], codec: Codec, window: Window, number: u64, room: usize) ->
     select::survey(bytes, codec, window, number).count
 }
 
-// Writes what a pass hands over, if the columns hold it. `requires`: every caller has refused longer
-// recordings (4) and a decoder out of range (10).
-pub fn deliver(
+// Writes what the window leaves of all the bytes.
+pub(crate) fn deliver_window(
     bytes: &[u8],
     codec: Codec,
     window: Window,
@@ -149,4 +152,55 @@ pub fn deliver(
         &mut *ps,
     );
     Delivered::Written(t.count)
+}
+
+// Writes what a pass hands over, if the columns hold it. `requires`: every caller has refused longer
+// recordings (4) and a decoder out of range (10).
+pub fn deliver(
+    bytes: &[u8],
+    codec: Codec,
+    window: Window,
+    number: u64,
+    xs: &mut [u16],
+    ys: &mut [u16],
+    ts: &mut [i64],
+    ps: &mut [u8],
+) -> Delivered
+    requires { ⌜ Ready codec number (length (now bytes)) ⌝ }
+    ensures { λ r. ⌜ Delivers (handedOver window number codec (now (bytes .entry))) r (now (xs .entry)) (now (ys .entry)) (now (ts .entry)) (now (ps .entry)) (now (xs .exit)) (now (ys .exit)) (now (ts .exit)) (now (ps .exit)) ⌝ }
+{
+    if is_timed(window) {
+        return timed::deliver_time(
+            bytes,
+            codec,
+            window,
+            number,
+            &mut *xs,
+            &mut *ys,
+            &mut *ts,
+            &mut *ps,
+        );
+    }
+    deliver_window(
+        bytes,
+        codec,
+        window,
+        number,
+        &mut *xs,
+        &mut *ys,
+        &mut *ts,
+        &mut *ps,
+    )
+}
+
+// Whether a window has every number, and is not empty in time.
+fn is_timed(window: Window) -> bool
+    ensures { λ r. ⌜ (r ≡ true → Timed window) ⌝ }
+{
+    if window.n0 == 0 {
+        if window.n1 == 18446744073709551615 {
+            return window.t0 < window.t1;
+        }
+    }
+    false
 }

@@ -1,62 +1,78 @@
-use native.Mathlib.Omega.{arith}
-use lib.ListN.{length}
-use Rattle.select.specs.Pass.{handedOver}
-use Rattle.deliver.specs.Laws.{delivers-none, delivers-filled, enough-fits}
 use borrow.Author.Needs.{needs}
 use Rattle.deliver.proofs.deliver.Statement.{statement}
 use Rattle.deliver.proofs.deliver.Tie as tie
 use Rattle.deliver.proofs.deliver.Reads as reads
 use Rattle.deliver.proofs.deliver.Lts as lts
-use Rattle.deliver.proofs.need.Reads as need-reads
-use Rattle.deliver.proofs.shortest.Reads as shortest-reads
-use Rattle.select.proofs.fill.Reads as fill-reads
+use Rattle.deliver.proofs.deliver_window.Reads as deliver-window-reads
+use Rattle.deliver.proofs.is_timed.Reads as is-timed-reads
+use Rattle.deliver.proofs.timed.deliver_time.Reads as deliver-time-reads
 
--- src/lib.rt:89:9
-shortest-requires : tie.Need-shortest-requires
-shortest-requires c κs = search needs
+-- src/lib.rt:172:8
+is-timed-requires : tie.Need-is-timed-requires
+is-timed-requires c κs = search needs
 
--- src/lib.rt:90:9
-need-requires : tie.Need-need-requires
-need-requires c κs = search needs
+-- src/lib.rt:173:9
+deliver-time-requires : tie.Need-deliver-time-requires
+deliver-time-requires c κs = (c .before .before .before .before .before .before .before .before .before .before .pre, c .before .before .before .before .before .is-timed .ensures (c .before .before .before .before .if1 .taken))
 
--- src/lib.rt:92:9
-returns : tie.Need-returns
-returns c = delivers-none (handedOver (c .before .before .before .before .before .before .before .args .window) (c .before .before .before .before .before .before .before .args .number) (c .before .before .before .before .before .before .before .args .codec) (c .before .before .before .before .before .before .before .args .bytes .now)) (c .before .before .shortest .result) (c .before .need .result) (c .before .before .shortest .ensures) (c .before .need .ensures) (c .if1 .taken)
-
--- src/lib.rt:94:9
-fill-requires : tie.Need-fill-requires
-fill-requires c κs = (c .before .before .before .before .before .before .before .before .before .before .before .pre, enough-fits (handedOver (c .before .before .before .before .before .before .before .before .before .before .before .args .window) (c .before .before .before .before .before .before .before .before .before .before .before .args .number) (c .before .before .before .before .before .before .before .before .before .before .before .args .codec) (c .before .before .before .before .before .before .before .before .before .before .before .args .bytes .now)) (c .before .before .before .before .before .before .shortest .result) (c .before .before .before .before .before .need .result) (length (c .before .before .before .before .before .before .before .before .before .before .before .args .xs .now)) (length (c .before .before .before .before .before .before .before .before .before .before .before .args .ys .now)) (length (c .before .before .before .before .before .before .before .before .before .before .before .args .ts .now)) (length (c .before .before .before .before .before .before .before .before .before .before .before .args .ps .now)) (c .before .before .before .before .before .before .shortest .ensures) (c .before .before .before .before .before .need .ensures) (c .before .before .before .before .if1 .left))
-
--- src/lib.rt:76:1
+-- src/lib.rt:173:9
 same-length : tie.Need-same-length
 same-length c = search needs
 
--- src/lib.rt:76:1
+-- src/lib.rt:173:9
 same-length-2 : tie.Need-same-length-2
 same-length-2 c = search needs
 
--- src/lib.rt:76:1
+-- src/lib.rt:173:9
 same-length-3 : tie.Need-same-length-3
 same-length-3 c = search needs
 
--- src/lib.rt:76:1
+-- src/lib.rt:173:9
 same-length-4 : tie.Need-same-length-4
 same-length-4 c = search needs
 
--- src/lib.rt:76:1
+-- src/lib.rt:173:9
+returns : tie.Need-returns
+returns c = c .before .before .before .before .before .before .before .deliver-time .ensures
+
+-- src/lib.rt:184:5
+deliver-window-requires : tie.Need-deliver-window-requires
+deliver-window-requires c κs = c .before .before .before .before .before .before .before .before .before .before .pre
+
+-- src/lib.rt:159:1
+same-length-5 : tie.Need-same-length-5
+same-length-5 c = search needs
+
+-- src/lib.rt:159:1
+same-length-6 : tie.Need-same-length-6
+same-length-6 c = search needs
+
+-- src/lib.rt:159:1
+same-length-7 : tie.Need-same-length-7
+same-length-7 c = search needs
+
+-- src/lib.rt:159:1
+same-length-8 : tie.Need-same-length-8
+same-length-8 c = search needs
+
+-- src/lib.rt:159:1
 returns-2 : tie.Need-returns-2
-returns-2 c = delivers-filled (c .before .before .before .before .before .before .before .before .before .before .before .before .before .before .before .before .before .before .before .args .window) (c .before .before .before .before .before .before .before .before .before .before .before .before .before .before .before .before .before .before .before .args .number) (c .before .before .before .before .before .before .before .before .before .before .before .before .before .before .before .before .before .before .before .args .codec) (c .before .before .before .before .before .before .before .before .before .before .before .before .before .before .before .before .before .before .before .args .bytes .now) (c .before .before .before .before .before .before .before .before .before .before .before .before .before .before .shortest .result) (c .before .before .before .before .before .before .before .before .before .before .before .before .before .need .result) (c .before .before .before .before .before .before .before .fill .result) (c .before .before .before .before .before .before .before .before .before .before .before .before .before .before .shortest .ensures) (c .before .before .before .before .before .before .before .before .before .before .before .before .before .need .ensures) (c .before .before .before .before .before .before .before .before .before .before .before .before .if1 .left) (c .before .before .before .before .before .before .before .fill .ensures .0) (c .before .before .before .before .before .before .before .fill .ensures .1)
+returns-2 c = c .before .before .before .before .before .before .before .deliver-window .ensures
 
 pub deliver-spec : {M : Type 1} → statement M
 deliver-spec =
     tie.close
     (tie.spec
-    shortest-requires
-    need-requires
-    returns
-    fill-requires
+    is-timed-requires
+    deliver-time-requires
     same-length
     same-length-2
     same-length-3
     same-length-4
+    returns
+    deliver-window-requires
+    same-length-5
+    same-length-6
+    same-length-7
+    same-length-8
     returns-2)

@@ -1,0 +1,64 @@
+// A stream that breaks off, and is gone on with. The contracts say that every number is within bounds
+// here; `at_most` spares the proof.
+use crate::reading;
+use crate::slicing;
+use case_text::columns::at_most;
+use case_text::show;
+use case_text::text;
+use prophesee_raw::AppendAnswer;
+use prophesee_raw::Encoding;
+use prophesee_raw::OpenAnswer;
+use prophesee_raw::RawEventSink;
+
+// A fresh writer appends the events from number `from` on, from byte `at` of the stream. Answers how
+// many bytes it wrote.
+fn write(from: usize, stream: &mut [u8], at: usize) -> usize {
+    let xs = [10, 11, 13, 20];
+    let ys = [7, 7, 7, 9];
+    let ts = [4097, 4097, 4097, 5000];
+    let ps = [0, 0, 0, 1];
+    let k = at_most(from, 4);
+    let start = at_most(at, stream.len());
+    let writer = RawEventSink::to_writer(Encoding::Evt3, false);
+    let appended = prophesee_raw::append(
+        writer,
+        64,
+        48,
+        &xs[k..],
+        &ys[k..],
+        &ts[k..],
+        &ps[k..],
+        &mut stream[start..],
+    );
+    let answer = appended.answer;
+    match answer {
+        AppendAnswer::Written(n) => n,
+        AppendAnswer::Refused(_) => 0,
+    }
+}
+
+// An index of just these bytes: event 2, by number.
+fn slice_arrived(arrived: &[u8]) {
+    let index = slicing::open_words(arrived, Encoding::Evt3);
+    let answer = index.answer;
+    let records = index.records;
+    if let OpenAnswer::Opened(opened) = answer {
+        show::text(b"cut_and_resume, number 2: ");
+        slicing::by_number(arrived, opened, records, 2, 3);
+    }
+}
+
+// Of 16 bytes 13 arrive: six words, and half of the seventh. The broken word is written over: a
+// second writer, fresh, sends the time and the row again, and then the events that are missing. The
+// joined stream has all of them.
+pub fn cut_and_resume() {
+    let mut stream = [0; 32];
+    write(0, &mut stream, 0);
+    let arrived = text::part(&stream, 0, 13);
+    show::text(b"cut_and_resume, arrived: ");
+    let n = reading::decode(arrived, Encoding::Evt3);
+    slice_arrived(arrived);
+    let m = at_most(write(n, &mut stream, 12), 20);
+    show::text(b"cut_and_resume, joined: ");
+    reading::decode(text::part(&stream, 0, 12 + m), Encoding::Evt3);
+}

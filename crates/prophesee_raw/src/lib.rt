@@ -1,0 +1,112 @@
+// Prophesee RAW recordings: all that a user calls. The code, the definitions and the proofs stand in
+// the crates below; this one names what is for use from outside. No call has a `requires`: each takes
+// any arguments, and answers what was asked for or a refusal. The examples named here are functions
+// of the program crates/examples, which runs them.
+//
+// Reading. `read_raw` reads a recording, header and words, into four columns that the caller lends:
+// column, row, time in microseconds, polarity. `LoadOptions` has the sensor's size, which comes before
+// the header's, and a limit; events outside of the size are dropped and not counted. `decode_words`
+// reads words without a header, whose encoding the caller names. Where no size is known all events
+// are kept, and the size told is the least that holds them. The shortest column counts. `parse_header`
+// reads the header alone. Examples: `read_recording`, `read_limited`, `read_words`.
+//
+// Index and slices. `open` makes a `Checkpoint` for every `spacing` bytes of the body (a multiple of 4
+// from 4 to 4,194,304), at least one, into records that the caller lends, and answers a
+// `RawSliceSource` and how many records it made. `open_words` does so for words without a header.
+// `slice_index` hands over the events from number i0 to before i1, `slice_time` those with
+// t0 <= t < t1, by the source and the records that were made, `&records[..n]`; both decode from a
+// checkpoint on. In Rattle a caller that lends records is proved by hand. The module `fixed` has the
+// same four calls over an array of 64 records by value, which ask for no proof. Example:
+// `slice_recording`.
+//
+// Writing. `RawEventSink::to_writer` is a fresh writer, which sends a header before its first words or
+// none. `append` writes events in four columns into an output that the caller lends, and answers how
+// many bytes it wrote and the writer to go on with. The size given is for the header. Appending no
+// events writes nothing. Examples: `write_words`, `write_recording`.
+//
+// Cutting and resuming. A stream without a header may break off at any byte. Read what has arrived as
+// it is: a broken last word is ignored, and exactly the events whose word is whole are there, with the
+// numbers that they have in the whole stream. Make an index from just the bytes that have arrived; an
+// index of other bytes doesn't belong to them. To go on, keep the whole words (what remains over
+// `WORD_SIZE` of the decoder goes), and let a second writer append the events that are missing, from
+// the number on that reading told. It is a fresh one, since the first one counts on words that didn't
+// arrive. The joined stream reads as all events, and its slices are exact. That is proved for every
+// list of appends and every cut (crates/handover/specs/Handover.antt). Example: `cut_and_resume`.
+//
+// Single words. `Evt2Decoder`, `Decoder` (EVT3) and `Codec` (either) step over one word, by value
+// (`step`) or lent (`decode`), and `EventVector::next` takes out the word's events one by one.
+// Example: `decode_singly`.
+//
+// Refusals. An answer is what was asked for or `Refused`, with the reason; `refusal_number` has its
+// number: 1 an invalid size (a side of 0, or none known and no event), 2 no known encoding, 3 a header
+// byte above 127, 4 too long (2^30 bytes, 2^28 events in an append), 5 columns too short, 6 times out
+// of order, 7 an event out of range, 8 an invalid spacing, 9 too few records, 10 a state out of range,
+// 11 an output too short, 12 columns of different lengths. 5, 9 and 11 tell how many places, records
+// or bytes are needed: lend as many, and call again. A refused call alters no buffer, and returns the
+// writer or the decoder as it was. An accepted one alters nothing behind what it hands over. Examples:
+// `no_encoding`, `columns_too_short`, `records_too_few`, `output_too_short`, `times_fall`.
+ghost use mathlib.Core.Path.{_≡_};
+ghost use Rattle.evt.specs.Told.{told};
+pub use encode::EncoderState;
+pub use evt::Codec;
+pub use evt::DecodeAnswer;
+pub use evt::Decoder;
+pub use evt::Encoding;
+pub use evt::EventVector;
+pub use evt::Evt2Decoder;
+pub use evt::EvtVersion;
+pub use evt::Limit;
+pub use evt::RawEvent;
+pub use evt::Refusal;
+pub use evt::SensorSize;
+pub use evt::Sent;
+pub use evt::codec::CodecDecoded;
+pub use evt::evt2::Evt2Decoded;
+pub use evt::evt3::Decoded;
+pub use evt::vector::NextEvent;
+pub use header::Header;
+pub use header::HeaderAnswer;
+pub use header::parse_header;
+pub use index::Checkpoint;
+pub use index::OpenAnswer;
+pub use index::OpenOptions;
+pub use index::Opening;
+pub use index::RawSliceSource;
+pub use index::WordsOptions;
+pub use open::open;
+pub use open::open_words;
+pub use read::LoadOptions;
+pub use read::ReadAnswer;
+pub use read::Reading;
+pub use read::decode_words;
+pub use read::read_raw;
+pub use sink::AppendAnswer;
+pub use sink::Appended;
+pub use sink::LastTime;
+pub use sink::RawEventSink;
+pub use sink::append;
+pub use slice::SliceAnswer;
+pub use slice::slice_index;
+pub use slice::slice_time;
+
+pub mod fixed;
+
+// A refusal's number in the table.
+pub fn refusal_number(refusal: Refusal) -> u64
+    ensures { λ r. ⌜ r ≡ told refusal .number ⌝ }
+{
+    match refusal {
+        Refusal::InvalidSensorSize => 1,
+        Refusal::UnknownEncoding => 2,
+        Refusal::HeaderNotAscii => 3,
+        Refusal::TooLong => 4,
+        Refusal::ColumnsTooShort(_) => 5,
+        Refusal::TimeOrder => 6,
+        Refusal::EventOutOfRange => 7,
+        Refusal::InvalidSpacing => 8,
+        Refusal::TooFewRecords(_) => 9,
+        Refusal::StateOutOfRange => 10,
+        Refusal::OutputTooShort(_) => 11,
+        Refusal::ColumnLengths => 12,
+    }
+}

@@ -104,6 +104,31 @@ impl Columns {
     }
 }
 
+/// Four columns that may stand anywhere.
+pub struct Lent<'a> {
+    pub xs: &'a mut [u16],
+    pub ys: &'a mut [u16],
+    pub ts: &'a mut [i64],
+    pub ps: &'a mut [u8],
+}
+
+/// What can be lent as four columns.
+pub trait Lend {
+    fn lend(&mut self) -> Lent<'_>;
+}
+
+impl Lend for Columns {
+    fn lend(&mut self) -> Lent<'_> {
+        Lent { xs: &mut self.xs, ys: &mut self.ys, ts: &mut self.ts, ps: &mut self.ps }
+    }
+}
+
+impl Lend for Lent<'_> {
+    fn lend(&mut self) -> Lent<'_> {
+        Lent { xs: self.xs, ys: self.ys, ts: self.ts, ps: self.ps }
+    }
+}
+
 mod raw {
     use super::*;
     macro_rules! reading {
@@ -135,18 +160,19 @@ mod raw {
 }
 
 macro_rules! with_columns {
-    ($f:ident, $bytes:ident, $c:ident $(, $more:expr)*) => {
+    ($f:ident, $bytes:ident, $columns:ident $(, $more:expr)*) => {{
+        let c = $columns.lend();
         unsafe { raw::$f($bytes.as_ptr(), $bytes.len() $(, $more)*,
-            $c.xs.as_mut_ptr(), $c.xs.len(), $c.ys.as_mut_ptr(), $c.ys.len(),
-            $c.ts.as_mut_ptr(), $c.ts.len(), $c.ps.as_mut_ptr(), $c.ps.len()) }
-    };
+            c.xs.as_mut_ptr(), c.xs.len(), c.ys.as_mut_ptr(), c.ys.len(),
+            c.ts.as_mut_ptr(), c.ts.len(), c.ps.as_mut_ptr(), c.ps.len()) }
+    }};
 }
 
-pub fn read_raw(recording: &[u8], o: Options, c: &mut Columns) -> Reading {
+pub fn read_raw(recording: &[u8], o: Options, c: &mut impl Lend) -> Reading {
     with_columns!(prophesee_read_raw, recording, c, o)
 }
 
-pub fn decode_words(words: &[u8], evt3: bool, o: Options, c: &mut Columns) -> Reading {
+pub fn decode_words(words: &[u8], evt3: bool, o: Options, c: &mut impl Lend) -> Reading {
     if evt3 { with_columns!(prophesee_decode_evt3, words, c, o) } else { with_columns!(prophesee_decode_evt2, words, c, o) }
 }
 
@@ -159,12 +185,12 @@ pub fn open_words(words: &[u8], evt3: bool, records: &mut [u64], o: OpenOptions)
     unsafe { f(words.as_ptr(), words.len(), records.as_mut_ptr(), records.len(), o) }
 }
 
-pub fn slice_index(b: &[u8], evt3: bool, s: Source, r: &[u64], i0: usize, i1: usize, c: &mut Columns) -> Slice {
+pub fn slice_index(b: &[u8], evt3: bool, s: Source, r: &[u64], i0: usize, i1: usize, c: &mut impl Lend) -> Slice {
     if evt3 { with_columns!(prophesee_slice_index_evt3, b, c, s, r.as_ptr(), r.len(), i0, i1) }
     else { with_columns!(prophesee_slice_index_evt2, b, c, s, r.as_ptr(), r.len(), i0, i1) }
 }
 
-pub fn slice_time(b: &[u8], evt3: bool, s: Source, r: &[u64], t0: i64, t1: i64, c: &mut Columns) -> Slice {
+pub fn slice_time(b: &[u8], evt3: bool, s: Source, r: &[u64], t0: i64, t1: i64, c: &mut impl Lend) -> Slice {
     if evt3 { with_columns!(prophesee_slice_time_evt3, b, c, s, r.as_ptr(), r.len(), t0, t1) }
     else { with_columns!(prophesee_slice_time_evt2, b, c, s, r.as_ptr(), r.len(), t0, t1) }
 }
@@ -174,8 +200,15 @@ pub fn writer(evt3: bool, header: bool) -> Sink {
 }
 
 pub fn append(s: Sink, width: usize, height: usize, c: &Columns, output: &mut [u8]) -> Appended {
+    append_from(s, width, height, &c.xs, &c.ys, &c.ts, &c.ps, output)
+}
+
+#[allow(clippy::too_many_arguments)]
+pub fn append_from(
+    s: Sink, width: usize, height: usize, xs: &[u16], ys: &[u16], ts: &[i64], ps: &[u8], output: &mut [u8],
+) -> Appended {
     unsafe {
-        raw::prophesee_append(s, width, height, c.xs.as_ptr(), c.xs.len(), c.ys.as_ptr(), c.ys.len(),
-            c.ts.as_ptr(), c.ts.len(), c.ps.as_ptr(), c.ps.len(), output.as_mut_ptr(), output.len())
+        raw::prophesee_append(s, width, height, xs.as_ptr(), xs.len(), ys.as_ptr(), ys.len(),
+            ts.as_ptr(), ts.len(), ps.as_ptr(), ps.len(), output.as_mut_ptr(), output.len())
     }
 }

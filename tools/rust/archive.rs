@@ -104,7 +104,7 @@ impl Columns {
     }
 }
 
-/// Four columns that may stand anywhere.
+/// The four as a call is lent them: of Columns, a part of these, or memory of another kind.
 pub struct Lent<'a> {
     pub xs: &'a mut [u16],
     pub ys: &'a mut [u16],
@@ -112,9 +112,14 @@ pub struct Lent<'a> {
     pub ps: &'a mut [u8],
 }
 
-/// What can be lent as four columns.
 pub trait Lend {
     fn lend(&mut self) -> Lent<'_>;
+
+    /// The first n places of each.
+    fn first(&mut self, n: usize) -> Lent<'_> {
+        let c = self.lend();
+        Lent { xs: &mut c.xs[..n], ys: &mut c.ys[..n], ts: &mut c.ts[..n], ps: &mut c.ps[..n] }
+    }
 }
 
 impl Lend for Columns {
@@ -160,8 +165,8 @@ mod raw {
 }
 
 macro_rules! with_columns {
-    ($f:ident, $bytes:ident, $columns:ident $(, $more:expr)*) => {{
-        let c = $columns.lend();
+    ($f:ident, $bytes:ident, $c:ident $(, $more:expr)*) => {{
+        let c = $c.lend();
         unsafe { raw::$f($bytes.as_ptr(), $bytes.len() $(, $more)*,
             c.xs.as_mut_ptr(), c.xs.len(), c.ys.as_mut_ptr(), c.ys.len(),
             c.ts.as_mut_ptr(), c.ts.len(), c.ps.as_mut_ptr(), c.ps.len()) }
@@ -199,16 +204,22 @@ pub fn writer(evt3: bool, header: bool) -> Sink {
     unsafe { if evt3 { raw::prophesee_writer_evt3(header as u8) } else { raw::prophesee_writer_evt2(header as u8) } }
 }
 
-pub fn append(s: Sink, width: usize, height: usize, c: &Columns, output: &mut [u8]) -> Appended {
-    append_from(s, width, height, &c.xs, &c.ys, &c.ts, &c.ps, output)
+/// The same from the flag as C gives it.
+pub fn writer_flagged(evt3: bool, header: u8) -> Sink {
+    unsafe { if evt3 { raw::prophesee_writer_evt3(header) } else { raw::prophesee_writer_evt2(header) } }
 }
 
-#[allow(clippy::too_many_arguments)]
-pub fn append_from(
-    s: Sink, width: usize, height: usize, xs: &[u16], ys: &[u16], ts: &[i64], ps: &[u8], output: &mut [u8],
-) -> Appended {
+pub fn append(s: Sink, width: usize, height: usize, c: &Columns, output: &mut [u8]) -> Appended {
     unsafe {
-        raw::prophesee_append(s, width, height, xs.as_ptr(), xs.len(), ys.as_ptr(), ys.len(),
-            ts.as_ptr(), ts.len(), ps.as_ptr(), ps.len(), output.as_mut_ptr(), output.len())
+        raw::prophesee_append(s, width, height, c.xs.as_ptr(), c.xs.len(), c.ys.as_ptr(), c.ys.len(),
+            c.ts.as_ptr(), c.ts.len(), c.ps.as_ptr(), c.ps.len(), output.as_mut_ptr(), output.len())
+    }
+}
+
+/// The same from columns that may stand anywhere.
+pub fn append_from(s: Sink, width: usize, height: usize, c: &Lent, output: &mut [u8]) -> Appended {
+    unsafe {
+        raw::prophesee_append(s, width, height, c.xs.as_ptr(), c.xs.len(), c.ys.as_ptr(), c.ys.len(),
+            c.ts.as_ptr(), c.ts.len(), c.ps.as_ptr(), c.ps.len(), output.as_mut_ptr(), output.len())
     }
 }

@@ -2,12 +2,11 @@
 //!   compare CASES [SEED]         all cases from 0 on
 //!   compare CASES SEED CASE      this one alone
 //! A line for each kind of call; exit status 1 at the first difference, with the smallest case found that shows one.
+#[path = "compare/appending.rs"]
+mod appending;
 mod archive;
 mod lent;
 mod making;
-mod table;
-#[path = "compare/appending.rs"]
-mod appending;
 #[path = "compare/opening.rs"]
 mod opening;
 #[path = "compare/original.rs"]
@@ -18,6 +17,7 @@ mod reading;
 mod shared;
 #[path = "compare/slicing.rs"]
 mod slicing;
+mod table;
 
 use lent::Rng;
 use shared::{Count, Env, KINDS};
@@ -103,7 +103,13 @@ fn line(name: &str, c: &Count) -> String {
     for (n, k) in c.answers.iter().enumerate().skip(1).filter(|(_, k)| **k > 0) {
         out.push_str(&format!(", {k} refused {n}"));
     }
-    let what = if name.starts_with("open") { "records" } else if name.starts_with("append") { "bytes" } else { "events" };
+    let what = if name.starts_with("open") {
+        "records"
+    } else if name.starts_with("append") {
+        "bytes"
+    } else {
+        "events"
+    };
     out.push_str(&format!("; {} {what}", c.items));
     if c.ruled > 0 {
         out.push_str(&format!("; {} by the rules over the original's decoder", c.ruled));

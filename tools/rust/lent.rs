@@ -25,7 +25,11 @@ impl Rng {
 
     /// A number below n; 0 for n = 0.
     pub fn below(&mut self, n: usize) -> usize {
-        if n == 0 { 0 } else { (self.next() % n as u64) as usize }
+        if n == 0 {
+            0
+        } else {
+            (self.next() % n as u64) as usize
+        }
     }
 
     pub fn chance(&mut self, percent: usize) -> bool {
@@ -111,19 +115,27 @@ pub trait Mark: Copy + PartialEq {
 }
 
 impl Mark for u8 {
-    fn mark(i: usize) -> u8 { (i as u8).wrapping_mul(37) | 0x80 }
+    fn mark(i: usize) -> u8 {
+        (i as u8).wrapping_mul(37) | 0x80
+    }
 }
 
 impl Mark for u16 {
-    fn mark(i: usize) -> u16 { (i as u16).wrapping_mul(31) | 0x8000 }
+    fn mark(i: usize) -> u16 {
+        (i as u16).wrapping_mul(31) | 0x8000
+    }
 }
 
 impl Mark for i64 {
-    fn mark(i: usize) -> i64 { !(i as i64) }
+    fn mark(i: usize) -> i64 {
+        !(i as i64)
+    }
 }
 
 impl Mark for u64 {
-    fn mark(i: usize) -> u64 { !(i as u64) }
+    fn mark(i: usize) -> u64 {
+        !(i as u64)
+    }
 }
 
 /// No place from number `from` on was altered.
@@ -146,7 +158,12 @@ impl Board {
 
     /// Columns of these lengths, all places with their marks.
     pub fn lend(&mut self, n: [usize; 4], last: bool) -> Lent<'_> {
-        Lent { xs: self.xs.marked(n[0], last), ys: self.ys.marked(n[1], last), ts: self.ts.marked(n[2], last), ps: self.ps.marked(n[3], last) }
+        Lent {
+            xs: self.xs.marked(n[0], last),
+            ys: self.ys.marked(n[1], last),
+            ts: self.ts.marked(n[2], last),
+            ps: self.ps.marked(n[3], last),
+        }
     }
 
     /// Columns with these entries.
@@ -156,7 +173,12 @@ impl Board {
 
     /// Columns of these lengths, whatever they hold.
     pub fn bare(&mut self, n: [usize; 4], last: bool) -> Lent<'_> {
-        Lent { xs: self.xs.places(n[0], last), ys: self.ys.places(n[1], last), ts: self.ts.places(n[2], last), ps: self.ps.places(n[3], last) }
+        Lent {
+            xs: self.xs.places(n[0], last),
+            ys: self.ys.places(n[1], last),
+            ts: self.ts.places(n[2], last),
+            ps: self.ps.places(n[3], last),
+        }
     }
 }
 

@@ -19,12 +19,51 @@ fn blanks(rng: &mut Rng) -> &'static str {
 }
 
 const FORMATS: [&str; 16] = [
-    "EVT3", "EVT2", "evt3", "evt2", "Evt3;height=720;width=1280", "EVT21", "EVT2.1", "EVT", "evt4", "", "3", "2", "EVT 3", "evt3evt2", "%evt3", "xevt3",
+    "EVT3",
+    "EVT2",
+    "evt3",
+    "evt2",
+    "Evt3;height=720;width=1280",
+    "EVT21",
+    "EVT2.1",
+    "EVT",
+    "evt4",
+    "",
+    "3",
+    "2",
+    "EVT 3",
+    "evt3evt2",
+    "%evt3",
+    "xevt3",
 ];
 const VERSIONS: [&str; 14] = ["3", "2", "3.0", "2.0", "2.1", "30", "23", "4", "", "+3", "evt3", "03", " 3", "3 2"];
 const NUMBERS: [&str; 26] = [
-    "64", "48", "1280", "720", "640", "480", "2048", "65536", "1", "2", "10", "0", "00", "+7", "+0", "+", "-1", "", "++1", "0012",
-    "18446744073709551615", "18446744073709551616", "99999999999999999999", "1 2", "12a", "0x10",
+    "64",
+    "48",
+    "1280",
+    "720",
+    "640",
+    "480",
+    "2048",
+    "65536",
+    "1",
+    "2",
+    "10",
+    "0",
+    "00",
+    "+7",
+    "+0",
+    "+",
+    "-1",
+    "",
+    "++1",
+    "0012",
+    "18446744073709551615",
+    "18446744073709551616",
+    "99999999999999999999",
+    "1 2",
+    "12a",
+    "0x10",
 ];
 
 fn geometry(rng: &mut Rng) -> String {
@@ -151,7 +190,11 @@ fn words3(rng: &mut Rng, n: usize) -> Vec<u8> {
         let kind = if i == 0 && rng.chance(80) {
             8
         } else if rng.chance(vectors) {
-            if rng.chance(bases) { 3 } else { rng.pick(&[4, 4, 5]) }
+            if rng.chance(bases) {
+                3
+            } else {
+                rng.pick(&[4, 4, 5])
+            }
         } else {
             rng.pick(&[0, 0, 2, 2, 2, 2, 6, 6, 6, 8, 8, 1, 7, 10, 14, 15])
         };
@@ -310,5 +353,9 @@ pub fn spacing(rng: &mut Rng, n: usize) -> usize {
         6 => 4 * (1 + rng.below(1000)),
         _ => 4 * (1 + rng.below(1048576)),
     };
-    if n / s > 5000 && rng.chance(99) { (n / 5000 + 1) * 4 } else { s }
+    if n / s > 5000 && rng.chance(99) {
+        (n / 5000 + 1) * 4
+    } else {
+        s
+    }
 }

@@ -70,7 +70,13 @@ pub fn head(bytes: &[u8]) -> Head {
         }
     }
     let says = |n: u8| format.starts_with(&[b'e', b'v', b't', n]) || evt.starts_with(&[n]);
-    let encoding = if says(b'3') { 3 } else if says(b'2') { 2 } else { 0 };
+    let encoding = if says(b'3') {
+        3
+    } else if says(b'2') {
+        2
+    } else {
+        0
+    };
     Head { start, ascii: bytes[..start].is_ascii(), encoding, size }
 }
 
@@ -190,6 +196,10 @@ pub fn append_refusal(s: &Sink, xs: &[u16], ys: &[u16], ts: &[i64], ps: &[u8]) -
     } else {
         let times = ts.iter().all(|t| (0..time_bound(s.evt3 != 0)).contains(t));
         let places = xs.iter().chain(ys).all(|n| *n <= 2047) && ps.iter().all(|p| *p <= 1);
-        if times && places { 0 } else { 7 }
+        if times && places {
+            0
+        } else {
+            7
+        }
     }
 }

@@ -51,8 +51,17 @@ fn any_sink(rng: &mut Rng) -> Sink {
     let step = if evt3 { 4096 } else { 64 };
     let mut flag = |percent: usize| if rng.chance(percent) { rng.pick(&[1, 1, 2, 255]) } else { 0 };
     let mut s = Sink {
-        n_events: 0, last_t: last, time_high: last as u64 / step, time_low: last as u64 % step, y: 0, evt3: evt3 as u8, header_written: flag(60),
-        has_last_t: 1, has_time_high: flag(80), has_time_low: if evt3 { flag(80) } else { 0 }, has_y: if evt3 { flag(80) } else { 0 },
+        n_events: 0,
+        last_t: last,
+        time_high: last as u64 / step,
+        time_low: last as u64 % step,
+        y: 0,
+        evt3: evt3 as u8,
+        header_written: flag(60),
+        has_last_t: 1,
+        has_time_high: flag(80),
+        has_time_low: if evt3 { flag(80) } else { 0 },
+        has_y: if evt3 { flag(80) } else { 0 },
     };
     s.y = making::events(rng, evt3, 0, 1).ys[0] as u64;
     s.n_events = rng.pick(&[0, 1, 17, 1 << 40, (1 << 62) - 1, 1 << 62]);
@@ -147,9 +156,17 @@ fn plain(s: &Sink) -> Sink {
     let of = |has: u8, n: u64| if has != 0 { n } else { 0 };
     let flag = |n: u8| (n != 0) as u8;
     Sink {
-        n_events: s.n_events, last_t: of(s.has_last_t, s.last_t as u64) as i64, time_high: of(s.has_time_high, s.time_high),
-        time_low: of(s.has_time_low, s.time_low), y: of(s.has_y, s.y), evt3: flag(s.evt3), header_written: flag(s.header_written),
-        has_last_t: flag(s.has_last_t), has_time_high: flag(s.has_time_high), has_time_low: flag(s.has_time_low), has_y: flag(s.has_y),
+        n_events: s.n_events,
+        last_t: of(s.has_last_t, s.last_t as u64) as i64,
+        time_high: of(s.has_time_high, s.time_high),
+        time_low: of(s.has_time_low, s.time_low),
+        y: of(s.has_y, s.y),
+        evt3: flag(s.evt3),
+        header_written: flag(s.header_written),
+        has_last_t: flag(s.has_last_t),
+        has_time_high: flag(s.has_time_high),
+        has_time_low: flag(s.has_time_low),
+        has_y: flag(s.has_y),
     }
 }
 
@@ -158,7 +175,13 @@ impl Case {
         let fresh = rng.chance(50);
         let sink = any_sink(rng);
         let start = if fresh { Start::Fresh { evt3: sink.evt3 != 0, header: rng.chance(50) } } else { Start::From(sink) };
-        let mut from = if !fresh { sink.last_t } else if rng.chance(50) { 0 } else { sink.last_t };
+        let mut from = if !fresh {
+            sink.last_t
+        } else if rng.chance(50) {
+            0
+        } else {
+            sink.last_t
+        };
         let mut appends: Vec<Append> = Vec::new();
         for _ in 0..1 + rng.below(5) {
             appends.push(any_append(rng, sink.evt3 != 0, from));
@@ -216,7 +239,7 @@ impl Case {
         let c = &a.columns;
         let given = env.given.give(&c.xs, &c.ys, &c.ts, &c.ps, self.last);
         let output = env.output.marked::<u8>(lent, self.last);
-        let got = archive::append_from(*s, a.width, a.height, given.xs, given.ys, given.ts, given.ps, output);
+        let got = archive::append_from(*s, a.width, a.height, &given, output);
         same(got, want)?;
         if output[..bytes.len()] != bytes[..] {
             return Err(format!("wrote {}, the original {}", hex(&output[..bytes.len()]), hex(&bytes)));
@@ -243,7 +266,12 @@ impl Case {
                 let n = [c.xs.len(), c.ys.len(), c.ts.len(), c.ps.len()];
                 let kept: Vec<usize> = kept.into_iter().filter(|i| n.iter().all(|n| i < n)).collect();
                 let of = |i: &usize| (c.xs[*i], c.ys[*i], c.ts[*i], c.ps[*i]);
-                let columns = Columns { xs: kept.iter().map(|i| of(i).0).collect(), ys: kept.iter().map(|i| of(i).1).collect(), ts: kept.iter().map(|i| of(i).2).collect(), ps: kept.iter().map(|i| of(i).3).collect() };
+                let columns = Columns {
+                    xs: kept.iter().map(|i| of(i).0).collect(),
+                    ys: kept.iter().map(|i| of(i).1).collect(),
+                    ts: kept.iter().map(|i| of(i).2).collect(),
+                    ps: kept.iter().map(|i| of(i).3).collect(),
+                };
                 let mut appends = self.appends.clone();
                 appends[k].columns = columns;
                 out.push(Case { appends, ..self.clone() });

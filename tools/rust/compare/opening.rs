@@ -61,7 +61,15 @@ impl Case {
             Some(evt3) => making::words(rng, evt3),
         };
         let spacing = making::spacing(rng, bytes.len());
-        Case { words, size: making::size(rng), spacing, rooms: vec![Entries::make(rng), Entries::make(rng)], junk: rng.next(), last: rng.chance(70), bytes }
+        Case {
+            words,
+            size: making::size(rng),
+            spacing,
+            rooms: vec![Entries::make(rng), Entries::make(rng)],
+            junk: rng.next(),
+            last: rng.chance(70),
+            bytes,
+        }
     }
 
     fn kind(&self) -> usize {
@@ -169,7 +177,15 @@ impl Case {
     }
 
     pub fn show(&self) -> String {
-        format!("{} {:?} size {:?} spacing {} entries {:?}\nbytes {}", KINDS[self.kind()], self.words.map(|e| if e { "EVT3" } else { "EVT2" }), self.size, self.spacing, self.rooms, hex(&self.bytes))
+        format!(
+            "{} {:?} size {:?} spacing {} entries {:?}\nbytes {}",
+            KINDS[self.kind()],
+            self.words.map(|e| if e { "EVT3" } else { "EVT2" }),
+            self.size,
+            self.spacing,
+            self.rooms,
+            hex(&self.bytes)
+        )
     }
 }
 
@@ -180,6 +196,8 @@ fn answer(want: &Expected, room: usize) -> (archive::Opening, &[u64]) {
         Expected::Early(n) => (refused(*n, 0), &[]),
         Expected::Late { need, .. } if room < *need => (refused(9, *need), &[]),
         Expected::Late { index: Err(n), .. } => (refused(*n, 0), &[]),
-        Expected::Late { need, index: Ok(i) } => (archive::Opening { refusal: 0, encoding: 2 + i.evt3 as u32, told: 0, records: *need, source: i.source }, &i.records),
+        Expected::Late { need, index: Ok(i) } => {
+            (archive::Opening { refusal: 0, encoding: 2 + i.evt3 as u32, told: 0, records: *need, source: i.source }, &i.records)
+        }
     }
 }

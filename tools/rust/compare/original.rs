@@ -27,7 +27,11 @@ fn options(size: Size, limit: Option<usize>) -> LoadOptions {
 
 /// A header that names the encoding alone.
 pub fn plain_header(evt3: bool) -> &'static [u8] {
-    if evt3 { b"% format EVT3\n" } else { b"% format EVT2\n" }
+    if evt3 {
+        b"% format EVT3\n"
+    } else {
+        b"% format EVT2\n"
+    }
 }
 
 pub fn behind_header(evt3: bool, words: &[u8]) -> Vec<u8> {
@@ -63,11 +67,22 @@ impl EventConsumer for Collected {
 
 pub fn stream(width: usize, height: usize, events: &[RawEvent]) -> EventStream {
     let of = events.iter();
-    stream_of(width, height, of.clone().map(|e| e.x).collect(), of.clone().map(|e| e.y).collect(), of.clone().map(|e| e.t).collect(), of.map(|e| e.p).collect())
+    stream_of(
+        width,
+        height,
+        of.clone().map(|e| e.x).collect(),
+        of.clone().map(|e| e.y).collect(),
+        of.clone().map(|e| e.t).collect(),
+        of.map(|e| e.p).collect(),
+    )
 }
 
 fn encoding(evt3: bool) -> probe::Encoding2 {
-    if evt3 { probe::Encoding2::E3 } else { probe::Encoding2::E2 }
+    if evt3 {
+        probe::Encoding2::E3
+    } else {
+        probe::Encoding2::E2
+    }
 }
 
 /// All events of all whole words from a decoder (None: a fresh one), and the decoder behind them.
@@ -154,9 +169,13 @@ impl Original {
         let (width, height) = live.sensor_size();
         let data_offset = probe::data_offset(&live) - shift;
         let source = Source { spacing, data_offset, len: bytes.len() - shift, width, height, n_events: live.n_events() };
-        let unchanged = (spacing == 65536).then(|| unchanged::open_raw_slice(&path, &options(size, None)).expect("the unchanged module's index"));
+        let unchanged =
+            (spacing == 65536).then(|| unchanged::open_raw_slice(&path, &options(size, None)).expect("the unchanged module's index"));
         if let Some(u) = &unchanged {
-            assert!(u.n_events() == live.n_events() && u.sensor_size() == live.sensor_size() && u.time_span() == live.time_span(), "two builds differ");
+            assert!(
+                u.n_events() == live.n_events() && u.sensor_size() == live.sensor_size() && u.time_span() == live.time_span(),
+                "two builds differ"
+            );
         }
         let records = entries(&probe::checkpoints_text(&live), shift);
         Ok(Index { evt3, source, records, latest: live.time_span().1, live: Some(live), unchanged })
@@ -165,7 +184,8 @@ impl Original {
     /// The original's slice source over other records, another total and size, and another recording lent.
     pub fn altered(&self, evt3: bool, source: &Source, records: &[u64], lent: &[u8]) -> probed::RawSliceSource {
         let header = plain_header(evt3);
-        let base = probed::open_raw_slice(self.file("base", header), &options(Some((source.width, source.height)), None)).expect("an index of no words");
+        let base = probed::open_raw_slice(self.file("base", header), &options(Some((source.width, source.height)), None))
+            .expect("an index of no words");
         let path = self.file("lent", &behind_header(evt3, lent));
         probe::altered(base, Some(checkpoints(evt3, records, header.len())), Some(source.n_events), Some(&path))
     }
@@ -195,7 +215,14 @@ pub fn same_events(a: &EventStream, b: &EventStream) -> bool {
 fn sink_text(s: &Sink) -> String {
     let of = |has: u8, n: u64| if has != 0 { n.to_string() } else { "-".to_owned() };
     let last = of(s.has_last_t, s.last_t as u64);
-    format!("{},{},{last},{},{},{}", (s.header_written != 0) as u8, s.n_events, of(s.has_time_high, s.time_high), of(s.has_time_low, s.time_low), of(s.has_y, s.y))
+    format!(
+        "{},{},{last},{},{},{}",
+        (s.header_written != 0) as u8,
+        s.n_events,
+        of(s.has_time_high, s.time_high),
+        of(s.has_time_low, s.time_low),
+        of(s.has_y, s.y)
+    )
 }
 
 fn sink_from(evt3: bool, text: &str) -> Sink {
@@ -203,8 +230,17 @@ fn sink_from(evt3: bool, text: &str) -> Sink {
     let n = |i: usize| f[i].parse().unwrap_or(0u64);
     let has = |i: usize| (f[i] != "-") as u8;
     Sink {
-        n_events: n(1) as usize, last_t: n(2) as i64, time_high: n(3), time_low: n(4), y: n(5), evt3: evt3 as u8, header_written: n(0) as u8,
-        has_last_t: has(2), has_time_high: has(3), has_time_low: has(4), has_y: has(5),
+        n_events: n(1) as usize,
+        last_t: n(2) as i64,
+        time_high: n(3),
+        time_low: n(4),
+        y: n(5),
+        evt3: evt3 as u8,
+        header_written: n(0) as u8,
+        has_last_t: has(2),
+        has_time_high: has(3),
+        has_time_low: has(4),
+        has_y: has(5),
     }
 }
 

@@ -35,7 +35,15 @@ impl Case {
             Some(evt3) => making::words(rng, evt3),
         };
         let limit = making::limit(rng, bytes.len());
-        Case { words, size: making::size(rng), limit, rooms: vec![Room::make(rng), Room::make(rng)], junk: rng.next(), last: rng.chance(70), bytes }
+        Case {
+            words,
+            size: making::size(rng),
+            limit,
+            rooms: vec![Room::make(rng), Room::make(rng)],
+            junk: rng.next(),
+            last: rng.chance(70),
+            bytes,
+        }
     }
 
     fn kind(&self) -> usize {
@@ -45,13 +53,20 @@ impl Case {
     fn options(&self) -> Options {
         let flag = |set: bool| if set { (self.junk as u8).max(1) } else { 0 };
         let (width, height) = self.size.unwrap_or((self.junk as usize, (self.junk >> 9) as usize));
-        Options { sized: flag(self.size.is_some()), limited: flag(self.limit.is_some()), width, height, max_events: self.limit.unwrap_or(self.junk as usize) }
+        Options {
+            sized: flag(self.size.is_some()),
+            limited: flag(self.limit.is_some()),
+            width,
+            height,
+            max_events: self.limit.unwrap_or(self.junk as usize),
+        }
     }
 
     /// Document 01's rule for sizes and limits over all events, as words that begin with `%` have no other reference.
     fn ruled(&self, evt3: bool) -> Result<EventStream, u32> {
         let inside = |e: &RawEvent| self.size.is_none_or(|(w, h)| (e.x as usize) < w && (e.y as usize) < h);
-        let events: Vec<RawEvent> = step(evt3, None, &self.bytes).1.into_iter().filter(inside).take(self.limit.unwrap_or(usize::MAX)).collect();
+        let events: Vec<RawEvent> =
+            step(evt3, None, &self.bytes).1.into_iter().filter(inside).take(self.limit.unwrap_or(usize::MAX)).collect();
         let edge = |f: fn(&RawEvent) -> u16| events.iter().map(f).max().map(|n| n as usize + 1);
         match (self.size, edge(|e| e.x), edge(|e| e.y)) {
             (Some((w, h)), _, _) | (None, Some(w), Some(h)) => Ok(stream(w, h, &events)),
@@ -87,7 +102,8 @@ impl Case {
             (Err(n), Err(m)) if n == m => Ok(Err(n)),
             (Ok(_), Err(n)) => Ok(Err(n)),
             (Ok(h), Ok(events)) => {
-                same((model.start, model.encoding, self.size.or(model.size)), (h.start, 2 + h.evt3 as u32, h.size)).map_err(|e| format!("the table's header: {e}"))?;
+                same((model.start, model.encoding, self.size.or(model.size)), (h.start, 2 + h.evt3 as u32, h.size))
+                    .map_err(|e| format!("the table's header: {e}"))?;
                 Ok(Ok(Read { evt3: h.evt3, events }))
             }
             _ => Err("the original reads what its header refuses".to_owned()),
@@ -126,7 +142,15 @@ impl Case {
     }
 
     pub fn show(&self) -> String {
-        format!("{} {:?} size {:?} limit {:?} columns {:?}\nbytes {}", KINDS[self.kind()], self.words.map(|e| if e { "EVT3" } else { "EVT2" }), self.size, self.limit, self.rooms, hex(&self.bytes))
+        format!(
+            "{} {:?} size {:?} limit {:?} columns {:?}\nbytes {}",
+            KINDS[self.kind()],
+            self.words.map(|e| if e { "EVT3" } else { "EVT2" }),
+            self.size,
+            self.limit,
+            self.rooms,
+            hex(&self.bytes)
+        )
     }
 }
 

@@ -21,8 +21,18 @@ pub struct Count {
 }
 
 pub const KINDS: [&str; 12] = [
-    "read_raw", "decode_words", "open", "open_words", "slice_index", "slice_time", "slice_index, other recording", "slice_time, other recording",
-    "slice_index, altered index", "slice_time, altered index", "append, fresh writer", "append, any writer",
+    "read_raw",
+    "decode_words",
+    "open",
+    "open_words",
+    "slice_index",
+    "slice_time",
+    "slice_index, other recording",
+    "slice_time, other recording",
+    "slice_index, altered index",
+    "slice_time, altered index",
+    "append, fresh writer",
+    "append, any writer",
 ];
 
 pub struct Env {
@@ -38,8 +48,13 @@ pub struct Env {
 impl Env {
     pub fn new() -> Env {
         Env {
-            original: Original::new(), bytes: Region::new(4 << 20), board: Board::new(16 << 20), entries: Region::new(64 << 20), given: Board::new(1 << 20),
-            output: Region::new(16 << 20), counts: vec![Count::default(); KINDS.len()],
+            original: Original::new(),
+            bytes: Region::new(4 << 20),
+            board: Board::new(16 << 20),
+            entries: Region::new(64 << 20),
+            given: Board::new(1 << 20),
+            output: Region::new(16 << 20),
+            counts: vec![Count::default(); KINDS.len()],
         }
     }
 
@@ -96,7 +111,11 @@ impl Room {
 
 /// The most events that this many bytes could carry.
 pub fn most_events(evt3: bool, bytes: usize) -> usize {
-    if evt3 { bytes / 2 * 12 } else { bytes / 4 }
+    if evt3 {
+        bytes / 2 * 12
+    } else {
+        bytes / 4
+    }
 }
 
 /// The events stand at the front of the columns (None: there are none), and no other place was altered.
@@ -105,17 +124,35 @@ pub fn columns_are(c: &Lent, events: Option<&EventStream>) -> Result<(), String>
     if let Some(e) = events {
         let ps = || e.ps().iter().zip(&c.ps[..n]).all(|(a, b)| *a as u8 == *b);
         if e.xs() != &c.xs[..n] || e.ys() != &c.ys[..n] || e.ts() != &c.ts[..n] || !ps() {
-            let at = (0..n).find(|i| (e.xs()[*i], e.ys()[*i], e.ts()[*i], e.ps()[*i] as u8) != (c.xs[*i], c.ys[*i], c.ts[*i], c.ps[*i])).unwrap_or(0);
+            let at = (0..n)
+                .find(|i| (e.xs()[*i], e.ys()[*i], e.ts()[*i], e.ps()[*i] as u8) != (c.xs[*i], c.ys[*i], c.ts[*i], c.ps[*i]))
+                .unwrap_or(0);
             return Err(format!(
-                "event {at} of {n}: t,x,y,p {},{},{},{}, the original's {},{},{},{}", c.ts[at], c.xs[at], c.ys[at], c.ps[at], e.ts()[at], e.xs()[at], e.ys()[at], e.ps()[at] as u8
+                "event {at} of {n}: t,x,y,p {},{},{},{}, the original's {},{},{},{}",
+                c.ts[at],
+                c.xs[at],
+                c.ys[at],
+                c.ps[at],
+                e.ts()[at],
+                e.xs()[at],
+                e.ys()[at],
+                e.ps()[at] as u8
             ));
         }
     }
-    if columns_untouched(c, n) { Ok(()) } else { Err(format!("a column was altered behind the {n} events handed over")) }
+    if columns_untouched(c, n) {
+        Ok(())
+    } else {
+        Err(format!("a column was altered behind the {n} events handed over"))
+    }
 }
 
 pub fn same<T: PartialEq + std::fmt::Debug>(got: T, want: T) -> Result<(), String> {
-    if got == want { Ok(()) } else { Err(format!("answered {got:?}, expected {want:?}")) }
+    if got == want {
+        Ok(())
+    } else {
+        Err(format!("answered {got:?}, expected {want:?}"))
+    }
 }
 
 /// The same list with some of it left out, longer parts first.
@@ -134,5 +171,9 @@ pub fn fewer<T: Clone>(of: &[T]) -> Vec<Vec<T>> {
 
 pub fn hex(bytes: &[u8]) -> String {
     let text: String = bytes.iter().take(4096).map(|b| format!("{b:02x}")).collect();
-    if bytes.len() > 4096 { format!("{text}.. ({} bytes)", bytes.len()) } else { text }
+    if bytes.len() > 4096 {
+        format!("{text}.. ({} bytes)", bytes.len())
+    } else {
+        text
+    }
 }

@@ -54,7 +54,11 @@ impl End {
 /// An entry of record j, counted round the records.
 fn record(i: &Index, j: usize, entry: usize) -> u64 {
     let n = i.records.len() / ENTRIES;
-    if n == 0 { 0 } else { i.records[j % n * ENTRIES + entry] }
+    if n == 0 {
+        0
+    } else {
+        i.records[j % n * ENTRIES + entry]
+    }
 }
 
 /// A change of an index. Which of them document 01 allows is left to table.rs.
@@ -81,7 +85,8 @@ fn decoder(rng: &mut Rng, evt3: bool) -> [u64; 7] {
     let coarse = loops * period + rng.pick(&[0, 1, period / step - 1, period / step / 2]) * step;
     let time = coarse + rng.pick(&[0, 1, step - 1, step / 2]);
     let row = rng.pick(&[0, 1, 7, 2047]);
-    let mut d = [rng.pick(&[1, 1, 255, 1 << 40]), coarse, time, loops, row, rng.pick(&[0, 10, 2047, 65524, 65535, 70000]), rng.pick(&[0, 1, 9])];
+    let mut d =
+        [rng.pick(&[1, 1, 255, 1 << 40]), coarse, time, loops, row, rng.pick(&[0, 10, 2047, 65524, 65535, 70000]), rng.pick(&[0, 1, 9])];
     if rng.chance(15) {
         d = [0; 7];
     }
@@ -187,13 +192,25 @@ impl Case {
         let changes = if rng.chance(45) { (0..1 + rng.below(3)).map(|_| Change::make(rng, evt3)).collect() } else { Vec::new() };
         let few = 1 + rng.below(if open.bytes.len() > 20000 { 3 } else { 6 });
         Case {
-            lent, changes, by_time: rng.chance(50), ends: (0..few).map(|_| (End::make(rng), End::make(rng))).collect(), rooms: (0..few).map(|_| Room::make(rng)).collect(),
-            behind: if rng.chance(20) { rng.below(ENTRIES) } else { 0 }, last: rng.chance(70), open,
+            lent,
+            changes,
+            by_time: rng.chance(50),
+            ends: (0..few).map(|_| (End::make(rng), End::make(rng))).collect(),
+            rooms: (0..few).map(|_| Room::make(rng)).collect(),
+            behind: if rng.chance(20) { rng.below(ENTRIES) } else { 0 },
+            last: rng.chance(70),
+            open,
         }
     }
 
     fn kind(&self) -> usize {
-        let what = if !self.changes.is_empty() { 8 } else if self.lent.is_some() { 6 } else { 4 };
+        let what = if !self.changes.is_empty() {
+            8
+        } else if self.lent.is_some() {
+            6
+        } else {
+            4
+        };
         what + self.by_time as usize
     }
 
@@ -218,7 +235,8 @@ impl Case {
         for (room, (a, b)) in self.rooms.iter().zip(&self.ends) {
             let ends = if self.by_time { (a.time(&index) as u64, b.time(&index) as u64) } else { (a.number(&index), b.number(&index)) };
             let (want, ruled) = if refused > 0 { (Err(refused), false) } else { self.expected(&index, ends)? };
-            self.call(env, &index, ends, want, ruled, room).map_err(|e| format!("from {} to {}, {room:?}: {e}", ends.0 as i64, ends.1 as i64))?;
+            self.call(env, &index, ends, want, ruled, room)
+                .map_err(|e| format!("from {} to {}, {room:?}: {e}", ends.0 as i64, ends.1 as i64))?;
         }
         Ok(())
     }
@@ -237,7 +255,11 @@ impl Case {
         };
         let out = slice_number(live, a as usize, end);
         let same = i.unchanged.as_ref().is_none_or(|u| original::same_events(&u.slice_index(a as usize, end).expect("a slice"), &out));
-        if same { Ok((Ok(out), false)) } else { Err("two builds of the original differ".to_owned()) }
+        if same {
+            Ok((Ok(out), false))
+        } else {
+            Err("two builds of the original differ".to_owned())
+        }
     }
 
     /// An end that gives the same slice and that the original, which makes columns for end - start events, can be asked.
@@ -265,7 +287,15 @@ impl Case {
         stream(i.source.width, i.source.height, &events)
     }
 
-    fn call(&self, env: &mut Env, i: &Index, (a, b): (u64, u64), want: Result<EventStream, u32>, ruled: bool, room: &Room) -> Result<(), String> {
+    fn call(
+        &self,
+        env: &mut Env,
+        i: &Index,
+        (a, b): (u64, u64),
+        want: Result<EventStream, u32>,
+        ruled: bool,
+        room: &Room,
+    ) -> Result<(), String> {
         let n = want.as_ref().map_or(3, |e| e.len());
         let lengths = room.lengths(n, most_events(i.evt3, self.bytes().len()));
         let bytes = env.bytes.copy(self.bytes(), self.last);
@@ -307,6 +337,14 @@ impl Case {
 
     pub fn show(&self) -> String {
         let lent = self.lent.as_ref().map_or("itself".to_owned(), |b| hex(b));
-        format!("{} ends {:?} columns {:?} changes {:?} entries behind {}\nlent {lent}\nindex of {}", KINDS[self.kind()], self.ends, self.rooms, self.changes, self.behind, self.open.show())
+        format!(
+            "{} ends {:?} columns {:?} changes {:?} entries behind {}\nlent {lent}\nindex of {}",
+            KINDS[self.kind()],
+            self.ends,
+            self.rooms,
+            self.changes,
+            self.behind,
+            self.open.show()
+        )
     }
 }

@@ -57,12 +57,12 @@ impl Case {
         })
     }
 
-    fn smaller(&self) -> Vec<Case> {
+    fn smaller(&self) -> Box<dyn Iterator<Item = Case> + '_> {
         match self {
-            Case::Reading(c) => c.smaller().into_iter().map(Case::Reading).collect(),
-            Case::Opening(c) => c.smaller().into_iter().map(Case::Opening).collect(),
-            Case::Slicing(c) => c.smaller().into_iter().map(Case::Slicing).collect(),
-            Case::Appending(c) => c.smaller().into_iter().map(Case::Appending).collect(),
+            Case::Reading(c) => Box::new(c.smaller().map(Case::Reading)),
+            Case::Opening(c) => Box::new(c.smaller().map(Case::Opening)),
+            Case::Slicing(c) => Box::new(c.smaller().map(Case::Slicing)),
+            Case::Appending(c) => Box::new(c.smaller().map(Case::Appending)),
         }
     }
 
@@ -80,20 +80,10 @@ impl Case {
 fn smallest(mut case: Case, mut how: String, env: &mut Env) -> (Case, String) {
     let mut tries = 20000;
     loop {
-        let mut found = None;
-        for c in case.smaller() {
-            tries -= 1;
-            if let Err(e) = c.check(env) {
-                found = Some((c, e));
-                break;
-            }
-            if tries == 0 {
-                break;
-            }
-        }
+        let found = case.smaller().take(tries).inspect(|_| tries -= 1).find_map(|c| c.check(env).err().map(|e| (c, e)));
         match found {
-            Some(next) if tries > 0 => (case, how) = next,
-            _ => return (case, how),
+            Some(next) => (case, how) = next,
+            None => return (case, how),
         }
     }
 }

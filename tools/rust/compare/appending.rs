@@ -170,6 +170,17 @@ fn plain(s: &Sink) -> Sink {
     }
 }
 
+fn at<T: Copy>(of: &[T], places: &[usize]) -> Vec<T> {
+    places.iter().filter_map(|i| of.get(*i)).copied().collect()
+}
+
+fn fewer_events(c: &Columns) -> impl Iterator<Item = Columns> + '_ {
+    let n = c.xs.len().max(c.ys.len()).max(c.ts.len()).max(c.ps.len());
+    let all: Vec<usize> = (0..n).collect();
+    let kept: Vec<Vec<usize>> = fewer(&all).take(500).collect();
+    kept.into_iter().map(|k| Columns { xs: at(&c.xs, &k), ys: at(&c.ys, &k), ts: at(&c.ts, &k), ps: at(&c.ps, &k) })
+}
+
 impl Case {
     pub fn make(rng: &mut Rng) -> Case {
         let fresh = rng.chance(50);
@@ -258,26 +269,16 @@ impl Case {
         Ok(got.sink)
     }
 
-    pub fn smaller(&self) -> Vec<Case> {
-        let mut out: Vec<Case> = fewer(&self.appends).into_iter().map(|appends| Case { appends, ..self.clone() }).collect();
-        for (k, a) in self.appends.iter().enumerate() {
-            let c = &a.columns;
-            for kept in fewer(&(0..c.xs.len()).collect::<Vec<_>>()) {
-                let n = [c.xs.len(), c.ys.len(), c.ts.len(), c.ps.len()];
-                let kept: Vec<usize> = kept.into_iter().filter(|i| n.iter().all(|n| i < n)).collect();
-                let of = |i: &usize| (c.xs[*i], c.ys[*i], c.ts[*i], c.ps[*i]);
-                let columns = Columns {
-                    xs: kept.iter().map(|i| of(i).0).collect(),
-                    ys: kept.iter().map(|i| of(i).1).collect(),
-                    ts: kept.iter().map(|i| of(i).2).collect(),
-                    ps: kept.iter().map(|i| of(i).3).collect(),
-                };
+    pub fn smaller(&self) -> impl Iterator<Item = Case> + '_ {
+        let lists = fewer(&self.appends).map(|appends| Case { appends, ..self.clone() });
+        let shorter = (0..self.appends.len()).flat_map(move |k| {
+            fewer_events(&self.appends[k].columns).map(move |columns| {
                 let mut appends = self.appends.clone();
                 appends[k].columns = columns;
-                out.push(Case { appends, ..self.clone() });
-            }
-        }
-        out
+                Case { appends, ..self.clone() }
+            })
+        });
+        lists.chain(shorter)
     }
 
     pub fn show(&self) -> String {

@@ -171,9 +171,9 @@ impl Case {
         Case { bytes, ..self.clone() }
     }
 
-    pub fn smaller(&self) -> Vec<Case> {
+    pub fn smaller(&self) -> impl Iterator<Item = Case> + '_ {
         let one = self.rooms.iter().filter(|_| self.rooms.len() > 1).map(|r| Case { rooms: vec![*r], ..self.clone() });
-        one.chain(fewer(&self.bytes).into_iter().map(|bytes| self.with_bytes(bytes))).collect()
+        one.chain(fewer(&self.bytes).map(|bytes| self.with_bytes(bytes)))
     }
 
     pub fn show(&self) -> String {

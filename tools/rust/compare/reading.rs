@@ -136,9 +136,9 @@ impl Case {
         Ok(())
     }
 
-    pub fn smaller(&self) -> Vec<Case> {
+    pub fn smaller(&self) -> impl Iterator<Item = Case> + '_ {
         let one = self.rooms.iter().filter(|_| self.rooms.len() > 1).map(|r| Case { rooms: vec![r.clone()], ..self.clone() });
-        one.chain(fewer(&self.bytes).into_iter().map(|bytes| Case { bytes, ..self.clone() })).collect()
+        one.chain(fewer(&self.bytes).map(|bytes| Case { bytes, ..self.clone() }))
     }
 
     pub fn show(&self) -> String {

@@ -156,17 +156,10 @@ pub fn same<T: PartialEq + std::fmt::Debug>(got: T, want: T) -> Result<(), Strin
 }
 
 /// The same list with some of it left out, longer parts first.
-pub fn fewer<T: Clone>(of: &[T]) -> Vec<Vec<T>> {
-    let mut out = Vec::new();
-    let mut part = of.len();
-    while part > 0 {
-        let step = part.max(of.len() / 200);
-        for at in (0..of.len()).step_by(step) {
-            out.push([&of[..at], &of[(at + part).min(of.len())..]].concat());
-        }
-        part /= 2;
-    }
-    out
+pub fn fewer<T: Clone>(of: &[T]) -> impl Iterator<Item = Vec<T>> + '_ {
+    let parts = std::iter::successors(Some(of.len()), |n| Some(n / 2)).take_while(|n| *n > 0);
+    let places = parts.flat_map(|n| (0..of.len()).step_by(n.max(of.len() / 200)).map(move |at| (at, n)));
+    places.map(|(at, n)| [&of[..at], &of[(at + n).min(of.len())..]].concat())
 }
 
 pub fn hex(bytes: &[u8]) -> String {

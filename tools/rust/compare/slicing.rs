@@ -322,17 +322,13 @@ impl Case {
         Ok(())
     }
 
-    pub fn smaller(&self) -> Vec<Case> {
-        let mut out: Vec<Case> = Vec::new();
-        if self.ends.len() > 1 {
-            out.extend((0..self.ends.len()).map(|k| Case { ends: vec![self.ends[k]], rooms: vec![self.rooms[k].clone()], ..self.clone() }));
-        }
-        out.extend(fewer(&self.changes).into_iter().map(|changes| Case { changes, ..self.clone() }));
-        out.extend(fewer(&self.open.bytes).into_iter().map(|bytes| Case { open: self.open.with_bytes(bytes), ..self.clone() }));
-        if let Some(lent) = &self.lent {
-            out.extend(fewer(lent).into_iter().map(|lent| Case { lent: Some(lent), ..self.clone() }));
-        }
-        out
+    pub fn smaller(&self) -> impl Iterator<Item = Case> + '_ {
+        let several = 0..if self.ends.len() > 1 { self.ends.len() } else { 0 };
+        let one = several.map(|k| Case { ends: vec![self.ends[k]], rooms: vec![self.rooms[k].clone()], ..self.clone() });
+        let changed = fewer(&self.changes).map(|changes| Case { changes, ..self.clone() });
+        let opened = fewer(&self.open.bytes).map(|bytes| Case { open: self.open.with_bytes(bytes), ..self.clone() });
+        let lent = self.lent.iter().flat_map(|b| fewer(b)).map(|lent| Case { lent: Some(lent), ..self.clone() });
+        one.chain(changed).chain(opened).chain(lent)
     }
 
     pub fn show(&self) -> String {

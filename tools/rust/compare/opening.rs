@@ -112,7 +112,7 @@ impl Case {
     /// Document 01's rule for records over the original's decoder.
     fn ruled(&self, evt3: bool) -> Result<Index, u32> {
         let (mut records, mut state, mut count, mut latest) = (Vec::new(), None, 0usize, 0i64);
-        let (mut width, mut height) = (0, 0);
+        let (mut width, mut height, mut earliest) = (0, 0, i64::MAX);
         for (j, part) in self.bytes.chunks(self.spacing).enumerate() {
             let text = state.take().unwrap_or_else(|| step(evt3, None, &[]).0);
             records.extend([(j * self.spacing) as u64, count as u64, latest as u64]);
@@ -120,7 +120,7 @@ impl Case {
             let (after, events) = step(evt3, Some(&text), part);
             for e in events.iter().filter(|e| self.size.is_none_or(|(w, h)| (e.x as usize) < w && (e.y as usize) < h)) {
                 (width, height) = (width.max(e.x as usize + 1), height.max(e.y as usize + 1));
-                (count, latest) = (count + 1, latest.max(e.t));
+                (count, latest, earliest) = (count + 1, latest.max(e.t), earliest.min(e.t));
             }
             state = Some(after);
         }
@@ -130,7 +130,7 @@ impl Case {
             None => (width, height),
         };
         let source = Source { spacing: self.spacing, data_offset: 0, len: self.bytes.len(), width, height, n_events: count };
-        Ok(Index { evt3, source, records, latest, live: None, unchanged: None })
+        Ok(Index { evt3, source, records, span: (earliest.min(latest), latest), live: None, unchanged: None })
     }
 
     pub fn check(&self, env: &mut Env) -> Result<(), String> {

@@ -50,7 +50,8 @@ pub struct Index {
     pub evt3: bool,
     pub source: Source,
     pub records: Vec<u64>,
-    pub latest: i64,
+    /// The least and the greatest time of its events.
+    pub span: (i64, i64),
     /// None where the index was made by the rules alone.
     pub live: Option<probed::RawSliceSource>,
     /// The module without a settable spacing, at its own.
@@ -178,7 +179,7 @@ impl Original {
             );
         }
         let records = entries(&probe::checkpoints_text(&live), shift);
-        Ok(Index { evt3, source, records, latest: live.time_span().1, live: Some(live), unchanged })
+        Ok(Index { evt3, source, records, span: live.time_span(), live: Some(live), unchanged })
     }
 
     /// The original's slice source over other records, another total and size, and another recording lent.

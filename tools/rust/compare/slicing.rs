@@ -21,12 +21,12 @@ enum End {
 impl End {
     fn make(rng: &mut Rng) -> End {
         let beside = rng.below(5) as i64 - 2;
-        match rng.below(10) {
+        match rng.below(20) {
             0 => End::Is(rng.wild()),
-            1 => End::Is(rng.pick(&[0, 1, u64::MAX, i64::MIN as u64, i64::MAX as u64])),
-            2 => End::Total(beside),
-            3 => End::Total(rng.pick(&[-5000, -64, 64, 5000])),
-            4..=5 => End::Record(rng.next() as usize, beside),
+            1..=2 => End::Is(rng.pick(&[0, 1, u64::MAX, i64::MIN as u64, i64::MAX as u64])),
+            3..=4 => End::Total(beside),
+            5 => End::Total(rng.pick(&[-5000, -64, 64, 5000])),
+            6..=9 => End::Record(rng.next() as usize, beside),
             _ => End::Part(rng.below(65536) as i64),
         }
     }
@@ -44,9 +44,42 @@ impl End {
     fn time(self, i: &Index) -> i64 {
         match self {
             End::Is(n) => n as i64,
-            End::Total(k) => i.latest.saturating_add(k),
+            End::Total(k) => i.span.1.saturating_add(k),
             End::Record(j, k) => (record(i, j, 2) as i64).saturating_add(k),
-            End::Part(f) => (i.latest as i128 * f as i128 / 65536) as i64,
+            End::Part(f) => i.span.0 + ((i.span.1 - i.span.0) as i128 * f as i128 / 65536) as i64,
+        }
+    }
+}
+
+/// The ends of a slice, put in order or as they come.
+#[derive(Clone, Copy, Debug)]
+struct Ends {
+    from: End,
+    to: End,
+    in_order: bool,
+}
+
+impl Ends {
+    fn make(rng: &mut Rng) -> Ends {
+        Ends { from: End::make(rng), to: End::make(rng), in_order: rng.chance(80) }
+    }
+
+    /// Both as numbers; times as numbers of the same bits.
+    fn resolved(&self, i: &Index, by_time: bool) -> (u64, u64) {
+        if by_time {
+            let (a, b) = (self.from.time(i), self.to.time(i));
+            if self.in_order {
+                (a.min(b) as u64, a.max(b) as u64)
+            } else {
+                (a as u64, b as u64)
+            }
+        } else {
+            let (a, b) = (self.from.number(i), self.to.number(i));
+            if self.in_order {
+                (a.min(b), a.max(b))
+            } else {
+                (a, b)
+            }
         }
     }
 }
@@ -158,7 +191,7 @@ pub struct Case {
     /// Another recording lent to the slices.
     lent: Option<Vec<u8>>,
     changes: Vec<Change>,
-    ends: Vec<(End, End)>,
+    ends: Vec<Ends>,
     rooms: Vec<Room>,
     /// Entries behind the last whole record.
     behind: usize,
@@ -195,7 +228,7 @@ impl Case {
             lent,
             changes,
             by_time: rng.chance(50),
-            ends: (0..few).map(|_| (End::make(rng), End::make(rng))).collect(),
+            ends: (0..few).map(|_| Ends::make(rng)).collect(),
             rooms: (0..few).map(|_| Room::make(rng)).collect(),
             behind: if rng.chance(20) { rng.below(ENTRIES) } else { 0 },
             last: rng.chance(70),
@@ -232,8 +265,8 @@ impl Case {
             index.live = Some(env.original.altered(index.evt3, &index.source, &index.records, self.bytes()));
             index.unchanged = None;
         }
-        for (room, (a, b)) in self.rooms.iter().zip(&self.ends) {
-            let ends = if self.by_time { (a.time(&index) as u64, b.time(&index) as u64) } else { (a.number(&index), b.number(&index)) };
+        for (room, ends) in self.rooms.iter().zip(&self.ends) {
+            let ends = ends.resolved(&index, self.by_time);
             let (want, ruled) = if refused > 0 { (Err(refused), false) } else { self.expected(&index, ends)? };
             self.call(env, &index, ends, want, ruled, room)
                 .map_err(|e| format!("from {} to {}, {room:?}: {e}", ends.0 as i64, ends.1 as i64))?;

@@ -84,7 +84,8 @@ impl Case {
     }
 
     fn is_ruled(&self) -> bool {
-        self.words.is_some() && self.bytes.first() == Some(&b'%') && (self.size.is_none() || self.limit.is_some())
+        let asks_more = self.size.is_none_or(|(w, h)| w > 0 && h > 0 && self.limit.is_some());
+        self.words.is_some() && self.bytes.first() == Some(&b'%') && asks_more
     }
 
     fn expected(&self, original: &Original) -> Result<Result<Read, u32>, String> {

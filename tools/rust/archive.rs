@@ -204,7 +204,20 @@ pub fn writer(evt3: bool, header: bool) -> Sink {
     unsafe { if evt3 { raw::prophesee_writer_evt3(header as u8) } else { raw::prophesee_writer_evt2(header as u8) } }
 }
 
+/// The same from the flag as C gives it.
+pub fn writer_flagged(evt3: bool, header: u8) -> Sink {
+    unsafe { if evt3 { raw::prophesee_writer_evt3(header) } else { raw::prophesee_writer_evt2(header) } }
+}
+
 pub fn append(s: Sink, width: usize, height: usize, c: &Columns, output: &mut [u8]) -> Appended {
+    unsafe {
+        raw::prophesee_append(s, width, height, c.xs.as_ptr(), c.xs.len(), c.ys.as_ptr(), c.ys.len(),
+            c.ts.as_ptr(), c.ts.len(), c.ps.as_ptr(), c.ps.len(), output.as_mut_ptr(), output.len())
+    }
+}
+
+/// The same from columns that may stand anywhere.
+pub fn append_from(s: Sink, width: usize, height: usize, c: &Lent, output: &mut [u8]) -> Appended {
     unsafe {
         raw::prophesee_append(s, width, height, c.xs.as_ptr(), c.xs.len(), c.ys.as_ptr(), c.ys.len(),
             c.ts.as_ptr(), c.ts.len(), c.ps.as_ptr(), c.ps.len(), output.as_mut_ptr(), output.len())

@@ -1,0 +1,287 @@
+//! Lists of appends to fresh writers and to writers of any state.
+use crate::archive::{self, Appended, Columns, Sink};
+use crate::lent::{untouched, Rng};
+use crate::making;
+use crate::original::{self, Writer};
+use crate::shared::*;
+use crate::table;
+use evt::io::EventSink;
+use evt::{stream_of, EventStream};
+
+/// How long the output is, beside the bytes needed.
+#[derive(Clone, Copy, Debug)]
+enum Output {
+    Exact,
+    Short(usize),
+    Longer(usize),
+    Ample,
+    Any(usize),
+}
+
+#[derive(Clone, Debug)]
+struct Append {
+    width: usize,
+    height: usize,
+    columns: Columns,
+    output: Output,
+}
+
+#[derive(Clone, Debug)]
+enum Start {
+    Fresh { evt3: bool, header: bool },
+    From(Sink),
+}
+
+#[derive(Clone, Debug)]
+pub struct Case {
+    start: Start,
+    appends: Vec<Append>,
+    last: bool,
+}
+
+/// A writer in range, or just outside.
+fn any_sink(rng: &mut Rng) -> Sink {
+    let evt3 = rng.chance(60);
+    let bound = making::time_bound(evt3);
+    let last = match rng.below(4) {
+        0 => rng.below(10000) as i64,
+        1 => bound - 1 - rng.below(10000) as i64,
+        _ => rng.below(bound as usize) as i64,
+    };
+    let step = if evt3 { 4096 } else { 64 };
+    let mut flag = |percent: usize| if rng.chance(percent) { rng.pick(&[1, 1, 2, 255]) } else { 0 };
+    let mut s = Sink {
+        n_events: 0,
+        last_t: last,
+        time_high: last as u64 / step,
+        time_low: last as u64 % step,
+        y: 0,
+        evt3: evt3 as u8,
+        header_written: flag(60),
+        has_last_t: 1,
+        has_time_high: flag(80),
+        has_time_low: if evt3 { flag(80) } else { 0 },
+        has_y: if evt3 { flag(80) } else { 0 },
+    };
+    s.y = making::events(rng, evt3, 0, 1).ys[0] as u64;
+    s.n_events = rng.pick(&[0, 1, 17, 1 << 40, (1 << 62) - 1, 1 << 62]);
+    if rng.chance(10) {
+        (s.has_last_t, s.has_time_high, s.has_time_low, s.has_y, s.n_events) = (0, 0, 0, 0, 0);
+    }
+    if rng.chance(15) {
+        spoil(rng, &mut s);
+    }
+    s
+}
+
+/// Any of the numbers becomes another one, which may still be in range.
+fn spoil(rng: &mut Rng, s: &mut Sink) {
+    let wild = rng.wild();
+    let flag = rng.pick(&[0, 1, 7]);
+    match rng.below(12) {
+        0 => s.n_events = rng.pick(&[1, (1 << 62) + 1, wild as usize]),
+        1 => s.last_t = rng.pick(&[-1, 1 << 24, 1 << 34, s.last_t + 1, wild as i64]),
+        2 => s.time_high = rng.pick(&[s.time_high + 1, s.time_high.wrapping_sub(1), wild]),
+        3 => s.time_low = rng.pick(&[s.time_low + 1, 4096, wild]),
+        4 => s.y = rng.pick(&[2047, 2048, 65535, 65536, wild]),
+        5 => s.evt3 ^= 1,
+        6 => s.has_last_t = flag,
+        7 => s.has_time_high = flag,
+        8 => s.has_time_low = flag,
+        9 => s.has_y = flag,
+        10 => s.header_written = flag,
+        _ => s.has_last_t = 0,
+    }
+}
+
+/// Makes events that the table refuses (6, 7 or 12), or leaves them as they are.
+fn fault(rng: &mut Rng, c: &mut Columns, evt3: bool) {
+    let n = c.xs.len();
+    let at = rng.below(n);
+    match rng.below(10) {
+        0 if n > 0 => c.ts[at] = c.ts[at].saturating_sub(1 + rng.below(5000) as i64),
+        1 if n > 0 => c.xs[at] = rng.pick(&[2048, 4096, 65535]),
+        2 if n > 0 => c.ys[at] = rng.pick(&[2048, 4096, 65535]),
+        3 if n > 0 => c.ps[at] = rng.pick(&[2, 128, 255]),
+        4 if n > 0 => c.ts[at..].iter_mut().for_each(|t| *t = (*t).max(making::time_bound(evt3))),
+        5 if n > 0 => c.ts[..=at].iter_mut().for_each(|t| *t = -1),
+        6 if n > 0 => c.ts[at] = rng.pick(&[i64::MIN, i64::MAX, making::time_bound(evt3) - 1]),
+        7 => c.xs.truncate(at),
+        8 => c.ps.push(0),
+        9 => c.ts.extend([1 << 23, 1 << 23]),
+        _ => c.ys.push(1),
+    }
+}
+
+fn any_append(rng: &mut Rng, evt3: bool, from: i64) -> Append {
+    let n = match rng.below(40) {
+        0..=3 => 0,
+        4..=27 => rng.below(12),
+        28..=38 => rng.below(300),
+        _ => rng.below(20000),
+    };
+    let mut columns = making::events(rng, evt3, from, n);
+    if rng.chance(15) {
+        fault(rng, &mut columns, evt3);
+    }
+    let output = match rng.below(8) {
+        0..=2 => Output::Exact,
+        3 => Output::Short(1 + rng.below(4)),
+        4 => Output::Longer(1 + rng.below(40)),
+        5..=6 => Output::Ample,
+        _ => Output::Any(rng.next() as usize),
+    };
+    let size = rng.pick(&[(64, 48), (1280, 720), (0, 0), (usize::MAX, 1), (2048, 2048)]);
+    let (width, height) = if rng.chance(80) { size } else { (rng.wild() as usize, rng.wild() as usize) };
+    Append { width, height, columns, output }
+}
+
+fn room(output: Output, need: usize, events: usize) -> usize {
+    match output {
+        Output::Exact => need,
+        Output::Short(k) => need.saturating_sub(k),
+        Output::Longer(k) => need + k,
+        Output::Ample => 96 + 8 * events,
+        Output::Any(k) => k % (2 * need + 3),
+    }
+}
+
+fn stream(a: &Append) -> EventStream {
+    let c = &a.columns;
+    stream_of(a.width, a.height, c.xs.clone(), c.ys.clone(), c.ts.clone(), c.ps.iter().map(|p| *p != 0).collect())
+}
+
+/// The same writer, numbers that don't count being 0 and flags 1.
+fn plain(s: &Sink) -> Sink {
+    let of = |has: u8, n: u64| if has != 0 { n } else { 0 };
+    let flag = |n: u8| (n != 0) as u8;
+    Sink {
+        n_events: s.n_events,
+        last_t: of(s.has_last_t, s.last_t as u64) as i64,
+        time_high: of(s.has_time_high, s.time_high),
+        time_low: of(s.has_time_low, s.time_low),
+        y: of(s.has_y, s.y),
+        evt3: flag(s.evt3),
+        header_written: flag(s.header_written),
+        has_last_t: flag(s.has_last_t),
+        has_time_high: flag(s.has_time_high),
+        has_time_low: flag(s.has_time_low),
+        has_y: flag(s.has_y),
+    }
+}
+
+fn at<T: Copy>(of: &[T], places: &[usize]) -> Vec<T> {
+    places.iter().filter_map(|i| of.get(*i)).copied().collect()
+}
+
+fn fewer_events(c: &Columns) -> impl Iterator<Item = Columns> + '_ {
+    let n = c.xs.len().max(c.ys.len()).max(c.ts.len()).max(c.ps.len());
+    let all: Vec<usize> = (0..n).collect();
+    let kept: Vec<Vec<usize>> = fewer(&all).take(500).collect();
+    kept.into_iter().map(|k| Columns { xs: at(&c.xs, &k), ys: at(&c.ys, &k), ts: at(&c.ts, &k), ps: at(&c.ps, &k) })
+}
+
+impl Case {
+    pub fn make(rng: &mut Rng) -> Case {
+        let fresh = rng.chance(50);
+        let sink = any_sink(rng);
+        let start = if fresh { Start::Fresh { evt3: sink.evt3 != 0, header: rng.chance(50) } } else { Start::From(sink) };
+        let mut from = if !fresh {
+            sink.last_t
+        } else if rng.chance(50) {
+            0
+        } else {
+            sink.last_t
+        };
+        let mut appends: Vec<Append> = Vec::new();
+        for _ in 0..1 + rng.below(5) {
+            appends.push(any_append(rng, sink.evt3 != 0, from));
+            from = appends.last().and_then(|a| a.columns.ts.last().copied()).unwrap_or(from);
+        }
+        Case { start, appends, last: rng.chance(70) }
+    }
+
+    fn kind(&self) -> usize {
+        10 + matches!(self.start, Start::From(_)) as usize
+    }
+
+    pub fn check(&self, env: &mut Env) -> Result<(), String> {
+        env.counts[self.kind()].cases += 1;
+        let (mut sink, mut whole) = match self.start {
+            Start::From(s) => (s, None),
+            Start::Fresh { evt3, header } => {
+                let sink = archive::writer(evt3, header);
+                same(sink, Sink { evt3: evt3 as u8, header_written: !header as u8, ..Sink::default() })?;
+                (sink, Some(original::writer(evt3, header)))
+            }
+        };
+        let mut bytes = Vec::new();
+        for (k, a) in self.appends.iter().enumerate() {
+            sink = self.append(env, &sink, a, &mut whole, &mut bytes).map_err(|e| format!("append {k} to {sink:?}: {e}"))?;
+        }
+        if let Some(w) = whole {
+            same(sink.n_events, w.n_events())?;
+            same(w.into_inner().expect("bytes") == bytes, true).map_err(|_| "the unchanged module's bytes differ".to_owned())?;
+        }
+        Ok(())
+    }
+
+    /// What is to be answered, the bytes if it is an acceptance, and the length of the output.
+    fn expected(&self, s: &Sink, a: &Append) -> Result<(Appended, Vec<u8>, usize), String> {
+        let c = &a.columns;
+        let refused = |refusal, told| Appended { sink: *s, refusal, told, written: 0 };
+        let n = table::append_refusal(s, &c.xs, &c.ys, &c.ts, &c.ps);
+        if n == 6 {
+            same(original::append(s, &stream(a)).err(), Some(6)).map_err(|e| format!("the original's order of times: {e}"))?;
+        }
+        if n > 0 {
+            return Ok((refused(n, 0), Vec::new(), room(a.output, 20, c.xs.len())));
+        }
+        let (bytes, after) = original::append(s, &stream(a)).map_err(|n| format!("the original gives {n}, the table nothing"))?;
+        let lent = room(a.output, bytes.len(), c.xs.len());
+        if lent < bytes.len() {
+            return Ok((refused(11, bytes.len()), Vec::new(), lent));
+        }
+        Ok((Appended { sink: plain(&after), refusal: 0, told: 0, written: bytes.len() }, bytes, lent))
+    }
+
+    fn append(&self, env: &mut Env, s: &Sink, a: &Append, whole: &mut Option<Writer>, all: &mut Vec<u8>) -> Result<Sink, String> {
+        let (want, bytes, lent) = self.expected(s, a)?;
+        let c = &a.columns;
+        let given = env.given.give(&c.xs, &c.ys, &c.ts, &c.ps, self.last);
+        let output = env.output.marked::<u8>(lent, self.last);
+        let got = archive::append_from(*s, a.width, a.height, &given, output);
+        same(got, want)?;
+        if output[..bytes.len()] != bytes[..] {
+            return Err(format!("wrote {}, the original {}", hex(&output[..bytes.len()]), hex(&bytes)));
+        }
+        if !untouched(output, bytes.len()) {
+            return Err("the output was altered behind the bytes handed over".to_owned());
+        }
+        if (&given.xs[..], &given.ys[..], &given.ts[..], &given.ps[..]) != (&c.xs[..], &c.ys[..], &c.ts[..], &c.ps[..]) {
+            return Err("the columns were altered".to_owned());
+        }
+        if let (Some(w), 0) = (whole, got.refusal) {
+            w.append(&stream(a)).map_err(|e| format!("the unchanged module: {e}"))?;
+        }
+        all.extend(bytes);
+        env.count(self.kind(), got.refusal, got.written, false);
+        Ok(got.sink)
+    }
+
+    pub fn smaller(&self) -> impl Iterator<Item = Case> + '_ {
+        let lists = fewer(&self.appends).map(|appends| Case { appends, ..self.clone() });
+        let shorter = (0..self.appends.len()).flat_map(move |k| {
+            fewer_events(&self.appends[k].columns).map(move |columns| {
+                let mut appends = self.appends.clone();
+                appends[k].columns = columns;
+                Case { appends, ..self.clone() }
+            })
+        });
+        lists.chain(shorter)
+    }
+
+    pub fn show(&self) -> String {
+        format!("{} {:?}\n{:?}", KINDS[self.kind()], self.start, self.appends)
+    }
+}

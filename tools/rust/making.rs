@@ -1,0 +1,361 @@
+//! Random recordings: headers, words of both encodings, events for the writer, and damage.
+#![allow(dead_code)]
+use crate::archive::{self, Columns};
+use crate::lent::Rng;
+
+/// How many words: mostly few, seldom up to 1 MiB of them.
+pub fn length(rng: &mut Rng, evt3: bool) -> usize {
+    match rng.below(1000) {
+        0..=349 => rng.below(17),
+        350..=799 => rng.below(201),
+        800..=974 => rng.below(3001),
+        975..=996 => rng.below(20001),
+        _ => rng.below((1 << 20) / if evt3 { 2 } else { 4 } + 1),
+    }
+}
+
+fn blanks(rng: &mut Rng) -> &'static str {
+    rng.pick(&[" ", " ", " ", "  ", "\t", "\x0b", "\x0c", "\r", " \t ", "", "\x1c", "_"])
+}
+
+const FORMATS: [&str; 16] = [
+    "EVT3",
+    "EVT2",
+    "evt3",
+    "evt2",
+    "Evt3;height=720;width=1280",
+    "EVT21",
+    "EVT2.1",
+    "EVT",
+    "evt4",
+    "",
+    "3",
+    "2",
+    "EVT 3",
+    "evt3evt2",
+    "%evt3",
+    "xevt3",
+];
+const VERSIONS: [&str; 14] = ["3", "2", "3.0", "2.0", "2.1", "30", "23", "4", "", "+3", "evt3", "03", " 3", "3 2"];
+const NUMBERS: [&str; 26] = [
+    "64",
+    "48",
+    "1280",
+    "720",
+    "640",
+    "480",
+    "2048",
+    "65536",
+    "1",
+    "2",
+    "10",
+    "0",
+    "00",
+    "+7",
+    "+0",
+    "+",
+    "-1",
+    "",
+    "++1",
+    "0012",
+    "18446744073709551615",
+    "18446744073709551616",
+    "99999999999999999999",
+    "1 2",
+    "12a",
+    "0x10",
+];
+
+fn geometry(rng: &mut Rng) -> String {
+    let n = if rng.chance(70) { 11 } else { NUMBERS.len() };
+    let between = rng.pick(&["x", "x", "x", "X", " x ", " X", "x\t", "", "xx", "Xx", "*"]);
+    let mut s = format!("{}{}{}", rng.pick(&NUMBERS[..n]), between, rng.pick(&NUMBERS[..n]));
+    if rng.chance(5) {
+        s.push_str(rng.pick(&["x3", "X3", " 5", "x"]));
+    }
+    s
+}
+
+fn key(rng: &mut Rng, key: &str) -> String {
+    match rng.below(12) {
+        0 => key.to_ascii_uppercase(),
+        1 => key.chars().map(|c| if rng.chance(50) { c.to_ascii_uppercase() } else { c }).collect(),
+        2 => format!("{key}s"),
+        3 => key[1..].to_owned(),
+        _ => key.to_owned(),
+    }
+}
+
+fn header_line(rng: &mut Rng) -> Vec<u8> {
+    let (name, value) = match rng.below(10) {
+        0..=2 => ("format", rng.pick(&FORMATS).to_owned()),
+        3..=4 => ("evt", rng.pick(&VERSIONS).to_owned()),
+        5..=7 => ("geometry", geometry(rng)),
+        8 => ("end", String::new()),
+        _ => (rng.pick(&["generator", "date", "system_ID", "formatevt", "ge ometry"]), "eventcv 3x4".to_owned()),
+    };
+    let signs = rng.pick(&["%", "%", "%", "%", "%%", "%%%", "% %", "%\t"]);
+    let tail = rng.pick(&["", "", "", "\r", " ", "\t \x0c"]);
+    format!("{signs}{}{}{}{value}{tail}\n", blanks(rng), key(rng, name), blanks(rng)).into_bytes()
+}
+
+/// Header lines, most of them with a known encoding.
+pub fn header(rng: &mut Rng) -> Vec<u8> {
+    let mut lines: Vec<Vec<u8>> = (0..rng.below(5)).map(|_| header_line(rng)).collect();
+    if rng.chance(90) {
+        let line = rng.pick(&["% format EVT3\n", "% format EVT2\n", "% evt 3.0\n", "% evt 2.0\n", "%evt 3\n", "% FORMAT evt2\r\n"]);
+        lines.insert(rng.below(lines.len() + 1), line.as_bytes().to_vec());
+    }
+    if rng.chance(1) {
+        lines.push(format!("% long {}\n", "y ".repeat(rng.below(9000))).into_bytes());
+    }
+    let mut bytes = lines.concat();
+    if rng.chance(8) {
+        damage(rng, &mut bytes);
+    }
+    if rng.chance(90) {
+        bytes.iter_mut().for_each(|b| *b &= 127);
+    } else if rng.chance(40) && !bytes.is_empty() {
+        let at = rng.below(bytes.len());
+        bytes[at] = rng.pick(&[128, 133, 160, 194, 226, 255]);
+    }
+    bytes
+}
+
+/// Alters bytes here and there, drops some, repeats some, or cuts the end off.
+pub fn damage(rng: &mut Rng, bytes: &mut Vec<u8>) {
+    for _ in 0..1 + rng.below(3) {
+        let n = bytes.len();
+        let at = rng.below(n);
+        let to = (at + 1 + rng.below(9)).min(n);
+        match rng.below(7) {
+            0 | 1 if n > 0 => bytes[at] ^= 1 << rng.below(8),
+            2 if n > 0 => bytes[at] = rng.next() as u8,
+            3 => drop(bytes.drain(at.min(to)..to)),
+            4 => bytes.truncate(rng.below(n + 1)),
+            5 => {
+                let part = bytes[at.min(to)..to].to_vec();
+                bytes.splice(at.min(n)..at.min(n), part);
+            }
+            6 => bytes.insert(at, rng.next() as u8),
+            _ => {}
+        }
+    }
+}
+
+fn field(rng: &mut Rng, most: usize) -> usize {
+    match rng.below(8) {
+        0 => 0,
+        1 => most,
+        2 => most - 1,
+        3 => 1,
+        4 => most / 2 + rng.below(2),
+        5 | 6 => rng.below(64),
+        _ => rng.below(most + 1),
+    }
+}
+
+/// The next coarse time, of `bits` bits: mostly a little later, at times back or around a loop's threshold.
+fn coarse(rng: &mut Rng, former: usize, bits: u32) -> usize {
+    let (all, threshold) = if bits == 12 { (1 << 12, 4085) } else { (1 << 28, (1 << 28) - (1 << 24)) };
+    let next = match rng.below(16) {
+        0..=5 => former + 1,
+        6..=8 => former,
+        9 => former + rng.below(20),
+        10 => former + all - rng.below(5),
+        11 => former + all - (threshold + rng.below(3) - 1),
+        12 => all - 1 - rng.below(3),
+        13 => rng.below(12),
+        14 => rng.below(all),
+        _ => former + all / 8,
+    };
+    next % all
+}
+
+fn vector_mask(rng: &mut Rng) -> usize {
+    match rng.below(6) {
+        0 => 0,
+        1 => 0xfff,
+        2 => 1 << rng.below(12),
+        3 => rng.next() as usize & rng.next() as usize & 0xfff,
+        _ => rng.next() as usize & 0xfff,
+    }
+}
+
+fn words3(rng: &mut Rng, n: usize) -> Vec<u8> {
+    let mut time = if rng.chance(50) { rng.below(4096) } else { 4080 + rng.below(16) };
+    let (vectors, bases) = (rng.pick(&[5, 30, 90, 99]), rng.pick(&[0, 1, 20, 50]));
+    let mut bytes = Vec::with_capacity(2 * n);
+    for i in 0..n {
+        let kind = if i == 0 && rng.chance(80) {
+            8
+        } else if rng.chance(vectors) {
+            if rng.chance(bases) {
+                3
+            } else {
+                rng.pick(&[4, 4, 5])
+            }
+        } else {
+            rng.pick(&[0, 0, 2, 2, 2, 2, 6, 6, 6, 8, 8, 1, 7, 10, 14, 15])
+        };
+        let low = match kind {
+            8 => {
+                time = coarse(rng, time, 12);
+                time
+            }
+            4 | 5 => vector_mask(rng),
+            _ => field(rng, 2047) | rng.pick(&[0, 0x800]),
+        };
+        bytes.extend((((kind << 12) | low) as u16).to_le_bytes());
+    }
+    bytes
+}
+
+fn words2(rng: &mut Rng, n: usize) -> Vec<u8> {
+    let mut time = if rng.chance(50) { rng.below(1 << 28) } else { (1 << 28) - 1 - rng.below(16) };
+    let mut bytes = Vec::with_capacity(4 * n);
+    for i in 0..n {
+        let kind = if i == 0 && rng.chance(80) { 8 } else { rng.pick(&[0, 0, 0, 1, 1, 1, 8, 8, 2, 10, 14, 15]) };
+        let low = if kind == 8 {
+            time = coarse(rng, time, 28);
+            time
+        } else {
+            (field(rng, 63) << 22) | (field(rng, 2047) << 11) | field(rng, 2047)
+        };
+        bytes.extend((((kind << 28) | low) as u32).to_le_bytes());
+    }
+    bytes
+}
+
+pub fn time_bound(evt3: bool) -> i64 {
+    1 << if evt3 { 24 } else { 34 }
+}
+
+/// n events that a writer takes after time `from`: runs along a row, gaps, times that stand or go on.
+pub fn events(rng: &mut Rng, evt3: bool, from: i64, n: usize) -> Columns {
+    let mut c = Columns::default();
+    let bound = time_bound(evt3);
+    let mut t = from.clamp(0, bound - 1);
+    let (mut y, busy) = (rng.below(2048), rng.pick(&[2, 20, 60]));
+    while c.xs.len() < n {
+        if rng.chance(busy) {
+            let later = rng.pick(&[1, 2, 5, 63, 64, 65, 1000, 4095, 4096, 4097, 100_000, bound / 16]);
+            t = (t + later).min(bound - 1);
+        }
+        if rng.chance(busy) {
+            y = field(rng, 2047);
+        }
+        let p = rng.below(2) as u8;
+        let gap = rng.pick(&[1, 1, 2, 4, 12, 13, 30]);
+        let mut x = field(rng, 2047);
+        let most = rng.pick(&[1, 4, 40]);
+        for _ in 0..1 + rng.below(most) {
+            if c.xs.len() == n || x > 2047 {
+                break;
+            }
+            c.xs.push(x as u16);
+            c.ys.push(y as u16);
+            c.ts.push(t);
+            c.ps.push(p);
+            x += 1 + rng.below(gap);
+        }
+    }
+    c
+}
+
+/// About n words that the library's writer made.
+fn written(rng: &mut Rng, evt3: bool, n: usize) -> Vec<u8> {
+    let from = if rng.chance(50) { 0 } else { rng.below(time_bound(evt3) as usize) as i64 };
+    let c = events(rng, evt3, from, n);
+    let mut bytes = vec![0; 96 + 8 * c.xs.len()];
+    let a = archive::append(archive::writer(evt3, false), 0, 0, &c, &mut bytes);
+    bytes.truncate(a.written);
+    bytes
+}
+
+/// Words of one of the encodings.
+pub fn words(rng: &mut Rng, evt3: bool) -> Vec<u8> {
+    let n = length(rng, evt3);
+    let mut bytes = match rng.below(10) {
+        0 => (0..n * if evt3 { 2 } else { 4 }).map(|_| rng.next() as u8).collect(),
+        1..=3 => written(rng, evt3, n / 2),
+        _ if evt3 => words3(rng, n),
+        _ => words2(rng, n),
+    };
+    if rng.chance(25) {
+        damage(rng, &mut bytes);
+    }
+    if rng.chance(3) && !bytes.is_empty() {
+        bytes[0] = b'%';
+    }
+    bytes
+}
+
+/// A recording that can be opened, most likely.
+pub fn good_recording(rng: &mut Rng) -> Vec<u8> {
+    let evt3 = rng.chance(60);
+    let size = rng.pick(&["", "", "% geometry 64x48\n", "% geometry 1280x720\n", "% geometry 2048x2048\n"]);
+    let mut bytes = format!("% {}\n{size}% end\n", if evt3 { "format EVT3" } else { "evt 2.0" }).into_bytes();
+    bytes.extend(words(rng, evt3));
+    bytes
+}
+
+/// A recording with its header.
+pub fn recording(rng: &mut Rng) -> Vec<u8> {
+    let mut bytes = header(rng);
+    let names3 = bytes.contains(&b'3');
+    let evt3 = if rng.chance(90) { names3 } else { !names3 };
+    bytes.extend(words(rng, evt3));
+    bytes
+}
+
+/// A size that may be unknown.
+pub fn size(rng: &mut Rng) -> Option<(usize, usize)> {
+    match rng.below(20) {
+        0..=9 => None,
+        10 => Some((0, 5)),
+        11 => Some((5, 0)),
+        12 => Some((usize::MAX, usize::MAX)),
+        13 => Some((65536, 65536)),
+        14 => Some((2048, 2048)),
+        15 => Some((1 + rng.below(2048), 1 + rng.below(2048))),
+        16 => Some((1 + rng.below(70), 1 + rng.below(70))),
+        17 => Some((1280, 720)),
+        18 => Some((65535, 1 + rng.below(2048))),
+        _ => Some((rng.wild() as usize, rng.wild() as usize)),
+    }
+}
+
+/// A limit that may be absent, for a recording of n bytes.
+pub fn limit(rng: &mut Rng, n: usize) -> Option<usize> {
+    match rng.below(20) {
+        0..=9 => None,
+        10 => Some(0),
+        11 => Some(1),
+        12 => Some(usize::MAX),
+        13 => Some(rng.wild() as usize),
+        14 => Some(rng.below(10)),
+        _ => Some(rng.below(n / 2 + 1)),
+    }
+}
+
+/// A spacing, mostly one that is allowed; for n bytes it seldom gives over 5,000 records.
+pub fn spacing(rng: &mut Rng, n: usize) -> usize {
+    if rng.chance(5) {
+        let wild = rng.wild() as usize;
+        return rng.pick(&[0, 1, 2, 3, 5, 6, 7, 4194305, 4194306, 4194308, usize::MAX, usize::MAX - 3, wild]);
+    }
+    let s = match rng.below(8) {
+        0 | 1 => 4 * (1 + rng.below(4)),
+        2 | 3 => 4 * (1 + rng.below(40)),
+        4 => 4 * (1 + rng.below(n / 4 + 1)).min(1048576),
+        5 => rng.pick(&[64, 1024, 65536, 65536, 65536, 4194304]),
+        6 => 4 * (1 + rng.below(1000)),
+        _ => 4 * (1 + rng.below(1048576)),
+    };
+    if n / s > 5000 && rng.chance(99) {
+        (n / 5000 + 1) * 4
+    } else {
+        s
+    }
+}

@@ -1,0 +1,205 @@
+//! Document 01's table of refusals, as far as the arguments alone tell it: written from the paper, apart from the library.
+#![allow(dead_code)]
+use crate::archive::{Sink, Source, ENTRIES};
+
+pub const LONGEST: usize = 1 << 30;
+pub const MOST_EVENTS: usize = 1 << 28;
+
+/// Where the header lines end.
+pub fn header_end(bytes: &[u8]) -> usize {
+    let mut at = 0;
+    while at < bytes.len() && bytes[at] == b'%' {
+        at = bytes[at..].iter().position(|b| *b == b'\n').map_or(bytes.len(), |n| at + n + 1);
+    }
+    at
+}
+
+/// What a header tells; `encoding` 0: none.
+#[derive(Clone, Copy, Debug, PartialEq, Eq)]
+pub struct Head {
+    pub start: usize,
+    pub ascii: bool,
+    pub encoding: u32,
+    pub size: Option<(usize, usize)>,
+}
+
+fn blank(b: &u8) -> bool {
+    (9..=13).contains(b) || *b == 32
+}
+
+fn trimmed(s: &[u8]) -> &[u8] {
+    let from = s.iter().position(|b| !blank(b)).unwrap_or(s.len());
+    let to = s.iter().rposition(|b| !blank(b)).map_or(from, |n| n + 1);
+    &s[from..to]
+}
+
+fn number(s: &[u8]) -> Option<usize> {
+    let digits = s.strip_prefix(b"+").unwrap_or(s);
+    if digits.is_empty() {
+        return None;
+    }
+    digits.iter().try_fold(0usize, |n, d| if d.is_ascii_digit() { n.checked_mul(10)?.checked_add((d - b'0') as usize) } else { None })
+}
+
+/// The size after a `geometry` line with this value.
+fn geometry(value: &[u8], before: Option<(usize, usize)>) -> Option<(usize, usize)> {
+    let Some(at) = value.iter().position(|b| *b == b'x').or(value.iter().position(|b| *b == b'X')) else {
+        return before;
+    };
+    Some((number(trimmed(&value[..at]))?, number(trimmed(&value[at + 1..]))?))
+}
+
+/// Key and value of a header line, in small letters.
+fn key_value(line: &[u8]) -> (Vec<u8>, Vec<u8>) {
+    let line = trimmed(line);
+    let body = trimmed(&line[line.iter().position(|b| *b != b'%').unwrap_or(line.len())..]);
+    let at = body.iter().position(blank).unwrap_or(body.len());
+    (body[..at].to_ascii_lowercase(), trimmed(&body[at..]).to_vec())
+}
+
+pub fn head(bytes: &[u8]) -> Head {
+    let start = header_end(bytes);
+    let (mut format, mut evt, mut size) = (Vec::new(), Vec::new(), None);
+    for line in bytes[..start].split(|b| *b == b'\n') {
+        let (key, value) = key_value(line);
+        match &key[..] {
+            b"format" => format = value.to_ascii_lowercase(),
+            b"evt" => evt = value,
+            b"geometry" => size = geometry(&value, size),
+            _ => {}
+        }
+    }
+    let says = |n: u8| format.starts_with(&[b'e', b'v', b't', n]) || evt.starts_with(&[n]);
+    let encoding = if says(b'3') {
+        3
+    } else if says(b'2') {
+        2
+    } else {
+        0
+    };
+    Head { start, ascii: bytes[..start].is_ascii(), encoding, size }
+}
+
+fn is_zero(size: Option<(usize, usize)>) -> bool {
+    size.is_some_and(|(w, h)| w == 0 || h == 0)
+}
+
+/// 4, 3, 2 and 1 for a zero size, the first that applies; 0 for none.
+pub fn header_refusal(bytes: &[u8], given: Option<(usize, usize)>) -> u32 {
+    if bytes.len() > LONGEST {
+        return 4;
+    }
+    let head = head(bytes);
+    match head {
+        Head { ascii: false, .. } => 3,
+        Head { encoding: 0, .. } => 2,
+        _ if is_zero(given.or(head.size)) => 1,
+        _ => 0,
+    }
+}
+
+/// The same without a header.
+pub fn words_refusal(bytes: &[u8], given: Option<(usize, usize)>) -> u32 {
+    if bytes.len() > LONGEST {
+        4
+    } else if is_zero(given) {
+        1
+    } else {
+        0
+    }
+}
+
+pub fn spacing_ok(spacing: usize) -> bool {
+    spacing % 4 == 0 && (4..=4194304).contains(&spacing)
+}
+
+pub fn records_needed(body: usize, spacing: usize) -> usize {
+    body.div_ceil(spacing).max(1)
+}
+
+/// Rule 10 for a record's decoder.
+fn decoder_ok(evt3: bool, r: &[u64]) -> bool {
+    let [started, coarse, time, loops, row, base, polarity] = [r[3], r[4], r[5], r[6], r[7], r[8], r[9]];
+    let (step, period, most) = if evt3 { (4096, 1u64 << 24, 1 << 28) } else { (64, 1 << 34, 1 << 27) };
+    if started == 0 {
+        return coarse == 0 && time == 0 && loops == 0 && (!evt3 || (row == 0 && base == 0 && polarity == 0));
+    }
+    if loops > most || (evt3 && row > 2047) || coarse < loops * period {
+        return false;
+    }
+    let rest = coarse - loops * period;
+    rest < period && rest % step == 0 && time >= coarse && time - coarse < step
+}
+
+/// Rule 10 for an index.
+pub fn index_ok(evt3: bool, source: &Source, records: &[u64]) -> bool {
+    let (mut count, mut time) = (0, 0);
+    for (j, r) in records.chunks_exact(ENTRIES).enumerate() {
+        let place = source.data_offset as u128 + j as u128 * source.spacing as u128;
+        let numbers = r[1] >= count && r[1] <= 1 << 33 && r[1] <= source.n_events as u64 && r[2] >= time && r[2] < 1 << 63;
+        if r[0] as u128 != place || !numbers || !decoder_ok(evt3, r) {
+            return false;
+        }
+        (count, time) = (r[1], r[2]);
+    }
+    records.len() >= ENTRIES
+}
+
+/// 4, 1, 8 and 10 of a slice, the first that applies; 0 for none.
+pub fn slice_refusal(lent: usize, evt3: bool, source: &Source, records: &[u64]) -> u32 {
+    if lent > LONGEST {
+        4
+    } else if source.width == 0 || source.height == 0 {
+        1
+    } else if !spacing_ok(source.spacing) {
+        8
+    } else if !index_ok(evt3, source, records) {
+        10
+    } else {
+        0
+    }
+}
+
+fn time_bound(evt3: bool) -> i64 {
+    1 << if evt3 { 24 } else { 34 }
+}
+
+/// Rule 10 for a writer.
+pub fn sink_ok(s: &Sink) -> bool {
+    let evt3 = s.evt3 != 0;
+    let (high, low, row) = (s.has_time_high != 0, s.has_time_low != 0, s.has_y != 0);
+    if s.n_events > 1 << 62 || (!evt3 && (low || row)) {
+        return false;
+    }
+    if s.has_last_t == 0 {
+        return s.n_events == 0 && !high && !low && !row;
+    }
+    if s.last_t < 0 || s.last_t >= time_bound(evt3) {
+        return false;
+    }
+    let step = if evt3 { 4096 } else { 64 };
+    let t = s.last_t as u64;
+    (!high || s.time_high == t / step) && (!low || s.time_low == t % step) && (!row || s.y <= 2047)
+}
+
+/// 10, 12, 4, 6 and 7 of an append, the first that applies; 0 for none.
+pub fn append_refusal(s: &Sink, xs: &[u16], ys: &[u16], ts: &[i64], ps: &[u8]) -> u32 {
+    let before = if s.has_last_t != 0 { s.last_t } else { i64::MIN };
+    if !sink_ok(s) {
+        10
+    } else if ys.len() != xs.len() || ts.len() != xs.len() || ps.len() != xs.len() {
+        12
+    } else if xs.len() > MOST_EVENTS {
+        4
+    } else if ts.first().is_some_and(|t| *t < before) || ts.windows(2).any(|t| t[1] < t[0]) {
+        6
+    } else {
+        let times = ts.iter().all(|t| (0..time_bound(s.evt3 != 0)).contains(t));
+        let places = xs.iter().chain(ys).all(|n| *n <= 2047) && ps.iter().all(|p| *p <= 1);
+        if times && places {
+            0
+        } else {
+            7
+        }
+    }
+}

@@ -19,7 +19,9 @@ use Rattle.evt.specs.Evt3.{step3, vector3, reader3, widened, slimmed}
 use Rattle.evt.specs.Range.{Bounded2, Bounded3, bounded-narrow2, bounded-narrow3}
 use Rattle.sensor.specs.Inside.{inside, events-few, sift-few}
 use Rattle.decode.specs.Turn.{Turn, insideAll, decode-few}
-use Rattle.decode.specs.Glance.{Glanced, small-mask3}
+use Rattle.decode.specs.declared.glance.Glance.{Glance}
+use Rattle.decode.specs.Ahead.{ahead, ahead-some}
+use Rattle.decode.specs.Glance.{Glanced, scanned, seenOf, small-mask3}
 
 -- ---- EVT2
 
@@ -54,12 +56,13 @@ few3 width height d l =
     let most : (s : Decoder) (w : ℕ) → length (eventsOf (vector3 s w)) ≤ 12 = λ s w. events-few (vector3 s w) 12 (small-mask3 s w) in
     omega (arith, sift-few (inside width height) (decode 2 reader3 d l), decode-few 2 reader3 12 most d (wordsOf 2 l), length-words 2 l)
 
-module _ {bytes : List ℕ} {s : Decoder} {i : ℕ} (h : i + 1 < length bytes) (w : ℕ) (is-word : w ≡ getD bytes i 0 + getD bytes (i + 1) 0 * 256) (r : WideStep) where
-  pub turn3 : (r .next ≡ widened (step3 s w)) × (r .events ≡ vector3 s w) → Turn 2 reader3 bytes s i (slimmed (r .next)) (r .events)
-  turn3 is = record { word = w; more = omega arith; is-word = is-word ∙ sym (value-two bytes i (omega arith)); is-next = ap slimmed (is .0); is-events = ap eventsOf (sym (is .1)) }
+module _ {bytes : List ℕ} {s : Decoder} {i : ℕ} (h : i + 1 < length bytes) (w : ℕ) where
+  pub turn3 : w ≡ getD bytes i 0 + getD bytes (i + 1) 0 * 256 → (r : WideStep) → (r .next ≡ widened (step3 s w)) × (r .events ≡ vector3 s w) → Turn 2 reader3 bytes s i (slimmed (r .next)) (r .events)
+  turn3 is-word r is =
+      record { word = w; more = omega arith; is-word = is-word ∙ sym (value-two bytes i (omega arith)); is-next = ap slimmed (is .0); is-events = ap eventsOf (sym (is .1)) }
 
-  pub glance3 : Glanced s w r → Turn 2 reader3 bytes s i (slimmed (r .next)) (r .events)
-  glance3 g = record { word = w; more = omega arith; is-word = is-word ∙ sym (value-two bytes i (omega arith)); is-next = ap slimmed (g .next); is-events = g .same }
+  pub glance3 : w ≡ ahead 2 bytes i → (r : Glance) → Glanced s w r → Turn 2 reader3 bytes s i (slimmed (scanned (r .next))) (seenOf r (vector3 s w .p))
+  glance3 is-word r g = record { word = w; more = omega arith; is-word = is-word ∙ ahead-some 2 bytes i (omega arith); is-next = ap slimmed (g .next); is-events = g .same }
 
 pub small3 : {k : ℕ} {s : Decoder} → Bounded3 k s → (w : ℕ) (v : Vector) → v ≡ vector3 s w → Narrow v
 small3 b w v is = rw is (bounded-narrow3 w b)

@@ -1,8 +1,10 @@
 -- The turns of the two encodings' loops, from what the code has at hand.
-use mathlib.Core.Path.{_≡_, sym, ap, _∙_}
+use mathlib.Core.Path.{_≡_, refl, sym, ap, _∙_}
+use mathlib.Core.Bool.{Bool, true, false}
 use mathlib.Core.List.{List}
-use Prim.Native.Nat.{ℕ, _+_, _*_, _/_, _≤_, _<_}
+use Prim.Native.Nat.{ℕ, _+_, _*_, _/_, _≤_, _<_, max}
 use native.Mathlib.Omega.{arith}
+use native.Mathlib.Nat.{add-zero}
 use lib.ListN.{length, getD}
 use Rattle.stream.specs.Words.{wordsOf, value-two, value-four, length-words}
 use Rattle.stream.specs.Stream.{decode}
@@ -12,15 +14,16 @@ use Rattle.evt.specs.declared.evt2.Evt2Step.{Evt2Step}
 use Rattle.evt.specs.declared.evt3.Decoder.{Decoder}
 use Rattle.evt.specs.declared.evt3.WideStep.{WideStep}
 use Rattle.evt.specs.Event.{eventsOf, Narrow}
-use Rattle.evt.specs.Layout.{type2}
+use Rattle.evt.specs.Layout.{type2, timeLow2}
 use Rattle.evt.specs.Evt2 as Evt2
 use Rattle.evt.specs.Evt2.{step2, vector2, reader2}
 use Rattle.evt.specs.Evt3.{step3, vector3, reader3, widened, slimmed}
-use Rattle.evt.specs.Range.{Bounded2, Bounded3, bounded-narrow2, bounded-narrow3}
-use Rattle.sensor.specs.Inside.{inside, events-few, sift-few}
-use Rattle.decode.specs.Turn.{Turn, insideAll, decode-few}
+use Rattle.evt.specs.Range.{Bounded2, Bounded3, bounded-step2, bounded-narrow2, bounded-narrow3}
+use Rattle.sensor.specs.Inside.{inside, insideOf, latestOf, events-few, sift-few}
+use Rattle.decode.specs.Turn.{Turn, Counting, insideAll, decode-few, counting-few, counting-turn}
 use Rattle.decode.specs.declared.glance.Glance.{Glance}
 use Rattle.decode.specs.Ahead.{ahead, ahead-some}
+use Rattle.decode.specs.Quick.{limitOf, isSeen, oneIf, seen-count, seen-step}
 use Rattle.decode.specs.Glance.{Glanced, scanned, seenOf, small-mask3}
 
 -- ---- EVT2
@@ -42,6 +45,28 @@ module _ {bytes : List ℕ} {s : Evt2Decoder} {i : ℕ} (h : i + 3 < length byte
     (r : Evt2Step) (is : (r .next ≡ step2 s w) × (r .events ≡ vector2 s w)) where
   pub turn2 : Turn 4 reader2 bytes s i (r .next) (r .events)
   turn2 = record { word = w; more = omega arith; is-word = is-word ∙ sym (value-four bytes i (omega arith)); is-next = is .0; is-events = ap eventsOf (sym (is .1)) }
+
+-- a counting turn: the word was read ahead, and is an event inside the sensor or adds nothing
+module _ {width height : ℕ} {bytes : List ℕ} {s₀ s : Evt2Decoder} {n top i : ℕ} (u : Counting 4 reader2 Bounded2 width height s₀ bytes s n top i) (h : i + 3 < length bytes) (w : ℕ)
+    (is-word : w ≡ ahead 4 bytes i) (limit : ℕ) (is-limit : limit ≡ limitOf (s .initialised) width) where
+  turn : (s′ : Evt2Decoder) → s′ ≡ step2 s w → Turn 4 reader2 bytes s i s′ (vector2 s w)
+  turn s′ is = record { word = w; more = omega arith; is-word = is-word ∙ ahead-some 4 bytes i (omega arith); is-next = is; is-events = refl }
+
+  found : {b : Bool} → isSeen limit height w ≡ b → length (insideOf width height (vector2 s w)) ≡ oneIf b
+  found e = seen-count width height s w ∙ ap oneIf (rw is-limit at e)
+
+  module _ (e : isSeen limit height w ≡ true) where
+    pub seen-few : n + 1 ≤ length (insideAll 4 reader2 width height s₀ bytes)
+    seen-few = omega (arith, found e, counting-few (omega arith) bounded-step2 u (turn (step2 s w) refl))
+
+    pub seen-turn : (t : ℕ) → t ≡ s .«time_high» + timeLow2 w → (top′ : ℕ) → top′ ≡ max top (latestOf 1 t)
+        → Counting 4 reader2 Bounded2 width height s₀ bytes (record { initialised = s .initialised; «time_high» = s .«time_high»; time = t; «high_loops» = s .«high_loops» }) (n + 1) top′ (i + 4)
+    seen-turn t is-t top′ is-top =
+        let q = seen-step width height s w (rw is-limit at e) in
+        rw is-t (rw (q .0) at (counting-turn (omega arith) bounded-step2 u (turn (step2 s w) refl) 1 (sym (found e)) top′ (rw (q .1) (rw is-t at is-top))))
+
+  pub unseen-turn : isSeen limit height w ≡ false → (s′ : Evt2Decoder) → s′ ≡ step2 s w → Counting 4 reader2 Bounded2 width height s₀ bytes s′ n top (i + 4)
+  unseen-turn e s′ is = rw add-zero at (counting-turn (omega arith) bounded-step2 u (turn s′ is) 0 (sym (found e)) top (omega arith))
 
 pub small2 : {k : ℕ} {s : Evt2Decoder} → Bounded2 k s → (w : ℕ) (v : Vector) → v ≡ vector2 s w → Narrow v × (v .mask ≤ 1)
 small2 {k} {s} b w v is = rw is (bounded-narrow2 w b, small-mask2 s w)

@@ -7,7 +7,8 @@ use native.Mathlib.Omega.{arith}
 use native.Mathlib.Nat.{add-zero}
 use lib.ListN.{length, getD}
 use Rattle.stream.specs.Words.{wordsOf, value-two, value-four, length-words}
-use Rattle.stream.specs.Stream.{decode}
+use Rattle.stream.specs.Order.{greatest}
+use Rattle.stream.specs.Stream.{decode, after}
 use Rattle.evt.specs.declared.vector.Vector.{Vector}
 use Rattle.evt.specs.declared.evt2.Evt2Decoder.{Evt2Decoder}
 use Rattle.evt.specs.declared.evt2.Evt2Step.{Evt2Step}
@@ -18,12 +19,13 @@ use Rattle.evt.specs.Layout.{type2, timeLow2}
 use Rattle.evt.specs.Evt2 as Evt2
 use Rattle.evt.specs.Evt2.{step2, vector2, reader2}
 use Rattle.evt.specs.Evt3.{step3, vector3, reader3, widened, slimmed}
-use Rattle.evt.specs.Range.{Bounded2, Bounded3, bounded-step2, bounded-narrow2, bounded-narrow3}
-use Rattle.sensor.specs.Inside.{inside, insideOf, latestOf, events-few, sift-few}
-use Rattle.decode.specs.Turn.{Turn, Counting, insideAll, decode-few, counting-few, counting-turn}
+use Rattle.evt.specs.Range.{Bounded2, Bounded3, bounded-step2, bounded-step3, bounded-narrow2, bounded-narrow3}
+use Rattle.sensor.specs.Inside.{inside, insideOf, clock, latestOf, events-few, sift-few}
+use Rattle.decode.specs.Turn.{Turn, Counting, insideAll, decode-few, counting-few, counting-turn, counting-end}
 use Rattle.decode.specs.declared.glance.Glance.{Glance}
 use Rattle.decode.specs.Ahead.{ahead, ahead-some}
 use Rattle.decode.specs.Quick.{limitOf, isSeen, oneIf, seen-count, seen-step}
+use Rattle.decode.specs.Ones.{wideOf, countOf, inside-counted}
 use Rattle.decode.specs.Glance.{Glanced, scanned, seenOf, small-mask3}
 
 -- ---- EVT2
@@ -88,6 +90,29 @@ module _ {bytes : List ℕ} {s : Decoder} {i : ℕ} (h : i + 1 < length bytes) (
 
   pub glance3 : w ≡ ahead 2 bytes i → (r : Glance) → Glanced s w r → Turn 2 reader3 bytes s i (slimmed (scanned (r .next))) (seenOf r (vector3 s w .p))
   glance3 is-word r g = record { word = w; more = omega arith; is-word = is-word ∙ ahead-some 2 bytes i (omega arith); is-next = ap slimmed (g .next); is-events = g .same }
+
+-- the loop's own form e of the decoder d
+pub started3 : {d e : Decoder} (l : List ℕ) → e ≡ d → Bounded3 (length l / 2) d → Bounded3 (length (wordsOf 2 l)) e
+started3 l is b = rw is (start3 l b)
+
+pub ended3 : {width height : ℕ} {bytes : List ℕ} {d e s : Decoder} {n top i : ℕ} → e ≡ d → Counting 2 reader3 Bounded3 width height e bytes s n top i → length bytes < i + 2
+    → (r : Decoder) → r ≡ s
+    → (n ≡ length (insideAll 2 reader3 width height d bytes)) × (top ≡ greatest clock (insideAll 2 reader3 width height d bytes)) × (r ≡ after 2 reader3 d bytes)
+ended3 is u h r is-r = rw (← is, is-r) (counting-end (omega arith) bounded-step3 u h)
+
+module _ {width height : ℕ} {bytes : List ℕ} {s₀ s : Decoder} {n top i : ℕ} (u : Counting 2 reader3 Bounded3 width height s₀ bytes s n top i) (h : i + 1 < length bytes) {w : ℕ}
+    (is-word : w ≡ ahead 2 bytes i) {r : Glance} (g : Glanced s w r) {wide : ℕ} (is-wide : wide ≡ wideOf width) {m : ℕ} (is-m : m ≡ countOf (r .x) (r .next .y) (r .mask) wide height) where
+  abbrev seen : Vector
+  seen = seenOf r (vector3 s w .p)
+
+  counted : m ≡ length (insideOf width height seen)
+  counted = is-m ∙ ap (λ (k : ℕ). countOf (r .x) (r .next .y) (r .mask) k height) is-wide ∙ sym (inside-counted width height seen (g .column) (g .mask))
+
+  pub glance-few : n + m ≤ length (insideAll 2 reader3 width height s₀ bytes)
+  glance-few = omega (arith, counted, counting-few (omega arith) bounded-step3 u (glance3 h w is-word r g))
+
+  pub glance-turn : {top′ : ℕ} → top′ ≡ max top (latestOf m (r .next .time)) → Counting 2 reader3 Bounded3 width height s₀ bytes (slimmed (scanned (r .next))) (n + m) top′ (i + 2)
+  glance-turn {top′} is-top = counting-turn (omega arith) bounded-step3 u (glance3 h w is-word r g) m counted top′ is-top
 
 pub small3 : {k : ℕ} {s : Decoder} → Bounded3 k s → (w : ℕ) (v : Vector) → v ≡ vector3 s w → Narrow v
 small3 b w v is = rw is (bounded-narrow3 w b)

@@ -1,25 +1,32 @@
 -- The turns of the two encodings' loops, from what the code has at hand.
-use mathlib.Core.Path.{_≡_, sym, ap, _∙_}
+use mathlib.Core.Path.{_≡_, refl, sym, ap, _∙_}
+use mathlib.Core.Bool.{Bool, true, false}
 use mathlib.Core.List.{List}
-use Prim.Native.Nat.{ℕ, _+_, _*_, _/_, _≤_, _<_}
+use Prim.Native.Nat.{ℕ, _+_, _*_, _/_, _≤_, _<_, max}
 use native.Mathlib.Omega.{arith}
+use native.Mathlib.Nat.{add-zero}
 use lib.ListN.{length, getD}
 use Rattle.stream.specs.Words.{wordsOf, value-two, value-four, length-words}
-use Rattle.stream.specs.Stream.{decode}
+use Rattle.stream.specs.Order.{greatest}
+use Rattle.stream.specs.Stream.{decode, after}
 use Rattle.evt.specs.declared.vector.Vector.{Vector}
 use Rattle.evt.specs.declared.evt2.Evt2Decoder.{Evt2Decoder}
 use Rattle.evt.specs.declared.evt2.Evt2Step.{Evt2Step}
 use Rattle.evt.specs.declared.evt3.Decoder.{Decoder}
 use Rattle.evt.specs.declared.evt3.WideStep.{WideStep}
 use Rattle.evt.specs.Event.{eventsOf, Narrow}
-use Rattle.evt.specs.Layout.{type2}
+use Rattle.evt.specs.Layout.{type2, timeLow2}
 use Rattle.evt.specs.Evt2 as Evt2
 use Rattle.evt.specs.Evt2.{step2, vector2, reader2}
 use Rattle.evt.specs.Evt3.{step3, vector3, reader3, widened, slimmed}
-use Rattle.evt.specs.Range.{Bounded2, Bounded3, bounded-narrow2, bounded-narrow3}
-use Rattle.sensor.specs.Inside.{inside, events-few, sift-few}
-use Rattle.decode.specs.Turn.{Turn, insideAll, decode-few}
-use Rattle.decode.specs.Glance.{Glanced, small-mask3}
+use Rattle.evt.specs.Range.{Bounded2, Bounded3, bounded-step2, bounded-step3, bounded-narrow2, bounded-narrow3}
+use Rattle.sensor.specs.Inside.{inside, insideOf, clock, latestOf, events-few, sift-few}
+use Rattle.decode.specs.Turn.{Turn, Counting, insideAll, decode-few, counting-few, counting-turn, counting-end}
+use Rattle.decode.specs.declared.glance.Glance.{Glance}
+use Rattle.decode.specs.Ahead.{ahead, ahead-some}
+use Rattle.decode.specs.Quick.{limitOf, isSeen, oneIf, seen-count, seen-step}
+use Rattle.decode.specs.Ones.{wideOf, countOf, inside-counted}
+use Rattle.decode.specs.Glance.{Glanced, scanned, seenOf, small-mask3}
 
 -- ---- EVT2
 
@@ -41,6 +48,28 @@ module _ {bytes : List ℕ} {s : Evt2Decoder} {i : ℕ} (h : i + 3 < length byte
   pub turn2 : Turn 4 reader2 bytes s i (r .next) (r .events)
   turn2 = record { word = w; more = omega arith; is-word = is-word ∙ sym (value-four bytes i (omega arith)); is-next = is .0; is-events = ap eventsOf (sym (is .1)) }
 
+-- a counting turn: the word was read ahead, and is an event inside the sensor or adds nothing
+module _ {width height : ℕ} {bytes : List ℕ} {s₀ s : Evt2Decoder} {n top i : ℕ} (u : Counting 4 reader2 Bounded2 width height s₀ bytes s n top i) (h : i + 3 < length bytes) (w : ℕ)
+    (is-word : w ≡ ahead 4 bytes i) (limit : ℕ) (is-limit : limit ≡ limitOf (s .initialised) width) where
+  turn : (s′ : Evt2Decoder) → s′ ≡ step2 s w → Turn 4 reader2 bytes s i s′ (vector2 s w)
+  turn s′ is = record { word = w; more = omega arith; is-word = is-word ∙ ahead-some 4 bytes i (omega arith); is-next = is; is-events = refl }
+
+  found : {b : Bool} → isSeen limit height w ≡ b → length (insideOf width height (vector2 s w)) ≡ oneIf b
+  found e = seen-count width height s w ∙ ap oneIf (rw is-limit at e)
+
+  module _ (e : isSeen limit height w ≡ true) where
+    pub seen-few : n + 1 ≤ length (insideAll 4 reader2 width height s₀ bytes)
+    seen-few = omega (arith, found e, counting-few (omega arith) bounded-step2 u (turn (step2 s w) refl))
+
+    pub seen-turn : (t : ℕ) → t ≡ s .«time_high» + timeLow2 w → (top′ : ℕ) → top′ ≡ max top (latestOf 1 t)
+        → Counting 4 reader2 Bounded2 width height s₀ bytes (record { initialised = s .initialised; «time_high» = s .«time_high»; time = t; «high_loops» = s .«high_loops» }) (n + 1) top′ (i + 4)
+    seen-turn t is-t top′ is-top =
+        let q = seen-step width height s w (rw is-limit at e) in
+        rw is-t (rw (q .0) at (counting-turn (omega arith) bounded-step2 u (turn (step2 s w) refl) 1 (sym (found e)) top′ (rw (q .1) (rw is-t at is-top))))
+
+  pub unseen-turn : isSeen limit height w ≡ false → (s′ : Evt2Decoder) → s′ ≡ step2 s w → Counting 4 reader2 Bounded2 width height s₀ bytes s′ n top (i + 4)
+  unseen-turn e s′ is = rw add-zero at (counting-turn (omega arith) bounded-step2 u (turn s′ is) 0 (sym (found e)) top (omega arith))
+
 pub small2 : {k : ℕ} {s : Evt2Decoder} → Bounded2 k s → (w : ℕ) (v : Vector) → v ≡ vector2 s w → Narrow v × (v .mask ≤ 1)
 small2 {k} {s} b w v is = rw is (bounded-narrow2 w b, small-mask2 s w)
 
@@ -54,12 +83,36 @@ few3 width height d l =
     let most : (s : Decoder) (w : ℕ) → length (eventsOf (vector3 s w)) ≤ 12 = λ s w. events-few (vector3 s w) 12 (small-mask3 s w) in
     omega (arith, sift-few (inside width height) (decode 2 reader3 d l), decode-few 2 reader3 12 most d (wordsOf 2 l), length-words 2 l)
 
-module _ {bytes : List ℕ} {s : Decoder} {i : ℕ} (h : i + 1 < length bytes) (w : ℕ) (is-word : w ≡ getD bytes i 0 + getD bytes (i + 1) 0 * 256) (r : WideStep) where
-  pub turn3 : (r .next ≡ widened (step3 s w)) × (r .events ≡ vector3 s w) → Turn 2 reader3 bytes s i (slimmed (r .next)) (r .events)
-  turn3 is = record { word = w; more = omega arith; is-word = is-word ∙ sym (value-two bytes i (omega arith)); is-next = ap slimmed (is .0); is-events = ap eventsOf (sym (is .1)) }
+module _ {bytes : List ℕ} {s : Decoder} {i : ℕ} (h : i + 1 < length bytes) (w : ℕ) where
+  pub turn3 : w ≡ getD bytes i 0 + getD bytes (i + 1) 0 * 256 → (r : WideStep) → (r .next ≡ widened (step3 s w)) × (r .events ≡ vector3 s w) → Turn 2 reader3 bytes s i (slimmed (r .next)) (r .events)
+  turn3 is-word r is =
+      record { word = w; more = omega arith; is-word = is-word ∙ sym (value-two bytes i (omega arith)); is-next = ap slimmed (is .0); is-events = ap eventsOf (sym (is .1)) }
 
-  pub glance3 : Glanced s w r → Turn 2 reader3 bytes s i (slimmed (r .next)) (r .events)
-  glance3 g = record { word = w; more = omega arith; is-word = is-word ∙ sym (value-two bytes i (omega arith)); is-next = ap slimmed (g .next); is-events = g .same }
+  pub glance3 : w ≡ ahead 2 bytes i → (r : Glance) → Glanced s w r → Turn 2 reader3 bytes s i (slimmed (scanned (r .next))) (seenOf r (vector3 s w .p))
+  glance3 is-word r g = record { word = w; more = omega arith; is-word = is-word ∙ ahead-some 2 bytes i (omega arith); is-next = ap slimmed (g .next); is-events = g .same }
+
+-- the loop's own form e of the decoder d
+pub started3 : {d e : Decoder} (l : List ℕ) → e ≡ d → Bounded3 (length l / 2) d → Bounded3 (length (wordsOf 2 l)) e
+started3 l is b = rw is (start3 l b)
+
+pub ended3 : {width height : ℕ} {bytes : List ℕ} {d e s : Decoder} {n top i : ℕ} → e ≡ d → Counting 2 reader3 Bounded3 width height e bytes s n top i → length bytes < i + 2
+    → (r : Decoder) → r ≡ s
+    → (n ≡ length (insideAll 2 reader3 width height d bytes)) × (top ≡ greatest clock (insideAll 2 reader3 width height d bytes)) × (r ≡ after 2 reader3 d bytes)
+ended3 is u h r is-r = rw (← is, is-r) (counting-end (omega arith) bounded-step3 u h)
+
+module _ {width height : ℕ} {bytes : List ℕ} {s₀ s : Decoder} {n top i : ℕ} (u : Counting 2 reader3 Bounded3 width height s₀ bytes s n top i) (h : i + 1 < length bytes) {w : ℕ}
+    (is-word : w ≡ ahead 2 bytes i) {r : Glance} (g : Glanced s w r) {wide : ℕ} (is-wide : wide ≡ wideOf width) {m : ℕ} (is-m : m ≡ countOf (r .x) (r .next .y) (r .mask) wide height) where
+  abbrev seen : Vector
+  seen = seenOf r (vector3 s w .p)
+
+  counted : m ≡ length (insideOf width height seen)
+  counted = is-m ∙ ap (λ (k : ℕ). countOf (r .x) (r .next .y) (r .mask) k height) is-wide ∙ sym (inside-counted width height seen (g .column) (g .mask))
+
+  pub glance-few : n + m ≤ length (insideAll 2 reader3 width height s₀ bytes)
+  glance-few = omega (arith, counted, counting-few (omega arith) bounded-step3 u (glance3 h w is-word r g))
+
+  pub glance-turn : {top′ : ℕ} → top′ ≡ max top (latestOf m (r .next .time)) → Counting 2 reader3 Bounded3 width height s₀ bytes (slimmed (scanned (r .next))) (n + m) top′ (i + 2)
+  glance-turn {top′} is-top = counting-turn (omega arith) bounded-step3 u (glance3 h w is-word r g) m counted top′ is-top
 
 pub small3 : {k : ℕ} {s : Decoder} → Bounded3 k s → (w : ℕ) (v : Vector) → v ≡ vector3 s w → Narrow v
 small3 b w v is = rw is (bounded-narrow3 w b)

@@ -10,9 +10,12 @@ ghost use Rattle.evt.specs.Range.{Bounded2, Bounded3};
 ghost use Rattle.sensor.specs.Inside.{clock};
 ghost use Rattle.decode.specs.Turn.{insideAll};
 use crate::glance;
+use crate::ones;
+use crate::quick;
 use crate::words;
 use evt::Decoder;
 use evt::Evt2Decoder;
+use evt::fields::bits;
 
 pub struct Evt2Survey {
     pub count: usize,
@@ -31,18 +34,24 @@ pub fn evt2(bytes: &[u8], d: Evt2Decoder, width: u64, height: u64) -> Evt2Survey
     ensures { λ r. ⌜ (r .count ≡ length (insideAll 4 reader2 width height d (now (bytes .entry)))) × (r .latest ≡ greatest clock (insideAll 4 reader2 width height d (now (bytes .entry)))) × (r .decoder ≡ after 4 reader2 d (now (bytes .entry))) ⌝ }
 {
     let mut s = d;
+    let mut limit = quick::limit(s.initialised, width);
     let mut n: usize = 0;
     let mut top: u64 = 0;
     let mut i: usize = 0;
+    let mut w = words::four_at(bytes, 0);
     while i + 3 < bytes.len() {
-        let w = words::four(bytes[i], bytes[i + 1], bytes[i + 2], bytes[i + 3]);
-        let step = s.advance(w);
-        let v = step.events;
-        s = step.next;
+        if quick::seen(w, limit, height) {
+            let t = s.time_high + bits(w, 22, 6);
+            s.time = t;
+            n += 1;
+            top = sensor::later(top, 1, t);
+        } else {
+            let step = s.advance(w);
+            s = step.next;
+            limit = quick::limit(s.initialised, width);
+        }
         i += 4;
-        let m = sensor::count1(v, width, height);
-        n += m;
-        top = sensor::later(top, m, v.t);
+        w = words::four_at(bytes, i);
     }
     Evt2Survey {
         count: n,
@@ -55,21 +64,25 @@ pub fn evt3(bytes: &[u8], d: Decoder, width: u64, height: u64) -> Evt3Survey
     requires { ⌜ Bounded3 (length (now bytes) / 2) d ⌝ }
     ensures { λ r. ⌜ (r .count ≡ length (insideAll 2 reader3 width height d (now (bytes .entry)))) × (r .latest ≡ greatest clock (insideAll 2 reader3 width height d (now (bytes .entry)))) × (r .decoder ≡ after 2 reader3 d (now (bytes .entry))) ⌝ }
 {
-    let mut s = d.widen();
+    let spans = glance::span_table();
+    let vects = glance::vect_table();
+    let table = ones::table();
+    let wide = ones::wide(width);
+    let mut s = glance::of(d.widen());
     let mut n: usize = 0;
     let mut top: u64 = 0;
     let mut i: usize = 0;
+    let mut w = words::two_at(bytes, 0);
     while i + 1 < bytes.len() {
-        let w = words::two(bytes[i], bytes[i + 1]);
-        let step = glance::glance(s, w);
-        let v = step.events;
-        s = words::clean(step.next);
-        i += 2;
-        let m = sensor::count(v, width, height);
+        let g = s.glance(w, &spans, &vects);
+        s = g.next;
+        let m = ones::count(g.x, s.y, g.mask, wide, height, &table);
         n += m;
-        top = sensor::later(top, m, v.t);
+        top = sensor::later(top, m, s.time);
+        i += 2;
+        w = words::two_at(bytes, i);
     }
-    let decoder = s.slim();
+    let decoder = s.wide().slim();
     Evt3Survey {
         count: n,
         latest: top,

@@ -1,90 +1,135 @@
-// An EVT3 step without branches, for counting only.
+// EVT3 for counting: a step by tables, without branches but for type 8.
 ghost use mathlib.Core.Path.{_≡_};
 ghost use mathlib.Core.Bool.{cond};
-ghost use Prim.Native.Nat.{_+_, _≤_, min};
+ghost use Prim.Native.Nat.{min};
 ghost use Rattle.evt.specs.Evt3.{Sane3, Slim, slimmed};
-ghost use Rattle.decode.specs.Glance.{Glanced, glanced};
+ghost use Rattle.decode.specs.Glance.{scanned, spanTable, vectTable, Glanced, glanced};
 use evt::evt3::WideDecoder;
-use evt::evt3::WideStep;
 use evt::fields::bits;
-use evt::vector::Vector;
 
-// `advance` for counting, of which only the decoder and the events matter: a word without events may
-// yield any vector that has none. Types other than 8 go without a branch.
-pub fn glance(d: WideDecoder, word: u64) -> WideStep
-    requires { ⌜ Sane3 d ⌝ ∗ ⌜ Slim d ⌝ }
-    ensures { λ r. ⌜ Glanced (slimmed d) word r ⌝ }
+// The decoder inside a counting loop. Its polarity is bit 11 of `mark`, the last word of type 3: a bool
+// of its own takes registers that the loop hasn't got.
+pub struct Scan {
+    pub initialised: bool,
+    pub time_base: u64,
+    pub time: u64,
+    pub y: u64,
+    pub base_x: u64,
+    pub mark: u64,
+    pub high_loops: u64,
+}
+
+// The decoder after a word, and the base column and mask of the word's events. Where there are any,
+// their row and time are the decoder's.
+pub struct Glance {
+    pub next: Scan,
+    pub x: u64,
+    pub mask: u64,
+}
+
+// By how many columns a word of each type moves the base, and which of its bits are events.
+const SPANS: [u64; 16] = [0, 0, 0, 0, 12, 8, 0, 0, 0, 0, 0, 0, 0, 0, 0, 0];
+
+const VECTS: [u64; 16] = [0, 0, 0, 0, 4095, 255, 0, 0, 0, 0, 0, 0, 0, 0, 0, 0];
+
+pub fn span_table() -> [u64; 16]
+    ensures { λ r. ⌜ r ≡ spanTable ⌝ }
 {
-    if d.initialised {
-        if bits(word, 12, 4) != 8 {
-            return chosen(d, word);
+    SPANS
+}
+
+pub fn vect_table() -> [u64; 16]
+    ensures { λ r. ⌜ r ≡ vectTable ⌝ }
+{
+    VECTS
+}
+
+pub fn of(d: WideDecoder) -> Scan
+    ensures { λ r. ⌜ scanned r ≡ d ⌝ }
+{
+    Scan {
+        initialised: d.initialised,
+        time_base: d.time_base,
+        time: d.time,
+        y: d.y,
+        base_x: d.base_x,
+        mark: choose(d.polarity, 2048, 0),
+        high_loops: d.high_loops,
+    }
+}
+
+impl Scan {
+    pub fn wide(self) -> WideDecoder
+        ensures { λ r. ⌜ r ≡ scanned self ⌝ }
+    {
+        let sign = bits(self.mark, 11, 1);
+        WideDecoder {
+            initialised: self.initialised,
+            time_base: self.time_base,
+            time: self.time,
+            y: self.y,
+            base_x: self.base_x,
+            polarity: sign == 1,
+            high_loops: self.high_loops,
         }
     }
-    d.advance(word)
-}
 
-// A word of another type than 8 to a started decoder.
-fn chosen(d: WideDecoder, word: u64) -> WideStep
-    requires { ⌜ Sane3 d ⌝ }
-    ensures { λ r. ⌜ r ≡ glanced d word ⌝ }
-{
-    let kind = bits(word, 12, 4);
-    let low = bits(word, 0, 12);
-    let x = bits(word, 0, 11);
-    let sign = bits(word, 11, 1);
-    let p = sign == 1;
-    let vect12 = kind == 4;
-    let vect8 = kind == 5;
-    let single = kind == 2;
-    let base = kind == 3;
-    let by8 = choose(vect8, 8, 0);
-    let by = choose(vect12, 12, by8);
-    let mask1 = choose(single, 1, 0);
-    let mask8 = choose(vect8, bits(word, 0, 8), mask1);
-    let mask = choose(vect12, low, mask8);
-    let moved = advanced(d.base_x, by);
-    let base_x = choose(base, x, moved);
-    let polarity = either(base, p, d.polarity);
-    let y = choose(kind == 0, x, d.y);
-    let time = choose(kind == 6, d.time_base + low, d.time);
-    let sel = choose(single, sign, d.polarity as u64);
-    let at = choose(single, x, d.base_x);
-    WideStep {
-        next: WideDecoder {
-            initialised: d.initialised,
-            time_base: d.time_base,
-            time,
-            y,
-            base_x,
-            polarity,
-            high_loops: d.high_loops,
-        },
-        events: Vector {
-            x: at,
-            y: d.y,
-            t: d.time,
-            p: sel,
-            mask,
-        },
+    // One word.
+    pub fn glance(self, word: u64, spans: &[u64; 16], vects: &[u64; 16]) -> Glance
+        requires { ⌜ Sane3 (scanned self) ⌝ ∗ ⌜ Slim (scanned self) ⌝ ∗ ⌜ now spans ≡ spanTable ⌝ ∗ ⌜ now vects ≡ vectTable ⌝ }
+        ensures { λ r. ⌜ Glanced (slimmed (scanned self)) word r ⌝ }
+    {
+        if self.initialised {
+            if bits(word, 12, 4) != 8 {
+                return self.chosen(word, spans, vects);
+            }
+        }
+        let step = self.wide().advance(word);
+        let next = step.next;
+        Glance {
+            next: of(next),
+            x: 0,
+            mask: 0,
+        }
+    }
+
+    // A word of another type than 8 to a started decoder.
+    fn chosen(self, word: u64, spans: &[u64; 16], vects: &[u64; 16]) -> Glance
+        requires { ⌜ Sane3 (scanned self) ⌝ ∗ ⌜ Slim (scanned self) ⌝ ∗ ⌜ now spans ≡ spanTable ⌝ ∗ ⌜ now vects ≡ vectTable ⌝ }
+        ensures { λ r. ⌜ r ≡ glanced self word ⌝ }
+    {
+        let kind = bits(word, 12, 4);
+        let x = bits(word, 0, 11);
+        let base = kind == 3;
+        let single = kind == 2;
+        let at = kind as usize;
+        let moved = held(self.base_x + spans[at]);
+        let several = word & vects[at];
+        Glance {
+            next: Scan {
+                initialised: self.initialised,
+                time_base: self.time_base,
+                time: choose(kind == 6, self.time_base + bits(word, 0, 12), self.time),
+                y: choose(kind == 0, x, self.y),
+                base_x: choose(base, x, moved),
+                mark: choose(base, word, self.mark),
+                high_loops: self.high_loops,
+            },
+            x: choose(single, x, self.base_x),
+            mask: choose(single, 1, several),
+        }
     }
 }
 
-// base + n, held at 65,535.
-fn advanced(base: u64, n: u64) -> u64
-    requires { ⌜ n ≤ 65535 ⌝ }
-    ensures { λ r. ⌜ r ≡ min (base + n) 65535 ⌝ }
+// A column, at most 65,535.
+fn held(x: u64) -> u64
+    ensures { λ r. ⌜ r ≡ min x 65535 ⌝ }
 {
-    if base <= 65535 - n { base + n } else { 65535 }
+    if x < 65535 { x } else { 65535 }
 }
 
 // One of two, without a branch.
 fn choose(t: bool, a: u64, b: u64) -> u64
-    ensures { λ r. ⌜ r ≡ cond t a b ⌝ }
-{
-    if t { a } else { b }
-}
-
-fn either(t: bool, a: bool, b: bool) -> bool
     ensures { λ r. ⌜ r ≡ cond t a b ⌝ }
 {
     if t { a } else { b }

@@ -1,75 +1,103 @@
--- `decode::count::evt2` meets its contract. The loop: `Counting`, of Turn.
-use Prim.Native.Nat.{_-_}
 use native.Mathlib.Omega.{arith}
+use mathlib.Core.Logic.{⊎-elim}
 use borrow.Author.Needs.{needs}
-use lib.ListN.{length}
 use denote.Ref.{now}
+use mathlib.Core.Path.{_≡_, sym, _∙_}
+use Prim.Native.Nat.{_+_, _-_}
+use lib.ListN.{length}
 use Rattle.evt.specs.Evt2.{reader2}
 use Rattle.evt.specs.Range.{Bounded2, bounded-step2, bounded-sane2}
-use Rattle.decode.specs.Turn.{Counting, counting-start, counting-few, counting-turn, counting-end}
-use Rattle.decode.specs.Loops.{start2, few2, turn2, small2}
+use Rattle.decode.specs.Turn.{Counting, counting-start, counting-end}
+use Rattle.decode.specs.Ahead.{ahead}
+use Rattle.decode.specs.Quick.{limitOf}
+use Rattle.decode.specs.Loops.{start2, few2, seen-few, seen-turn, unseen-turn}
 use Rattle.decode.proofs.count.evt2.Statement.{statement}
 use Rattle.decode.proofs.count.evt2.Tie as tie
+use Rattle.decode.proofs.count.evt2.Reads as reads
+use Rattle.decode.proofs.count.evt2.Lts as lts
+use Rattle.decode.proofs.quick.limit.Reads as limit-reads
+use Rattle.decode.proofs.quick.seen.Reads as seen-reads
+use Rattle.decode.proofs.words.four_at.Reads as four-at-reads
+use Rattle.evt.proofs.evt2.Evt2Decoder.advance.Reads as advance-reads
+use Rattle.evt.proofs.fields.bits.Reads as bits-reads
+use Rattle.sensor.proofs.later.Reads as later-reads
 
 abbrev Inv-loop : tie.InvT-loop
-Inv-loop bytes width height s₀ n₀ top₀ i₀ s n top i = Counting 4 reader2 Bounded2 width height s₀ bytes s n top i
+Inv-loop bytes width height s₀ limit₀ n₀ top₀ i₀ w₀ s limit n top i w = Counting 4 reader2 Bounded2 width height s₀ bytes s n top i × (limit ≡ limitOf (s .initialised) width) × (w ≡ ahead 4 bytes i)
 
 abbrev μ-loop : tie.MeasureT-loop
-μ-loop bytes width height s₀ n₀ top₀ i₀ s n top i = length bytes - i
+μ-loop bytes width height s₀ limit₀ n₀ top₀ i₀ w₀ s limit n top i w = length bytes - i
 
+-- src/count.rt:37:9
+limit-requires : tie.Need-limit-requires Inv-loop μ-loop
+limit-requires c κs = search needs
+
+-- src/count.rt:41:9
+four-at-requires : tie.Need-four-at-requires Inv-loop μ-loop
+four-at-requires c κs = search needs
+
+-- src/count.rt:42:5
 loop-holds : tie.Need-loop-holds Inv-loop μ-loop
-loop-holds c = counting-start (omega arith) bounded-step2 (start2 (now (c .before .args .bytes)) (c .before .pre))
+loop-holds c = (counting-start (omega arith) bounded-step2 (start2 (now (c .before .before .before .args .bytes)) (c .before .before .before .pre)), c .before .limit .ensures, c .four-at .ensures)
 
+-- src/count.rt:42:11
 add-loop : tie.Need-add-loop Inv-loop μ-loop
-add-loop c = omega (arith, c .loop .inv .stand .within, c .before .before .pre .loops)
+add-loop c = omega (arith, c .loop .inv .0 .stand .within, c .before .before .before .before .pre .loops)
 
-shared-slice-read-four : tie.Need-shared-slice-read-four Inv-loop μ-loop
-shared-slice-read-four c = omega arith
+-- src/count.rt:43:12
+seen-requires : tie.Need-seen-requires Inv-loop μ-loop
+seen-requires c κs = search needs
 
-add-four : tie.Need-add-four Inv-loop μ-loop
-add-four c = omega arith
+-- src/count.rt:44:35
+bits-requires : tie.Need-bits-requires Inv-loop μ-loop
+bits-requires c κs = search needs
 
-shared-slice-read-four-2 : tie.Need-shared-slice-read-four-2 Inv-loop μ-loop
-shared-slice-read-four-2 c = omega arith
+-- src/count.rt:44:21
+add-t : tie.Need-add-t Inv-loop μ-loop
+add-t c = omega (arith, bounded-sane2 (c .before .before .before .before .before .loop .inv .0 .stand .inv) .high, c .before .bits .ensures)
 
-add-four-2 : tie.Need-add-four-2 Inv-loop μ-loop
-add-four-2 c = omega arith
-
-shared-slice-read-four-3 : tie.Need-shared-slice-read-four-3 Inv-loop μ-loop
-shared-slice-read-four-3 c = omega arith
-
-add-four-3 : tie.Need-add-four-3 Inv-loop μ-loop
-add-four-3 c = omega arith
-
-shared-slice-read-four-4 : tie.Need-shared-slice-read-four-4 Inv-loop μ-loop
-shared-slice-read-four-4 c = omega arith
-
-four-requires : tie.Need-four-requires Inv-loop μ-loop
-four-requires c κs = search needs
-
-advance-requires : tie.Need-advance-requires Inv-loop μ-loop
-advance-requires c κs = bounded-sane2 (c .before .before .before .before .before .before .loop .inv .stand .inv)
-
-add-i : tie.Need-add-i Inv-loop μ-loop
-add-i c = omega (arith, c .before .before .before .before .before .before .before .before .before .loop .inv .stand .within, c .before .before .before .before .before .before .before .before .loop-test .taken, c .before .before .before .before .before .before .before .before .before .before .before .pre .loops)
-
-count1-requires : tie.Need-count1-requires Inv-loop μ-loop
-count1-requires c κs = let q = small2 (c .before .before .before .before .before .before .before .before .before .loop .inv .stand .inv) (c .before .before .before .four .result) (c .before .before .advance .result .events) (c .before .before .advance .ensures .1) in (q .1, q .0 .x<)
-
+-- src/count.rt:46:13
 add-n : tie.Need-add-n Inv-loop μ-loop
-add-n c = omega (arith, c .count1 .ensures, counting-few (omega arith) bounded-step2 (c .before .before .before .before .before .before .before .before .before .before .loop .inv) (turn2 (c .before .before .before .before .before .before .before .before .before .loop-test .taken) (c .before .before .before .before .four .result) (c .before .before .before .before .four .ensures) (c .before .before .before .advance .result) (c .before .before .before .advance .ensures)), few2 (c .before .before .before .before .before .before .before .before .before .before .before .before .args .width) (c .before .before .before .before .before .before .before .before .before .before .before .before .args .height) (c .before .before .before .before .before .before .before .before .before .before .before .before .args .d) (now (c .before .before .before .before .before .before .before .before .before .before .before .before .args .bytes)), c .before .before .before .before .before .before .before .before .before .before .before .before .pre .loops)
+add-n c = omega (arith, seen-few (c .before .before .before .before .before .loop .inv .0) (c .before .before .before .before .loop-test .taken) (c .before .before .before .before .before .loop .w) (c .before .before .before .before .before .loop .inv .2) (c .before .before .before .before .before .loop .limit) (c .before .before .before .before .before .loop .inv .1) (sym (c .before .before .before .seen .ensures) ∙ c .before .before .if1 .taken), few2 (c .before .before .before .before .before .before .before .before .before .args .width) (c .before .before .before .before .before .before .before .before .before .args .height) (c .before .before .before .before .before .before .before .before .before .args .d) (now (c .before .before .before .before .before .before .before .before .before .args .bytes)), c .before .before .before .before .before .before .before .before .before .pre .loops)
 
+-- src/count.rt:47:13
 later-requires : tie.Need-later-requires Inv-loop μ-loop
 later-requires c κs = search needs
 
+-- src/count.rt:49:17
+advance-requires : tie.Need-advance-requires Inv-loop μ-loop
+advance-requires c κs = bounded-sane2 (c .before .before .before .loop .inv .0 .stand .inv)
+
+-- src/count.rt:51:13
+limit-requires-2 : tie.Need-limit-requires-2 Inv-loop μ-loop
+limit-requires-2 c κs = search needs
+
+-- src/count.rt:53:9
+add-i : tie.Need-add-i Inv-loop μ-loop
+add-i c = omega (arith, c .before .before .loop-test .taken, c .before .before .before .loop .inv .0 .stand .within, c .before .before .before .before .before .before .before .pre .loops)
+
+-- src/count.rt:54:9
+four-at-requires-2 : tie.Need-four-at-requires-2 Inv-loop μ-loop
+four-at-requires-2 c κs = omega (arith, c .before .before .loop-test .taken, c .before .before .before .loop .inv .0 .stand .within, c .before .before .before .before .before .before .before .pre .loops)
+
+-- src/count.rt:42:5
 loop-less : tie.Need-loop-less Inv-loop μ-loop
-loop-less c = omega (arith, c .before .before .before .before .before .before .before .before .before .before .loop-test .taken)
+loop-less c = omega (arith, c .before .before .before .loop-test .taken)
 
+-- src/count.rt:42:5
 loop-again : tie.Need-loop-again Inv-loop μ-loop
-loop-again c = counting-turn (omega arith) bounded-step2 (c .before .before .before .before .before .before .before .before .before .before .before .loop .inv) (turn2 (c .before .before .before .before .before .before .before .before .before .before .loop-test .taken) (c .before .before .before .before .before .four .result) (c .before .before .before .before .before .four .ensures) (c .before .before .before .before .advance .result) (c .before .before .before .before .advance .ensures)) (c .before .count1 .result) (c .before .count1 .ensures) (c .later .result) (c .later .ensures)
+loop-again c =
+    let l = c .before .before .before .before .loop in
+    let h = c .before .before .before .loop-test .taken in
+    let e = sym (c .before .before .seen .ensures) in
+    ⊎-elim
+    (λ q. (rw (q .4, q .6, q .7) (seen-turn (l .inv .0) h (l .w) (l .inv .2) (l .limit) (l .inv .1) (e ∙ q .0 .taken) (l .s .«time_high» + q .1 .result) (rw (q .1 .ensures)) (q .3 .result) (q .3 .ensures)), rw (q .4, q .5) (l .inv .1), c .four-at2 .ensures))
+    (λ q. (rw (q .4, q .6, q .7) (unseen-turn (l .inv .0) h (l .w) (l .inv .2) (l .limit) (l .inv .1) (e ∙ q .0 .left) (q .1 .result .next) (q .1 .ensures .0)), rw (q .4, q .5) (q .3 .ensures), c .four-at2 .ensures))
+    (c .before .if1 .came)
 
+-- src/count.rt:32:1
 returns : tie.Need-returns Inv-loop μ-loop
-returns c = counting-end (omega arith) bounded-step2 (c .before .loop .inv) (omega (arith, c .loop-test .left))
+returns c = counting-end (omega arith) bounded-step2 (c .before .loop .inv .0) (omega (arith, c .loop-test .left))
 
 pub evt2-spec : {M : Type 1} → statement M
 evt2-spec =
@@ -77,21 +105,19 @@ evt2-spec =
     (tie.spec
     Inv-loop
     μ-loop
+    limit-requires
+    four-at-requires
     loop-holds
     add-loop
-    shared-slice-read-four
-    add-four
-    shared-slice-read-four-2
-    add-four-2
-    shared-slice-read-four-3
-    add-four-3
-    shared-slice-read-four-4
-    four-requires
-    advance-requires
-    add-i
-    count1-requires
+    seen-requires
+    bits-requires
+    add-t
     add-n
     later-requires
+    advance-requires
+    limit-requires-2
+    add-i
+    four-at-requires-2
     loop-less
     loop-again
     returns)

@@ -1,0 +1,14 @@
+use mathlib.Core.Path.{refl}
+use Rattle.decode.specs.Glance.{vectTable}
+use Rattle.decode.proofs.glance.vect_table.Statement.{statement}
+use Rattle.decode.proofs.glance.vect_table.Tie as tie
+use Rattle.decode.proofs.glance.vect_table.Reads as reads
+use Rattle.decode.proofs.glance.vect_table.Lts as lts
+
+-- src/glance.rt:41:1
+returns : tie.Need-returns
+unfolding vectTable
+returns c = refl
+
+pub vect-table-spec : {M : Type 1} → statement M
+vect-table-spec = tie.close (tie.spec returns)

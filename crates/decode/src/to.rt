@@ -1,0 +1,76 @@
+// Passing over words up to a number of events: a loop for each encoding.
+use crate::glance;
+use crate::ones;
+use crate::quick;
+use crate::words;
+use evt::Decoder;
+use evt::Evt2Decoder;
+use evt::fields::bits;
+
+pub struct Evt2Passed {
+    pub at: usize,
+    pub count: usize,
+    pub decoder: Evt2Decoder,
+}
+
+pub struct Evt3Passed {
+    pub at: usize,
+    pub count: usize,
+    pub decoder: Decoder,
+}
+
+pub fn evt2(bytes: &[u8], d: Evt2Decoder, width: u64, height: u64, most: usize) -> Evt2Passed
+{
+    let mut s = d;
+    let mut limit = quick::limit(s.initialised, width);
+    let mut n: usize = 0;
+    let mut i: usize = 0;
+    let mut w = words::four_at(bytes, 0);
+    while i + 3 < bytes.len() {
+        if quick::seen(w, limit, height) {
+            if most <= n {
+                break;
+            }
+            let t = s.time_high + bits(w, 22, 6);
+            s.time = t;
+            n += 1;
+        } else {
+            let step = s.advance(w);
+            s = step.next;
+            limit = quick::limit(s.initialised, width);
+        }
+        i += 4;
+        w = words::four_at(bytes, i);
+    }
+    Evt2Passed {
+        at: i,
+        count: n,
+        decoder: s,
+    }
+}
+
+pub fn evt3(bytes: &[u8], d: Decoder, width: u64, height: u64, most: usize) -> Evt3Passed
+{
+    let spans = glance::span_table();
+    let vects = glance::vect_table();
+    let table = ones::table();
+    let wide = ones::wide(width);
+    let mut s = glance::of(d.widen());
+    let mut n: usize = 0;
+    let mut i: usize = 0;
+    let mut w = words::two_at(bytes, 0);
+    while i + 1 < bytes.len() {
+        let g = s.glance(w, &spans, &vects);
+        let next = g.next;
+        let m = ones::count(g.x, next.y, g.mask, wide, height, &table);
+        if most - n < m {
+            break;
+        }
+        n += m;
+        s = next;
+        i += 2;
+        w = words::two_at(bytes, i);
+    }
+    let decoder = s.wide().slim();
+    Evt3Passed { at: i, count: n, decoder }
+}

@@ -19,7 +19,6 @@ pub mod fill;
 mod glance;
 mod ones;
 mod quick;
-pub mod to;
 mod words;
 
 // What filling leaves: how many events were written, and the decoder.
@@ -120,28 +119,6 @@ pub fn count_all(bytes: &[u8], codec: Codec, width: u64, height: u64) -> Survey
                 latest: s.latest,
                 codec: Codec::Evt3(decoder),
             }
-        }
-    }
-}
-
-pub struct Passed {
-    pub at: usize,
-    pub count: usize,
-    pub codec: Codec,
-}
-
-pub fn count_to(bytes: &[u8], codec: Codec, width: u64, height: u64, most: usize) -> Passed
-{
-    match codec {
-        Codec::Evt2(d) => {
-            let s = to::evt2(bytes, d, width, height, most);
-            let decoder = s.decoder;
-            Passed { at: s.at, count: s.count, codec: Codec::Evt2(decoder) }
-        }
-        Codec::Evt3(d) => {
-            let s = to::evt3(bytes, d, width, height, most);
-            let decoder = s.decoder;
-            Passed { at: s.at, count: s.count, codec: Codec::Evt3(decoder) }
         }
     }
 }

@@ -6,6 +6,7 @@ use case_text::columns::at_most;
 use case_text::show;
 use case_text::text;
 use prophesee_raw::AppendAnswer;
+use prophesee_raw::Decoder;
 use prophesee_raw::Encoding;
 use prophesee_raw::OpenAnswer;
 use prophesee_raw::RawEventSink;
@@ -48,9 +49,9 @@ fn slice_arrived(arrived: &[u8]) {
     }
 }
 
-// Of 16 bytes 13 arrive: six words, and half of the seventh. The broken word is written over: a
-// second writer, fresh, sends the time and the row again, and then the events that are missing. The
-// joined stream has all of them.
+// Of 16 bytes 13 arrive: six words, and half of the seventh, which is written over: a second writer,
+// fresh, sends the time and the row again, and then the events that are missing. The joined stream
+// has all of them.
 pub fn cut_and_resume() {
     let mut stream = [0; 32];
     write(0, &mut stream, 0);
@@ -58,7 +59,8 @@ pub fn cut_and_resume() {
     show::text(b"cut_and_resume, arrived: ");
     let n = reading::decode(arrived, Encoding::Evt3);
     slice_arrived(arrived);
-    let m = at_most(write(n, &mut stream, 12), 20);
+    let kept = 13 - 13 % Decoder::WORD_SIZE;
+    let m = at_most(write(n, &mut stream, kept), 20);
     show::text(b"cut_and_resume, joined: ");
-    reading::decode(text::part(&stream, 0, 12 + m), Encoding::Evt3);
+    reading::decode(text::part(&stream, 0, kept + m), Encoding::Evt3);
 }

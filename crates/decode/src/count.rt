@@ -13,6 +13,8 @@ use crate::glance;
 use crate::words;
 use evt::Decoder;
 use evt::Evt2Decoder;
+use evt::evt2::advance;
+use evt::evt3::widen;
 
 pub struct Evt2Survey {
     pub count: usize,
@@ -36,7 +38,7 @@ pub fn evt2(bytes: &[u8], d: Evt2Decoder, width: u64, height: u64) -> Evt2Survey
     let mut i: usize = 0;
     while i + 3 < bytes.len() {
         let w = words::four(bytes[i], bytes[i + 1], bytes[i + 2], bytes[i + 3]);
-        let step = s.advance(w);
+        let step = advance(s, w);
         let v = step.events;
         s = step.next;
         i += 4;
@@ -55,7 +57,7 @@ pub fn evt3(bytes: &[u8], d: Decoder, width: u64, height: u64) -> Evt3Survey
     requires { ⌜ Bounded3 (length (now bytes) / 2) d ⌝ }
     ensures { λ r. ⌜ (r .count ≡ length (insideAll 2 reader3 width height d (now (bytes .entry)))) × (r .latest ≡ greatest clock (insideAll 2 reader3 width height d (now (bytes .entry)))) × (r .decoder ≡ after 2 reader3 d (now (bytes .entry))) ⌝ }
 {
-    let mut s = d.widen();
+    let mut s = widen(d);
     let mut n: usize = 0;
     let mut top: u64 = 0;
     let mut i: usize = 0;

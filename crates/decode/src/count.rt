@@ -15,6 +15,8 @@ use crate::quick;
 use crate::words;
 use evt::Decoder;
 use evt::Evt2Decoder;
+use evt::evt2::advance;
+use evt::evt3::widen;
 use evt::fields::bits;
 
 pub struct Evt2Survey {
@@ -46,7 +48,7 @@ pub fn evt2(bytes: &[u8], d: Evt2Decoder, width: u64, height: u64) -> Evt2Survey
             n += 1;
             top = sensor::later(top, 1, t);
         } else {
-            let step = s.advance(w);
+            let step = advance(s, w);
             s = step.next;
             limit = quick::limit(s.initialised, width);
         }
@@ -68,7 +70,7 @@ pub fn evt3(bytes: &[u8], d: Decoder, width: u64, height: u64) -> Evt3Survey
     let vects = glance::vect_table();
     let table = ones::table();
     let wide = ones::wide(width);
-    let mut s = glance::of(d.widen());
+    let mut s = glance::of(widen(d));
     let mut n: usize = 0;
     let mut top: u64 = 0;
     let mut i: usize = 0;

@@ -11,6 +11,8 @@ ghost use Rattle.decode.specs.Turn.{Fits, insideAll};
 use crate::words;
 use evt::Decoder;
 use evt::Evt2Decoder;
+use evt::evt2::advance;
+use evt::evt3::widen;
 
 pub struct Evt2Tally {
     pub count: usize,
@@ -40,7 +42,7 @@ pub fn evt2(
     let mut i: usize = 0;
     while i + 3 < bytes.len() {
         let w = words::four(bytes[i], bytes[i + 1], bytes[i + 2], bytes[i + 3]);
-        let step = s.advance(w);
+        let step = advance(s, w);
         let v = step.events;
         s = step.next;
         i += 4;
@@ -65,7 +67,7 @@ pub fn evt3(
     requires { ⌜ Bounded3 (length (now bytes) / 2) d ⌝ ∗ ⌜ Fits (length (insideAll 2 reader3 width height d (now bytes))) (length (now xs)) (length (now ys)) (length (now ts)) (length (now ps)) ⌝ }
     ensures { λ r. ⌜ (r .count ≡ length (insideAll 2 reader3 width height d (now (bytes .entry)))) × (r .decoder ≡ after 2 reader3 d (now (bytes .entry))) ⌝ ∗ ⌜ Wrote (insideAll 2 reader3 width height d (now (bytes .entry))) 0 (now (xs .entry)) (now (ys .entry)) (now (ts .entry)) (now (ps .entry)) (now (xs .exit)) (now (ys .exit)) (now (ts .exit)) (now (ps .exit)) ⌝ }
 {
-    let mut s = d.widen();
+    let mut s = widen(d);
     let mut n: usize = 0;
     let mut i: usize = 0;
     while i + 1 < bytes.len() {

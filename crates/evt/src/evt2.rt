@@ -75,7 +75,7 @@ impl Evt2Decoder {
         ensures { λ r. ⌜ Decoded2 self word r ⌝ }
     {
         if self.in_range() {
-            let s = self.advance(word as u64);
+            let s = advance(self, word as u64);
             let next = s.next;
             let events = s.events;
             let v = vector::narrow(events);
@@ -90,48 +90,6 @@ impl Evt2Decoder {
         }
     }
 
-    // One word, for loops: they keep the decoder's numbers small enough that no sum wraps.
-    pub fn advance(self, word: u64) -> Evt2Step
-        requires { ⌜ Sane2 self ⌝ }
-        ensures { λ r. ⌜ (r .next ≡ step2 self word) × (r .events ≡ vector2 self word) ⌝ }
-    {
-        let kind = bits(word, 28, 4);
-        let mut d = self;
-        let mut v = vector::none();
-        match kind {
-            8 => {
-                let raw = bits(word, 0, 28) * 64;
-                let c = clock::after(
-                    Self::PERIOD,
-                    Self::THRESHOLD,
-                    d.time_high,
-                    d.high_loops,
-                    raw,
-                );
-                d.initialised = true;
-                d.time_high = c.coarse;
-                d.time = c.coarse;
-                d.high_loops = c.loops;
-            }
-            0 | 1 => {
-                if d.initialised {
-                    let t = d.time_high + bits(word, 22, 6);
-                    d.time = t;
-                    v = Vector {
-                        x: bits(word, 11, 11),
-                        y: bits(word, 0, 11),
-                        t,
-                        p: kind,
-                        mask: 1,
-                    };
-                }
-            }
-            2..=7 | 9..=15 => {}
-            _ => {}
-        }
-        Evt2Step { next: d, events: v }
-    }
-
     // One word, into a lent decoder. Out of range, it is refused and left as it was.
     pub fn decode(&mut self, word: u32) -> DecodeAnswer
         ensures { λ r. ⌜ Owed (inRange2 (now (self .entry))) (now (self .entry)) (step2 (now (self .entry)) word) (vector2 (now (self .entry)) word) (now (self .exit)) r ⌝ }
@@ -140,4 +98,47 @@ impl Evt2Decoder {
         *self = s.next;
         s.answer
     }
+}
+
+// One word, for loops: they keep the decoder's numbers small enough that no sum wraps. It is no
+// method, since nothing that `prophesee_raw` passes on has a `requires`.
+pub fn advance(decoder: Evt2Decoder, word: u64) -> Evt2Step
+    requires { ⌜ Sane2 decoder ⌝ }
+    ensures { λ r. ⌜ (r .next ≡ step2 decoder word) × (r .events ≡ vector2 decoder word) ⌝ }
+{
+    let kind = bits(word, 28, 4);
+    let mut d = decoder;
+    let mut v = vector::none();
+    match kind {
+        8 => {
+            let raw = bits(word, 0, 28) * 64;
+            let c = clock::after(
+                Evt2Decoder::PERIOD,
+                Evt2Decoder::THRESHOLD,
+                d.time_high,
+                d.high_loops,
+                raw,
+            );
+            d.initialised = true;
+            d.time_high = c.coarse;
+            d.time = c.coarse;
+            d.high_loops = c.loops;
+        }
+        0 | 1 => {
+            if d.initialised {
+                let t = d.time_high + bits(word, 22, 6);
+                d.time = t;
+                v = Vector {
+                    x: bits(word, 11, 11),
+                    y: bits(word, 0, 11),
+                    t,
+                    p: kind,
+                    mask: 1,
+                };
+            }
+        }
+        2..=7 | 9..=15 => {}
+        _ => {}
+    }
+    Evt2Step { next: d, events: v }
 }

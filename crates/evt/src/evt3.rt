@@ -112,7 +112,7 @@ impl Decoder {
         ensures { λ r. ⌜ Decoded3 self word r ⌝ }
     {
         if self.in_range() {
-            let s = self.widen().advance(word as u64);
+            let s = widen(self).advance(word as u64);
             let wide = s.next;
             let next = wide.slim();
             let events = s.events;
@@ -128,20 +128,6 @@ impl Decoder {
         }
     }
 
-    pub fn widen(self) -> WideDecoder
-        ensures { λ r. ⌜ (r ≡ widened self) × Slim (widened self) ⌝ }
-    {
-        WideDecoder {
-            initialised: self.initialised,
-            time_base: self.time_base,
-            time: self.time,
-            y: self.y as u64,
-            base_x: self.base_x as u64,
-            polarity: self.polarity,
-            high_loops: self.high_loops,
-        }
-    }
-
     // One word, into a lent decoder. Out of range, it is refused and left as it was.
     pub fn decode(&mut self, word: u16) -> DecodeAnswer
         ensures { λ r. ⌜ Owed (inRange3 (now (self .entry))) (now (self .entry)) (step3 (now (self .entry)) word) (vector3 (now (self .entry)) word) (now (self .exit)) r ⌝ }
@@ -149,6 +135,21 @@ impl Decoder {
         let s = (*self).step(word);
         *self = s.next;
         s.answer
+    }
+}
+
+// The decoder for loops. It is no method, since `prophesee_raw` passes on none of `WideDecoder`.
+pub fn widen(d: Decoder) -> WideDecoder
+    ensures { λ r. ⌜ (r ≡ widened d) × Slim (widened d) ⌝ }
+{
+    WideDecoder {
+        initialised: d.initialised,
+        time_base: d.time_base,
+        time: d.time,
+        y: d.y as u64,
+        base_x: d.base_x as u64,
+        polarity: d.polarity,
+        high_loops: d.high_loops,
     }
 }
 

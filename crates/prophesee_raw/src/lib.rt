@@ -15,8 +15,8 @@
 // `RawSliceSource` and how many records it made. `open_words` does so for words without a header.
 // `slice_index` hands over the events from number i0 to before i1, `slice_time` those with
 // t0 <= t < t1, by the source and the records that were made, `&records[..n]`; both decode from a
-// checkpoint on. In Rattle a caller that lends records is proved by hand. The module `fixed` has the
-// same four calls over an array of 64 records by value, which ask for no proof. Example:
+// checkpoint on. In Rattle a caller that lends records is proved by hand; the module `fixed` has the
+// same four calls over an array of 64 records by value, whose callers aren't. Example:
 // `slice_recording`.
 //
 // Writing. `RawEventSink::to_writer` is a fresh writer, which sends a header before its first words or
@@ -26,12 +26,13 @@
 //
 // Cutting and resuming. A stream without a header may break off at any byte. Read what has arrived as
 // it is: a broken last word is ignored, and exactly the events whose word is whole are there, with the
-// numbers that they have in the whole stream. Make an index from just the bytes that have arrived; an
-// index of other bytes doesn't belong to them. To go on, keep the whole words (what remains over
-// `WORD_SIZE` of the decoder goes), and let a second writer append the events that are missing, from
-// the number on that reading told. It is a fresh one, since the first one counts on words that didn't
-// arrive. The joined stream reads as all events, and its slices are exact. That is proved for every
-// list of appends and every cut (crates/handover/specs/Handover.antt). Example: `cut_and_resume`.
+// numbers that they have in the whole stream. Make an index from just the bytes that have arrived; one
+// of other bytes isn't theirs. To go on, drop the broken word, the bytes past a multiple of the
+// decoder's `WORD_SIZE`, and behind the others let a second writer append the events that are missing,
+// from the number on that reading told. It is a fresh one: the first has sent a time and a row that may
+// not have arrived. The joined stream reads as all events, and its slices are exact. That is proved
+// for every list of appends and every cut (crates/handover/specs/Handover.antt). Example:
+// `cut_and_resume`.
 //
 // Single words. `Evt2Decoder`, `Decoder` (EVT3) and `Codec` (either) step over one word, by value
 // (`step`) or lent (`decode`), and `EventVector::next` takes out the word's events one by one.
@@ -39,12 +40,12 @@
 //
 // Refusals. An answer is what was asked for or `Refused`, with the reason; `refusal_number` has its
 // number: 1 an invalid size (a side of 0, or none known and no event), 2 no known encoding, 3 a header
-// byte above 127, 4 too long (2^30 bytes, 2^28 events in an append), 5 columns too short, 6 times out
-// of order, 7 an event out of range, 8 an invalid spacing, 9 too few records, 10 a state out of range,
-// 11 an output too short, 12 columns of different lengths. 5, 9 and 11 tell how many places, records
-// or bytes are needed: lend as many, and call again. A refused call alters no buffer, and returns the
-// writer or the decoder as it was. An accepted one alters nothing behind what it hands over. Examples:
-// `no_encoding`, `columns_too_short`, `records_too_few`, `output_too_short`, `times_fall`.
+// byte above 127, 4 too long (over 2^30 bytes, or over 2^28 events in an append), 5 columns too short,
+// 6 times out of order, 7 an event out of range, 8 an invalid spacing, 9 too few records, 10 a state out
+// of range, 11 an output too short, 12 columns of different lengths. 5, 9 and 11 tell how many places,
+// records or bytes are needed: lend as many, and call again. A refused call alters no buffer, and
+// returns the writer or the decoder as it was. An accepted one alters nothing behind what it hands over.
+// Examples: `no_encoding`, `columns_too_short`, `records_too_few`, `output_too_short`, `times_fall`.
 ghost use mathlib.Core.Path.{_≡_};
 ghost use Rattle.evt.specs.Told.{told};
 pub use encode::EncoderState;

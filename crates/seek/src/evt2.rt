@@ -11,6 +11,7 @@ use crate::Sought;
 use crate::strays;
 use evt::Codec;
 use evt::Evt2Decoder;
+use evt::evt2::advance;
 use evt::fields::bits;
 
 fn word4(a: u8, b: u8, c: u8, d: u8) -> u64
@@ -28,7 +29,7 @@ pub fn span2(bytes: &[u8], d: Evt2Decoder, t0: u64, t1: u64) -> Sought
     let mut i: usize = 0;
     while i + 3 < bytes.len() {
         let w = word4(bytes[i], bytes[i + 1], bytes[i + 2], bytes[i + 3]);
-        let step = s.advance(w);
+        let step = advance(s, w);
         let next = step.next;
         if t1 <= next.time {
             break;
@@ -65,7 +66,7 @@ pub fn skip2(bytes: &[u8], d: Evt2Decoder, t: u64) -> Marked
         i += 4;
         let kind = bits(w, 28, 4);
         if kind == 8 {
-            let step = s.advance(w);
+            let step = advance(s, w);
             let next = step.next;
             if t <= next.time {
                 break;

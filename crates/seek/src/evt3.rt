@@ -20,6 +20,7 @@ use crate::times;
 use crate::times::Times;
 use evt::Codec;
 use evt::Decoder;
+use evt::evt3::widen;
 use evt::fields::bits;
 
 // Behind the words that were passed over.
@@ -61,7 +62,7 @@ fn walk(bytes: &[u8], d: Decoder, t0: u64, t1: u64) -> Sought
     requires { ⌜ Bounded3 (length (now bytes) / 2) d ⌝ ∗ ⌜ length (now bytes) ≤ 2 ^ 30 ⌝ }
     ensures { λ r. ⌜ (r ≡ soughtOf t0 t1 (Evt3 d) (now (bytes .entry))) × Bounded (length (drop (r .at) (now (bytes .entry)))) (r .codec) ⌝ }
 {
-    let mut s = d.widen();
+    let mut s = widen(d);
     let mut stray = false;
     let mut i: usize = 0;
     while i + 1 < bytes.len() {

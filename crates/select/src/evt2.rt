@@ -9,6 +9,7 @@ use crate::Filled;
 use crate::Tally;
 use evt::Codec;
 use evt::Evt2Decoder;
+use evt::evt2::advance;
 use evt::vector::Vector;
 use window::Window;
 use window::extent;
@@ -37,7 +38,7 @@ pub fn survey2(bytes: &[u8], d: Evt2Decoder, win: Window, number: u64) -> Tally
     let mut i: usize = 0;
     while i + 3 < bytes.len() {
         let w = word4(bytes[i], bytes[i + 1], bytes[i + 2], bytes[i + 3]);
-        let step = s.advance(w);
+        let step = advance(s, w);
         let v = step.events;
         s = step.next;
         i += 4;
@@ -90,7 +91,7 @@ pub fn fill2(
     let mut i: usize = 0;
     while i + 3 < bytes.len() {
         let w = word4(bytes[i], bytes[i + 1], bytes[i + 2], bytes[i + 3]);
-        let step = s.advance(w);
+        let step = advance(s, w);
         let v = step.events;
         s = step.next;
         i += 4;

@@ -9,6 +9,7 @@ use crate::Filled;
 use crate::Tally;
 use evt::Codec;
 use evt::Decoder;
+use evt::evt3::widen;
 use evt::vector::Vector;
 use window::Window;
 use window::extent;
@@ -26,7 +27,7 @@ pub fn survey3(bytes: &[u8], d: Decoder, win: Window, number: u64) -> Tally
     requires { ⌜ Ready (Evt3 d) number (length (now bytes)) ⌝ }
     ensures { λ r. ⌜ r ≡ surveyed win number (Evt3 d) (now (bytes .entry)) ⌝ }
 {
-    let mut s = d.widen();
+    let mut s = widen(d);
     let mut k = number;
     let mut n: usize = 0;
     let mut seen = Extent {
@@ -85,7 +86,7 @@ pub fn fill3(
     requires { ⌜ Ready (Evt3 d) number (length (now bytes)) ⌝ ∗ ⌜ Fits (length (handedOver win number (Evt3 d) (now bytes))) (length (now xs)) (length (now ys)) (length (now ts)) (length (now ps)) ⌝ }
     ensures { λ r. ⌜ r ≡ filled win number (Evt3 d) (now (bytes .entry)) ⌝ ∗ ⌜ Wrote (handedOver win number (Evt3 d) (now (bytes .entry))) 0 (now (xs .entry)) (now (ys .entry)) (now (ts .entry)) (now (ps .entry)) (now (xs .exit)) (now (ys .exit)) (now (ts .exit)) (now (ps .exit)) ⌝ }
 {
-    let mut s = d.widen();
+    let mut s = widen(d);
     let mut k = number;
     let mut n: usize = 0;
     let mut i: usize = 0;

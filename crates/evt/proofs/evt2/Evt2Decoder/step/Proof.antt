@@ -8,7 +8,7 @@ use Rattle.evt.proofs.evt2.Evt2Decoder.step.Statement.{statement}
 use Rattle.evt.proofs.evt2.Evt2Decoder.step.Tie as tie
 use Rattle.evt.proofs.evt2.Evt2Decoder.step.Reads as reads
 use Rattle.evt.proofs.evt2.Evt2Decoder.step.Lts as lts
-use Rattle.evt.proofs.evt2.Evt2Decoder.advance.Reads as advance-reads
+use Rattle.evt.proofs.evt2.advance.Reads as advance-reads
 use Rattle.evt.proofs.evt2.Evt2Decoder.in_range.Reads as in-range-reads
 use Rattle.evt.proofs.vector.narrow.Reads as narrow-reads
 

@@ -11,7 +11,7 @@ use Rattle.evt.proofs.evt3.Decoder.step.Tie as tie
 use Rattle.evt.proofs.evt3.Decoder.step.Reads as reads
 use Rattle.evt.proofs.evt3.Decoder.step.Lts as lts
 use Rattle.evt.proofs.evt3.Decoder.in_range.Reads as in-range-reads
-use Rattle.evt.proofs.evt3.Decoder.widen.Reads as widen-reads
+use Rattle.evt.proofs.evt3.widen.Reads as widen-reads
 use Rattle.evt.proofs.evt3.WideDecoder.advance.Reads as advance-reads
 use Rattle.evt.proofs.evt3.WideDecoder.slim.Reads as slim-reads
 use Rattle.evt.proofs.vector.narrow.Reads as narrow-reads

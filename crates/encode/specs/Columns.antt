@@ -1,5 +1,6 @@
 -- Four columns as a list of events.
 use mathlib.Core.Path.{_≡_, refl, sym, ap, _∙_}
+use mathlib.Core.Bool.{true}
 use mathlib.Core.List.{List, [], _∷_, map}
 use Prim.Native.Nat.{ℕ, zero, suc, _+_, _^_, _≤_, _<_}
 use native.Mathlib.Omega.{arith}
@@ -7,7 +8,7 @@ use native.Mathlib.Numerals.{add-one}
 use lib.ListN.{length, getD, drop, length-drop, drop-of-length-le, length-map}
 use lib.Seq.{drop-cons, drop-drop}
 use lib.IntN.{ℤ, pos, negsuc}
-use lib.Signed.{mag}
+use lib.Signed.{mag, nonNeg}
 use Rattle.evt.specs.Event.{Event}
 use Rattle.evt.specs.Columns.{colX}
 
@@ -33,6 +34,10 @@ pub record Sized (xs ys : List ℕ) (ts : List ℤ) (ps : List ℕ) : Type 0 whe
   pub same-y : length ys ≡ length xs
   pub same-t : length ts ≡ length xs
   pub same-p : length ps ≡ length xs
+
+-- no time is negative
+abbrev pub Whole : List ℤ → Type 0
+Whole ts = (i : ℕ) → nonNeg (getD ts i (pos 0)) ≡ true
 
 -- ---- laws
 

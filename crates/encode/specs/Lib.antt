@@ -9,5 +9,6 @@ pub mod Storing
 pub mod Pass2
 pub mod Parts
 pub mod Loops
+pub mod Marks
 pub mod Pass3
 pub mod Laws

@@ -5,19 +5,18 @@ use mathlib.Core.List.{List, [], _∷_, _++_, map}
 use Prim.Native.Nat.{ℕ, zero, suc, _+_, _-_, _*_, _/_, _%_, _^_, _≤_, _<_}
 use native.Mathlib.Omega.{arith}
 use native.Mathlib.Nat.{pow-le-pow-right}
-use lib.ListN.{length, getD, take, drop}
-use lib.Seq.{sets}
-use lib.IntN.{ℤ}
-use Rattle.stream.specs.Words.{stream, bytes}
-use Rattle.evt.specs.Event.{Event}
+use lib.ListN.{length, getD, take, drop, length-drop}
+use lib.Seq.{sets, take-suc, getD-drop}
+use lib.Dec.{eqb}
+use borrow.Author.Tests.{eqb-true, eqb-false}
+use Rattle.stream.specs.Columns.{sets-append, map-append}
+use Rattle.stream.specs.Words.{stream, bytes, stream-append}
 use Rattle.stream.specs.Mask.{mask}
-use Rattle.encode.specs.Columns.{Sized, eventOf, eventsPast, events-at, events-end}
-use Rattle.encode.specs.Storing.{Storing, storing-start, storing-turn, storing-end}
+use Rattle.encode.specs.Storing.{Roomy, sets-over, Storing, storing-start, storing-turn, storing-room, storing-end}
 use Rattle.encode.specs.declared.evt3.Window.{Window}
-use Rattle.encode.specs.Runs.{goes, follow}
 use Rattle.evt.specs.Layout.{word3}
 use Rattle.encode.specs.Evt3.{singleWord3, maskWord3, nearby, beyond}
-use Rattle.encode.specs.Parts.{Part, Windowed, maskWords, between, between-at, between-end, nearby-in, nearby-out, beyond-in, beyond-out}
+use Rattle.encode.specs.Parts.{Part, Windowed, maskWords, between, between-at, between-end, singles-length, nearby-in, nearby-out, beyond-in, beyond-out}
 
 -- ---- a word for each event
 
@@ -40,8 +39,50 @@ module _ {p : ℕ} {xs : List ℕ} {i e : ℕ} {out₀ : List ℕ} {at : ℕ} (p
       storing = storing-turn (bytes 2 (singleWord3 p (getD xs j 0))) (stream 2 (map (singleWord3 p) (between xs (j + 1) e))) (rw (between-at xs j e h (part .high))) o (s .storing);
     }
 
+    pub single-room : j < e → Roomy out₀ at (length (stream 2 (map (singleWord3 p) (between xs i e)))) → Roomy out a 2
+    single-room h r = storing-room (bytes 2 (singleWord3 p (getD xs j 0))) (stream 2 (map (singleWord3 p) (between xs (j + 1) e))) (rw (between-at xs j e h (part .high))) (s .storing) r
+
     pub single-end : e ≤ j → (a ≡ at + length (stream 2 (map (singleWord3 p) (between xs i e)))) × (out ≡ sets out₀ at (stream 2 (map (singleWord3 p) (between xs i e))))
     single-end h = storing-end (rw (between-end xs j e h) at (s .storing))
+
+-- ---- a word for each of a few events, the last one again and again
+
+module _ (p : ℕ) (xs : List ℕ) (i : ℕ) (out₀ : List ℕ) (at : ℕ) where
+  -- the words of n events are stored
+  abbrev pub Shorts : (n : ℕ) (out : List ℕ) → Type 0
+  Shorts n out = out ≡ sets out₀ at (stream 2 (map (singleWord3 p) (between xs i (i + n))))
+
+  abbrev wordAt : ℕ → List ℕ
+  wordAt m = bytes 2 (singleWord3 p (getD xs (i + m) 0))
+
+  -- those of one more
+  shorts-more : (m : ℕ) → i + m < length xs → stream 2 (map (singleWord3 p) (between xs i (i + (m + 1)))) ≡ stream 2 (map (singleWord3 p) (between xs i (i + m))) ++ wordAt m
+  shorts-more m h =
+      let one : i + (m + 1) - i ≡ suc m = omega arith in
+      let none : i + m - i ≡ m = omega arith in
+      let cut : take (suc m) (drop i xs) ≡ take m (drop i xs) ++ (getD xs (i + m) 0 ∷ []) = take-suc (drop i xs) m 0 (rw length-drop (omega arith)) ∙ rw (getD-drop i xs m 0) in
+      rw (one, none, cut, map-append, stream-append)
+
+  pub shorts-start : i < length xs → {out : List ℕ} → out ≡ sets out₀ (at + 2 * 0) (wordAt 0) → Shorts 1 out
+  shorts-start h o = o ∙ rw (shorts-more 0 (omega arith)) (let z : i + 0 - i ≡ 0 = omega arith in let a : at + 2 * 0 ≡ at = omega arith in rw (z, a))
+
+  pub shorts-put : (n m : ℕ) {out out′ : List ℕ} → Shorts n out → n ≤ m + 1 → m ≤ n → i + m < length xs → out′ ≡ sets out (at + 2 * m) (wordAt m) → Shorts (m + 1) out′
+  shorts-put n m {out} {out′} s h k l o = go (eqb m n) refl
+    where
+      before : List ℕ
+      before = sets out₀ at (stream 2 (map (singleWord3 p) (between xs i (i + m))))
+
+      stored : sets out₀ at (stream 2 (map (singleWord3 p) (between xs i (i + (m + 1))))) ≡ sets before (at + 2 * m) (wordAt m)
+      stored =
+          let n : length (stream 2 (map (singleWord3 p) (between xs i (i + m)))) ≡ 2 * m = singles-length p xs i (i + m) (omega arith) (omega arith) ∙ omega arith in
+          rw (shorts-more m l) (sets-append out₀ at (stream 2 (map (singleWord3 p) (between xs i (i + m)))) (wordAt m) ∙ rw n)
+
+      go : (b : Bool) → eqb m n ≡ b → Shorts (m + 1) out′
+      go true q = o ∙ rw (s, ← eqb-true m n q) (sym stored)
+      go false q =
+          let ne = eqb-false m n q in
+          let e : n ≡ m + 1 = omega arith in
+          o ∙ rw (s, e, stored) (sets-over before (at + 2 * m) (wordAt m) (wordAt m) (omega arith))
 
 -- ---- one window
 
@@ -117,37 +158,13 @@ module _ {xs : List ℕ} {i e b₀ k : ℕ} {out₀ : List ℕ} {at : ℕ} (part
               (ap (stream 2) first ∙ rw (wd .is-rest)) (o ∙ rw (wd .is-mask)) (s .storing);
         }
 
+    pub masking-room : 0 < left → Roomy out₀ at (length (stream 2 (maskWords k b₀ (between xs i e)))) → Roomy out a 2
+    unfolding maskWords
+    masking-room h r =
+        let n : left ≡ suc (left - 1) = omega arith in
+        let here = between xs c e in
+        storing-room (bytes 2 (maskWord3 b (nearby (b + 12) here))) (stream 2 (maskWords (left - 1) (b + 12) (beyond (b + 12) here))) (ap (λ (l : ℕ). stream 2 (maskWords l b here)) n) (s .storing) r
+
     pub masking-end : left ≤ 0 → (a ≡ at + length (stream 2 (maskWords k b₀ (between xs i e)))) × (out ≡ sets out₀ at (stream 2 (maskWords k b₀ (between xs i e))))
     unfolding maskWords
     masking-end h = let n : left ≡ 0 = omega arith in storing-end (rw n at (s .storing))
-
--- ---- the end of a run
-
-module _ (xs ys : List ℕ) (ts : List ℤ) (ps : List ℕ) where
-  -- how many events go on the run that starts at i
-  abbrev pub goOn : ℕ → ℕ
-  goOn i = let a = eventOf xs ys ts ps i in follow (a .t) (a .y) (a .p) (a .x) (eventsPast xs ys ts ps (i + 1))
-
-  pub record Tracking (i t y p last j : ℕ) : Type 0 where
-    pub above : i < j
-    pub below : j ≤ length xs
-    pub counts : j + follow t y p last (eventsPast xs ys ts ps j) ≡ i + 1 + goOn i
-
-  module _ (sized : Sized xs ys ts ps) {i t y p last j : ℕ} (s : Tracking i t y p last j) where
-    pub tracking-turn : j < length xs → goes t y p last (eventOf xs ys ts ps j) ≡ true → Tracking i t y p (getD xs j 0) (j + 1)
-    unfolding follow
-    tracking-turn h g =
-        let e : follow t y p last (eventsPast xs ys ts ps j) ≡ suc (follow t y p (getD xs j 0) (eventsPast xs ys ts ps (j + 1))) = rw (events-at xs ys ts ps sized j h, g) in
-        record { above = omega (arith, s .above); below = omega arith; counts = omega (arith, s .counts, e) }
-
-    pub tracking-out : j < length xs → goes t y p last (eventOf xs ys ts ps j) ≡ false → j ≡ i + 1 + goOn i
-    unfolding follow
-    tracking-out h g =
-        let e : follow t y p last (eventsPast xs ys ts ps j) ≡ 0 = rw (events-at xs ys ts ps sized j h, g) in
-        omega (arith, s .counts, e)
-
-    pub tracking-end : length xs ≤ j → j ≡ i + 1 + goOn i
-    unfolding follow
-    tracking-end h =
-        let e : follow t y p last (eventsPast xs ys ts ps j) ≡ 0 = rw (events-end xs ys ts ps sized j h) in
-        omega (arith, s .counts, e)

@@ -1,16 +1,17 @@
 -- EVT3: the bytes of a run's words, part by part.
 use mathlib.Core.Path.{_≡_, refl, sym, ap, _∙_}
 use mathlib.Core.Bool.{Bool, true, false, cond, _&&_}
-use mathlib.Core.List.{List, [], _∷_, _++_, map}
+use mathlib.Core.List.{List, [], _∷_, _++_, map, append-assoc}
 use Prim.Native.Nat.{ℕ, zero, suc, _+_, _-_, _*_, _/_, _%_, _^_, _≤_, _<_}
 use native.Mathlib.Omega.{arith}
 use native.Mathlib.Nat.{add-zero}
 use native.Mathlib.Numerals.{add-one}
 use lib.Dec.{eqb, ltb}
-use borrow.Author.Tests.{lt-ltb, le-ltb, ltb-true}
+use borrow.Author.Tests.{lt-ltb, le-ltb, ltb-true, ltb-false}
 use lib.ListN.{length, getD, take, drop, length-append, length-map, length-take, length-drop}
-use lib.Seq.{drop-cons, getD-take, getD-drop}
+use lib.Seq.{sets, drop-cons, getD-take, getD-drop}
 use Rattle.stream.specs.Machine.{run, words, words-append, and-both}
+use Rattle.stream.specs.Columns.{sets-append}
 use Rattle.stream.specs.Words.{stream, bytes, stream-append, length-stream}
 use Rattle.stream.specs.Mask.{mask}
 use Rattle.evt.specs.Event.{Event}
@@ -21,7 +22,7 @@ use Rattle.encode.specs.declared.evt3.Window.{Window}
 use Rattle.encode.specs.Sent.{due, held, held-is}
 use Rattle.encode.specs.Runs.{Run, runs, firstX, lastX}
 use Rattle.encode.specs.Evt3.{highWord3, lowWord3, rowWord3, lowHeld, highSent3, lowSent3, rowSent3, leads3, singleWord3, baseWord3, maskWord3, nearby, beyond, windows, vectored, singles, masks, vectors, body3, encode3, encoded3, writer3}
-use Rattle.encode.specs.Storing.{piece, bytesFrom}
+use Rattle.encode.specs.Storing.{sets-over, piece, bytesFrom}
 
 abbrev pub bytes3 : EncoderState → Run → List ℕ
 bytes3 = piece 2 writer3
@@ -89,7 +90,7 @@ unfolding leads3
 lead-parts v t y =
     rw (words-append (due (highSent3 v t) (highWord3 t)), words-append (due (lowSent3 v t) (lowWord3 t)), stream-append 2 (words (due (highSent3 v t) (highWord3 t))), stream-append 2 (words (due (lowSent3 v t) (lowWord3 t))))
 
-due-few : (b : Bool) (w : ℕ) → length (dueBytes b w) ≤ 2
+pub due-few : (b : Bool) (w : ℕ) → length (dueBytes b w) ≤ 2
 due-few true w = omega arith
 due-few false w = omega arith
 
@@ -113,6 +114,49 @@ leads-held v high low row t y t< y< h l r =
     let e : rowWord3 y ≡ y % 2048 = omega arith in
     sym (lead-parts v t y ∙ rw (lo, hi, ro, e))
 
+-- the three words stored one after the other, each in the place of the one before where that isn't due: what is stored next, a word at the least, goes after those that are due
+pub record Leads (high low row t y at : ℕ) (out₀ : List ℕ) (r : ℕ) (out : List ℕ) : Type 0 where
+  pub place : r ≡ at + length (leadsBytes high low row t y)
+  pub next : (l : List ℕ) → 2 ≤ length l → sets out r l ≡ sets out₀ at (leadsBytes high low row t y ++ l)
+
+pub due-is : (b : Bool) (w at : ℕ) → cond b at (at + 2) ≡ at + length (dueBytes b w)
+due-is true w at = omega arith
+due-is false w at = refl
+
+due-next : (b : Bool) (w : ℕ) (out : List ℕ) (at : ℕ) {o : List ℕ} {r : ℕ} → r ≡ at + length (dueBytes b w) → o ≡ sets out at (bytes 2 w) → (l : List ℕ) → 2 ≤ length l → sets o r l ≡ sets out at (dueBytes b w ++ l)
+due-next true w out at e o l h = let z : at + 0 ≡ at = add-zero at in rw (e, o, z) (sets-over out at (bytes 2 w) l h)
+due-next false w out at e o l h = rw (e, o) (sym (sets-append out at (bytes 2 w) l))
+
+module _ (high low row t y : ℕ) where
+  abbrev isHigh : Bool
+  isHigh = eqb high (t / 4096)
+
+  abbrev isLow : Bool
+  isLow = eqb (cond isHigh low 0) (t % 4096)
+
+  abbrev isRow : Bool
+  isRow = eqb row y
+
+  pub leads-length : length (leadsBytes high low row t y) ≡ length (dueBytes isHigh (highWord3 t)) + (length (dueBytes isLow (lowWord3 t)) + length (dueBytes isRow (y % 2048)))
+  leads-length = length-append (dueBytes isHigh (highWord3 t)) (dueBytes isLow (lowWord3 t) ++ dueBytes isRow (y % 2048)) ∙ rw (length-append (dueBytes isLow (lowWord3 t)))
+
+  pub leads-stored : (out : List ℕ) (at : ℕ) {o₁ o₂ o₃ : List ℕ} {a b c : ℕ}
+      → a ≡ at + length (dueBytes isHigh (highWord3 t)) → o₁ ≡ sets out at (bytes 2 (highWord3 t))
+      → b ≡ a + length (dueBytes isLow (lowWord3 t)) → o₂ ≡ sets o₁ a (bytes 2 (lowWord3 t))
+      → c ≡ b + length (dueBytes isRow (y % 2048)) → o₃ ≡ sets o₂ b (bytes 2 (y % 2048))
+      → Leads high low row t y at out c o₃
+  leads-stored out at {o₁} {o₂} {o₃} {a} {b} ea oa eb ob ec oc = record {
+    place = omega (arith, leads-length);
+    next = λ l h.
+        let hi = dueBytes isHigh (highWord3 t) in
+        let lo = dueBytes isLow (lowWord3 t) in
+        let ro = dueBytes isRow (y % 2048) in
+        due-next isRow (y % 2048) o₂ b ec oc l h
+        ∙ due-next isLow (lowWord3 t) o₁ a eb ob (ro ++ l) (omega (arith, length-append ro l))
+        ∙ due-next isHigh (highWord3 t) out at ea oa (lo ++ (ro ++ l)) (omega (arith, length-append lo (ro ++ l), length-append ro l))
+        ∙ ap (sets out at) (sym (append-assoc hi (lo ++ ro) l ∙ ap (λ (k : List ℕ). hi ++ k) (append-assoc lo ro l)));
+  }
+
 pub leads-few : (high low row t y : ℕ) → length (leadsBytes high low row t y) ≤ 6
 leads-few high low row t y =
     let sent = eqb high (t / 4096) in
@@ -124,9 +168,6 @@ leads-few high low row t y =
 pub bytes-parts : (v : EncoderState) (r : Run) → bytes3 v r ≡ leadBytes v (r .t) (r .y) ++ stream 2 (bodyWords (r .p) (r .xs))
 unfolding encode3
 bytes-parts v r = rw (words-append (leads3 v (r .t) (r .y)), stream-append 2 (words (leads3 v (r .t) (r .y))), words-body)
-
-pub due-place : (r at : ℕ) (b : Bool) (w : ℕ) → r ≡ at + length (dueBytes b w) → r ≤ at + 2
-due-place r at b w e = omega (arith, due-few b w)
 
 pub lead-few : (v : EncoderState) (t y : ℕ) → length (leadBytes v t y) ≤ 6
 lead-few v t y =
@@ -159,6 +200,9 @@ length-between xs i e h k = rw (length-take, length-drop) (omega arith)
 
 pub between-getD : (xs : List ℕ) (i e k : ℕ) → i + k < e → getD (between xs i e) k 0 ≡ getD xs (i + k) 0
 between-getD xs i e k h = let n : k < e - i = omega arith in rw (getD-take (e - i) (drop i xs) k 0 n, getD-drop)
+
+pub singles-length : (p : ℕ) (xs : List ℕ) (i e : ℕ) → i ≤ e → e ≤ length xs → length (stream 2 (map (singleWord3 p) (between xs i e))) ≡ 2 * (e - i)
+singles-length p xs i e h k = length-stream 2 (map (singleWord3 p) (between xs i e)) ∙ rw (length-map, length-between xs i e h k) (omega arith)
 
 -- and a place in the output
 pub record Part (xs : List ℕ) (i e at : ℕ) : Type 0 where
@@ -206,15 +250,42 @@ module _ (p : ℕ) (xs : List ℕ) (i e k : ℕ) (h : i < e) (f : e ≤ length x
   unfolding windows
   windows-is = rw (last-is, first-is) (omega arith)
 
-  vectored-is : vectored (between xs i e) ≡ (ltb 2 (e - i) && ltb (1 + k) (e - i))
-  unfolding vectored
-  vectored-is = rw (windows-is, length-between xs i e (omega arith) f)
+  -- as there is a window, more events than its words are more than 2
+  more-as : (b c : Bool) → ltb 2 (e - i) ≡ b → ltb (1 + k) (e - i) ≡ c → (b && c) ≡ c
+  more-as true c p q = refl
+  more-as false false p q = refl
+  more-as false true p q = absurd (omega (arith, ltb-false 2 (e - i) p, ltb-true (1 + k) (e - i) q, is-k))
 
-  pub body-vector : (ltb 2 (e - i) && ltb (1 + k) (e - i)) ≡ true
+  vectored-is : vectored (between xs i e) ≡ ltb (1 + k) (e - i)
+  unfolding vectored
+  vectored-is = rw (windows-is, length-between xs i e (omega arith) f) (more-as (ltb 2 (e - i)) (ltb (1 + k) (e - i)) refl refl)
+
+  pub body-vector : ltb (1 + k) (e - i) ≡ true
       → stream 2 (bodyWords p (between xs i e)) ≡ bytes 2 (baseWord3 p (getD xs i 0)) ++ stream 2 (maskWords k (getD xs i 0) (between xs i e))
   unfolding bodyWords vectorWords
   body-vector v = ap (stream 2) (ap (λ (b : Bool). cond b (vectorWords p (between xs i e)) (map (singleWord3 p) (between xs i e))) (vectored-is ∙ v)) ∙ rw (windows-is, first-is)
 
-  pub body-singles : (ltb 2 (e - i) && ltb (1 + k) (e - i)) ≡ false → stream 2 (bodyWords p (between xs i e)) ≡ stream 2 (map (singleWord3 p) (between xs i e))
+  pub body-singles : ltb (1 + k) (e - i) ≡ false → stream 2 (bodyWords p (between xs i e)) ≡ stream 2 (map (singleWord3 p) (between xs i e))
   unfolding bodyWords
   body-singles v = ap (stream 2) (ap (λ (b : Bool). cond b (vectorWords p (between xs i e)) (map (singleWord3 p) (between xs i e))) (vectored-is ∙ v))
+
+  pub body-length : length (stream 2 (bodyWords p (between xs i e))) ≡ 2 * cond (ltb (1 + k) (e - i)) (1 + k) (e - i)
+  body-length = go (ltb (1 + k) (e - i)) refl
+    where
+      go : (b : Bool) → ltb (1 + k) (e - i) ≡ b → length (stream 2 (bodyWords p (between xs i e))) ≡ 2 * cond b (1 + k) (e - i)
+      go true q =
+          let m = maskWords k (getD xs i 0) (between xs i e) in
+          rw (body-vector q) (omega (arith, length-stream 2 m, length-masks k (getD xs i 0) (between xs i e)))
+      go false q = rw (body-singles q) (singles-length p xs i e (omega arith) f)
+
+  -- no more words than events
+  pub body-few : length (stream 2 (bodyWords p (between xs i e))) ≤ 2 * (e - i)
+  body-few = omega (arith, length-stream 2 (bodyWords p (between xs i e)), length-body p (between xs i e), length-between xs i e (omega arith) f)
+
+  -- a word at the least
+  pub body-some : 2 ≤ length (stream 2 (bodyWords p (between xs i e)))
+  body-some = rw body-length (go (ltb (1 + k) (e - i)))
+    where
+      go : (b : Bool) → 2 ≤ 2 * cond b (1 + k) (e - i)
+      go true = omega arith
+      go false = omega arith

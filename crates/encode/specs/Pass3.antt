@@ -13,11 +13,11 @@ use Rattle.encode.specs.Sent.{held}
 use Rattle.encode.specs.declared.EncoderState.{EncoderState}
 use Rattle.evt.specs.Columns.{colX}
 use Rattle.encode.specs.Columns.{Sized, eventsIn, eventsPast, eventOf, events-at, events-end, events-x, events-drop, events-length}
-use Rattle.encode.specs.Storing.{Going, going-start, going-turn, going-end}
+use Rattle.encode.specs.Storing.{Roomy, Going, going-start, going-turn, going-room, going-end}
 use Rattle.encode.specs.Runs.{Run, runs, runAt, runOf, runs-at, follow-le}
 use Rattle.encode.specs.Evt3.{writer3}
 use Rattle.encode.specs.Parts.{bytes3, stream3, passed3, few3, leadsBytes, leads-held, bytes-parts, bodyWords, Part, between, between-at, length-between}
-use Rattle.encode.specs.Loops.{goOn}
+use Rattle.encode.specs.Marks.{goOn, Marked, marks-start}
 
 map-take : {A B : Type 0} (f : A → B) (n : ℕ) (l : List A) → map f (take n l) ≡ take n (map f l)
 map-take f zero l = refl
@@ -38,12 +38,13 @@ state-none3 v zero high low row h = refl
 state-none3 v (suc i) high low row h = absurd (omega arith)
 
 -- at index i
-pub record Under3 (v₀ : EncoderState) (xs ys : List ℕ) (ts : List ℤ) (ps : List ℕ) (at₀ : ℕ) (out₀ out : List ℕ) (high low row at i : ℕ) : Type 0 where
+pub record Under3 (v₀ : EncoderState) (xs ys : List ℕ) (ts : List ℤ) (ps : List ℕ) (at₀ : ℕ) (out₀ out : List ℕ) (high low row at i mask : ℕ) : Type 0 where
   pub within : i ≤ length xs
   pub small : at ≤ at₀ + 8 * i
   pub is-high : high ≡ held (stateAt3 v₀ i high low row .«time_high»)
   pub is-low : low ≡ held (stateAt3 v₀ i high low row .«time_low»)
   pub is-row : row ≡ held (stateAt3 v₀ i high low row .y)
+  pub marked : Marked xs ys ts ps i mask
   pub going : Going 2 writer3 v₀ (runs (eventsIn xs ys ts ps)) at₀ out₀ (runs (eventsPast xs ys ts ps i)) (stateAt3 v₀ i high low row) at out
 
 module _ {xs ys : List ℕ} {ts : List ℤ} {ps : List ℕ} (sized : Sized xs ys ts ps) where
@@ -68,34 +69,50 @@ module _ {xs ys : List ℕ} {ts : List ℤ} {ps : List ℕ} (sized : Sized xs ys
       ap runs (events-at xs ys ts ps sized i h) ∙ runs-at a es ∙ rw (part, left)
 
   module _ {v₀ : EncoderState} {at₀ : ℕ} {out₀ : List ℕ} (near : at₀ ≤ 2 ^ 32) where
-    pub under-start3 : (high low row : ℕ) → high ≡ held (v₀ .«time_high») → low ≡ held (v₀ .«time_low») → row ≡ held (v₀ .y) → Under3 v₀ xs ys ts ps at₀ out₀ out₀ high low row at₀ 0
-    under-start3 high low row h l r = record { within = omega arith; small = omega arith; is-high = h; is-low = l; is-row = r; going = going-start 2 writer3 }
+    pub under-start3 : (high low row : ℕ) → high ≡ held (v₀ .«time_high») → low ≡ held (v₀ .«time_low») → row ≡ held (v₀ .y) → Under3 v₀ xs ys ts ps at₀ out₀ out₀ high low row at₀ 0 0
+    under-start3 high low row h l r = record { within = omega arith; small = omega arith; is-high = h; is-low = l; is-row = r; marked = marks-start xs ys ts ps; going = going-start 2 writer3 }
 
-    module _ {out : List ℕ} {high low row at i : ℕ} (u : Under3 v₀ xs ys ts ps at₀ out₀ out high low row at i) where
-      pub under-part3 : (e : ℕ) → i < length xs → e ≡ i + 1 + goOn xs ys ts ps i → Part xs i e (at + 8) × (i < e)
-      under-part3 e h q = (record { low = omega arith; high = end-within i e h q; few = sized .few; place = omega (arith, u .small, sized .few, near) }, omega arith)
+    module _ {out : List ℕ} {high low row at i mask : ℕ} (u : Under3 v₀ xs ys ts ps at₀ out₀ out high low row at i mask) where
+      pub under-part3 : (e : ℕ) → i < length xs → e ≡ i + 1 + goOn xs ys ts ps i → Part xs i e (at + 8)
+      under-part3 e h q = record { low = omega arith; high = end-within i e h q; few = sized .few; place = omega (arith, u .small, sized .few, near) }
+
+      -- by what is held of the state, or by the state
+      words-are : (t y p : ℕ) (part : List ℕ) → t < 2 ^ 64 → y < 2 ^ 16 → leadsBytes high low row t y ++ stream 2 (bodyWords p part) ≡ bytes3 (stateAt3 v₀ i high low row) (runOf t y p part)
+      words-are t y p part t< y< =
+          let v = stateAt3 v₀ i high low row in
+          ap (λ (l : List ℕ). l ++ stream 2 (bodyWords p part)) (leads-held v high low row t y t< y< (u .is-high) (u .is-low) (u .is-row)) ∙ sym (bytes-parts v (runOf t y p part))
+
+      first-run : (e t y p : ℕ) → i < length xs → e ≡ i + 1 + goOn xs ys ts ps i → t ≡ eventOf xs ys ts ps i .t → y ≡ eventOf xs ys ts ps i .y → p ≡ eventOf xs ys ts ps i .p
+          → runs (eventsPast xs ys ts ps i) ≡ runOf t y p (between xs i e) ∷ runs (eventsPast xs ys ts ps e)
+      first-run e t y p h q et ey ep = run-first i e h q ∙ rw (et, ey, ep)
+
+      pub under-room3 : (e t y p : ℕ) → i < length xs → e ≡ i + 1 + goOn xs ys ts ps i → t ≡ eventOf xs ys ts ps i .t → y ≡ eventOf xs ys ts ps i .y → p ≡ eventOf xs ys ts ps i .p
+          → t < 2 ^ 64 → y < 2 ^ 16 → Roomy out₀ at₀ (length (stream3 v₀ (eventsIn xs ys ts ps)))
+          → Roomy out at (length (leadsBytes high low row t y ++ stream 2 (bodyWords p (between xs i e))))
+      under-room3 e t y p h q et ey ep t< y< r =
+          rw (words-are t y p (between xs i e) t< y<) (going-room 2 writer3 (runOf t y p (between xs i e)) (runs (eventsPast xs ys ts ps e)) (rw (first-run e t y p h q et ey ep) at (u .going)) r)
 
       pub under-turn3 : (e t y p : ℕ) → i < length xs → e ≡ i + 1 + goOn xs ys ts ps i → t ≡ eventOf xs ys ts ps i .t → y ≡ eventOf xs ys ts ps i .y → p ≡ eventOf xs ys ts ps i .p
-          → t < 2 ^ 64 → y < 2 ^ 16 → (r : ℕ) (out′ : List ℕ)
+          → t < 2 ^ 64 → y < 2 ^ 16 → (m : ℕ) → Marked xs ys ts ps e m → (r : ℕ) (out′ : List ℕ)
           → r ≡ at + length (leadsBytes high low row t y ++ stream 2 (bodyWords p (between xs i e)))
           → out′ ≡ sets out at (leadsBytes high low row t y ++ stream 2 (bodyWords p (between xs i e)))
-          → Under3 v₀ xs ys ts ps at₀ out₀ out′ (t / 4096) (t % 4096) y r e
-      under-turn3 e t y p h q et ey ep t< y< r out′ is-at is-out =
+          → Under3 v₀ xs ys ts ps at₀ out₀ out′ (t / 4096) (t % 4096) y r e m
+      under-turn3 e t y p h q et ey ep t< y< m marked r out′ is-at is-out =
           let v = stateAt3 v₀ i high low row in
           let a : Run = runOf t y p (between xs i e) in
           let in-e = end-within i e h q in
           let n : length (between xs i e) ≡ e - i = length-between xs i e (omega arith) in-e in
           let some = state-some3 v₀ e (t / 4096) (t % 4096) y (omega arith) in
-          let all : leadsBytes high low row t y ++ stream 2 (bodyWords p (between xs i e)) ≡ bytes3 v a =
-          ap (λ (l : List ℕ). l ++ stream 2 (bodyWords p (between xs i e))) (leads-held v high low row t y t< y< (u .is-high) (u .is-low) (u .is-row)) ∙ sym (bytes-parts v a) in
+          let all = words-are t y p (between xs i e) t< y< in
           let few = few3 v a (omega arith) in
-          let first : runs (eventsPast xs ys ts ps i) ≡ a ∷ runs (eventsPast xs ys ts ps e) = run-first i e h q ∙ rw (et, ey, ep) in
+          let first = first-run e t y p h q et ey ep in
           record {
             within = in-e;
             small = omega (arith, u .small, ap length all);
             is-high = rw some;
             is-low = rw some;
             is-row = rw some;
+            marked = marked;
             going = rw (some, is-at, all) (going-turn 2 writer3 a (runs (eventsPast xs ys ts ps e)) (is-out ∙ ap (sets out at) all) (rw first at (u .going)));
           }
 

@@ -6,10 +6,37 @@ use native.Mathlib.Omega.{arith}
 use native.Mathlib.Nat.{add-zero}
 use native.Mathlib.Numerals.{add-one}
 use lib.ListN.{length, set, length-append}
-use lib.Seq.{sets, length-sets, set-out}
+use lib.Seq.{sets, length-sets, set-out, set-set, set-comm}
 use Rattle.stream.specs.Columns.{sets-append}
 use Rattle.stream.specs.Machine.{Machine, Note, run, emits, words, words-append}
 use Rattle.stream.specs.Words.{bytes, stream, stream-append}
+
+-- nothing is stored past the end
+pub sets-out : (l : List ℕ) (i : ℕ) (vs : List ℕ) → length l ≤ i → sets l i vs ≡ l
+sets-out l i [] h = refl
+sets-out l i (v ∷ vs) h = ap (λ (k : List ℕ). sets k (suc i) vs) (set-out l i v h) ∙ sets-out l (suc i) vs (omega arith)
+
+-- n bytes have room from `at` on, or there is no byte at all: then nothing is stored
+abbrev pub Roomy : (out : List ℕ) (at n : ℕ) → Type 0
+Roomy out at n = 0 < length out → at + n ≤ length out
+
+-- what is stored after some bytes has room where both have
+pub roomy-rest : (out o : List ℕ) (at : ℕ) {r : ℕ} (w rest : List ℕ) → r ≡ at + length w → length o ≡ length out → Roomy out at (length (w ++ rest)) → Roomy o r (length rest)
+roomy-rest out o at w rest e n r h = omega (arith, r (omega arith), length-append w rest)
+
+pub sets-empty : (l : List ℕ) (i : ℕ) (vs : List ℕ) → length l ≤ 0 → l ≡ sets l i vs
+sets-empty l i vs h = sym (sets-out l i vs (omega arith))
+
+set-sets : (l : List ℕ) (i a j : ℕ) (vs : List ℕ) → i < j → set (sets l j vs) i a ≡ sets (set l i a) j vs
+set-sets l i a j [] h = refl
+set-sets l i a j (v ∷ vs) h = set-sets (set l j v) i a (suc j) vs (omega arith) ∙ ap (λ (k : List ℕ). sets k (suc j) vs) (set-comm l j i v a (λ e. omega arith))
+
+-- what is stored is lost where as much is stored again
+pub sets-over : (l : List ℕ) (i : ℕ) (us vs : List ℕ) → length us ≤ length vs → sets (sets l i us) i vs ≡ sets l i vs
+sets-over l i [] vs h = refl
+sets-over l i (u ∷ us) [] h = absurd (omega arith)
+sets-over l i (u ∷ us) (v ∷ vs) h =
+    rw (set-sets (set l i u) i v (suc i) us (omega arith), set-set l i u v) (sets-over (set l i v) (suc i) us vs (omega arith))
 
 -- On the way to `all` stored from at₀ on: `left` is to be stored from `at` on.
 pub record Storing (all : List ℕ) (at₀ : ℕ) (out₀ : List ℕ) (left : List ℕ) (at : ℕ) (out : List ℕ) : Type 0 where
@@ -29,22 +56,12 @@ module _ {all : List ℕ} {at₀ : ℕ} {out₀ : List ℕ} where
     stores = rw o (sym (sets-append out at w rest) ∙ ap (sets out at) (sym e) ∙ s .stores);
   }
 
+  -- what comes next has room where all has
+  pub storing-room : {left : List ℕ} {at : ℕ} {out : List ℕ} (w rest : List ℕ) → left ≡ w ++ rest → Storing all at₀ out₀ left at out → Roomy out₀ at₀ (length all) → Roomy out at (length w)
+  storing-room {left} {at} {out} w rest e s r h = omega (arith, r (omega (arith, s .long)), ap length e, length-append w rest, s .count, s .long)
+
   pub storing-end : {at : ℕ} {out : List ℕ} → Storing all at₀ out₀ [] at out → (at ≡ at₀ + length all) × (out ≡ sets out₀ at₀ all)
   storing-end {at} s = (sym (add-zero at) ∙ s .count, s .stores)
-
--- nothing is stored past the end
-pub sets-out : (l : List ℕ) (i : ℕ) (vs : List ℕ) → length l ≤ i → sets l i vs ≡ l
-sets-out l i [] h = refl
-sets-out l i (v ∷ vs) h = ap (λ (k : List ℕ). sets k (suc i) vs) (set-out l i v h) ∙ sets-out l (suc i) vs (omega arith)
-
--- the lowest byte, and the rest
-pub sets-rest : (l : List ℕ) (i n w : ℕ) → 0 < n → sets (set l i (w % 256)) (i + 1) (bytes (n - 1) (w / 256)) ≡ sets l i (bytes n w)
-sets-rest l i zero w h = absurd (omega arith)
-sets-rest l i (suc n) w h = let e : suc n - 1 ≡ n = omega arith in rw (e, add-one)
-
-pub sets-none : (l : List ℕ) (i n w : ℕ) → n ≤ 0 → l ≡ sets l i (bytes n w)
-sets-none l i zero w h = refl
-sets-none l i (suc n) w h = absurd (omega arith)
 
 -- one store after another
 pub stored-both : (out : List ℕ) (at : ℕ) {o₁ o₂ : List ℕ} {r₁ r₂ : ℕ} (a b : List ℕ) → r₁ ≡ at + length a → o₁ ≡ sets out at a → r₂ ≡ r₁ + length b → o₂ ≡ sets o₁ r₁ b
@@ -75,6 +92,9 @@ module _ {Q I E : Type 0} (size : ℕ) (W : Machine Q I (Note ℕ E)) where
     pub going-turn : {v : Q} {at : ℕ} {out out′ : List ℕ} (a : I) (l : List I) → out′ ≡ sets out at (piece v a) → Going v₀ all at₀ out₀ (a ∷ l) v at out
         → Going v₀ all at₀ out₀ l (W .step v a) (at + length (piece v a)) out′
     going-turn {v} a l e g = record { state = g .state; storing = storing-turn (piece v a) (bytesFrom (W .step v a) l) (bytes-cons v a l) e (g .storing) }
+
+    pub going-room : {v : Q} {at : ℕ} {out : List ℕ} (a : I) (l : List I) → Going v₀ all at₀ out₀ (a ∷ l) v at out → Roomy out₀ at₀ (length (bytesFrom v₀ all)) → Roomy out at (length (piece v a))
+    going-room {v} a l g r = storing-room (piece v a) (bytesFrom (W .step v a) l) (bytes-cons v a l) (g .storing) r
 
     pub going-end : {v : Q} {at : ℕ} {out : List ℕ} → Going v₀ all at₀ out₀ [] v at out
         → (v ≡ run W v₀ all) × (at ≡ at₀ + length (bytesFrom v₀ all)) × (out ≡ sets out₀ at₀ (bytesFrom v₀ all))

@@ -1,17 +1,18 @@
-// EVT2: the words of events, stored as far as the buffer reaches.
+// EVT2: the words of events, stored or measured.
 ghost use mathlib.Core.Path.{_≡_};
 ghost use Prim.Native.Nat.{_+_, _*_, _/_, _^_, _≤_, _<_};
 ghost use lib.Dec.{eqb};
 ghost use lib.ListN.{length};
 ghost use lib.Seq.{sets};
-ghost use Rattle.encode.specs.Columns.{Sized, event, eventsIn};
+ghost use Rattle.encode.specs.Columns.{Sized, Whole, event, eventsIn};
 ghost use Rattle.encode.specs.Evt2.{highWord2, wordOf2};
+ghost use Rattle.encode.specs.Storing.{Roomy};
 ghost use Rattle.encode.specs.Pass2.{eventBytes2, stateAt2, stream2, passed2};
 use crate::EncoderState;
 use crate::Put;
 use crate::held_of;
 use crate::store;
-use crate::time_of;
+use crate::time_at;
 use evt::Sent;
 
 fn high_word(t: u64) -> u32
@@ -29,20 +30,17 @@ fn event_word(x: u16, y: u16, t: u64, p: u8) -> u32
         + (y % 2048) as u32
 }
 
-// The words of one event, at `at`, where `high` was sent last.
+// The words of one event, at `at`, where `high` was sent last. The word of the high half is stored
+// always: where it isn't due the event's word takes its place, which is faster than a branch.
 fn put_event(high: u64, x: u16, y: u16, t: u64, p: u8, out: &mut [u8], at: usize) -> usize
-    requires { ⌜ at < 2 ^ 60 ⌝ }
+    requires { ⌜ (at < 2 ^ 60) × Roomy (now out) at (length (eventBytes2 (eqb high (t / 64)) (event x y t p))) ⌝ }
     ensures { λ r. ⌜ r ≡ at + length (eventBytes2 (eqb high (t / 64)) (event x y t p)) ⌝ ∗ ⌜ now (out .exit) ≡ sets (now (out .entry)) at (eventBytes2 (eqb high (t / 64)) (event x y t p)) ⌝ }
 {
     let w = event_word(x, y, t, p);
-    if high == t / 64 {
-        store::put32(&mut *out, at, w);
-        at + 4
-    } else {
-        store::put32(&mut *out, at, high_word(t));
-        store::put32(&mut *out, at + 4, w);
-        at + 8
-    }
+    let a = store::past(high == t / 64, 4, at);
+    store::put32(&mut *out, at, high_word(t));
+    store::put32(&mut *out, a, w);
+    a + 4
 }
 
 // What has been sent after n events, where `high` was sent last.
@@ -72,7 +70,7 @@ pub fn pass(
     out: &mut [u8],
     start: usize,
 ) -> Put
-    requires { ⌜ Sized (now xs) (now ys) (now ts) (now ps) × (start ≤ 2 ^ 32) ⌝ }
+    requires { ⌜ Sized (now xs) (now ys) (now ts) (now ps) × (start ≤ 2 ^ 32) × Whole (now ts) × Roomy (now out) start (length (stream2 state (eventsIn (now xs) (now ys) (now ts) (now ps)))) ⌝ }
     ensures { λ r. ⌜ r ≡ passed2 state (eventsIn (now (xs .entry)) (now (ys .entry)) (now (ts .entry)) (now (ps .entry))) start ⌝ ∗ ⌜ now (out .exit) ≡ sets (now (out .entry)) start (stream2 state (eventsIn (now (xs .entry)) (now (ys .entry)) (now (ts .entry)) (now (ps .entry)))) ⌝ }
 {
     let sent = state.time_high;
@@ -80,7 +78,7 @@ pub fn pass(
     let mut at = start;
     let mut i: usize = 0;
     while i < xs.len() {
-        let t = time_of(ts[i]);
+        let t = time_at(ts, i);
         at = put_event(high, xs[i], ys[i], t, ps[i], &mut *out, at);
         high = t / 64;
         i += 1;

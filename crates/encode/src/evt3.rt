@@ -1,29 +1,36 @@
-// EVT3: the words of runs of events, stored as far as the buffer reaches.
+// EVT3: the words of runs of events, stored or measured.
 ghost use mathlib.Core.Path.{_≡_};
-ghost use mathlib.Core.Bool.{_&&_, cond};
+ghost use mathlib.Core.Bool.{cond};
 ghost use mathlib.Core.List.{map, _++_};
 ghost use Prim.Native.Nat.{_+_, _*_, _-_, _/_, _^_, _≤_, _<_};
-ghost use lib.ListN.{length};
+ghost use lib.ListN.{length, getD};
 ghost use lib.Seq.{sets};
 ghost use lib.Dec.{ltb};
-ghost use Rattle.stream.specs.Words.{stream};
-ghost use Rattle.encode.specs.Columns.{Sized, event, eventsIn};
+ghost use Rattle.stream.specs.Words.{bytes, stream};
+ghost use Rattle.encode.specs.Columns.{Sized, Whole, event, eventsIn};
+ghost use Rattle.encode.specs.Storing.{Roomy};
 ghost use Rattle.encode.specs.Runs.{goes};
 ghost use Rattle.encode.specs.Evt3.{singleWord3, baseWord3};
-ghost use Rattle.encode.specs.Parts.{dueBytes, leadsBytes, stream3, passed3, bodyWords, maskWords, between, Part, Windowed};
-ghost use Rattle.encode.specs.Loops.{goOn};
+ghost use Rattle.encode.specs.Parts.{dueBytes, leadsBytes, Leads, stream3, passed3, bodyWords, maskWords, between, Part, Windowed};
+ghost use Rattle.encode.specs.Marks.{stopAt, marksFrom, Marked, Finds};
 ghost use Rattle.encode.specs.Pass3.{stateAt3};
 use crate::EncoderState;
 use crate::Put;
 use crate::held_of;
 use crate::store;
-use crate::time_of;
+use crate::time_at;
 use evt::Sent;
 
 // The bits of one window of 12 columns, and the index of the first event after it.
 pub struct Window {
     pub mask: u64,
     pub next: usize,
+}
+
+// The end of a run, and what is known of the ends after it.
+pub struct Found {
+    pub end: usize,
+    pub mask: u64,
 }
 
 // Whether an event goes on a run: what must be equal is compared at once, without a branch for each.
@@ -36,27 +43,58 @@ fn goes_on(t: u64, y: u16, p: u8, last: u16, x: u16, y2: u16, t2: u64, p2: u8) -
     if differ == 0 { last < x } else { false }
 }
 
-// The end of the run that starts at i.
-fn run_end(xs: &[u16], ys: &[u16], ts: &[i64], ps: &[u8], i: usize) -> usize
-    requires { ⌜ Sized (now xs) (now ys) (now ts) (now ps) × (i < length (now xs)) ⌝ }
-    ensures { λ r. ⌜ r ≡ i + 1 + goOn (now (xs .entry)) (now (ys .entry)) (now (ts .entry)) (now (ps .entry)) i ⌝ }
+// Whether the event after k doesn't go on its run: 1, or 0.
+fn stops(xs: &[u16], ys: &[u16], ts: &[i64], ps: &[u8], k: usize) -> u64
+    requires { ⌜ Sized (now xs) (now ys) (now ts) (now ps) × (k + 1 < length (now xs)) × Whole (now ts) ⌝ }
+    ensures { λ r. ⌜ r ≡ stopAt (now (xs .entry)) (now (ys .entry)) (now (ts .entry)) (now (ps .entry)) k ⌝ }
 {
-    let t = time_of(ts[i]);
-    let y = ys[i];
-    let p = ps[i];
-    let mut last = xs[i];
-    let mut j = i + 1;
-    while j < xs.len() {
-        let x = xs[j];
-        let t2 = time_of(ts[j]);
-        if goes_on(t, y, p, last, x, ys[j], t2, ps[j]) {
-            last = x;
-            j += 1;
-        } else {
-            return j;
+    let j = k + 1;
+    let t = time_at(ts, k);
+    let t2 = time_at(ts, j);
+    if goes_on(t, ys[k], ps[k], xs[k], xs[j], ys[j], t2, ps[j]) {
+        0
+    } else {
+        1
+    }
+}
+
+// Where the runs from i on end, a bit for each event, as far as 63 events go: the bits are found
+// without a branch for each, and the ends are then read off them.
+fn marks(xs: &[u16], ys: &[u16], ts: &[i64], ps: &[u8], i: usize) -> u64
+    requires { ⌜ Sized (now xs) (now ys) (now ts) (now ps) × (i < length (now xs)) × Whole (now ts) ⌝ }
+    ensures { λ r. ⌜ r ≡ marksFrom (now (xs .entry)) (now (ys .entry)) (now (ts .entry)) (now (ps .entry)) i ⌝ }
+{
+    let mut j = xs.len() - 1;
+    let mut mask: u64 = 1;
+    if 63 <= j - i {
+        j = i + 63;
+        mask = 0;
+    }
+    while i < j {
+        j -= 1;
+        mask = 2 * mask + stops(xs, ys, ts, ps, j);
+    }
+    mask
+}
+
+// The end of the run at i, and the marks from there on.
+fn run_at(mask: u64, xs: &[u16], ys: &[u16], ts: &[i64], ps: &[u8], i: usize) -> Found
+    requires { ⌜ Sized (now xs) (now ys) (now ts) (now ps) × (i < length (now xs)) × Whole (now ts) × Marked (now xs) (now ys) (now ts) (now ps) i mask ⌝ }
+    ensures { λ r. ⌜ Finds (now (xs .entry)) (now (ys .entry)) (now (ts .entry)) (now (ps .entry)) i r ⌝ }
+{
+    let mut j = i;
+    let mut m = mask;
+    while m == 0 {
+        m = marks(xs, ys, ts, ps, j);
+        if m == 0 {
+            j += 63;
         }
     }
-    j
+    let z = u64::trailing_zeros(m);
+    Found {
+        end: j + 1 + z as usize,
+        mask: (m >> z) / 2,
+    }
 }
 
 // After a type 8 the low half counts as 0.
@@ -66,23 +104,20 @@ fn low_kept(sent: bool, low: u64) -> u64
     if sent { low } else { 0 }
 }
 
-// A word, unless its content was sent.
-fn put_due(sent: bool, w: u16, out: &mut [u8], at: usize) -> usize
-    requires { ⌜ at < 2 ^ 61 ⌝ }
-    ensures { λ r. ⌜ r ≡ at + length (dueBytes sent w) ⌝ ∗ ⌜ now (out .exit) ≡ sets (now (out .entry)) at (dueBytes sent w) ⌝ }
+// A word, and the place after it, which is `at` again where its content was sent: the next word
+// then takes its place.
+fn put_lead(sent: bool, w: u16, out: &mut [u8], at: usize) -> usize
+    requires { ⌜ (at < 2 ^ 61) × Roomy (now out) at 2 ⌝ }
+    ensures { λ r. ⌜ r ≡ at + length (dueBytes sent w) ⌝ ∗ ⌜ now (out .exit) ≡ sets (now (out .entry)) at (bytes 2 w) ⌝ }
 {
-    if sent {
-        at
-    } else {
-        store::put16(&mut *out, at, w);
-        at + 2
-    }
+    store::put16(&mut *out, at, w);
+    store::past(sent, 2, at)
 }
 
-// Time and row, where they changed: `high`, `low` and `row` were sent last.
+// Time and row, where they changed: `high`, `low` and `row` were sent last. A word has to follow.
 fn put_leads(high: u64, low: u64, row: u64, t: u64, y: u16, out: &mut [u8], at: usize) -> usize
-    requires { ⌜ at < 2 ^ 60 ⌝ }
-    ensures { λ r. ⌜ r ≡ at + length (leadsBytes high low row t y) ⌝ ∗ ⌜ now (out .exit) ≡ sets (now (out .entry)) at (leadsBytes high low row t y) ⌝ }
+    requires { ⌜ (at < 2 ^ 60) × Roomy (now out) at (length (leadsBytes high low row t y) + 2) ⌝ }
+    ensures { λ r. ⌜ Leads high low row t y at (now (out .entry)) r (now (out .exit)) ⌝ }
 {
     let q = t / 4096;
     let l = t % 4096;
@@ -90,9 +125,9 @@ fn put_leads(high: u64, low: u64, row: u64, t: u64, y: u16, out: &mut [u8], at: 
     let kept = low_kept(sent, low);
     let low_sent = kept == l;
     let row_sent = row == y as u64;
-    let a = put_due(sent, 32768 + (q % 4096) as u16, &mut *out, at);
-    let b = put_due(low_sent, 24576 + l as u16, &mut *out, a);
-    put_due(row_sent, y % 2048, &mut *out, b)
+    let a = put_lead(sent, 32768 + (q % 4096) as u16, &mut *out, at);
+    let b = put_lead(low_sent, 24576 + l as u16, &mut *out, a);
+    put_lead(row_sent, y % 2048, &mut *out, b)
 }
 
 fn single_word(p: u8, x: u16) -> u16
@@ -109,7 +144,7 @@ fn base_word(p: u8, x: u16) -> u16
 
 // A word for each event from i up to end.
 fn put_singles(p: u8, xs: &[u16], i: usize, end: usize, out: &mut [u8], at: usize) -> usize
-    requires { ⌜ Part (now xs) i end at ⌝ }
+    requires { ⌜ Part (now xs) i end at × Roomy (now out) at (length (stream 2 (map (singleWord3 p) (between (now xs) i end)))) ⌝ }
     ensures { λ r. ⌜ r ≡ at + length (stream 2 (map (singleWord3 p) (between (now (xs .entry)) i end))) ⌝ ∗ ⌜ now (out .exit) ≡ sets (now (out .entry)) at (stream 2 (map (singleWord3 p) (between (now (xs .entry)) i end))) ⌝ }
 {
     let mut a = at;
@@ -165,7 +200,7 @@ fn put_masks(
     out: &mut [u8],
     at: usize,
 ) -> usize
-    requires { ⌜ Part (now xs) i end at × (base + 12 * k ≤ 2 ^ 20) ⌝ }
+    requires { ⌜ Part (now xs) i end at × (base + 12 * k ≤ 2 ^ 20) × Roomy (now out) at (length (stream 2 (maskWords k base (between (now xs) i end)))) ⌝ }
     ensures { λ r. ⌜ r ≡ at + length (stream 2 (maskWords k base (between (now (xs .entry)) i end))) ⌝ ∗ ⌜ now (out .exit) ≡ sets (now (out .entry)) at (stream 2 (maskWords k base (between (now (xs .entry)) i end))) ⌝ }
 {
     let mut a = at;
@@ -191,33 +226,73 @@ fn windows_to(first: u64, last: u64) -> u64
     (less(last, first) + 12) / 12
 }
 
-// Whether n events are over 2, and more than the words of their windows.
+// Whether n events are more than the words of their windows.
 fn vector_pays(n: u64, first: u64, last: u64) -> bool
     requires { ⌜ last < 2 ^ 16 ⌝ }
-    ensures { λ r. ⌜ r ≡ (ltb 2 n && ltb (1 + (last - first + 12) / 12) n) ⌝ }
+    ensures { λ r. ⌜ r ≡ ltb (1 + (last - first + 12) / 12) n ⌝ }
 {
-    if 2 < n {
-        let k = windows_to(first, last);
-        1 + k < n
-    } else {
-        false
-    }
+    1 + windows_to(first, last) < n
+}
+
+// The word of event i + k, the run's words being from `at` on.
+fn put_single(p: u8, xs: &[u16], i: usize, k: usize, out: &mut [u8], at: usize)
+    requires { ⌜ (i + k < length (now xs)) × (length (now xs) ≤ 2 ^ 28) × (at ≤ 2 ^ 41) × Roomy (now out) (at + 2 * k) 2 ⌝ }
+    ensures { λ r. ⌜ now (out .exit) ≡ sets (now (out .entry)) (at + 2 * k) (bytes 2 (singleWord3 p (getD (now (xs .entry)) (i + k) 0))) ⌝ }
+{
+    store::put16(&mut *out, at + 2 * k, single_word(p, xs[i + k]));
+}
+
+fn least(a: usize, b: usize) -> usize
+    ensures { λ r. ⌜ r ≡ b - (b - a) ⌝ }
+{
+    if a < b { a } else { b }
+}
+
+// A word for each of up to 4 events: the last is stored again where they are fewer, which is
+// faster than a branch.
+fn put_short(p: u8, xs: &[u16], i: usize, end: usize, out: &mut [u8], at: usize) -> usize
+    requires { ⌜ Part (now xs) i end at × (i < end) × (end ≤ i + 4) × Roomy (now out) at (length (stream 2 (map (singleWord3 p) (between (now xs) i end)))) ⌝ }
+    ensures { λ r. ⌜ r ≡ at + length (stream 2 (map (singleWord3 p) (between (now (xs .entry)) i end))) ⌝ ∗ ⌜ now (out .exit) ≡ sets (now (out .entry)) at (stream 2 (map (singleWord3 p) (between (now (xs .entry)) i end))) ⌝ }
+{
+    let m = end - i - 1;
+    put_single(p, xs, i, 0, &mut *out, at);
+    put_single(p, xs, i, least(1, m), &mut *out, at);
+    put_single(p, xs, i, least(2, m), &mut *out, at);
+    put_single(p, xs, i, m, &mut *out, at);
+    at + 2 * m + 2
 }
 
 // The words of the columns from i up to end, a run.
 fn put_body(p: u8, xs: &[u16], i: usize, end: usize, out: &mut [u8], at: usize) -> usize
-    requires { ⌜ Part (now xs) i end (at + 2) × (i < end) ⌝ }
+    requires { ⌜ Part (now xs) i end (at + 2) × (i < end) × Roomy (now out) at (length (stream 2 (bodyWords p (between (now xs) i end)))) ⌝ }
     ensures { λ r. ⌜ r ≡ at + length (stream 2 (bodyWords p (between (now (xs .entry)) i end))) ⌝ ∗ ⌜ now (out .exit) ≡ sets (now (out .entry)) at (stream 2 (bodyWords p (between (now (xs .entry)) i end))) ⌝ }
 {
     let x = xs[i];
     let first = x as u64;
     let last = xs[end - 1] as u64;
-    if vector_pays((end - i) as u64, first, last) {
+    let n = end - i;
+    if vector_pays(n as u64, first, last) {
         let k = windows_to(first, last);
         store::put16(&mut *out, at, base_word(p, x));
-        put_masks(xs, i, end, first, k, &mut *out, at + 2)
+        return put_masks(xs, i, end, first, k, &mut *out, at + 2);
+    }
+    if n <= 4 {
+        put_short(p, xs, i, end, &mut *out, at)
     } else {
         put_singles(p, xs, i, end, &mut *out, at)
+    }
+}
+
+// How many bytes the words of n columns have, a run.
+fn body_size(n: u64, first: u64, last: u64) -> usize
+    requires { ⌜ (last < 2 ^ 16) × (n ≤ 2 ^ 28) ⌝ }
+    ensures { λ r. ⌜ r ≡ 2 * cond (ltb (1 + (last - first + 12) / 12) n) (1 + (last - first + 12) / 12) n ⌝ }
+{
+    let words = 1 + windows_to(first, last);
+    if words < n {
+        2 * words as usize
+    } else {
+        2 * n as usize
     }
 }
 
@@ -235,11 +310,15 @@ fn put_run(
     out: &mut [u8],
     at: usize,
 ) -> usize
-    requires { ⌜ Part (now xs) i end (at + 8) × (i < end) ⌝ }
+    requires { ⌜ Part (now xs) i end (at + 8) × (i < end) × Roomy (now out) at (length (leadsBytes high low row t y ++ stream 2 (bodyWords p (between (now xs) i end)))) ⌝ }
     ensures { λ r. ⌜ r ≡ at + length (leadsBytes high low row t y ++ stream 2 (bodyWords p (between (now (xs .entry)) i end))) ⌝ ∗ ⌜ now (out .exit) ≡ sets (now (out .entry)) at (leadsBytes high low row t y ++ stream 2 (bodyWords p (between (now (xs .entry)) i end))) ⌝ }
 {
     let a = put_leads(high, low, row, t, y, &mut *out, at);
-    put_body(p, xs, i, end, &mut *out, a)
+    if 0 < out.len() {
+        put_body(p, xs, i, end, &mut *out, a)
+    } else {
+        a + body_size((end - i) as u64, xs[i] as u64, xs[end - 1] as u64)
+    }
 }
 
 // What has been sent after n events, where `high`, `low` and `row` were sent last.
@@ -267,7 +346,7 @@ pub fn pass(
     out: &mut [u8],
     start: usize,
 ) -> Put
-    requires { ⌜ Sized (now xs) (now ys) (now ts) (now ps) × (start ≤ 2 ^ 32) ⌝ }
+    requires { ⌜ Sized (now xs) (now ys) (now ts) (now ps) × (start ≤ 2 ^ 32) × Whole (now ts) × Roomy (now out) start (length (stream3 state (eventsIn (now xs) (now ys) (now ts) (now ps)))) ⌝ }
     ensures { λ r. ⌜ r ≡ passed3 state (eventsIn (now (xs .entry)) (now (ys .entry)) (now (ts .entry)) (now (ps .entry))) start ⌝ ∗ ⌜ now (out .exit) ≡ sets (now (out .entry)) start (stream3 state (eventsIn (now (xs .entry)) (now (ys .entry)) (now (ts .entry)) (now (ps .entry)))) ⌝ }
 {
     let sent_high = state.time_high;
@@ -278,15 +357,18 @@ pub fn pass(
     let mut row = held_of(sent_row);
     let mut at = start;
     let mut i: usize = 0;
+    let mut mask: u64 = 0;
     while i < xs.len() {
-        let t = time_of(ts[i]);
+        let t = time_at(ts, i);
         let y = ys[i];
-        let end = run_end(xs, ys, ts, ps, i);
+        let run = run_at(mask, xs, ys, ts, ps, i);
+        let end = run.end;
         at = put_run(high, low, row, t, y, ps[i], xs, i, end, &mut *out, at);
         high = t / 4096;
         low = t % 4096;
         row = y as u64;
         i = end;
+        mask = run.mask;
     }
     let after = sent_after(state, xs.len(), high, low, row);
     Put { state: after, at }

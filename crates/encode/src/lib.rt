@@ -1,13 +1,16 @@
-// The words of events, stored in a buffer that the caller lends, as far as it reaches: a pass into
-// no bytes measures, and a pass into enough writes. specs/Evt2.antt and specs/Evt3.antt say which
+// The words of events, stored in a buffer that the caller lends: a pass into no bytes measures, and
+// a pass into enough writes. specs/Evt2.antt and specs/Evt3.antt say which
 // words a writer sends, each with a note of the events that it carries, and specs/Encode.antt
 // which bytes.
 ghost use mathlib.Core.Path.{_≡_};
-ghost use Prim.Native.Nat.{_^_, _≤_};
+ghost use Prim.Native.Nat.{_^_, _≤_, _<_};
+ghost use lib.IntN.{pos};
+ghost use lib.ListN.{length, getD};
 ghost use lib.Seq.{sets};
-ghost use Rattle.encode.specs.Columns.{natural, Sized, eventsIn};
+ghost use Rattle.encode.specs.Columns.{natural, Sized, Whole, eventsIn};
 ghost use Rattle.encode.specs.Encode.{encodeBytes, passed};
 ghost use Rattle.encode.specs.Sent.{held};
+ghost use Rattle.encode.specs.Storing.{Roomy};
 use evt::Encoding;
 use evt::Sent;
 
@@ -45,7 +48,16 @@ pub fn time_of(t: i64) -> u64
     if t < 0 { 0 } else { t as u64 }
 }
 
-// The words of all events, from `start` on. The bounds keep the place from wrapping.
+// A time of a column in which none is negative.
+pub fn time_at(ts: &[i64], i: usize) -> u64
+    requires { ⌜ (i < length (now ts)) × (length (now ts) ≤ 2 ^ 28) × Whole (now ts) ⌝ }
+    ensures { λ r. ⌜ r ≡ natural (getD (now (ts .entry)) i (pos 0)) ⌝ }
+{
+    ts[i] as u64
+}
+
+// The words of all events, from `start` on, where they have room or there is no byte. The bounds
+// keep the place from wrapping.
 pub fn pass(
     version: Encoding,
     state: EncoderState,
@@ -56,7 +68,7 @@ pub fn pass(
     out: &mut [u8],
     start: usize,
 ) -> Put
-    requires { ⌜ Sized (now xs) (now ys) (now ts) (now ps) × (start ≤ 2 ^ 32) ⌝ }
+    requires { ⌜ Sized (now xs) (now ys) (now ts) (now ps) × (start ≤ 2 ^ 32) × Whole (now ts) × Roomy (now out) start (length (encodeBytes version state (eventsIn (now xs) (now ys) (now ts) (now ps)))) ⌝ }
     ensures { λ r. ⌜ r ≡ passed version state (eventsIn (now (xs .entry)) (now (ys .entry)) (now (ts .entry)) (now (ps .entry))) start ⌝ ∗ ⌜ now (out .exit) ≡ sets (now (out .entry)) start (encodeBytes version state (eventsIn (now (xs .entry)) (now (ys .entry)) (now (ts .entry)) (now (ps .entry)))) ⌝ }
 {
     match version {

@@ -2,7 +2,7 @@
 use mathlib.Core.Path.{_≡_, refl, sym, ap, _∙_}
 use mathlib.Core.Bool.{Bool, true, false, cond, _&&_, _||_, true≢false}
 use mathlib.Core.List.{List, [], _∷_}
-use Prim.Native.Nat.{ℕ, suc, _+_, _-_, _^_, _≤_, _<_}
+use Prim.Native.Nat.{ℕ, zero, suc, _+_, _-_, _^_, _≤_, _<_}
 use native.Mathlib.Omega.{arith}
 use native.Mathlib.Numerals.{add-one}
 use lib.Bits.{bitOr, or-lt, or-add-and, and-le-l, and-le-r}
@@ -14,9 +14,10 @@ use lib.Signed.{ltZ, nonNeg}
 use borrow.Author.Tests.{eqb-true, leb-true, leb-false, ltb-true, ltb-false, le-leb, lt-leb, lt-ltb, le-ltb}
 use Rattle.stream.specs.Machine.{and-both}
 use Rattle.evt.specs.declared.Encoding.{Encoding}
+use Rattle.evt.specs.declared.Encoding.the-variants.{Evt2, Evt3}
 use Rattle.evt.specs.declared.Refusal.the-variants.{TooLong, TimeOrder, EventOutOfRange, StateOutOfRange, ColumnLengths}
 use Rattle.encode.specs.declared.EncoderState.{EncoderState}
-use Rattle.encode.specs.Columns.{natural, Sized}
+use Rattle.encode.specs.Columns.{natural, Sized, Whole}
 use Rattle.sink.specs.declared.Check.{Check}
 use Rattle.sink.specs.declared.Check.the-variants.{Passed, Failed}
 use Rattle.sink.specs.declared.LastTime.{LastTime}
@@ -149,6 +150,25 @@ unfolding every
 every-none f [] h = refl
 every-none f (a ∷ l) h = absurd (omega arith)
 
+every-at : {A : Type 0} (f : A → Bool) (d : A) (l : List A) → f d ≡ true → every f l ≡ true → (i : ℕ) → f (getD l i d) ≡ true
+unfolding every
+every-at f d [] e h i = e
+every-at f d (a ∷ l) e h zero = and-both (f a) (every f l) h .0
+every-at f d (a ∷ l) e h (suc i) = every-at f d l e (and-both (f a) (every f l) h .1) i
+
+zero-in-range : (e : Encoding) → timeInRange e (pos 0) ≡ true
+zero-in-range Evt2 = refl
+zero-in-range Evt3 = refl
+
+-- no time in range is negative
+pub whole-of : (e : Encoding) (xs ys : List ℕ) (ts : List ℤ) (ps : List ℕ) → eventsInRange e xs ys ts ps ≡ true → Whole ts
+whole-of e xs ys ts ps h i =
+    let a = and-both (every (atMost 2047) xs) _ h in
+    let b = and-both (every (atMost 2047) ys) _ (a .1) in
+    let c = and-both (every (atMost 1) ps) _ (b .1) in
+    let t = getD ts i (pos 0) in
+    and-both (nonNeg t) (ltb (natural t) (timeBound e)) (every-at (timeInRange e) (pos 0) ts (zero-in-range e) (c .1) i) .0
+
 -- ---- what a check that is passed says
 
 pub sized-of : (xs ys : List ℕ) (ts : List ℤ) (ps : List ℕ) → sameLengths (length xs) (length ys) (length ts) (length ps) ≡ true → length xs ≤ 2 ^ 28 → Sized xs ys ts ps
@@ -173,6 +193,7 @@ pub record Checked (s : RawEventSink) (xs ys : List ℕ) (ts : List ℤ) (ps : L
   pub in-range : sinkInRange s ≡ true
   pub count : s .«n_events» ≤ 2 ^ 62
   pub sized : Sized xs ys ts ps
+  pub whole : Whole ts
   pub rising : fallsAfter (s .«last_t») ts ≡ false
   pub events : eventsInRange (s .version) xs ys ts ps ≡ true
 
@@ -183,6 +204,7 @@ checked-as true true true false true s xs ys ts ps ha hb hc hd he q = record {
   in-range = ha;
   count = count-as (s .version) (s .state) (s .«n_events») (s .«last_t») ha;
   sized = sized-of xs ys ts ps hb (leb-true (length xs) (2 ^ 28) hc);
+  whole = whole-of (s .version) xs ys ts ps he;
   rising = hd;
   events = he;
 }

@@ -16,7 +16,7 @@ use Rattle.evt.specs.declared.Refusal.the-variants.{InvalidSensorSize, UnknownE
 use Rattle.encode.specs.declared.Put.{Put}
 use Rattle.encode.specs.Columns.{eventsIn, Sized, events-length}
 use Rattle.encode.specs.Laws.{encode-few}
-use Rattle.encode.specs.Storing.{stored-both}
+use Rattle.encode.specs.Storing.{Roomy, roomy-rest, stored-both}
 use Rattle.encode.specs.Encode.{encodeState, passed}
 use Rattle.evt.specs.declared.Encoding.{Encoding}
 use Rattle.sink.specs.Header.{headerText, header-few}
@@ -176,6 +176,13 @@ module _ (s : RawEventSink) (width height : ℕ) (xs ys : List ℕ) (ts : List �
       let both = stored-both out 0 h w (a ∙ sym (zero-add (length h))) u refl v in
       let n : at + length w ≡ length (h ++ w) = both .0 ∙ zero-add (length (h ++ w)) in
       rw (← d) (q ∙ rw n, both .1)
+
+  -- after the header the words have room where all has
+  pub room-words : (out o : List ℕ) {due : Bool} {at : ℕ} → due ≡ headerDue s xs → at ≡ length (cond due (headerText (s .version) width height) []) → length o ≡ length out
+      → Roomy out 0 (length (sends s width height xs ys ts ps)) → Roomy o at (length (wordBytes s xs ys ts ps))
+  room-words out o {due} {at} d a n r =
+      let h = cond due (headerText (s .version) width height) [] in
+      roomy-rest out o 0 h (wordBytes s xs ys ts ps) (a ∙ sym (zero-add (length h))) n (rw (← d) at r)
 
   pub sends-few : Sized xs ys ts ps → width < 2 ^ 64 → height < 2 ^ 64 → length (sends s width height xs ys ts ps) ≤ 96 + 8 * length xs
   sends-few z lw lh =

@@ -6,7 +6,8 @@ ghost use mathlib.Core.Bool.{cond, _||_};
 ghost use lib.Dec.{leb};
 ghost use lib.ListN.{length};
 ghost use lib.Seq.{sets};
-ghost use Rattle.encode.specs.Columns.{Sized};
+ghost use Rattle.encode.specs.Columns.{Sized, Whole};
+ghost use Rattle.encode.specs.Storing.{Roomy};
 ghost use Rattle.sink.specs.Range.{sinkInRange};
 ghost use Rattle.sink.specs.Append.{freshSink, headerDue, some, lastAfter, sends, AppendOwed};
 ghost use Rattle.sink.specs.Ends.{checkOf, wrote};
@@ -132,7 +133,8 @@ fn last_after(last: LastTime, ts: &[i64]) -> LastTime
     if 0 < n { LastTime::At(ts[n - 1]) } else { last }
 }
 
-// The header, where it is due, and the words, from the front of `out`, as far as it reaches.
+// The header, where it is due, and the words, from the front of `out`, where all has room or there
+// is no byte.
 fn write(
     sink: RawEventSink,
     width: usize,
@@ -143,7 +145,7 @@ fn write(
     ps: &[u8],
     out: &mut [u8],
 ) -> Put
-    requires { ⌜ Sized (now xs) (now ys) (now ts) (now ps) ⌝ }
+    requires { ⌜ Sized (now xs) (now ys) (now ts) (now ps) × Whole (now ts) × Roomy (now out) 0 (length (sends sink width height (now xs) (now ys) (now ts) (now ps))) ⌝ }
     ensures { λ r. ⌜ r ≡ wrote sink width height (now (xs .entry)) (now (ys .entry)) (now (ts .entry)) (now (ps .entry)) ⌝ ∗ ⌜ now (out .exit) ≡ sets (now (out .entry)) 0 (sends sink width height (now (xs .entry)) (now (ys .entry)) (now (ts .entry)) (now (ps .entry))) ⌝ }
 {
     let version = sink.version;
@@ -165,7 +167,7 @@ fn shortfall(
     ps: &[u8],
     room: usize,
 ) -> usize
-    requires { ⌜ Sized (now xs) (now ys) (now ts) (now ps) ⌝ }
+    requires { ⌜ Sized (now xs) (now ys) (now ts) (now ps) × Whole (now ts) ⌝ }
     ensures { λ r. ⌜ r ≡ cond (leb (length (sends sink width height (now (xs .entry)) (now (ys .entry)) (now (ts .entry)) (now (ps .entry)))) room) 0 (length (sends sink width height (now (xs .entry)) (now (ys .entry)) (now (ts .entry)) (now (ps .entry)))) ⌝ }
 {
     if 96 + 8 * xs.len() <= room {

@@ -9,13 +9,19 @@ enum-told : tie.Need-enum-told
 enum-told c = search needs
 
 pass2-requires : tie.Need-pass-requires
-pass2-requires c κs = search needs
+pass2-requires c κs =
+    let s = c .before .before .before .before .before .before .before in
+    let room = rw (c .before .enum-told .given .1) at (s .pre .3) in
+    (s .pre .0, s .pre .1, s .pre .2, unfold encodeBytes bytesFrom in room)
 
 enum-told-2 : tie.Need-enum-told-2
 enum-told-2 c = search needs
 
 pass3-requires : tie.Need-pass-requires-2
-pass3-requires c κs = search needs
+pass3-requires c κs =
+    let s = c .before .before .before .before .before .before .before in
+    let room = rw (c .before .enum-told2 .given .1) at (s .pre .3) in
+    (s .pre .0, s .pre .1, s .pre .2, unfold encodeBytes bytesFrom in room)
 
 same-length : tie.Need-same-length
 same-length c = search needs

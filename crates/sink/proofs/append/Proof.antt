@@ -31,11 +31,16 @@ enum-told c = search needs
 
 -- src/lib.rt:179:17
 shortfall-requires : tie.Need-shortfall-requires
-shortfall-requires c κs = checked-of (c .before .before .before .before .before .before .before .args .sink) (now (c .before .before .before .before .before .before .before .args .xs)) (now (c .before .before .before .before .before .before .before .args .ys)) (now (c .before .before .before .before .before .before .before .args .ts)) (now (c .before .before .before .before .before .before .before .args .ps)) (sym (c .before .before .check-append .ensures) ∙ c .enum-told .given .1) .sized
+shortfall-requires c κs = let r = checked-of (c .before .before .before .before .before .before .before .args .sink) (now (c .before .before .before .before .before .before .before .args .xs)) (now (c .before .before .before .before .before .before .before .args .ys)) (now (c .before .before .before .before .before .before .before .args .ts)) (now (c .before .before .before .before .before .before .before .args .ps)) (sym (c .before .before .check-append .ensures) ∙ c .enum-told .given .1) in (r .sized, r .whole)
 
 -- src/lib.rt:181:21
 write-requires : tie.Need-write-requires
-write-requires c κs = checked-of (c .before .before .before .before .before .before .before .before .before .before .args .sink) (now (c .before .before .before .before .before .before .before .before .before .before .args .xs)) (now (c .before .before .before .before .before .before .before .before .before .before .args .ys)) (now (c .before .before .before .before .before .before .before .before .before .before .args .ts)) (now (c .before .before .before .before .before .before .before .before .before .before .args .ps)) (sym (c .before .before .before .before .before .check-append .ensures) ∙ c .before .before .before .enum-told .given .1) .sized
+write-requires c κs =
+    let a = c .before .before .before .before .before .before .before .before .before .before .args in
+    let r = checked-of (c .before .before .before .before .before .before .before .before .before .before .args .sink) (now (c .before .before .before .before .before .before .before .before .before .before .args .xs)) (now (c .before .before .before .before .before .before .before .before .before .before .args .ys)) (now (c .before .before .before .before .before .before .before .before .before .before .args .ts)) (now (c .before .before .before .before .before .before .before .before .before .before .args .ps)) (sym (c .before .before .before .before .before .check-append .ensures) ∙ c .before .before .before .enum-told .given .1) in
+    let all = sends (a .sink) (a .width) (a .height) (now (a .xs)) (now (a .ys)) (now (a .ts)) (now (a .ps)) in
+    let fits = short-cases (length all) (length (now (a .output))) (c .before .before .shortfall .result) (c .before .before .shortfall .ensures) .0 (c .before .if1 .taken) in
+    (r .sized, r .whole, λ h. omega (arith, fits))
 
 -- src/lib.rt:183:21
 header-after-requires : tie.Need-header-after-requires

@@ -1,7 +1,7 @@
 use mathlib.Core.Path.{_≡_, ap, _∙_}
 use native.Mathlib.Omega.{arith}
 use denote.Ref.{now}
-use Rattle.sink.specs.Ends.{due-few, wrote-is}
+use Rattle.sink.specs.Ends.{due-few, wrote-is, room-words}
 use borrow.Author.Needs.{needs}
 use Rattle.sink.proofs.write.Statement.{statement}
 use Rattle.sink.proofs.write.Tie as tie
@@ -24,7 +24,8 @@ pass-requires : tie.Need-pass-requires
 pass-requires c κs =
     let s = c .before .before .before .before .before .before .before .before .before .before .before in
     let few = due-few (c .before .before .before .before .before .header-due .result) (s .args .sink .version) (s .args .width) (s .args .height) (omega arith) (omega arith) in
-    (s .pre, omega (arith, few, c .before .before .before .put-due .ensures .0))
+    let a = s .args in
+    (s .pre .0, omega (arith, few, c .before .before .before .put-due .ensures .0), s .pre .1, room-words (a .sink) (a .width) (a .height) (now (a .xs)) (now (a .ys)) (now (a .ts)) (now (a .ps)) (now (a .out)) (c .before .before .before .put-due .last .1 .1 .1 .1 .0) (c .before .before .before .before .before .header-due .ensures) (c .before .before .before .put-due .ensures .0) (c .before .before .out .given) (s .pre .2))
 
 -- src/lib.rt:142:1
 same-length : tie.Need-same-length

@@ -1,6 +1,6 @@
 use native.Mathlib.Omega.{arith}
 use borrow.Author.Needs.{needs}
-use Rattle.encode.specs.Loops.{Masking, masking-start, masking-turn, masking-end}
+use Rattle.encode.specs.Loops.{Masking, masking-start, masking-turn, masking-room, masking-end}
 use Rattle.encode.proofs.evt3.put_masks.Statement.{statement}
 use Rattle.encode.proofs.evt3.put_masks.Tie as tie
 
@@ -25,7 +25,7 @@ add-put16 : tie.Need-add-put16 Inv-loop μ-loop
 add-put16 c = search needs
 
 put16-requires : tie.Need-put16-requires Inv-loop μ-loop
-put16-requires c κs = omega (arith, c .before .before .before .before .before .before .before .pre .0 .place, c .before .before .before .before .before .before .before .pre .1, c .before .before .before .before .loop .inv .place)
+put16-requires c κs = (omega (arith, c .before .before .before .before .before .before .before .pre .0 .place, c .before .before .before .before .before .before .before .pre .1, c .before .before .before .before .loop .inv .place), masking-room (c .before .before .before .before .before .before .before .pre .0) (c .before .before .before .before .before .before .before .pre .1) (c .before .before .before .before .loop .inv) (c .before .before .before .loop-test .taken) (c .before .before .before .before .before .before .before .pre .2))
 
 add-a : tie.Need-add-a Inv-loop μ-loop
 add-a c = omega (arith, c .before .before .before .before .before .before .before .before .before .before .pre .0 .place, c .before .before .before .before .before .before .before .before .before .before .pre .1, c .before .before .before .before .before .before .before .loop .inv .place)

@@ -2,7 +2,7 @@ use mathlib.Core.Path.{_≡_, _∙_}
 use Prim.Native.Nat.{_-_}
 use native.Mathlib.Omega.{arith}
 use borrow.Author.Needs.{needs}
-use Rattle.encode.specs.Loops.{Single, single-start, single-turn, single-end}
+use Rattle.encode.specs.Loops.{Single, single-start, single-turn, single-room, single-end}
 use Rattle.encode.proofs.evt3.put_singles.Statement.{statement}
 use Rattle.encode.proofs.evt3.put_singles.Tie as tie
 
@@ -13,37 +13,37 @@ abbrev μ-loop : tie.MeasureT-loop
 μ-loop p xs i end out₀ at a₀ j₀ out a j = end - j
 
 loop-holds : tie.Need-loop-holds Inv-loop μ-loop
-loop-holds c = single-start (c .before .before .pre)
+loop-holds c = single-start (c .before .before .pre .0)
 
 mul-single-word : tie.Need-mul-single-word Inv-loop μ-loop
-mul-single-word c = omega (arith, c .before .before .before .before .before .pre .few, c .before .before .before .before .before .pre .high)
+mul-single-word c = omega (arith, c .before .before .before .before .before .pre .0 .few, c .before .before .before .before .before .pre .0 .high)
 
 shared-slice-read-single-word : tie.Need-shared-slice-read-single-word Inv-loop μ-loop
-shared-slice-read-single-word c = omega (arith, c .before .before .before .before .before .before .pre .high)
+shared-slice-read-single-word c = omega (arith, c .before .before .before .before .before .before .pre .0 .high)
 
 single-word-requires : tie.Need-single-word-requires Inv-loop μ-loop
 single-word-requires c κs = search needs
 
 put16-requires : tie.Need-put16-requires Inv-loop μ-loop
-put16-requires c κs = omega (arith, c .before .before .before .before .before .before .before .pre .few, c .before .before .before .before .before .before .before .pre .high, c .before .before .before .before .before .before .before .pre .place, c .before .before .before .before .loop .inv .place, c .before .before .before .before .loop .inv .below)
+put16-requires c κs = (omega (arith, c .before .before .before .before .before .before .before .pre .0 .few, c .before .before .before .before .before .before .before .pre .0 .high, c .before .before .before .before .before .before .before .pre .0 .place, c .before .before .before .before .loop .inv .place, c .before .before .before .before .loop .inv .below), single-room (c .before .before .before .before .before .before .before .pre .0) (c .before .before .before .before .loop .inv) (c .before .before .before .loop-test .taken) (c .before .before .before .before .before .before .before .pre .1))
 
 add-a : tie.Need-add-a Inv-loop μ-loop
-add-a c = omega (arith, c .before .before .before .before .before .before .before .before .before .before .pre .few, c .before .before .before .before .before .before .before .before .before .before .pre .high, c .before .before .before .before .before .before .before .before .before .before .pre .place, c .before .before .before .before .before .before .before .loop .inv .place, c .before .before .before .before .before .before .before .loop .inv .below)
+add-a c = omega (arith, c .before .before .before .before .before .before .before .before .before .before .pre .0 .few, c .before .before .before .before .before .before .before .before .before .before .pre .0 .high, c .before .before .before .before .before .before .before .before .before .before .pre .0 .place, c .before .before .before .before .before .before .before .loop .inv .place, c .before .before .before .before .before .before .before .loop .inv .below)
 
 add-j : tie.Need-add-j Inv-loop μ-loop
-add-j c = omega (arith, c .before .before .before .before .before .before .before .before .before .before .pre .few, c .before .before .before .before .before .before .before .before .before .before .pre .high, c .before .before .before .before .before .before .before .loop .inv .below)
+add-j c = omega (arith, c .before .before .before .before .before .before .before .before .before .before .pre .0 .few, c .before .before .before .before .before .before .before .before .before .before .pre .0 .high, c .before .before .before .before .before .before .before .loop .inv .below)
 
 loop-less : tie.Need-loop-less Inv-loop μ-loop
 loop-less c = omega arith
 
 loop-again : tie.Need-loop-again Inv-loop μ-loop
-loop-again c = single-turn (c .before .before .before .before .before .before .before .before .before .before .pre) (c .before .before .before .before .before .before .before .loop .inv) (c .before .before .before .before .before .before .loop-test .taken) _ (c .before .before .put16 .ensures ∙ rw (c .before .before .before .single-word .ensures))
+loop-again c = single-turn (c .before .before .before .before .before .before .before .before .before .before .pre .0) (c .before .before .before .before .before .before .before .loop .inv) (c .before .before .before .before .before .before .loop-test .taken) _ (c .before .before .put16 .ensures ∙ rw (c .before .before .before .single-word .ensures))
 
 same-length : tie.Need-same-length Inv-loop μ-loop
 same-length c = c .before .loop .inv .storing .long
 
 returns : tie.Need-returns Inv-loop μ-loop
-returns c = single-end (c .before .before .before .before .pre) (c .before .loop .inv) (c .loop-test .left)
+returns c = single-end (c .before .before .before .before .pre .0) (c .before .loop .inv) (c .loop-test .left)
 
 pub put-singles-spec : {M : Type 1} → statement M
 put-singles-spec =

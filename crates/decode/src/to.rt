@@ -1,4 +1,11 @@
 // Passing over words up to a number of events: a loop for each encoding.
+ghost use mathlib.Core.Path.{_≡_};
+ghost use Prim.Native.Nat.{_+_, _*_, _/_, _≤_, _^_};
+ghost use lib.ListN.{length};
+ghost use Rattle.evt.specs.Evt2.{reader2};
+ghost use Rattle.evt.specs.Evt3.{reader3};
+ghost use Rattle.evt.specs.Range.{Bounded2, Bounded3, Regular3};
+ghost use Rattle.decode.specs.Passing.{Reached};
 use crate::glance;
 use crate::ones;
 use crate::quick;
@@ -20,6 +27,8 @@ pub struct Evt3Passed {
 }
 
 pub fn evt2(bytes: &[u8], d: Evt2Decoder, width: u64, height: u64, most: usize) -> Evt2Passed
+    requires { ⌜ Bounded2 (length (now bytes) / 4) d ⌝ }
+    ensures { λ r. ⌜ Reached 4 reader2 Bounded2 width height most d (now (bytes .entry)) (r .at) (r .count) (r .decoder) ⌝ }
 {
     let mut s = d;
     let mut limit = quick::limit(s.initialised, width);
@@ -50,6 +59,8 @@ pub fn evt2(bytes: &[u8], d: Evt2Decoder, width: u64, height: u64, most: usize) 
 }
 
 pub fn evt3(bytes: &[u8], d: Decoder, width: u64, height: u64, most: usize) -> Evt3Passed
+    requires { ⌜ Regular3 d ⌝ ∗ ⌜ d .«high_loops» + length (now bytes) / 2 ≤ 3 * 2 ^ 28 ⌝ }
+    ensures { λ r. ⌜ Reached 2 reader3 Bounded3 width height most d (now (bytes .entry)) (r .at) (r .count) (r .decoder) ⌝ }
 {
     let spans = glance::span_table();
     let vects = glance::vect_table();

@@ -6,6 +6,7 @@ pub mod Loop
 pub mod Order
 pub mod Slice
 pub mod Select
+pub mod PassOver
 pub mod Format
 pub mod Stream
 pub mod Checkpoint

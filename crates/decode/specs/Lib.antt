@@ -6,6 +6,7 @@ pub mod Tables
 pub mod Ones
 pub mod Turn
 pub mod Glance
+pub mod Passing
 pub mod Loops
 pub mod Extent
 pub mod Laws

@@ -63,6 +63,10 @@ pub record Turn {S : Type 0} (n : ℕ) (M : Machine S ℕ Event) (bytes : List �
   pub is-next : s′ ≡ M .step s word
   pub is-events : M .emit s word ≡ eventsOf v
 
+pub turn-words : {S : Type 0} {n : ℕ} {M : Machine S ℕ Event} {bytes : List ℕ} {s s′ : S} {i : ℕ} {v : Vector} → 0 < n → (t : Turn n M bytes s i s′ v)
+    → wordsOf n (drop i bytes) ≡ t .word ∷ wordsOf n (drop (i + n) bytes)
+turn-words {S} {n} {M} {bytes} {s} {s′} {i} pos t = words-next n pos bytes i (t .more) ∙ ap (λ (w : ℕ). w ∷ wordsOf n (drop (i + n) bytes)) (sym (t .is-word))
+
 module _ {S : Type 0} {n : ℕ} {M : Machine S ℕ Event} {Inv : ℕ → S → Type 0} {width height : ℕ} {s₀ : S} {bytes : List ℕ} (pos : 0 < n)
     (keeps : (k : ℕ) (s : S) (w : ℕ) → Inv (suc k) s → Inv k (M .step s w)) where
   module _ {s : S} {i : ℕ} (u : Standing n M Inv width height s₀ bytes s i) where
@@ -73,17 +77,14 @@ module _ {S : Type 0} {n : ℕ} {M : Machine S ℕ Event} {Inv : ℕ → S → T
     at-end h = rw (words-end n pos bytes i h) at (u .ends)
 
     module _ {s′ : S} {v : Vector} (t : Turn n M bytes s i s′ v) where
-      next-word : wordsOf n (drop i bytes) ≡ t .word ∷ wordsOf n (drop (i + n) bytes)
-      next-word = words-next n pos bytes i (t .more) ∙ ap (λ (w : ℕ). w ∷ wordsOf n (drop (i + n) bytes)) (sym (t .is-word))
-
       stand-turn : Standing n M Inv width height s₀ bytes s′ (i + n)
       stand-turn =
-          let inv : Inv (suc (length (wordsOf n (drop (i + n) bytes)))) s = rw next-word at (u .inv) in
-          rw (t .is-next) (record { within = t .more; inv = keeps (length (wordsOf n (drop (i + n) bytes))) s (t .word) inv; ends = rw next-word at (u .ends) })
+          let inv : Inv (suc (length (wordsOf n (drop (i + n) bytes)))) s = rw (turn-words pos t) at (u .inv) in
+          rw (t .is-next) (record { within = t .more; inv = keeps (length (wordsOf n (drop (i + n) bytes))) s (t .word) inv; ends = rw (turn-words pos t) at (u .ends) })
 
       -- the word's events come first
       splits : left n M Inv width height s₀ bytes s i ≡ insideOf width height v ++ left n M Inv width height s₀ bytes s′ (i + n)
-      splits = rw (next-word, t .is-events, t .is-next) (sift-append (inside width height) (eventsOf v) (emits M (M .step s (t .word)) (wordsOf n (drop (i + n) bytes))))
+      splits = rw (turn-words pos t, t .is-events, t .is-next) (sift-append (inside width height) (eventsOf v) (emits M (M .step s (t .word)) (wordsOf n (drop (i + n) bytes))))
 
   stand-start : Inv (length (wordsOf n bytes)) s₀ → Standing n M Inv width height s₀ bytes s₀ 0
   stand-start b = record { within = omega arith; inv = b; ends = refl }

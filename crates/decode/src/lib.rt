@@ -6,11 +6,11 @@
 // They keep a `requires`: no sum wraps, and the columns suffice. The caller has judged its decoder
 // (10) and its columns (5) before, and specs/Laws.antt shows that this is enough.
 ghost use mathlib.Core.Path.{_≡_};
-ghost use lib.ListN.{length};
+ghost use lib.ListN.{length, drop};
 ghost use Rattle.evt.specs.Codec.{inRangeC};
 ghost use Rattle.evt.specs.Columns.{Wrote};
 ghost use Rattle.decode.specs.Turn.{Fits};
-ghost use Rattle.decode.specs.Decode.{Bounded, Fitting, insideEvents, tallyOf, surveyOf};
+ghost use Rattle.decode.specs.Decode.{Bounded, Steady, Fitting, insideEvents, tallyOf, surveyOf, passedOf};
 use evt::Codec;
 
 pub mod count;
@@ -19,6 +19,7 @@ pub mod fill;
 mod glance;
 mod ones;
 mod quick;
+pub mod to;
 mod words;
 
 // What filling leaves: how many events were written, and the decoder.
@@ -31,6 +32,13 @@ pub struct Tally {
 pub struct Survey {
     pub count: usize,
     pub latest: u64,
+    pub codec: Codec,
+}
+
+// What passing over leaves: how many bytes, how many events inside they have, and the decoder.
+pub struct Passed {
+    pub at: usize,
+    pub count: usize,
     pub codec: Codec,
 }
 
@@ -117,6 +125,34 @@ pub fn count_all(bytes: &[u8], codec: Codec, width: u64, height: u64) -> Survey
             Survey {
                 count: s.count,
                 latest: s.latest,
+                codec: Codec::Evt3(decoder),
+            }
+        }
+    }
+}
+
+// Passes over words as long as the events inside the sensor, those of the word with them, number at
+// most `most`. Slices by number start with it.
+pub fn count_to(bytes: &[u8], codec: Codec, width: u64, height: u64, most: usize) -> Passed
+    requires { ⌜ Steady (length (now bytes)) codec ⌝ }
+    ensures { λ r. ⌜ (r ≡ passedOf width height most codec (now (bytes .entry))) × Bounded (length (drop (r .at) (now (bytes .entry)))) (r .codec) ⌝ }
+{
+    match codec {
+        Codec::Evt2(d) => {
+            let s = to::evt2(bytes, d, width, height, most);
+            let decoder = s.decoder;
+            Passed {
+                at: s.at,
+                count: s.count,
+                codec: Codec::Evt2(decoder),
+            }
+        }
+        Codec::Evt3(d) => {
+            let s = to::evt3(bytes, d, width, height, most);
+            let decoder = s.decoder;
+            Passed {
+                at: s.at,
+                count: s.count,
                 codec: Codec::Evt3(decoder),
             }
         }

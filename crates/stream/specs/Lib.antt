@@ -7,6 +7,7 @@ pub mod Order
 pub mod Slice
 pub mod Select
 pub mod Seek
+pub mod PassOver
 pub mod Format
 pub mod Stream
 pub mod Checkpoint

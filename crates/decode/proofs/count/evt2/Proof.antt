@@ -10,7 +10,7 @@ use Rattle.evt.specs.Range.{Bounded2, bounded-step2, bounded-sane2}
 use Rattle.decode.specs.Turn.{Counting, counting-start, counting-end}
 use Rattle.decode.specs.Ahead.{ahead}
 use Rattle.decode.specs.Quick.{limitOf}
-use Rattle.decode.specs.Loops.{start2, few2, seen-few, seen-turn, unseen-turn}
+use Rattle.decode.specs.Loops.{Word2, start2, few2, seen-few, seen-turn, unseen-turn}
 use Rattle.decode.proofs.count.evt2.Statement.{statement}
 use Rattle.decode.proofs.count.evt2.Tie as tie
 use Rattle.decode.proofs.count.evt2.Reads as reads
@@ -58,7 +58,7 @@ add-t c = omega (arith, bounded-sane2 (c .before .before .before .before .before
 
 -- src/count.rt:46:13
 add-n : tie.Need-add-n Inv-loop μ-loop
-add-n c = omega (arith, seen-few (c .before .before .before .before .before .loop .inv .0) (c .before .before .before .before .loop-test .taken) (c .before .before .before .before .before .loop .w) (c .before .before .before .before .before .loop .inv .2) (c .before .before .before .before .before .loop .limit) (c .before .before .before .before .before .loop .inv .1) (sym (c .before .before .before .seen .ensures) ∙ c .before .before .if1 .taken), few2 (c .before .before .before .before .before .before .before .before .before .args .width) (c .before .before .before .before .before .before .before .before .before .args .height) (c .before .before .before .before .before .before .before .before .before .args .d) (now (c .before .before .before .before .before .before .before .before .before .args .bytes)), c .before .before .before .before .before .before .before .before .before .pre .loops)
+add-n c = omega (arith, seen-few (record { more = c .before .before .before .before .loop-test .taken; is-word = c .before .before .before .before .before .loop .inv .2; is-limit = c .before .before .before .before .before .loop .inv .1 }) (c .before .before .before .before .before .loop .inv .0) (sym (c .before .before .before .seen .ensures) ∙ c .before .before .if1 .taken), few2 (c .before .before .before .before .before .before .before .before .before .args .width) (c .before .before .before .before .before .before .before .before .before .args .height) (c .before .before .before .before .before .before .before .before .before .args .d) (now (c .before .before .before .before .before .before .before .before .before .args .bytes)), c .before .before .before .before .before .before .before .before .before .pre .loops)
 
 -- src/count.rt:47:13
 later-requires : tie.Need-later-requires Inv-loop μ-loop
@@ -88,11 +88,12 @@ loop-less c = omega (arith, c .before .before .before .loop-test .taken)
 loop-again : tie.Need-loop-again Inv-loop μ-loop
 loop-again c =
     let l = c .before .before .before .before .loop in
-    let h = c .before .before .before .loop-test .taken in
+    let x = c .before .before .before .before .before .before .before .before .args in
+    let a : Word2 (x .width) (x .height) (now (x .bytes)) (l .s) (l .limit) (l .i) (l .w) = record { more = c .before .before .before .loop-test .taken; is-word = l .inv .2; is-limit = l .inv .1 } in
     let e = sym (c .before .before .seen .ensures) in
     ⊎-elim
-    (λ q. (rw (q .4, q .6, q .7) (seen-turn (l .inv .0) h (l .w) (l .inv .2) (l .limit) (l .inv .1) (e ∙ q .0 .taken) (l .s .«time_high» + q .1 .result) (rw (q .1 .ensures)) (q .3 .result) (q .3 .ensures)), rw (q .4, q .5) (l .inv .1), c .four-at2 .ensures))
-    (λ q. (rw (q .4, q .6, q .7) (unseen-turn (l .inv .0) h (l .w) (l .inv .2) (l .limit) (l .inv .1) (e ∙ q .0 .left) (q .1 .result .next) (q .1 .ensures .0)), rw (q .4, q .5) (q .3 .ensures), c .four-at2 .ensures))
+    (λ q. (rw (q .4, q .6, q .7) (seen-turn a (l .inv .0) (e ∙ q .0 .taken) (l .s .«time_high» + q .1 .result) (rw (q .1 .ensures)) (q .3 .ensures)), rw (q .4, q .5) (l .inv .1), c .four-at2 .ensures))
+    (λ q. (rw (q .4, q .6, q .7) (unseen-turn a (l .inv .0) (e ∙ q .0 .left) (q .1 .ensures .0)), rw (q .4, q .5) (q .3 .ensures), c .four-at2 .ensures))
     (c .before .if1 .came)
 
 -- src/count.rt:32:1

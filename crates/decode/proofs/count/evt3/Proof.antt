@@ -79,7 +79,7 @@ count-requires c κs = ((c .before .before .glance .ensures .column, c .before .
 
 -- src/count.rt:80:9
 add-n : tie.Need-add-n Inv-loop μ-loop
-add-n c = omega (arith, glance-few (c .before .before .before .before .before .before .before .loop .inv .0) (c .before .before .before .before .before .before .loop-test .taken) (c .before .before .before .before .before .before .before .loop .inv .1) (c .before .before .before .glance .ensures) (c .before .before .before .before .before .before .before .before .before .before .before .wide .ensures) (c .count .ensures), few3 (c .before .before .before .before .before .before .before .before .before .before .before .before .before .before .before .before .args .width) (c .before .before .before .before .before .before .before .before .before .before .before .before .before .before .before .before .args .height) (slimmed (scanned (c .before .before .before .before .before .before .before .before .before .of .result))) (now (c .before .before .before .before .before .before .before .before .before .before .before .before .before .before .before .before .args .bytes)), c .before .before .before .before .before .before .before .before .before .before .before .before .before .before .before .before .pre .loops)
+add-n c = omega (arith, glance-few (record { more = c .before .before .before .before .before .before .loop-test .taken; is-word = c .before .before .before .before .before .before .before .loop .inv .1; glanced = c .before .before .before .glance .ensures; is-wide = c .before .before .before .before .before .before .before .before .before .before .before .wide .ensures; is-count = c .count .ensures }) (c .before .before .before .before .before .before .before .loop .inv .0), few3 (c .before .before .before .before .before .before .before .before .before .before .before .before .before .before .before .before .args .width) (c .before .before .before .before .before .before .before .before .before .before .before .before .before .before .before .before .args .height) (slimmed (scanned (c .before .before .before .before .before .before .before .before .before .of .result))) (now (c .before .before .before .before .before .before .before .before .before .before .before .before .before .before .before .before .args .bytes)), c .before .before .before .before .before .before .before .before .before .before .before .before .before .before .before .before .pre .loops)
 
 -- src/count.rt:81:9
 later-requires : tie.Need-later-requires Inv-loop μ-loop
@@ -99,7 +99,7 @@ loop-less c = omega (arith, c .before .before .before .before .before .before .b
 
 -- src/count.rt:76:5
 loop-again : tie.Need-loop-again Inv-loop μ-loop
-loop-again c = (glance-turn (c .before .before .before .before .before .before .before .before .before .loop .inv .0) (c .before .before .before .before .before .before .before .before .loop-test .taken) (c .before .before .before .before .before .before .before .before .before .loop .inv .1) (c .before .before .before .before .before .glance .ensures) (c .before .before .before .before .before .before .before .before .before .before .before .before .before .wide .ensures) (c .before .before .count .ensures) (c .before .later .ensures), c .two-at2 .ensures)
+loop-again c = (glance-turn (record { more = c .before .before .before .before .before .before .before .before .loop-test .taken; is-word = c .before .before .before .before .before .before .before .before .before .loop .inv .1; glanced = c .before .before .before .before .before .glance .ensures; is-wide = c .before .before .before .before .before .before .before .before .before .before .before .before .before .wide .ensures; is-count = c .before .before .count .ensures }) (c .before .before .before .before .before .before .before .before .before .loop .inv .0) (c .before .later .ensures), c .two-at2 .ensures)
 
 -- src/count.rt:85:19
 wide-requires-2 : tie.Need-wide-requires-2 Inv-loop μ-loop

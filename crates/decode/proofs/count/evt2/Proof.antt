@@ -18,7 +18,7 @@ use Rattle.decode.proofs.count.evt2.Lts as lts
 use Rattle.decode.proofs.quick.limit.Reads as limit-reads
 use Rattle.decode.proofs.quick.seen.Reads as seen-reads
 use Rattle.decode.proofs.words.four_at.Reads as four-at-reads
-use Rattle.evt.proofs.evt2.Evt2Decoder.advance.Reads as advance-reads
+use Rattle.evt.proofs.evt2.advance.Reads as advance-reads
 use Rattle.evt.proofs.fields.bits.Reads as bits-reads
 use Rattle.sensor.proofs.later.Reads as later-reads
 

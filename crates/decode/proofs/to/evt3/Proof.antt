@@ -24,7 +24,7 @@ use Rattle.decode.proofs.ones.count.Reads as count-reads
 use Rattle.decode.proofs.ones.table.Reads as table-reads
 use Rattle.decode.proofs.ones.wide.Reads as ones-wide-reads
 use Rattle.decode.proofs.words.two_at.Reads as two-at-reads
-use Rattle.evt.proofs.evt3.Decoder.widen.Reads as widen-reads
+use Rattle.evt.proofs.evt3.widen.Reads as widen-reads
 use Rattle.evt.proofs.evt3.WideDecoder.slim.Reads as slim-reads
 
 abbrev Inv-loop : tie.InvT-loop

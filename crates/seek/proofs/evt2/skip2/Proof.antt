@@ -10,7 +10,7 @@ use Rattle.seek.proofs.evt2.skip2.Statement.{statement}
 use Rattle.seek.proofs.evt2.skip2.Tie as tie
 use Rattle.seek.proofs.evt2.skip2.Reads as reads
 use Rattle.seek.proofs.evt2.skip2.Lts as lts
-use Rattle.evt.proofs.evt2.Evt2Decoder.advance.Reads as advance-reads
+use Rattle.evt.proofs.evt2.advance.Reads as advance-reads
 use Rattle.evt.proofs.fields.bits.Reads as bits-reads
 use Rattle.seek.proofs.evt2.word4.Reads as word4-reads
 

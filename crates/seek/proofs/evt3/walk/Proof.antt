@@ -12,7 +12,7 @@ use Rattle.seek.proofs.evt3.walk.Statement.{statement}
 use Rattle.seek.proofs.evt3.walk.Tie as tie
 use Rattle.seek.proofs.evt3.walk.Reads as reads
 use Rattle.seek.proofs.evt3.walk.Lts as lts
-use Rattle.evt.proofs.evt3.Decoder.widen.Reads as widen-reads
+use Rattle.evt.proofs.evt3.widen.Reads as widen-reads
 use Rattle.evt.proofs.evt3.WideDecoder.advance.Reads as advance-reads
 use Rattle.evt.proofs.evt3.WideDecoder.slim.Reads as slim-reads
 use Rattle.evt.proofs.fields.bits.Reads as bits-reads

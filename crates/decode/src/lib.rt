@@ -141,12 +141,20 @@ pub fn count_to(bytes: &[u8], codec: Codec, width: u64, height: u64, most: usize
         Codec::Evt2(d) => {
             let s = to::evt2(bytes, d, width, height, most);
             let decoder = s.decoder;
-            Passed { at: s.at, count: s.count, codec: Codec::Evt2(decoder) }
+            Passed {
+                at: s.at,
+                count: s.count,
+                codec: Codec::Evt2(decoder),
+            }
         }
         Codec::Evt3(d) => {
             let s = to::evt3(bytes, d, width, height, most);
             let decoder = s.decoder;
-            Passed { at: s.at, count: s.count, codec: Codec::Evt3(decoder) }
+            Passed {
+                at: s.at,
+                count: s.count,
+                codec: Codec::Evt3(decoder),
+            }
         }
     }
 }

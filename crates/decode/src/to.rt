@@ -83,5 +83,9 @@ pub fn evt3(bytes: &[u8], d: Decoder, width: u64, height: u64, most: usize) -> E
         w = words::two_at(bytes, i);
     }
     let decoder = s.wide().slim();
-    Evt3Passed { at: i, count: n, decoder }
+    Evt3Passed {
+        at: i,
+        count: n,
+        decoder,
+    }
 }

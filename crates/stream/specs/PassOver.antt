@@ -1,16 +1,16 @@
 -- Passing over words as long as the events that have a number stay within a bound: how far that goes, and that a choice by number loses nothing by it.
 use mathlib.Core.Path.{_≡_, refl, sym, ap, _∙_}
-use mathlib.Core.Bool.{Bool, true, false, _&&_, _||_, or-false}
-use mathlib.Core.List.{List, [], _∷_, _++_}
-use Prim.Native.Nat.{ℕ, zero, suc, _+_, _-_, _≤_, _<_}
+use mathlib.Core.Bool.{Bool, true, false}
+use mathlib.Core.List.{List, [], _∷_}
+use Prim.Native.Nat.{ℕ, suc, _+_, _-_, _≤_, _<_}
 use native.Mathlib.Omega.{arith}
-use native.Mathlib.Nat.{add-zero, zero-add, add-assoc, suc-add}
+use native.Mathlib.Nat.{add-zero}
 use lib.Dec.{leb}
 use lib.ListN.{length, take, drop}
 use borrow.Author.Tests.{leb-true, leb-false, le-leb, lt-leb}
-use Rattle.stream.specs.Machine.{Machine, run}
-use Rattle.stream.specs.Slice.{sift, unless}
-use Rattle.stream.specs.Select.{Window, Reading, spans, numberedOf, numbered, isOver, chosen, isStopped, ended, handed, Calm, handed-nil, handed-on, handed-stop, handed-after, chosen-past}
+use Rattle.stream.specs.Machine.{Machine}
+use Rattle.stream.specs.Slice.{sift}
+use Rattle.stream.specs.Select.{Window, Reading, numberedOf, numbered, isOver, chosen, isStopped, ended, handed, Calm, handed-on, handed-stop, handed-after, chosen-past}
 
 -- how many words are passed over, how many numbered events they have, and the state behind them
 pub record Over (S : Type 0) : Type 0 where

@@ -1,7 +1,7 @@
 -- How many of a mask's events lie inside the sensor: the bits below its edge, counted by a table.
 use mathlib.Core.Path.{_≡_, refl, sym, ap, _∙_}
 use mathlib.Core.Logic.{⊎-elim}
-use mathlib.Core.Bool.{Bool, true, false, cond, _&&_, and-true}
+use mathlib.Core.Bool.{Bool, true, false, cond, and-true}
 use mathlib.Core.List.{List, [], _∷_, map}
 use Prim.Native.Nat.{ℕ, zero, suc, _+_, _-_, _*_, _/_, _%_, _^_, _≤_, _<_, min}
 use native.Mathlib.Omega.{arith}
@@ -15,7 +15,7 @@ use borrow.Author.Tests.{ltb-true, ltb-false, lt-ltb, le-ltb}
 use Rattle.stream.specs.Mask.{bits, bits-zero, bits-even, bits-odd, bits-count, parity}
 use Rattle.stream.specs.Slice.{onto, sift}
 use Rattle.evt.specs.declared.vector.Vector.{Vector}
-use Rattle.evt.specs.Event.{Event, eventAt}
+use Rattle.evt.specs.Event.{eventAt}
 use Rattle.sensor.specs.Inside.{inside, insideOf, inside-out}
 use Rattle.decode.specs.Tables.{tableOf, table-at}
 

@@ -1,3 +1,4 @@
 pub mod Deliver
 pub mod Laws
 pub mod Timed
+pub mod Numbered

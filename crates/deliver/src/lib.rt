@@ -1,7 +1,7 @@
 // Handing events over into four lent columns: all of them, or none where the columns are too short
 // (5). `deliver_all` has every event inside a sensor, for reading; `deliver` what a pass under a
-// window selects, for reading with a limit and for both slices; timed.rt has it for a window that is
-// open in numbers. specs/Deliver.antt says what is answered and what the columns hold.
+// window selects, for reading with a limit and for both slices; timed.rt and numbered.rt pass over
+// what lies before a slice. specs/Deliver.antt says what is answered and what the columns hold.
 ghost use mathlib.Core.Path.{_≡_};
 ghost use mathlib.Core.Bool.{true};
 ghost use Prim.Native.Nat.{_≤_, _^_, min, _-_};
@@ -10,9 +10,11 @@ ghost use Rattle.decode.specs.Decode.{Bounded, insideEvents};
 ghost use Rattle.select.specs.Pass.{Ready, handedOver};
 ghost use Rattle.deliver.specs.Deliver.{mostFrom, mostOver, Enough, Delivers};
 ghost use Rattle.deliver.specs.Timed.{Timed};
+ghost use Rattle.deliver.specs.Numbered.{Numbered};
 use evt::Codec;
 use select::Window;
 
+mod numbered;
 mod timed;
 
 // How many events were written, or how many places they need.
@@ -181,6 +183,18 @@ pub fn deliver(
             &mut *ps,
         );
     }
+    if is_numbered(window, number) {
+        return numbered::deliver_number(
+            bytes,
+            codec,
+            window,
+            number,
+            &mut *xs,
+            &mut *ys,
+            &mut *ts,
+            &mut *ps,
+        );
+    }
     deliver_window(
         bytes,
         codec,
@@ -203,4 +217,17 @@ fn is_timed(window: Window) -> bool
         }
     }
     false
+}
+
+// Whether a window has every time, and its first number lies ahead. No index counts more than 2^33.
+fn is_numbered(window: Window, number: u64) -> bool
+    ensures { λ r. ⌜ (r ≡ true → Numbered window number) ⌝ }
+{
+    if window.t1 < 9223372036854775808 {
+        return false;
+    }
+    if 8589934592 < window.n0 {
+        return false;
+    }
+    number < window.n0
 }

@@ -127,16 +127,17 @@ abbrev pub endAfterAll : Window → ℕ → Codec → List ℕ → End Codec
 endAfterAll win k c l = record { number = k + length (numberedOver win c l); state = codecAfter c l; consumed = length l / wordSize c }
 
 module _ (win : Window) where
-  abbrev Calm2 : Evt2Decoder → List ℕ → Type 0
+  abbrev pub Calm2 : Evt2Decoder → List ℕ → Type 0
   Calm2 d l = Select.Calm (reading2 win) (spanOf win) d (wordsOf 4 l)
 
-  abbrev Calm3 : Decoder → List ℕ → Type 0
+  abbrev pub Calm3 : Decoder → List ℕ → Type 0
   Calm3 d l = Select.Calm (reading3 win) (spanOf win) d (wordsOf 2 l)
 
-  calm2 : 2 ^ 63 ≤ win .t1 → (d : Evt2Decoder) (l : List ℕ) → Able (length l) (Evt2 d) → Calm2 d l
+  -- no decoder on the way reaches t1
+  pub calm2 : 2 ^ 63 ≤ win .t1 → (d : Evt2Decoder) (l : List ℕ) → Able (length l) (Evt2 d) → Calm2 d l
   calm2 no-end d l a = calm timed2 (λ d. d .initialised) win no-end d (wordsOf 4 l) (rw (length-words 4 l) a)
 
-  calm3 : 2 ^ 63 ≤ win .t1 → (d : Decoder) (l : List ℕ) → Able (length l) (Evt3 d) → Calm3 d l
+  pub calm3 : 2 ^ 63 ≤ win .t1 → (d : Decoder) (l : List ℕ) → Able (length l) (Evt3 d) → Calm3 d l
   calm3 no-end d l a = calm timed3 (λ d. d .initialised) win no-end d (wordsOf 2 l) (rw (length-words 2 l) a)
 
   -- every event is in time

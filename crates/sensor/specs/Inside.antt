@@ -6,13 +6,13 @@ use Prim.Native.Nat.{ℕ, zero, suc, _+_, _-_, _≤_, _<_, _^_, min, max}
 use native.Mathlib.Omega.{arith}
 use lib.ListN.{length, length-map}
 use lib.Bits.{bitAnd}
-use lib.Count.{trailingZeros, ones}
+use lib.Count.{trailingZeros}
 use lib.Dec.{ltb}
-use borrow.Author.Tests.{lt-ltb, le-ltb}
-use Rattle.stream.specs.Machine.{All, all-of, all-map}
-use Rattle.stream.specs.Mask.{bits, bits-zero, bits-one, bits-in, bits-few, bits-count, low-bit, trailing-wide}
+use borrow.Author.Tests.{le-ltb}
+use Rattle.stream.specs.Machine.{All, all-of}
+use Rattle.stream.specs.Mask.{bits, bits-zero, bits-one, bits-few, low-bit, trailing-wide}
 use Rattle.stream.specs.Order.{greatest}
-use Rattle.stream.specs.Slice.{onto, sift, sift-all, sift-none}
+use Rattle.stream.specs.Slice.{onto, sift, sift-none}
 use Rattle.evt.specs.declared.vector.Vector.{Vector}
 use Rattle.evt.specs.Event.{Event, eventAt, eventsOf}
 
@@ -65,21 +65,12 @@ module _ (width height : ℕ) (v : Vector) where
       let x : min (v .x) 65535 ≡ v .x = omega arith in
       rw (e, bits-one 31 (v .x), x)
 
-  -- ---- none, and all
+  -- ---- none
 
   pub inside-out : height ≤ v .y → (m : ℕ) → insideAt width height v m ≡ []
   inside-out h m =
       let out : (c : ℕ) → inside width height (eventAt v c) ≡ false = λ c. rw (le-ltb (v .y) height h) (and-false (ltb (min c 65535) width)) in
       sift-none (inside width height) (eventsAt v m) (all-mapped _ (eventAt v) (bits 32 (v .x) m) (all-of _ out (bits 32 (v .x) m)))
-
-  pub inside-whole : (m : ℕ) → v .y < height → v .x + 32 ≤ width → m < 2 ^ 32 → insideAt width height v m ≡ eventsAt v m
-  inside-whole m y x h =
-      let ins : (c : ℕ) → (v .x ≤ c) × (c < v .x + 32) → inside width height (eventAt v c) ≡ true
-      = λ c q. rw (lt-ltb (min c 65535) width (omega (arith, q .1)), lt-ltb (v .y) height y) in
-      sift-all (inside width height) (eventsAt v m) (all-mapped _ (eventAt v) (bits 32 (v .x) m) (all-map _ _ ins (bits 32 (v .x) m) (bits-in 32 32 (v .x) m h)))
-
-  pub inside-count : (m : ℕ) → v .y < height → v .x + 32 ≤ width → m < 2 ^ 32 → length (insideAt width height v m) ≡ ones m
-  inside-count m y x h = ap length (inside-whole m y x h) ∙ length-map (bits 32 (v .x) m) (eventAt v) ∙ bits-count 32 (v .x) m h
 
 -- ---- how many, and when
 
@@ -94,9 +85,6 @@ sift-few f (e ∷ es) = go (f e) (sift-few f es)
 -- a mask of j bits
 pub events-few : (v : Vector) (j : ℕ) → v .mask < 2 ^ j → length (eventsOf v) ≤ j
 events-few v j h = rw (length-map (bits 32 (v .x) (v .mask)) (eventAt v)) (bits-few 32 j (v .x) (v .mask) h)
-
-pub inside-few : (width height : ℕ) (v : Vector) (j : ℕ) → v .mask < 2 ^ j → length (insideOf width height v) ≤ j
-inside-few width height v j h = omega (arith, sift-few (inside width height) (eventsOf v), events-few v j h)
 
 -- the greatest time of n events, all at time t
 abbrev pub latestOf : ℕ → ℕ → ℕ

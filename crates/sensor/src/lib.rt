@@ -1,11 +1,11 @@
-// The events of one word: written to four columns or counted, all of them or those inside a sensor
+// The events of one word: written to four columns, all of them or those inside a sensor
 // of width x height. specs/Inside.antt says which these are.
 //
 // What they require is that the vector's numbers are as small as every step yields them, and that
-// there is room for what is written: the loops above count before they write.
+// there is room for what is written: the loops above see to it.
 ghost use mathlib.Core.Path.{_≡_};
 ghost use mathlib.Core.List.{[]};
-ghost use Prim.Native.Nat.{_+_, _≤_, _<_, _^_, min, max};
+ghost use Prim.Native.Nat.{_+_, _≤_, _<_, min, max};
 ghost use lib.Count.{trailingZeros};
 ghost use lib.ListN.{length};
 ghost use Rattle.stream.specs.Slice.{onto};
@@ -149,48 +149,6 @@ fn sees(v: Vector, width: u64, height: u64) -> bool
     } else {
         inside(v.x, v.y, width, height)
     }
-}
-
-// How many events are inside: at once where no bit can pass the sensor's edge.
-pub fn count(v: Vector, width: u64, height: u64) -> usize
-    requires { ⌜ (v .mask < 2 ^ 32) × (v .x < 65536) ⌝ }
-    ensures { λ r. ⌜ r ≡ length (insideOf width height v) ⌝ }
-{
-    if v.y < height {
-        if v.x + 32 <= width {
-            u64::count_ones(v.mask) as usize
-        } else {
-            edge(v, width, height)
-        }
-    } else {
-        0
-    }
-}
-
-// `count`, bit by bit.
-fn edge(v: Vector, width: u64, height: u64) -> usize
-    requires { ⌜ (v .mask < 2 ^ 32) × (v .x < 65536) ⌝ }
-    ensures { λ r. ⌜ r ≡ length (insideOf width height v) ⌝ }
-{
-    let mut mask = v.mask;
-    let mut n: usize = 0;
-    while mask != 0 {
-        let rest = mask & (mask - 1);
-        let x = column(v.x, mask);
-        if inside(x, v.y, width, height) {
-            n += 1;
-        }
-        mask = rest;
-    }
-    n
-}
-
-// `count` where at most the lowest bit is set, as in EVT2.
-pub fn count1(v: Vector, width: u64, height: u64) -> usize
-    requires { ⌜ (v .mask ≤ 1) × (v .x < 65536) ⌝ }
-    ensures { λ r. ⌜ r ≡ length (insideOf width height v) ⌝ }
-{
-    if sees(v, width, height) { 1 } else { 0 }
 }
 
 // The greatest time, after n events at time t.

@@ -1,16 +1,16 @@
 -- Passing over words as long as the events that have a number stay within a bound: how far that goes, and that a choice by number loses nothing by it.
 use mathlib.Core.Path.{_≡_, refl, sym, ap, _∙_}
-use mathlib.Core.Bool.{Bool, true, false, _&&_, _||_, or-false}
-use mathlib.Core.List.{List, [], _∷_, _++_}
-use Prim.Native.Nat.{ℕ, zero, suc, _+_, _-_, _≤_, _<_}
+use mathlib.Core.Bool.{Bool, true, false}
+use mathlib.Core.List.{List, [], _∷_}
+use Prim.Native.Nat.{ℕ, suc, _+_, _-_, _≤_, _<_}
 use native.Mathlib.Omega.{arith}
-use native.Mathlib.Nat.{add-zero, zero-add, add-assoc, suc-add}
+use native.Mathlib.Nat.{add-zero}
 use lib.Dec.{leb}
-use lib.ListN.{length, take, drop}
+use lib.ListN.{length, take, drop, length-append}
 use borrow.Author.Tests.{leb-true, leb-false, le-leb, lt-leb}
-use Rattle.stream.specs.Machine.{Machine, run}
-use Rattle.stream.specs.Slice.{sift, unless}
-use Rattle.stream.specs.Select.{Window, Reading, spans, numberedOf, numbered, isOver, chosen, isStopped, ended, handed, Calm, handed-nil, handed-on, handed-stop, handed-after, chosen-past}
+use Rattle.stream.specs.Machine.{Machine, run, emits}
+use Rattle.stream.specs.Slice.{sift, sift-append}
+use Rattle.stream.specs.Select.{Window, Reading, numberedOf, numbered, isOver, chosen, isStopped, ended, handed, Calm, handed-on, handed-stop, handed-after, chosen-past}
 
 -- how many words are passed over, how many numbered events they have, and the state behind them
 pub record Over (S : Type 0) : Type 0 where
@@ -52,6 +52,30 @@ module _ {S W E : Type 0} (M : Machine S W E) (inside : E → Bool) where
       pub over-stop : most < numbersIn s w → over most s (w ∷ ws) ≡ here s
       unfolding over
       over-stop h = rw (lt-leb (numbersIn s w) most h)
+
+  -- what it tells: the words' events, of which there are at most `most`, and the state behind them
+  pub record Passes (most : ℕ) (s : S) (ws : List W) (r : Over S) : Type 0 where
+    pub words : r .words ≤ length ws
+    pub few : r .count ≤ most
+    pub count : r .count ≡ length (sift inside (emits M s (take (r .words) ws)))
+    pub state : r .state ≡ run M s (take (r .words) ws)
+
+  pub over-passes : (most : ℕ) (s : S) (ws : List W) → Passes most s ws (over most s ws)
+  unfolding over
+  over-passes most s [] = record { words = omega arith; few = omega arith; count = refl; state = refl }
+  over-passes most s (w ∷ ws) = go (leb (numbersIn s w) most) refl (over-passes (most - numbersIn s w) (M .step s w) ws)
+    where
+      go : (b : Bool) → leb (numbersIn s w) most ≡ b → {r : Over S} → Passes (most - numbersIn s w) (M .step s w) ws r → Passes most s (w ∷ ws) (overIf b s (numbersIn s w) r)
+      go true e {r} p =
+          let l = leb-true (numbersIn s w) most e in
+          let behind = emits M (M .step s w) (take (r .words) ws) in
+          record {
+            words = omega (arith, p .words);
+            few = omega (arith, p .few);
+            count = rw (sift-append inside (M .emit s w) behind, length-append (sift inside (M .emit s w)) (sift inside behind)) (omega (arith, p .count));
+            state = p .state;
+          }
+      go false e p = record { words = omega arith; few = omega arith; count = refl; state = refl }
 
 module _ {S W E : Type 0} (R : Reading S W E) (win : Window) where
   -- events whose numbers stay below n0

@@ -6,7 +6,7 @@ use Prim.Native.Nat.{ℕ, zero, suc, _+_, _*_, _/_, _%_, _^_, _≤_, _<_}
 use native.Mathlib.Omega.{arith}
 use native.Mathlib.Nat.{pow-suc, zero-add, suc-add, suc-mul, zero-mul, mod-lt, div-add-mod', div-eq-of-eq-mul-left, div-eq-sub-div, mul-add-div-right, div-eq-of-lt, le-div-iff-mul-le}
 use native.Mathlib.Numerals.{add-one}
-use lib.ListN.{length, take, drop, getD, length-append, length-take, length-drop}
+use lib.ListN.{length, take, drop, getD, length-append, length-take, length-drop, take-append-drop}
 use lib.Seq.{take-at, drop-at, take-append-add, drop-append-add, take-add, take-append-le, take-nil, drop-nil, drop-append-le, drop-cons, drop-drop, length-take-le}
 use Rattle.stream.specs.Machine.{All, all-append, all-take, all-drop}
 
@@ -153,6 +153,20 @@ module _ (n : ℕ) where
         let ea : length a / n ≡ k = div-eq-of-eq-mul-left pos h in
         let e : length (a ++ b) / n ≡ k + length b / n = rw (length-append, h) (mul-add-div-right pos k (length b)) in
         rw (e, ea) (parse-append k (length b / n) a b h)
+
+    -- at a whole number of words
+    module _ (k : ℕ) (l : List ℕ) (h : k * n ≤ length l) where
+      halves : wordsOf (take (k * n) l) ++ wordsOf (drop (k * n) l) ≡ wordsOf l
+      halves = sym (wordsOf-append k (take (k * n) l) (drop (k * n) l) (length-take-le (k * n) l h)) ∙ ap wordsOf (take-append-drop (k * n) l)
+
+      first : length (wordsOf (take (k * n) l)) ≡ k
+      first = length-words (take (k * n) l) ∙ div-eq-of-eq-mul-left pos (length-take-le (k * n) l h)
+
+      pub words-taken : wordsOf (take (k * n) l) ≡ take k (wordsOf l)
+      words-taken = sym (take-at (wordsOf (take (k * n) l)) (wordsOf (drop (k * n) l)) k first) ∙ ap (take k) halves
+
+      pub words-dropped : wordsOf (drop (k * n) l) ≡ drop k (wordsOf l)
+      words-dropped = sym (drop-at (wordsOf (take (k * n) l)) (wordsOf (drop (k * n) l)) k first) ∙ ap (drop k) halves
 
     pub wordsOf-stream : (ws : List ℕ) → All Fits ws → wordsOf (stream ws) ≡ ws
     wordsOf-stream ws h = rw (div-eq-of-eq-mul-left pos (length-stream ws)) (parse-stream ws h)

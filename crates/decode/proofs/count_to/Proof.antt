@@ -1,32 +1,23 @@
+-- `decode::count_to` meets its contract. By the codec's case.
 use borrow.Author.Needs.{needs}
 use Rattle.decode.proofs.count_to.Statement.{statement}
 use Rattle.decode.proofs.count_to.Tie as tie
-use Rattle.decode.proofs.count_to.Reads as reads
-use Rattle.decode.proofs.count_to.Lts as lts
-use Rattle.decode.proofs.to.evt2.Reads as evt2-reads
-use Rattle.decode.proofs.to.evt3.Reads as evt3-reads
 
--- src/lib.rt:141:21
 enum-known-codec : tie.Need-enum-known-codec
 enum-known-codec c = search needs
 
--- src/lib.rt:142:17
 evt2-requires : tie.Need-evt2-requires
 evt2-requires c κs = rw (c .before .codec .given .1) at (c .before .before .before .before .pre)
 
--- src/lib.rt:146:21
 enum-known-codec-2 : tie.Need-enum-known-codec-2
 enum-known-codec-2 c = search needs
 
--- src/lib.rt:147:17
 evt3-requires : tie.Need-evt3-requires
 evt3-requires c κs = rw (c .before .codec2 .given .1) at (c .before .before .before .before .pre)
 
--- src/lib.rt:136:1
 returns : tie.Need-returns
 returns c = let e = c .before .evt2 .ensures in rw (c .before .before .before .codec .given .1) (rw (e .is-at, e .is-count, e .is-state), e .inv)
 
--- src/lib.rt:136:1
 returns-2 : tie.Need-returns-2
 returns-2 c = let e = c .before .evt3 .ensures in rw (c .before .before .before .codec2 .given .1) (rw (e .is-at, e .is-count, e .is-state), e .inv)
 

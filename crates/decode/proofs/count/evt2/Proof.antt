@@ -1,3 +1,4 @@
+-- `decode::count::evt2` meets its contract. The loop: `Counting`, of Turn; the limit is the decoder's, and the word was read ahead.
 use native.Mathlib.Omega.{arith}
 use mathlib.Core.Logic.{⊎-elim}
 use borrow.Author.Needs.{needs}
@@ -13,14 +14,6 @@ use Rattle.decode.specs.Quick.{limitOf}
 use Rattle.decode.specs.Loops.{Word2, start2, few2, seen-few, seen-turn, unseen-turn}
 use Rattle.decode.proofs.count.evt2.Statement.{statement}
 use Rattle.decode.proofs.count.evt2.Tie as tie
-use Rattle.decode.proofs.count.evt2.Reads as reads
-use Rattle.decode.proofs.count.evt2.Lts as lts
-use Rattle.decode.proofs.quick.limit.Reads as limit-reads
-use Rattle.decode.proofs.quick.seen.Reads as seen-reads
-use Rattle.decode.proofs.words.four_at.Reads as four-at-reads
-use Rattle.evt.proofs.evt2.advance.Reads as advance-reads
-use Rattle.evt.proofs.fields.bits.Reads as bits-reads
-use Rattle.sensor.proofs.later.Reads as later-reads
 
 abbrev Inv-loop : tie.InvT-loop
 Inv-loop bytes width height s₀ limit₀ n₀ top₀ i₀ w₀ s limit n top i w = Counting 4 reader2 Bounded2 width height s₀ bytes s n top i × (limit ≡ limitOf (s .initialised) width) × (w ≡ ahead 4 bytes i)
@@ -28,63 +21,48 @@ Inv-loop bytes width height s₀ limit₀ n₀ top₀ i₀ w₀ s limit n top i 
 abbrev μ-loop : tie.MeasureT-loop
 μ-loop bytes width height s₀ limit₀ n₀ top₀ i₀ w₀ s limit n top i w = length bytes - i
 
--- src/count.rt:37:9
 limit-requires : tie.Need-limit-requires Inv-loop μ-loop
 limit-requires c κs = search needs
 
--- src/count.rt:41:9
 four-at-requires : tie.Need-four-at-requires Inv-loop μ-loop
 four-at-requires c κs = search needs
 
--- src/count.rt:42:5
 loop-holds : tie.Need-loop-holds Inv-loop μ-loop
 loop-holds c = (counting-start (omega arith) bounded-step2 (start2 (now (c .before .before .before .args .bytes)) (c .before .before .before .pre)), c .before .limit .ensures, c .four-at .ensures)
 
--- src/count.rt:42:11
 add-loop : tie.Need-add-loop Inv-loop μ-loop
 add-loop c = omega (arith, c .loop .inv .0 .stand .within, c .before .before .before .before .pre .loops)
 
--- src/count.rt:43:12
 seen-requires : tie.Need-seen-requires Inv-loop μ-loop
 seen-requires c κs = search needs
 
--- src/count.rt:44:35
 bits-requires : tie.Need-bits-requires Inv-loop μ-loop
 bits-requires c κs = search needs
 
--- src/count.rt:44:21
 add-t : tie.Need-add-t Inv-loop μ-loop
 add-t c = omega (arith, bounded-sane2 (c .before .before .before .before .before .loop .inv .0 .stand .inv) .high, c .before .bits .ensures)
 
--- src/count.rt:46:13
 add-n : tie.Need-add-n Inv-loop μ-loop
 add-n c = omega (arith, seen-few (record { more = c .before .before .before .before .loop-test .taken; is-word = c .before .before .before .before .before .loop .inv .2; is-limit = c .before .before .before .before .before .loop .inv .1 }) (c .before .before .before .before .before .loop .inv .0) (sym (c .before .before .before .seen .ensures) ∙ c .before .before .if1 .taken), few2 (c .before .before .before .before .before .before .before .before .before .args .width) (c .before .before .before .before .before .before .before .before .before .args .height) (c .before .before .before .before .before .before .before .before .before .args .d) (now (c .before .before .before .before .before .before .before .before .before .args .bytes)), c .before .before .before .before .before .before .before .before .before .pre .loops)
 
--- src/count.rt:47:13
 later-requires : tie.Need-later-requires Inv-loop μ-loop
 later-requires c κs = search needs
 
--- src/count.rt:49:17
 advance-requires : tie.Need-advance-requires Inv-loop μ-loop
 advance-requires c κs = bounded-sane2 (c .before .before .before .loop .inv .0 .stand .inv)
 
--- src/count.rt:51:13
 limit-requires-2 : tie.Need-limit-requires-2 Inv-loop μ-loop
 limit-requires-2 c κs = search needs
 
--- src/count.rt:53:9
 add-i : tie.Need-add-i Inv-loop μ-loop
 add-i c = omega (arith, c .before .before .loop-test .taken, c .before .before .before .loop .inv .0 .stand .within, c .before .before .before .before .before .before .before .pre .loops)
 
--- src/count.rt:54:9
 four-at-requires-2 : tie.Need-four-at-requires-2 Inv-loop μ-loop
 four-at-requires-2 c κs = omega (arith, c .before .before .loop-test .taken, c .before .before .before .loop .inv .0 .stand .within, c .before .before .before .before .before .before .before .pre .loops)
 
--- src/count.rt:42:5
 loop-less : tie.Need-loop-less Inv-loop μ-loop
 loop-less c = omega (arith, c .before .before .before .loop-test .taken)
 
--- src/count.rt:42:5
 loop-again : tie.Need-loop-again Inv-loop μ-loop
 loop-again c =
     let l = c .before .before .before .before .loop in
@@ -96,7 +74,6 @@ loop-again c =
     (λ q. (rw (q .4, q .6, q .7) (unseen-turn a (l .inv .0) (e ∙ q .0 .left) (q .1 .ensures .0)), rw (q .4, q .5) (q .3 .ensures), c .four-at2 .ensures))
     (c .before .if1 .came)
 
--- src/count.rt:32:1
 returns : tie.Need-returns Inv-loop μ-loop
 returns c = counting-end (omega arith) bounded-step2 (c .before .loop .inv .0) (omega (arith, c .loop-test .left))
 

@@ -1,11 +1,9 @@
+-- `decode::glance::vect_table` meets its contract: antt computes the table.
 use mathlib.Core.Path.{refl}
 use Rattle.decode.specs.Glance.{vectTable}
 use Rattle.decode.proofs.glance.vect_table.Statement.{statement}
 use Rattle.decode.proofs.glance.vect_table.Tie as tie
-use Rattle.decode.proofs.glance.vect_table.Reads as reads
-use Rattle.decode.proofs.glance.vect_table.Lts as lts
 
--- src/glance.rt:41:1
 returns : tie.Need-returns
 unfolding vectTable
 returns c = refl

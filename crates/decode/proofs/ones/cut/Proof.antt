@@ -1,3 +1,4 @@
+-- `decode::ones::cut` meets its contract.
 use mathlib.Core.Path.{_≡_, sym, _∙_}
 use Prim.Native.Nat.{_-_}
 use native.Mathlib.Omega.{arith}
@@ -5,31 +6,22 @@ use Rattle.decode.specs.Ones.{all-bits, low-bits}
 use borrow.Author.Needs.{needs}
 use Rattle.decode.proofs.ones.cut.Statement.{statement}
 use Rattle.decode.proofs.ones.cut.Tie as tie
-use Rattle.decode.proofs.ones.cut.Reads as reads
-use Rattle.decode.proofs.ones.cut.Lts as lts
-use Rattle.evt.proofs.fields.bits.Reads as bits-reads
 
--- src/ones.rt:46:8
 add-if1 : tie.Need-add-if1
 add-if1 c = search needs
 
--- src/ones.rt:49:37
 sub-bits : tie.Need-sub-bits
 sub-bits c = search needs
 
--- src/ones.rt:49:23
 bits-requires : tie.Need-bits-requires
 bits-requires c κs = search needs
 
--- src/ones.rt:42:1
 returns : tie.Need-returns
 returns c = sym (all-bits (c .before .args .mask) (c .before .args .wide - c .before .args .x) (c .before .pre .1) (omega (arith, c .if1 .taken)))
 
--- src/ones.rt:42:1
 returns-2 : tie.Need-returns-2
 returns-2 c = c .bits .ensures ∙ low-bits (c .before .before .before .args .mask) (c .before .before .before .args .wide - c .before .before .before .args .x)
 
--- src/ones.rt:42:1
 returns-3 : tie.Need-returns-3
 returns-3 c = let z : c .before .before .args .wide - c .before .before .args .x ≡ 0 = omega (arith, c .if2 .left) in rw z (omega arith)
 

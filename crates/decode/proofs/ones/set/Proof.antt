@@ -1,41 +1,31 @@
+-- `decode::ones::set` meets its contract.
 use native.Mathlib.Omega.{arith}
 use Rattle.decode.specs.Ones.{set-of, few-set}
 use borrow.Author.Needs.{needs}
 use Rattle.decode.proofs.ones.set.Statement.{statement}
 use Rattle.decode.proofs.ones.set.Tie as tie
-use Rattle.decode.proofs.ones.set.Reads as reads
-use Rattle.decode.proofs.ones.set.Lts as lts
-use Rattle.evt.proofs.fields.bits.Reads as bits-reads
 
--- src/ones.rt:58:15
 bits-requires : tie.Need-bits-requires
 bits-requires c κs = search needs
 
--- src/ones.rt:59:16
 bits-requires-2 : tie.Need-bits-requires-2
 bits-requires-2 c κs = search needs
 
--- src/ones.rt:60:5
 mul-result : tie.Need-mul-result
 mul-result c = search needs
 
--- src/ones.rt:60:5
 element-copy-out-result : tie.Need-element-copy-out-result
 element-copy-out-result c = search needs
 
--- src/ones.rt:60:18
 mul-result-2 : tie.Need-mul-result-2
 mul-result-2 c = search needs
 
--- src/ones.rt:60:18
 element-copy-out-result-2 : tie.Need-element-copy-out-result-2
 element-copy-out-result-2 c = search needs
 
--- src/ones.rt:60:5
 add-result : tie.Need-add-result
 add-result c = omega (arith, set-of (c .before .before .before .before .args .table .now) (c .before .before .before .before .pre .1) (c .before .before .before .before .args .mask) (c .before .before .before .before .pre .0) (c .before .before .before .bits .result) (c .before .before .bits2 .result) (c .before .before .before .bits .ensures) (c .before .before .bits2 .ensures), few-set (c .before .before .before .before .args .mask) (c .before .before .before .before .pre .0))
 
--- src/ones.rt:54:1
 returns : tie.Need-returns
 returns c = set-of (c .before .before .before .before .args .table .now) (c .before .before .before .before .pre .1) (c .before .before .before .before .args .mask) (c .before .before .before .before .pre .0) (c .before .before .before .bits .result) (c .before .before .bits2 .result) (c .before .before .before .bits .ensures) (c .before .before .bits2 .ensures)
 

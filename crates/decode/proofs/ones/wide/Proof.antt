@@ -1,14 +1,11 @@
+-- `decode::ones::wide` meets its contract.
 use borrow.Author.Tests.{lt-ltb, le-ltb}
 use Rattle.decode.proofs.ones.wide.Statement.{statement}
 use Rattle.decode.proofs.ones.wide.Tie as tie
-use Rattle.decode.proofs.ones.wide.Reads as reads
-use Rattle.decode.proofs.ones.wide.Lts as lts
 
--- src/ones.rt:22:1
 returns : tie.Need-returns
 returns c = rw (lt-ltb (c .before .args .width) 65536 (c .if1 .taken))
 
--- src/ones.rt:22:1
 returns-2 : tie.Need-returns-2
 returns-2 c = rw (le-ltb (c .before .args .width) 65536 (c .if1 .left))
 

@@ -1,3 +1,4 @@
+-- `decode::to::evt2` meets its contract. The loop: `Passing`; the limit is the decoder's, and the word was read ahead.
 use mathlib.Core.Path.{_≡_, sym, _∙_}
 use mathlib.Core.Logic.{⊎-elim}
 use Prim.Native.Nat.{_+_, _-_}
@@ -13,13 +14,6 @@ use Rattle.decode.specs.Quick.{limitOf}
 use Rattle.decode.specs.Loops.{Word2, start2, seen-stop, seen-pass, unseen-pass}
 use Rattle.decode.proofs.to.evt2.Statement.{statement}
 use Rattle.decode.proofs.to.evt2.Tie as tie
-use Rattle.decode.proofs.to.evt2.Reads as reads
-use Rattle.decode.proofs.to.evt2.Lts as lts
-use Rattle.decode.proofs.quick.limit.Reads as limit-reads
-use Rattle.decode.proofs.quick.seen.Reads as seen-reads
-use Rattle.decode.proofs.words.four_at.Reads as four-at-reads
-use Rattle.evt.proofs.evt2.advance.Reads as advance-reads
-use Rattle.evt.proofs.fields.bits.Reads as bits-reads
 
 abbrev Inv-loop : tie.InvT-loop
 Inv-loop bytes width height most s₀ limit₀ n₀ i₀ w₀ s limit n i w = Passing 4 reader2 Bounded2 width height most s₀ bytes s n i × (limit ≡ limitOf (s .initialised) width) × (w ≡ ahead 4 bytes i)
@@ -27,59 +21,45 @@ Inv-loop bytes width height most s₀ limit₀ n₀ i₀ w₀ s limit n i w = Pa
 abbrev μ-loop : tie.MeasureT-loop
 μ-loop bytes width height most s₀ limit₀ n₀ i₀ w₀ s limit n i w = length bytes - i
 
--- src/to.rt:34:9
 limit-requires : tie.Need-limit-requires Inv-loop μ-loop
 limit-requires c κs = search needs
 
--- src/to.rt:37:9
 four-at-requires : tie.Need-four-at-requires Inv-loop μ-loop
 four-at-requires c κs = search needs
 
--- src/to.rt:38:5
 loop-holds : tie.Need-loop-holds Inv-loop μ-loop
 loop-holds c = (passing-start (omega arith) bounded-step2 (start2 (now (c .before .before .before .args .bytes)) (c .before .before .before .pre)), c .before .limit .ensures, c .four-at .ensures)
 
--- src/to.rt:38:11
 add-loop : tie.Need-add-loop Inv-loop μ-loop
 add-loop c = omega (arith, c .loop .inv .0 .within, c .before .before .before .before .pre .loops)
 
--- src/to.rt:39:12
 seen-requires : tie.Need-seen-requires Inv-loop μ-loop
 seen-requires c κs = search needs
 
--- src/to.rt:43:35
 bits-requires : tie.Need-bits-requires Inv-loop μ-loop
 bits-requires c κs = search needs
 
--- src/to.rt:43:21
 add-t : tie.Need-add-t Inv-loop μ-loop
 add-t c = omega (arith, bounded-sane2 (c .before .before .before .before .before .before .loop .inv .0 .inv) .high, c .before .bits .ensures)
 
--- src/to.rt:45:13
 add-n : tie.Need-add-n Inv-loop μ-loop
 add-n c = omega (arith, c .before .before .if2 .left)
 
--- src/to.rt:47:17
 advance-requires : tie.Need-advance-requires Inv-loop μ-loop
 advance-requires c κs = bounded-sane2 (c .before .before .before .loop .inv .0 .inv)
 
--- src/to.rt:49:13
 limit-requires-2 : tie.Need-limit-requires-2 Inv-loop μ-loop
 limit-requires-2 c κs = search needs
 
--- src/to.rt:51:9
 add-i : tie.Need-add-i Inv-loop μ-loop
 add-i c = omega (arith, c .before .before .loop-test .taken, c .before .before .before .loop .inv .0 .within, c .before .before .before .before .before .before .before .pre .loops)
 
--- src/to.rt:52:9
 four-at-requires-2 : tie.Need-four-at-requires-2 Inv-loop μ-loop
 four-at-requires-2 c κs = omega (arith, c .before .before .loop-test .taken, c .before .before .before .loop .inv .0 .within, c .before .before .before .before .before .before .before .pre .loops)
 
--- src/to.rt:38:5
 loop-less : tie.Need-loop-less Inv-loop μ-loop
 loop-less c = omega (arith, c .before .before .before .loop-test .taken)
 
--- src/to.rt:38:5
 loop-again : tie.Need-loop-again Inv-loop μ-loop
 loop-again c =
     let l = c .before .before .before .before .loop in
@@ -91,11 +71,9 @@ loop-again c =
     (λ q. (rw (q .4, q .6) (unseen-pass a (l .inv .0) (e ∙ q .0 .left) (q .1 .ensures .0)), rw (q .4, q .5) (q .3 .ensures), c .four-at2 .ensures))
     (c .before .if1 .came)
 
--- src/to.rt:29:1
 returns : tie.Need-returns Inv-loop μ-loop
 returns c = passing-end (omega arith) bounded-step2 (c .before .loop .inv .0) (omega (arith, c .loop-test .left))
 
--- src/to.rt:29:1
 returns-2 : tie.Need-returns-2 Inv-loop μ-loop
 returns-2 c = seen-stop (record { more = c .before .before .before .loop-test .taken; is-word = c .before .before .before .before .loop .inv .2; is-limit = c .before .before .before .before .loop .inv .1 }) (c .before .before .before .before .loop .inv .0) (sym (c .before .before .seen .ensures) ∙ c .before .if1 .taken) (c .if2 .taken)
 

@@ -1,3 +1,4 @@
+-- `decode::words::four_at` meets its contract.
 use mathlib.Core.Path.{sym}
 use native.Mathlib.Omega.{arith}
 use denote.Ref.{now}
@@ -5,51 +6,37 @@ use Rattle.decode.specs.Ahead.{ahead-none, ahead-four}
 use borrow.Author.Needs.{needs}
 use Rattle.decode.proofs.words.four_at.Statement.{statement}
 use Rattle.decode.proofs.words.four_at.Tie as tie
-use Rattle.decode.proofs.words.four_at.Reads as reads
-use Rattle.decode.proofs.words.four_at.Lts as lts
-use Rattle.decode.proofs.words.four.Reads as four-reads
 
--- src/words.rt:36:8
 add-if1 : tie.Need-add-if1
 add-if1 c = search needs
 
--- src/words.rt:37:14
 shared-slice-read-four : tie.Need-shared-slice-read-four
 shared-slice-read-four c = search needs
 
--- src/words.rt:37:30
 add-four : tie.Need-add-four
 add-four c = search needs
 
--- src/words.rt:37:24
 shared-slice-read-four-2 : tie.Need-shared-slice-read-four-2
 shared-slice-read-four-2 c = search needs
 
--- src/words.rt:37:44
 add-four-2 : tie.Need-add-four-2
 add-four-2 c = search needs
 
--- src/words.rt:37:38
 shared-slice-read-four-3 : tie.Need-shared-slice-read-four-3
 shared-slice-read-four-3 c = search needs
 
--- src/words.rt:37:58
 add-four-3 : tie.Need-add-four-3
 add-four-3 c = search needs
 
--- src/words.rt:37:52
 shared-slice-read-four-4 : tie.Need-shared-slice-read-four-4
 shared-slice-read-four-4 c = search needs
 
--- src/words.rt:37:9
 four-requires : tie.Need-four-requires
 four-requires c κs = search needs
 
--- src/words.rt:32:1
 returns : tie.Need-returns
 returns c = ahead-four (now (c .before .before .before .before .before .before .before .args .bytes)) (c .before .before .before .before .before .before .before .args .i) (c .four .result) (c .before .before .before .before .before .if1 .taken) (c .four .ensures)
 
--- src/words.rt:32:1
 returns-2 : tie.Need-returns-2
 returns-2 c = sym (ahead-none 4 (now (c .before .before .args .bytes)) (c .before .before .args .i) (omega (arith, c .if1 .left)))
 

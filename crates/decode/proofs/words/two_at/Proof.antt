@@ -1,3 +1,4 @@
+-- `decode::words::two_at` meets its contract.
 use mathlib.Core.Path.{sym}
 use native.Mathlib.Omega.{arith}
 use denote.Ref.{now}
@@ -5,35 +6,25 @@ use Rattle.decode.specs.Ahead.{ahead-none, ahead-two}
 use borrow.Author.Needs.{needs}
 use Rattle.decode.proofs.words.two_at.Statement.{statement}
 use Rattle.decode.proofs.words.two_at.Tie as tie
-use Rattle.decode.proofs.words.two_at.Reads as reads
-use Rattle.decode.proofs.words.two_at.Lts as lts
-use Rattle.decode.proofs.words.two.Reads as two-reads
 
--- src/words.rt:25:8
 add-if1 : tie.Need-add-if1
 add-if1 c = search needs
 
--- src/words.rt:26:13
 shared-slice-read-two : tie.Need-shared-slice-read-two
 shared-slice-read-two c = search needs
 
--- src/words.rt:26:29
 add-two : tie.Need-add-two
 add-two c = search needs
 
--- src/words.rt:26:23
 shared-slice-read-two-2 : tie.Need-shared-slice-read-two-2
 shared-slice-read-two-2 c = search needs
 
--- src/words.rt:26:9
 two-requires : tie.Need-two-requires
 two-requires c κs = search needs
 
--- src/words.rt:21:1
 returns : tie.Need-returns
 returns c = ahead-two (now (c .before .before .before .before .before .args .bytes)) (c .before .before .before .before .before .args .i) (c .two .result) (c .before .before .before .if1 .taken) (c .two .ensures)
 
--- src/words.rt:21:1
 returns-2 : tie.Need-returns-2
 returns-2 c = sym (ahead-none 2 (now (c .before .before .args .bytes)) (c .before .before .args .i) (omega (arith, c .if1 .left)))
 

@@ -1,79 +1,58 @@
+-- `decode::glance::Scan::chosen` meets its contract: by the tables at the word's type.
 use native.Mathlib.Omega.{arith}
 use Rattle.decode.specs.Glance.{span-at, vect-at, span-small}
 use borrow.Author.Needs.{needs}
 use Rattle.decode.proofs.glance.Scan.chosen.Statement.{statement}
 use Rattle.decode.proofs.glance.Scan.chosen.Tie as tie
-use Rattle.decode.proofs.glance.Scan.chosen.Reads as reads
-use Rattle.decode.proofs.glance.Scan.chosen.Lts as lts
-use Rattle.decode.proofs.glance.choose.Reads as choose-reads
-use Rattle.decode.proofs.glance.held.Reads as held-reads
-use Rattle.evt.proofs.fields.bits.Reads as bits-reads
 
--- src/glance.rt:101:13
 bits-requires : tie.Need-bits-requires
 bits-requires c κs = search needs
 
--- src/glance.rt:102:13
 bits-requires-2 : tie.Need-bits-requires-2
 bits-requires-2 c κs = search needs
 
--- src/glance.rt:106:40
 mul-held : tie.Need-mul-held
 mul-held c = search needs
 
--- src/glance.rt:106:40
 element-copy-out-held : tie.Need-element-copy-out-held
 element-copy-out-held c = search needs
 
--- src/glance.rt:106:26
 add-held : tie.Need-add-held
 add-held c = omega (arith, span-at (c .before .before .before .before .args .spans .now) (c .before .before .before .bits .result) (omega (arith, c .before .before .before .bits .ensures)) (c .before .before .before .before .pre .1 .1 .0), span-small (c .before .before .before .bits .result), c .before .before .before .before .pre .1 .0 .column)
 
--- src/glance.rt:106:13
 held-requires : tie.Need-held-requires
 held-requires c κs = search needs
 
--- src/glance.rt:107:30
 mul-several : tie.Need-mul-several
 mul-several c = search needs
 
--- src/glance.rt:107:30
 element-copy-out-several : tie.Need-element-copy-out-several
 element-copy-out-several c = search needs
 
--- src/glance.rt:112:58
 bits-requires-3 : tie.Need-bits-requires-3
 bits-requires-3 c κs = search needs
 
--- src/glance.rt:112:41
 add-choose : tie.Need-add-choose
 add-choose c = search needs
 
--- src/glance.rt:112:23
 choose-requires : tie.Need-choose-requires
 choose-requires c κs = search needs
 
--- src/glance.rt:113:20
 choose-requires-2 : tie.Need-choose-requires-2
 choose-requires-2 c κs = search needs
 
--- src/glance.rt:114:25
 choose-requires-3 : tie.Need-choose-requires-3
 choose-requires-3 c κs = search needs
 
--- src/glance.rt:115:23
 choose-requires-4 : tie.Need-choose-requires-4
 choose-requires-4 c κs = search needs
 
--- src/glance.rt:118:16
 choose-requires-5 : tie.Need-choose-requires-5
 choose-requires-5 c κs = search needs
 
--- src/glance.rt:119:19
 choose-requires-6 : tie.Need-choose-requires-6
 choose-requires-6 c κs = search needs
 
--- src/glance.rt:97:5
 returns : tie.Need-returns
 returns c = rw (c .choose6 .ensures, c .before .choose5 .ensures, c .before .before .choose4 .ensures, c .before .before .before .choose3 .ensures, c .before .before .before .before .choose2 .ensures, c .before .before .before .before .before .choose .ensures, c .before .before .before .before .before .before .before .before .before .held .ensures, span-at (c .before .before .before .before .before .before .before .before .before .before .before .before .before .before .args .spans .now) (c .before .before .before .before .before .before .before .before .before .before .before .before .before .bits .result) (omega (arith, c .before .before .before .before .before .before .before .before .before .before .before .before .before .bits .ensures)) (c .before .before .before .before .before .before .before .before .before .before .before .before .before .before .pre .1 .1 .0), vect-at (c .before .before .before .before .before .before .before .before .before .before .before .before .before .before .args .vects .now) (c .before .before .before .before .before .before .before .before .before .before .before .before .before .bits .result) (omega (arith, c .before .before .before .before .before .before .before .before .before .before .before .before .before .bits .ensures)) (c .before .before .before .before .before .before .before .before .before .before .before .before .before .before .pre .1 .1 .1), c .before .before .before .before .before .before .before .bits3 .ensures, c .before .before .before .before .before .before .before .before .before .before .before .before .bits2 .ensures, c .before .before .before .before .before .before .before .before .before .before .before .before .before .bits .ensures)
 

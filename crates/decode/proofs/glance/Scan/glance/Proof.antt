@@ -1,3 +1,4 @@
+-- `decode::glance::Scan::glance` meets its contract.
 use mathlib.Core.Path.{refl, sym, _∙_}
 use mathlib.Core.Logic.{⊎-elim, inl, inr}
 use Rattle.evt.specs.Evt3.{slimmed}
@@ -5,39 +6,25 @@ use Rattle.decode.specs.Glance.{scanned, glance-chosen, glance-quiet}
 use borrow.Author.Needs.{needs}
 use Rattle.decode.proofs.glance.Scan.glance.Statement.{statement}
 use Rattle.decode.proofs.glance.Scan.glance.Tie as tie
-use Rattle.decode.proofs.glance.Scan.glance.Reads as reads
-use Rattle.decode.proofs.glance.Scan.glance.Lts as lts
-use Rattle.decode.proofs.glance.Scan.chosen.Reads as chosen-reads
-use Rattle.decode.proofs.glance.Scan.wide.Reads as wide-reads
-use Rattle.decode.proofs.glance.of.Reads as of-reads
-use Rattle.evt.proofs.evt3.WideDecoder.advance.Reads as advance-reads
-use Rattle.evt.proofs.fields.bits.Reads as bits-reads
 
--- src/glance.rt:83:16
 bits-requires : tie.Need-bits-requires
 bits-requires c κs = search needs
 
--- src/glance.rt:84:17
 chosen-requires : tie.Need-chosen-requires
 chosen-requires c κs = search needs
 
--- src/glance.rt:84:17
 returns : tie.Need-returns
 returns c = rw (c .chosen .ensures) (glance-chosen (c .before .before .before .before .args .self) (c .before .before .before .before .args .word) (c .before .before .before .before .pre .1 .0 .column) (c .before .before .before .if1 .taken) (λ e. c .before .if2 .taken (c .before .before .bits .ensures ∙ e)))
 
--- src/glance.rt:87:20
 wide-requires : tie.Need-wide-requires
 wide-requires c κs = search needs
 
--- src/glance.rt:87:13
 advance-requires : tie.Need-advance-requires
 advance-requires c κs = rw (c .wide .ensures) (c .before .before .pre .0)
 
--- src/glance.rt:90:19
 of-requires : tie.Need-of-requires
 of-requires c κs = search needs
 
--- src/glance.rt:78:5
 returns-2 : tie.Need-returns-2
 returns-2 c = glance-quiet (slimmed (scanned (c .before .before .before .before .before .args .self))) (c .before .before .before .before .before .args .word) (⊎-elim (λ w. inr (sym (w .1 .ensures) ∙ w .2 .left)) (λ w. inl (w .left)) (c .before .before .before .before .if1 .came)) (record { next = c .of .result; x = 0; mask = 0 }) (c .of .ensures ∙ rw (c .before .before .before .wide .ensures) at (c .before .before .advance .ensures .0)) refl refl
 

@@ -2,14 +2,14 @@
 use mathlib.Core.Path.{_≡_, refl, sym, ap, _∙_}
 use mathlib.Core.Bool.{Bool, true, false}
 use mathlib.Core.List.{List, [], _∷_, _++_, map}
-use Prim.Native.Nat.{ℕ, suc, _+_, _-_, _*_, _/_, _%_, _≤_, _<_}
+use Prim.Native.Nat.{ℕ, _+_, _-_, _*_, _≤_, _<_}
 use native.Mathlib.Omega.{arith}
-use lib.ListN.{length, getD, take, drop, length-drop}
-use lib.Seq.{sets, take-suc, getD-drop}
+use lib.ListN.{length, getD}
+use lib.Seq.{sets}
 use lib.Dec.{eqb}
 use borrow.Author.Tests.{eqb-true, eqb-false}
-use Rattle.stream.specs.Columns.{sets-append, map-append}
-use Rattle.stream.specs.Words.{stream, bytes, stream-append}
+use Rattle.stream.specs.Columns.{sets-append}
+use Rattle.stream.specs.Words.{stream, bytes}
 use Rattle.encode.specs.Storing.{Roomy, sets-over, Storing, storing-start, storing-turn, storing-room, storing-end}
 use Rattle.encode.specs.Evt3.{singleWord3}
 use Rattle.encode.specs.Parts.{Part, between, between-at, between-end, singles-length}
@@ -41,41 +41,27 @@ module _ {p : ℕ} {xs : List ℕ} {i e : ℕ} {out₀ : List ℕ} {at : ℕ} (p
     pub single-end : e ≤ j → (a ≡ at + length (stream 2 (map (singleWord3 p) (between xs i e)))) × (out ≡ sets out₀ at (stream 2 (map (singleWord3 p) (between xs i e))))
     single-end h = storing-end (rw (between-end xs j e h) at (s .storing))
 
--- ---- a word for each of a few events, the last one again and again
+-- ---- one or two events, each of the two words that are stored being one of theirs
 
-module _ (p : ℕ) (xs : List ℕ) (i : ℕ) (out₀ : List ℕ) (at : ℕ) where
-  -- the words of n events are stored
-  abbrev pub Shorts : (n : ℕ) (out : List ℕ) → Type 0
-  Shorts n out = out ≡ sets out₀ at (stream 2 (map (singleWord3 p) (between xs i (i + n))))
-
+module _ (p : ℕ) (xs : List ℕ) (i e : ℕ) (out : List ℕ) (at : ℕ) (h : i < e) (few : e ≤ i + 2) (f : e ≤ length xs) where
   abbrev wordAt : ℕ → List ℕ
-  wordAt m = bytes 2 (singleWord3 p (getD xs (i + m) 0))
+  wordAt j = bytes 2 (singleWord3 p (getD xs j 0))
 
-  -- those of one more
-  shorts-more : (m : ℕ) → i + m < length xs → stream 2 (map (singleWord3 p) (between xs i (i + (m + 1)))) ≡ stream 2 (map (singleWord3 p) (between xs i (i + m))) ++ wordAt m
-  shorts-more m h =
-      let one : i + (m + 1) - i ≡ suc m = omega arith in
-      let none : i + m - i ≡ m = omega arith in
-      let cut : take (suc m) (drop i xs) ≡ take m (drop i xs) ++ (getD xs (i + m) 0 ∷ []) = take-suc (drop i xs) m 0 (rw length-drop (omega arith)) ∙ rw (getD-drop i xs m 0) in
-      rw (one, none, cut, map-append, stream-append)
+  pair-as : (b : Bool) {o₁ o₂ : List ℕ} {last : ℕ} → eqb e (i + 1) ≡ b → last ≡ at + 2 * (e - 1 - i) → o₁ ≡ sets out at (wordAt i) → o₂ ≡ sets o₁ last (wordAt (e - 1))
+      → o₂ ≡ sets out at (stream 2 (map (singleWord3 p) (between xs i e)))
+  pair-as true q l o₁ o₂ =
+      let e₁ = eqb-true e (i + 1) q in
+      let here : between xs i e ≡ getD xs i 0 ∷ [] = between-at xs i e h f ∙ rw (between-end xs (i + 1) e (omega arith)) in
+      let same : e - 1 ≡ i = omega arith in
+      let z : at + 2 * (i - i) ≡ at = omega arith in
+      o₂ ∙ rw (o₁, l, same, z, here) (sets-over out at (wordAt i) (wordAt i) (omega arith))
+  pair-as false q l o₁ o₂ =
+      let ne = eqb-false e (i + 1) q in
+      let here : between xs i e ≡ getD xs i 0 ∷ getD xs (i + 1) 0 ∷ [] = between-at xs i e h f ∙ rw (between-at xs (i + 1) e (omega arith) f, between-end xs (i + 1 + 1) e (omega arith)) in
+      let next : e - 1 ≡ i + 1 = omega arith in
+      let two : at + 2 * (i + 1 - i) ≡ at + 2 = omega arith in
+      o₂ ∙ rw (o₁, l, next, two, here) (sym (sets-append out at (wordAt i) (wordAt (i + 1))))
 
-  pub shorts-start : i < length xs → {out : List ℕ} → out ≡ sets out₀ (at + 2 * 0) (wordAt 0) → Shorts 1 out
-  shorts-start h o = o ∙ rw (shorts-more 0 (omega arith)) (let z : i + 0 - i ≡ 0 = omega arith in let a : at + 2 * 0 ≡ at = omega arith in rw (z, a))
-
-  pub shorts-put : (n m : ℕ) {out out′ : List ℕ} → Shorts n out → n ≤ m + 1 → m ≤ n → i + m < length xs → out′ ≡ sets out (at + 2 * m) (wordAt m) → Shorts (m + 1) out′
-  shorts-put n m {out} {out′} s h k l o = go (eqb m n) refl
-    where
-      before : List ℕ
-      before = sets out₀ at (stream 2 (map (singleWord3 p) (between xs i (i + m))))
-
-      stored : sets out₀ at (stream 2 (map (singleWord3 p) (between xs i (i + (m + 1))))) ≡ sets before (at + 2 * m) (wordAt m)
-      stored =
-          let n : length (stream 2 (map (singleWord3 p) (between xs i (i + m)))) ≡ 2 * m = singles-length p xs i (i + m) (omega arith) (omega arith) ∙ omega arith in
-          rw (shorts-more m l) (sets-append out₀ at (stream 2 (map (singleWord3 p) (between xs i (i + m)))) (wordAt m) ∙ rw n)
-
-      go : (b : Bool) → eqb m n ≡ b → Shorts (m + 1) out′
-      go true q = o ∙ rw (s, ← eqb-true m n q) (sym stored)
-      go false q =
-          let ne = eqb-false m n q in
-          let e : n ≡ m + 1 = omega arith in
-          o ∙ rw (s, e, stored) (sets-over before (at + 2 * m) (wordAt m) (wordAt m) (omega arith))
+  pub pair-stored : {o₁ o₂ : List ℕ} {last : ℕ} → last ≡ at + 2 * (e - 1 - i) → o₁ ≡ sets out at (wordAt i) → o₂ ≡ sets o₁ last (wordAt (e - 1))
+      → (last + 2 ≡ at + length (stream 2 (map (singleWord3 p) (between xs i e)))) × (o₂ ≡ sets out at (stream 2 (map (singleWord3 p) (between xs i e))))
+  pair-stored l o₁ o₂ = (omega (arith, singles-length p xs i e (omega arith) f), pair-as (eqb e (i + 1)) refl l o₁ o₂)

@@ -253,32 +253,16 @@ fn vector_pays(n: u64, first: u64, last: u64) -> bool
     1 + windows_to(first, last) < n
 }
 
-// The word of event i + k, the run's words being from `at` on.
-fn put_single(p: u8, xs: &[u16], i: usize, k: usize, out: &mut [u8], at: usize)
-    requires { ⌜ (i + k < length (now xs)) × (length (now xs) ≤ 2 ^ 28) × (at ≤ 2 ^ 41) × Roomy (now out) (at + 2 * k) 2 ⌝ }
-    ensures { λ r. ⌜ now (out .exit) ≡ sets (now (out .entry)) (at + 2 * k) (bytes 2 (singleWord3 p (getD (now (xs .entry)) (i + k) 0))) ⌝ }
-{
-    store::put16(&mut *out, at + 2 * k, single_word(p, xs[i + k]));
-}
-
-fn least(a: usize, b: usize) -> usize
-    ensures { λ r. ⌜ r ≡ b - (b - a) ⌝ }
-{
-    if a < b { a } else { b }
-}
-
-// A word for each of up to 4 events: the last is stored again where they are fewer, which is
-// faster than a branch.
-fn put_short(p: u8, xs: &[u16], i: usize, end: usize, out: &mut [u8], at: usize) -> usize
-    requires { ⌜ Part (now xs) i end at × (i < end) × (end ≤ i + 4) × Roomy (now out) at (length (stream 2 (map (singleWord3 p) (between (now xs) i end)))) ⌝ }
+// The words of one or two events: a single one is stored twice, which is faster than a branch.
+fn put_pair(p: u8, xs: &[u16], i: usize, end: usize, out: &mut [u8], at: usize) -> usize
+    requires { ⌜ Part (now xs) i end at × (i < end) × (end ≤ i + 2) × Roomy (now out) at (length (stream 2 (map (singleWord3 p) (between (now xs) i end)))) ⌝ }
     ensures { λ r. ⌜ r ≡ at + length (stream 2 (map (singleWord3 p) (between (now (xs .entry)) i end))) ⌝ ∗ ⌜ now (out .exit) ≡ sets (now (out .entry)) at (stream 2 (map (singleWord3 p) (between (now (xs .entry)) i end))) ⌝ }
 {
-    let m = end - i - 1;
-    put_single(p, xs, i, 0, &mut *out, at);
-    put_single(p, xs, i, least(1, m), &mut *out, at);
-    put_single(p, xs, i, least(2, m), &mut *out, at);
-    put_single(p, xs, i, m, &mut *out, at);
-    at + 2 * m + 2
+    let j = end - 1;
+    let last = at + 2 * (j - i);
+    store::put16(&mut *out, at, single_word(p, xs[i]));
+    store::put16(&mut *out, last, single_word(p, xs[j]));
+    last + 2
 }
 
 // The words of the columns from i up to end, a run.
@@ -295,8 +279,8 @@ fn put_body(p: u8, xs: &[u16], i: usize, end: usize, out: &mut [u8], at: usize) 
         store::put16(&mut *out, at, base_word(p, x));
         return put_masks(xs, i, end, first, k, &mut *out, at + 2);
     }
-    if n <= 4 {
-        put_short(p, xs, i, end, &mut *out, at)
+    if n <= 2 {
+        put_pair(p, xs, i, end, &mut *out, at)
     } else {
         put_singles(p, xs, i, end, &mut *out, at)
     }

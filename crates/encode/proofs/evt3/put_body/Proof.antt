@@ -15,7 +15,7 @@ use Rattle.encode.proofs.evt3.put_body.Reads as reads
 use Rattle.encode.proofs.evt3.put_body.Lts as lts
 use Rattle.encode.proofs.evt3.base_word.Reads as base-word-reads
 use Rattle.encode.proofs.evt3.put_masks.Reads as put-masks-reads
-use Rattle.encode.proofs.evt3.put_short.Reads as put-short-reads
+use Rattle.encode.proofs.evt3.put_pair.Reads as put-pair-reads
 use Rattle.encode.proofs.evt3.put_singles.Reads as put-singles-reads
 use Rattle.encode.proofs.evt3.vector_pays.Reads as vector-pays-reads
 use Rattle.encode.proofs.evt3.windows_to.Reads as windows-to-reads
@@ -109,8 +109,8 @@ returns c =
     (c .before .before .before .before .before .before .put16 .ensures ∙ rw (c .before .before .before .before .before .before .before .base-word .ensures)) (c .before .before .put-masks .ensures .0) (c .before .before .put-masks .ensures .1))
 
 -- src/evt3.rt:276:9
-put-short-requires : tie.Need-put-short-requires
-put-short-requires c κs =
+put-pair-requires : tie.Need-put-pair-requires
+put-pair-requires c κs =
     let s = c .before .before .before .before .before .before .before .before in
     let a = s .args in
     let p = s .pre .0 in
@@ -133,7 +133,7 @@ returns-2 : tie.Need-returns-2
 returns-2 c =
     let s = c .before .before .before .before .before .before .before .before .before .before .before in
     let a = s .args in
-    rw (body-singles (a .p) (now (a .xs)) (a .i) (a .end) _ (s .pre .1) (s .pre .0 .high) refl (sym (c .before .before .before .before .before .before .vector-pays .ensures) ∙ c .before .before .before .before .before .if1 .left)) (c .before .before .put-short .ensures)
+    rw (body-singles (a .p) (now (a .xs)) (a .i) (a .end) _ (s .pre .1) (s .pre .0 .high) refl (sym (c .before .before .before .before .before .before .vector-pays .ensures) ∙ c .before .before .before .before .before .if1 .left)) (c .before .before .put-pair .ensures)
 
 -- src/evt3.rt:262:1
 same-length-3 : tie.Need-same-length-3
@@ -166,7 +166,7 @@ put-body-spec =
     put-masks-requires
     same-length
     returns
-    put-short-requires
+    put-pair-requires
     put-singles-requires
     same-length-2
     returns-2

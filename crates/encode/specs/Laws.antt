@@ -23,6 +23,7 @@ use Rattle.encode.specs.Encode.{encodeNotes, encodeSize, encodeBytes}
 use Rattle.encode.specs.Storing.{bytesFrom, bytes-cons}
 use Rattle.encode.specs.Pass2.{bytes2, few2}
 use Rattle.encode.specs.Parts.{bytes3, few3}
+use Rattle.encode.specs.Windows.{near-inc, inc-to}
 
 -- ---- the windows of a run hold all of it
 
@@ -30,25 +31,18 @@ use Rattle.encode.specs.Parts.{bytes3, few3}
 pub reach : (xs : List ℕ) → Rising xs → Inc (firstX xs) (firstX xs + 12 * windows xs) xs
 unfolding windows
 reach xs r = inc-to (firstX xs) (suc (lastX xs)) _ xs (omega arith) (r .rises)
-  where
-    inc-to : (b to top : ℕ) (l : List ℕ) → to ≤ top → Inc b to l → Inc b top l
-    inc-to b to top [] h i = tt
-    inc-to b to top (x ∷ l) h i = (i .0, omega (arith, i .1), inc-to (suc x) to top l h (i .2))
 
 module _ (t y p mid : ℕ) where
-  near-as : (c : Bool) (b to x : ℕ) (xs : List ℕ) → ltb x mid ≡ c → b ≤ x → x < to → Inc (suc x) to xs
-      → Inc (suc x) mid (nearby mid xs) × Inc mid to (beyond mid xs) × (spread t y p (nearby mid xs) ++ spread t y p (beyond mid xs) ≡ spread t y p xs)
-      → Inc b mid (cond c (x ∷ nearby mid xs) []) × Inc mid to (cond c (beyond mid xs) (x ∷ xs))
-      × (spread t y p (cond c (x ∷ nearby mid xs) []) ++ spread t y p (cond c (beyond mid xs) (x ∷ xs)) ≡ spread t y p (x ∷ xs))
-  near-as true b to x xs q h k i ih = ((h, ltb-true x mid q, ih .0), ih .1, ap {B = List Event} (λ (l : List Event). event x y t p ∷ l) (ih .2))
-  near-as false b to x xs q h k i ih = (tt, (ltb-false x mid q, k, i), refl)
+  spread-as : (c : Bool) (x : ℕ) (xs : List ℕ) → spread t y p (nearby mid xs) ++ spread t y p (beyond mid xs) ≡ spread t y p xs
+      → spread t y p (cond c (x ∷ nearby mid xs) []) ++ spread t y p (cond c (beyond mid xs) (x ∷ xs)) ≡ spread t y p (x ∷ xs)
+  spread-as true x xs ih = ap {B = List Event} (λ (l : List Event). event x y t p ∷ l) ih
+  spread-as false x xs ih = refl
 
-  -- the front of rising numbers, up to a limit, and the rest
-  pub near-is : (b to : ℕ) (xs : List ℕ) → Inc b to xs
-      → Inc b mid (nearby mid xs) × Inc mid to (beyond mid xs) × (spread t y p (nearby mid xs) ++ spread t y p (beyond mid xs) ≡ spread t y p xs)
+  -- the front up to a limit, and the rest
+  pub spread-is : (xs : List ℕ) → spread t y p (nearby mid xs) ++ spread t y p (beyond mid xs) ≡ spread t y p xs
   unfolding nearby beyond
-  near-is b to [] i = (tt, tt, refl)
-  near-is b to (x ∷ xs) i = near-as (ltb x mid) b to x xs refl (i .0) (i .1) (i .2) (near-is (suc x) to xs (i .2))
+  spread-is [] = refl
+  spread-is (x ∷ xs) = spread-as (ltb x mid) x xs (spread-is xs)
 
 pub none-left : (b to : ℕ) (xs : List ℕ) → to ≤ b → Inc b to xs → xs ≡ []
 none-left b to [] h i = refl
@@ -64,9 +58,9 @@ module _ (t y p : ℕ) where
   pub masks-notes : (k b : ℕ) (xs : List ℕ) → Inc b (b + 12 * k) xs → notes (masks t y p k b xs) ≡ spread t y p xs
   masks-notes zero b xs i = rw (none-left b (b + 12 * 0) xs (omega arith) i)
   masks-notes (suc k) b xs i =
-      let n = near-is t y p (b + 12) b (b + 12 * suc k) xs i in
+      let n = near-inc (b + 12) b (b + 12 * suc k) xs i in
       let i′ : Inc (b + 12) (b + 12 + 12 * k) (beyond (b + 12) xs) = let e : b + 12 * suc k ≡ b + 12 + 12 * k = omega arith in rw e at (n .1) in
-      ap (λ (l : List Event). spread t y p (nearby (b + 12) xs) ++ l) (masks-notes k (b + 12) (beyond (b + 12) xs) i′) ∙ n .2
+      ap (λ (l : List Event). spread t y p (nearby (b + 12) xs) ++ l) (masks-notes k (b + 12) (beyond (b + 12) xs) i′) ∙ spread-is t y p (b + 12) xs
 
   pub body-notes : (xs : List ℕ) → Rising xs → notes (body3 t y p xs) ≡ spread t y p xs
   unfolding body3

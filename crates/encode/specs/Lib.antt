@@ -9,6 +9,7 @@ pub mod Storing
 pub mod Pass2
 pub mod Parts
 pub mod Loops
+pub mod Windows
 pub mod Marks
 pub mod Pass3
 pub mod Laws

@@ -211,13 +211,6 @@ pub record Part (xs : List ℕ) (i e at : ℕ) : Type 0 where
   pub few : length xs ≤ 2 ^ 28
   pub place : at ≤ 2 ^ 40
 
--- the window that starts at b, of the numbers from `from` on
-pub record Windowed (xs : List ℕ) (from e b : ℕ) (w : Window) : Type 0 where
-  pub is-next : w .next ≡ from + length (nearby (b + 12) (between xs from e))
-  pub is-mask : w .mask ≡ mask b (nearby (b + 12) (between xs from e))
-  pub is-rest : between xs (w .next) e ≡ beyond (b + 12) (between xs from e)
-  pub within : w .next ≤ e
-
 module _ (to x : ℕ) (xs : List ℕ) where
   pub nearby-in : x < to → nearby to (x ∷ xs) ≡ x ∷ nearby to xs
   unfolding nearby
@@ -237,18 +230,19 @@ module _ (to x : ℕ) (xs : List ℕ) where
 
 -- ---- the columns, by which way they are written
 
-module _ (p : ℕ) (xs : List ℕ) (i e k : ℕ) (h : i < e) (f : e ≤ length xs) (is-k : k ≡ (getD xs (e - 1) 0 - getD xs i 0 + 12) / 12) where
-  first-is : firstX (between xs i e) ≡ getD xs i 0
+module _ (xs : List ℕ) (i e : ℕ) (h : i < e) (f : e ≤ length xs) where
+  pub first-is : firstX (between xs i e) ≡ getD xs i 0
   first-is = between-getD xs i e 0 (omega arith) ∙ ap (λ (j : ℕ). getD xs j 0) (add-zero i)
 
-  last-is : lastX (between xs i e) ≡ getD xs (e - 1) 0
+  pub last-is : lastX (between xs i e) ≡ getD xs (e - 1) 0
   last-is =
       let n : i + (e - i - 1) ≡ e - 1 = omega arith in
       rw (length-between xs i e (omega arith) f) (between-getD xs i e (e - i - 1) (omega arith) ∙ ap (λ (j : ℕ). getD xs j 0) n)
 
+module _ (p : ℕ) (xs : List ℕ) (i e k : ℕ) (h : i < e) (f : e ≤ length xs) (is-k : k ≡ (getD xs (e - 1) 0 - getD xs i 0 + 12) / 12) where
   windows-is : windows (between xs i e) ≡ k
   unfolding windows
-  windows-is = rw (last-is, first-is) (omega arith)
+  windows-is = rw (last-is xs i e h f, first-is xs i e h f) (omega arith)
 
   -- as there is a window, more events than its words are more than 2
   more-as : (b c : Bool) → ltb 2 (e - i) ≡ b → ltb (1 + k) (e - i) ≡ c → (b && c) ≡ c
@@ -263,7 +257,7 @@ module _ (p : ℕ) (xs : List ℕ) (i e k : ℕ) (h : i < e) (f : e ≤ length x
   pub body-vector : ltb (1 + k) (e - i) ≡ true
       → stream 2 (bodyWords p (between xs i e)) ≡ bytes 2 (baseWord3 p (getD xs i 0)) ++ stream 2 (maskWords k (getD xs i 0) (between xs i e))
   unfolding bodyWords vectorWords
-  body-vector v = ap (stream 2) (ap (λ (b : Bool). cond b (vectorWords p (between xs i e)) (map (singleWord3 p) (between xs i e))) (vectored-is ∙ v)) ∙ rw (windows-is, first-is)
+  body-vector v = ap (stream 2) (ap (λ (b : Bool). cond b (vectorWords p (between xs i e)) (map (singleWord3 p) (between xs i e))) (vectored-is ∙ v)) ∙ rw (windows-is, first-is xs i e h f)
 
   pub body-singles : ltb (1 + k) (e - i) ≡ false → stream 2 (bodyWords p (between xs i e)) ≡ stream 2 (map (singleWord3 p) (between xs i e))
   unfolding bodyWords

@@ -8,13 +8,14 @@ use lib.Seq.{sets}
 use lib.IntN.{ℤ}
 use Rattle.evt.specs.Event.{Event}
 use Rattle.evt.specs.declared.Sent.the-variants.{Value}
+use Rattle.stream.specs.Machine.{All}
 use Rattle.stream.specs.Words.{stream}
 use Rattle.encode.specs.Sent.{held}
 use Rattle.encode.specs.declared.EncoderState.{EncoderState}
 use Rattle.evt.specs.Columns.{colX}
 use Rattle.encode.specs.Columns.{Sized, eventsIn, eventsPast, eventOf, events-at, events-end, events-x, events-drop, events-length}
 use Rattle.encode.specs.Storing.{Roomy, Going, going-start, going-turn, going-room, going-end}
-use Rattle.encode.specs.Runs.{Run, runs, runAt, runOf, runs-at, follow-le}
+use Rattle.encode.specs.Runs.{Run, Rising, Valid, runs, runs-are, runAt, runOf, runs-at, follow-le}
 use Rattle.encode.specs.Evt3.{writer3}
 use Rattle.encode.specs.Parts.{bytes3, stream3, passed3, few3, leadsBytes, leads-held, bytes-parts, bodyWords, Part, between, between-at, length-between}
 use Rattle.encode.specs.Marks.{goOn, Marked, marks-start}
@@ -85,6 +86,9 @@ module _ {xs ys : List ℕ} {ts : List ℤ} {ps : List ℕ} (sized : Sized xs ys
       first-run : (e t y p : ℕ) → i < length xs → e ≡ i + 1 + goOn xs ys ts ps i → t ≡ eventOf xs ys ts ps i .t → y ≡ eventOf xs ys ts ps i .y → p ≡ eventOf xs ys ts ps i .p
           → runs (eventsPast xs ys ts ps i) ≡ runOf t y p (between xs i e) ∷ runs (eventsPast xs ys ts ps e)
       first-run e t y p h q et ey ep = run-first i e h q ∙ rw (et, ey, ep)
+
+      pub under-rising3 : (e : ℕ) → i < length xs → e ≡ i + 1 + goOn xs ys ts ps i → Rising (between xs i e)
+      under-rising3 e h q = (rw (run-first i e h q) at (runs-are (eventsPast xs ys ts ps i) .0)) .0
 
       pub under-room3 : (e t y p : ℕ) → i < length xs → e ≡ i + 1 + goOn xs ys ts ps i → t ≡ eventOf xs ys ts ps i .t → y ≡ eventOf xs ys ts ps i .y → p ≡ eventOf xs ys ts ps i .p
           → t < 2 ^ 64 → y < 2 ^ 16 → Roomy out₀ at₀ (length (stream3 v₀ (eventsIn xs ys ts ps)))

@@ -6,12 +6,14 @@ ghost use Prim.Native.Nat.{_+_, _*_, _-_, _/_, _^_, _≤_, _<_};
 ghost use lib.ListN.{length, getD};
 ghost use lib.Seq.{sets};
 ghost use lib.Dec.{ltb};
+ghost use Rattle.stream.specs.Mask.{Inc};
 ghost use Rattle.stream.specs.Words.{bytes, stream};
 ghost use Rattle.encode.specs.Columns.{Sized, Whole, event, eventsIn};
 ghost use Rattle.encode.specs.Storing.{Roomy};
-ghost use Rattle.encode.specs.Runs.{goes};
+ghost use Rattle.encode.specs.Runs.{goes, Rising};
 ghost use Rattle.encode.specs.Evt3.{singleWord3, baseWord3};
-ghost use Rattle.encode.specs.Parts.{dueBytes, leadsBytes, Leads, stream3, passed3, bodyWords, maskWords, between, Part, Windowed};
+ghost use Rattle.encode.specs.Parts.{dueBytes, leadsBytes, Leads, stream3, passed3, bodyWords, maskWords, between, Part};
+ghost use Rattle.encode.specs.Windows.{digitWords, Windowed};
 ghost use Rattle.encode.specs.Marks.{stopAt, marksFrom, Marked, Finds};
 ghost use Rattle.encode.specs.Pass3.{stateAt3};
 use crate::EncoderState;
@@ -21,7 +23,7 @@ use crate::store;
 use crate::time_at;
 use evt::Sent;
 
-// The bits of one window of 12 columns, and the index of the first event after it.
+// The bits of 60 columns, and the index of the first event after them.
 pub struct Window {
     pub mask: u64,
     pub next: usize,
@@ -165,29 +167,46 @@ fn less(a: u64, b: u64) -> u64
 }
 
 fn bit(d: u64) -> u64
-    requires { ⌜ d < 12 ⌝ }
+    requires { ⌜ d < 60 ⌝ }
     ensures { λ r. ⌜ r ≡ 2 ^ d ⌝ }
 {
     1 << d
 }
 
-// The events from `from` on that lie below base + 12.
+// The columns from `from` on that lie below base + 60, as bits: five windows at once.
 fn next_window(xs: &[u16], from: usize, end: usize, base: u64) -> Window
-    requires { ⌜ Part (now xs) from end 0 × (base ≤ 2 ^ 20) ⌝ }
+    requires { ⌜ Part (now xs) from end 0 × (base ≤ 2 ^ 20) × Inc base (2 ^ 16) (between (now xs) from end) ⌝ }
     ensures { λ r. ⌜ Windowed (now (xs .entry)) from end base r ⌝ }
 {
     let mut mask: u64 = 0;
     let mut c = from;
     while c < end {
         let x = xs[c] as u64;
-        if x < base + 12 {
-            mask += bit(less(x, base));
+        if x < base + 60 {
+            mask += bit(x - base);
             c += 1;
         } else {
             return Window { mask, next: c };
         }
     }
     Window { mask, next: c }
+}
+
+// The masks of k windows, whose bits are those of `mask`.
+fn put_digits(mask: u64, k: u64, out: &mut [u8], at: usize) -> usize
+    requires { ⌜ (k ≤ 2 ^ 20) × (at ≤ 2 ^ 50) × Roomy (now out) at (2 * k) ⌝ }
+    ensures { λ r. ⌜ r ≡ at + 2 * k ⌝ ∗ ⌜ now (out .exit) ≡ sets (now (out .entry)) at (stream 2 (digitWords k mask)) ⌝ }
+{
+    let mut a = at;
+    let mut m = mask;
+    let mut left = k;
+    while 0 < left {
+        store::put16(&mut *out, a, 16384 + (m % 4096) as u16);
+        m = m / 4096;
+        a += 2;
+        left -= 1;
+    }
+    a
 }
 
 // The masks of k windows from base on.
@@ -200,22 +219,22 @@ fn put_masks(
     out: &mut [u8],
     at: usize,
 ) -> usize
-    requires { ⌜ Part (now xs) i end at × (base + 12 * k ≤ 2 ^ 20) × Roomy (now out) at (length (stream 2 (maskWords k base (between (now xs) i end)))) ⌝ }
+    requires { ⌜ Part (now xs) i end at × (base + 12 * k ≤ 2 ^ 20) × Inc base (2 ^ 16) (between (now xs) i end) × Roomy (now out) at (length (stream 2 (maskWords k base (between (now xs) i end)))) ⌝ }
     ensures { λ r. ⌜ r ≡ at + length (stream 2 (maskWords k base (between (now (xs .entry)) i end))) ⌝ ∗ ⌜ now (out .exit) ≡ sets (now (out .entry)) at (stream 2 (maskWords k base (between (now (xs .entry)) i end))) ⌝ }
 {
     let mut a = at;
     let mut c = i;
     let mut b = base;
     let mut left = k;
-    while 0 < left {
-        let w = next_window(xs, c, end, b);
-        store::put16(&mut *out, a, 16384 + (w.mask % 4096) as u16);
-        c = w.next;
-        a += 2;
-        b += 12;
-        left -= 1;
+    while 5 < left {
+        let five = next_window(xs, c, end, b);
+        a = put_digits(five.mask, 5, &mut *out, a);
+        c = five.next;
+        b += 60;
+        left -= 5;
     }
-    a
+    let last = next_window(xs, c, end, b);
+    put_digits(last.mask, left, &mut *out, a)
 }
 
 // How many windows of 12 columns reach from the first column to the last.
@@ -234,37 +253,21 @@ fn vector_pays(n: u64, first: u64, last: u64) -> bool
     1 + windows_to(first, last) < n
 }
 
-// The word of event i + k, the run's words being from `at` on.
-fn put_single(p: u8, xs: &[u16], i: usize, k: usize, out: &mut [u8], at: usize)
-    requires { ⌜ (i + k < length (now xs)) × (length (now xs) ≤ 2 ^ 28) × (at ≤ 2 ^ 41) × Roomy (now out) (at + 2 * k) 2 ⌝ }
-    ensures { λ r. ⌜ now (out .exit) ≡ sets (now (out .entry)) (at + 2 * k) (bytes 2 (singleWord3 p (getD (now (xs .entry)) (i + k) 0))) ⌝ }
-{
-    store::put16(&mut *out, at + 2 * k, single_word(p, xs[i + k]));
-}
-
-fn least(a: usize, b: usize) -> usize
-    ensures { λ r. ⌜ r ≡ b - (b - a) ⌝ }
-{
-    if a < b { a } else { b }
-}
-
-// A word for each of up to 4 events: the last is stored again where they are fewer, which is
-// faster than a branch.
-fn put_short(p: u8, xs: &[u16], i: usize, end: usize, out: &mut [u8], at: usize) -> usize
-    requires { ⌜ Part (now xs) i end at × (i < end) × (end ≤ i + 4) × Roomy (now out) at (length (stream 2 (map (singleWord3 p) (between (now xs) i end)))) ⌝ }
+// The words of one or two events: a single one is stored twice, which is faster than a branch.
+fn put_pair(p: u8, xs: &[u16], i: usize, end: usize, out: &mut [u8], at: usize) -> usize
+    requires { ⌜ Part (now xs) i end at × (i < end) × (end ≤ i + 2) × Roomy (now out) at (length (stream 2 (map (singleWord3 p) (between (now xs) i end)))) ⌝ }
     ensures { λ r. ⌜ r ≡ at + length (stream 2 (map (singleWord3 p) (between (now (xs .entry)) i end))) ⌝ ∗ ⌜ now (out .exit) ≡ sets (now (out .entry)) at (stream 2 (map (singleWord3 p) (between (now (xs .entry)) i end))) ⌝ }
 {
-    let m = end - i - 1;
-    put_single(p, xs, i, 0, &mut *out, at);
-    put_single(p, xs, i, least(1, m), &mut *out, at);
-    put_single(p, xs, i, least(2, m), &mut *out, at);
-    put_single(p, xs, i, m, &mut *out, at);
-    at + 2 * m + 2
+    let j = end - 1;
+    let last = at + 2 * (j - i);
+    store::put16(&mut *out, at, single_word(p, xs[i]));
+    store::put16(&mut *out, last, single_word(p, xs[j]));
+    last + 2
 }
 
 // The words of the columns from i up to end, a run.
 fn put_body(p: u8, xs: &[u16], i: usize, end: usize, out: &mut [u8], at: usize) -> usize
-    requires { ⌜ Part (now xs) i end (at + 2) × (i < end) × Roomy (now out) at (length (stream 2 (bodyWords p (between (now xs) i end)))) ⌝ }
+    requires { ⌜ Part (now xs) i end (at + 2) × (i < end) × Rising (between (now xs) i end) × Roomy (now out) at (length (stream 2 (bodyWords p (between (now xs) i end)))) ⌝ }
     ensures { λ r. ⌜ r ≡ at + length (stream 2 (bodyWords p (between (now (xs .entry)) i end))) ⌝ ∗ ⌜ now (out .exit) ≡ sets (now (out .entry)) at (stream 2 (bodyWords p (between (now (xs .entry)) i end))) ⌝ }
 {
     let x = xs[i];
@@ -276,8 +279,8 @@ fn put_body(p: u8, xs: &[u16], i: usize, end: usize, out: &mut [u8], at: usize) 
         store::put16(&mut *out, at, base_word(p, x));
         return put_masks(xs, i, end, first, k, &mut *out, at + 2);
     }
-    if n <= 4 {
-        put_short(p, xs, i, end, &mut *out, at)
+    if n <= 2 {
+        put_pair(p, xs, i, end, &mut *out, at)
     } else {
         put_singles(p, xs, i, end, &mut *out, at)
     }
@@ -310,7 +313,7 @@ fn put_run(
     out: &mut [u8],
     at: usize,
 ) -> usize
-    requires { ⌜ Part (now xs) i end (at + 8) × (i < end) × Roomy (now out) at (length (leadsBytes high low row t y ++ stream 2 (bodyWords p (between (now xs) i end)))) ⌝ }
+    requires { ⌜ Part (now xs) i end (at + 8) × (i < end) × Rising (between (now xs) i end) × Roomy (now out) at (length (leadsBytes high low row t y ++ stream 2 (bodyWords p (between (now xs) i end)))) ⌝ }
     ensures { λ r. ⌜ r ≡ at + length (leadsBytes high low row t y ++ stream 2 (bodyWords p (between (now (xs .entry)) i end))) ⌝ ∗ ⌜ now (out .exit) ≡ sets (now (out .entry)) at (leadsBytes high low row t y ++ stream 2 (bodyWords p (between (now (xs .entry)) i end))) ⌝ }
 {
     let a = put_leads(high, low, row, t, y, &mut *out, at);

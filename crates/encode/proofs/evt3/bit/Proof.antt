@@ -10,7 +10,7 @@ shl-result c = search needs
 
 returns : tie.Need-returns
 returns c =
-    let le : 2 ^ c .args .d ≤ 2 ^ 12 = pow-le-pow-right (omega arith) {j = 12} (omega (arith, c .pre)) in
+    let le : 2 ^ c .args .d ≤ 2 ^ 60 = pow-le-pow-right (omega arith) {j = 60} (omega (arith, c .pre)) in
     omega arith
 
 pub bit-spec : {M : Type 1} → statement M

@@ -3,7 +3,7 @@ use mathlib.Core.Path.{_≡_, refl}
 use Prim.Native.Nat.{_-_}
 use native.Mathlib.Omega.{arith}
 use lib.ListN.{length, getD}
-use Rattle.encode.specs.Pass3.{Under3, under-start3, under-part3, under-room3, under-turn3, under-end3}
+use Rattle.encode.specs.Pass3.{Under3, under-start3, under-part3, under-rising3, under-room3, under-turn3, under-end3}
 use Rattle.encode.proofs.evt3.pass.Statement.{statement}
 use Rattle.encode.proofs.evt3.pass.Tie as tie
 use Rattle.encode.proofs.evt3.pass.Reads as reads
@@ -67,7 +67,7 @@ put-run-requires c κs =
     let h = c .before .before .before .before .before .loop-test .taken in
     let y = getD (s .args .ys .now) (l .i) 0 in
     let y< = c .before .before .before .shared-slice-known4 .given (l .i) in
-    (under-part3 (s .pre .0) (s .pre .1) (l .inv) e h is-end, omega (arith, is-end), under-room3 (s .pre .0) (s .pre .1) (l .inv) e (t .result) y (getD (s .args .ps .now) (l .i) 0) h is-end (t .ensures) refl refl (omega (arith, t .ok)) (omega (arith, y<)) (s .pre .3))
+    (under-part3 (s .pre .0) (s .pre .1) (l .inv) e h is-end, omega (arith, is-end), under-rising3 (s .pre .0) (s .pre .1) (l .inv) e h is-end, under-room3 (s .pre .0) (s .pre .1) (l .inv) e (t .result) y (getD (s .args .ps .now) (l .i) 0) h is-end (t .ensures) refl refl (omega (arith, t .ok)) (omega (arith, y<)) (s .pre .3))
 
 -- src/evt3.rt:365:15
 cast-row : tie.Need-cast-row Inv-loop μ-loop

@@ -1,11 +1,12 @@
 use mathlib.Core.Path.{_≡_, refl, sym, ap, _∙_}
-use Prim.Native.Nat.{_+_, _-_, _/_}
+use Prim.Native.Nat.{_+_, _-_, _/_, _^_}
 use native.Mathlib.Omega.{arith}
 use denote.Ref.{now}
 use lib.ListN.{getD, length}
 use Rattle.stream.specs.Words.{stream, bytes}
 use Rattle.encode.specs.Storing.{Roomy, stored-both, roomy-rest}
 use Rattle.encode.specs.Evt3.{baseWord3}
+use Rattle.encode.specs.Windows.{rising-inc}
 use Rattle.encode.specs.Parts.{body-vector, body-singles, body-some, maskWords, between}
 use borrow.Author.Needs.{needs}
 use Rattle.encode.proofs.evt3.put_body.Statement.{statement}
@@ -14,7 +15,7 @@ use Rattle.encode.proofs.evt3.put_body.Reads as reads
 use Rattle.encode.proofs.evt3.put_body.Lts as lts
 use Rattle.encode.proofs.evt3.base_word.Reads as base-word-reads
 use Rattle.encode.proofs.evt3.put_masks.Reads as put-masks-reads
-use Rattle.encode.proofs.evt3.put_short.Reads as put-short-reads
+use Rattle.encode.proofs.evt3.put_pair.Reads as put-pair-reads
 use Rattle.encode.proofs.evt3.put_singles.Reads as put-singles-reads
 use Rattle.encode.proofs.evt3.vector_pays.Reads as vector-pays-reads
 use Rattle.encode.proofs.evt3.windows_to.Reads as windows-to-reads
@@ -69,7 +70,7 @@ put16-requires : tie.Need-put16-requires
 put16-requires c κs =
     let s = c .before .before .before .before .before .before .before .before .before in
     let a = s .args in
-    (omega (arith, s .pre .0 .place), λ h. omega (arith, s .pre .2 h, body-some (a .p) (now (a .xs)) (a .i) (a .end) _ (s .pre .1) (s .pre .0 .high) refl))
+    (omega (arith, s .pre .0 .place), λ h. omega (arith, s .pre .3 h, body-some (a .p) (now (a .xs)) (a .i) (a .end) _ (s .pre .1) (s .pre .0 .high) refl))
 
 -- src/evt3.rt:273:59
 add-put-masks : tie.Need-add-put-masks
@@ -87,7 +88,8 @@ put-masks-requires c κs =
     let both = body-vector (a .p) (now (a .xs)) (a .i) (a .end) k (s .pre .1) (p .high) (c .before .before .before .before .before .before .windows-to .ensures) (rw (c .before .before .before .before .before .before .windows-to .ensures) pays) in (
       record { low = p .low; high = p .high; few = p .few; place = p .place },
       omega (arith, c .before .before .before .before .before .before .windows-to .ensures, c .before .before .before .before .before .before .before .before .before .shared-slice-known3 .given (a .end - 1), c .before .before .before .before .before .before .before .before .before .before .shared-slice-known2 .given (a .i)),
-      roomy-rest (now (a .out)) (c .before .before .before .put16 .last .0) (a .at) (bytes 2 (baseWord3 (a .p) x)) (stream 2 (maskWords k x (between (now (a .xs)) (a .i) (a .end)))) refl (c .before .before .out .given) (rw both at (s .pre .2)),
+      rising-inc (now (a .xs)) (a .i) (a .end) (2 ^ 16) (s .pre .1) (p .high) (omega (arith, c .before .before .before .before .before .before .before .before .before .shared-slice-known3 .given (a .end - 1))) (s .pre .2),
+      roomy-rest (now (a .out)) (c .before .before .before .put16 .last .0) (a .at) (bytes 2 (baseWord3 (a .p) x)) (stream 2 (maskWords k x (between (now (a .xs)) (a .i) (a .end)))) refl (c .before .before .out .given) (rw both at (s .pre .3)),
     )
 
 -- src/evt3.rt:273:9
@@ -107,12 +109,12 @@ returns c =
     (c .before .before .before .before .before .before .put16 .ensures ∙ rw (c .before .before .before .before .before .before .before .base-word .ensures)) (c .before .before .put-masks .ensures .0) (c .before .before .put-masks .ensures .1))
 
 -- src/evt3.rt:276:9
-put-short-requires : tie.Need-put-short-requires
-put-short-requires c κs =
+put-pair-requires : tie.Need-put-pair-requires
+put-pair-requires c κs =
     let s = c .before .before .before .before .before .before .before .before in
     let a = s .args in
     let p = s .pre .0 in
-    (record { low = p .low; high = p .high; few = p .few; place = omega (arith, p .place) }, s .pre .1, omega (arith, c .before .if2 .taken), rw (body-singles (a .p) (now (a .xs)) (a .i) (a .end) _ (s .pre .1) (p .high) refl (sym (c .before .before .before .vector-pays .ensures) ∙ c .before .before .if1 .left)) at (s .pre .2))
+    (record { low = p .low; high = p .high; few = p .few; place = omega (arith, p .place) }, s .pre .1, omega (arith, c .before .if2 .taken), rw (body-singles (a .p) (now (a .xs)) (a .i) (a .end) _ (s .pre .1) (p .high) refl (sym (c .before .before .before .vector-pays .ensures) ∙ c .before .before .if1 .left)) at (s .pre .3))
 
 -- src/evt3.rt:278:9
 put-singles-requires : tie.Need-put-singles-requires
@@ -120,7 +122,7 @@ put-singles-requires c κs =
     let s = c .before .before .before .before .before .before .before .before in
     let a = s .args in
     let p = s .pre .0 in
-    (record { low = p .low; high = p .high; few = p .few; place = omega (arith, p .place) }, rw (body-singles (a .p) (now (a .xs)) (a .i) (a .end) _ (s .pre .1) (p .high) refl (sym (c .before .before .before .vector-pays .ensures) ∙ c .before .before .if1 .left)) at (s .pre .2))
+    (record { low = p .low; high = p .high; few = p .few; place = omega (arith, p .place) }, rw (body-singles (a .p) (now (a .xs)) (a .i) (a .end) _ (s .pre .1) (p .high) refl (sym (c .before .before .before .vector-pays .ensures) ∙ c .before .before .if1 .left)) at (s .pre .3))
 
 -- src/evt3.rt:262:1
 same-length-2 : tie.Need-same-length-2
@@ -131,7 +133,7 @@ returns-2 : tie.Need-returns-2
 returns-2 c =
     let s = c .before .before .before .before .before .before .before .before .before .before .before in
     let a = s .args in
-    rw (body-singles (a .p) (now (a .xs)) (a .i) (a .end) _ (s .pre .1) (s .pre .0 .high) refl (sym (c .before .before .before .before .before .before .vector-pays .ensures) ∙ c .before .before .before .before .before .if1 .left)) (c .before .before .put-short .ensures)
+    rw (body-singles (a .p) (now (a .xs)) (a .i) (a .end) _ (s .pre .1) (s .pre .0 .high) refl (sym (c .before .before .before .before .before .before .vector-pays .ensures) ∙ c .before .before .before .before .before .if1 .left)) (c .before .before .put-pair .ensures)
 
 -- src/evt3.rt:262:1
 same-length-3 : tie.Need-same-length-3
@@ -164,7 +166,7 @@ put-body-spec =
     put-masks-requires
     same-length
     returns
-    put-short-requires
+    put-pair-requires
     put-singles-requires
     same-length-2
     returns-2

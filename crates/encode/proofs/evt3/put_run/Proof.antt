@@ -22,7 +22,7 @@ put-leads-requires c κs =
     let s = c .before .before .before in
     let a = s .args in
     let some = body-some (a .p) (now (a .xs)) (a .i) (a .end) _ (s .pre .1) (s .pre .0 .high) refl in
-    (omega (arith, s .pre .0 .place), λ h. omega (arith, s .pre .2 h, some, length-append (leadsBytes (a .high) (a .low) (a .row) (a .t) (a .y)) (stream 2 (bodyWords (a .p) (between (now (a .xs)) (a .i) (a .end))))))
+    (omega (arith, s .pre .0 .place), λ h. omega (arith, s .pre .3 h, some, length-append (leadsBytes (a .high) (a .low) (a .row) (a .t) (a .y)) (stream 2 (bodyWords (a .p) (between (now (a .xs)) (a .i) (a .end))))))
 
 -- src/evt3.rt:311:9
 put-body-requires : tie.Need-put-body-requires
@@ -33,7 +33,8 @@ put-body-requires c κs =
     let few = leads-few (a .high) (a .low) (a .row) (a .t) (a .y) in (
       record { low = p .low; high = p .high; few = p .few; place = omega (arith, few, c .before .before .before .before .put-leads .ensures .place, p .place) },
       s .pre .1,
-      roomy-rest (now (a .out)) (c .before .before .before .before .put-leads .last .1 .1 .1 .1 .1 .0) (a .at) (leadsBytes (a .high) (a .low) (a .row) (a .t) (a .y)) (stream 2 (bodyWords (a .p) (between (now (a .xs)) (a .i) (a .end)))) (c .before .before .before .before .put-leads .ensures .place) (c .before .before .before .out .given) (s .pre .2),
+      s .pre .2,
+      roomy-rest (now (a .out)) (c .before .before .before .before .put-leads .last .1 .1 .1 .1 .1 .0) (a .at) (leadsBytes (a .high) (a .low) (a .row) (a .t) (a .y)) (stream 2 (bodyWords (a .p) (between (now (a .xs)) (a .i) (a .end)))) (c .before .before .before .before .put-leads .ensures .place) (c .before .before .before .out .given) (s .pre .3),
     )
 
 -- src/evt3.rt:313:24

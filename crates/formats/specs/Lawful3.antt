@@ -25,7 +25,8 @@ use Rattle.encode.specs.Columns.{event}
 use Rattle.encode.specs.Sent.{freshState, sentIs, due}
 use Rattle.encode.specs.Runs.{Run, given, spread, Rising, Valid, firstX, lastX}
 use Rattle.encode.specs.Evt3.{highWord3, lowWord3, rowWord3, lowHeld, highSent3, lowSent3, rowSent3, leads3, singleWord3, baseWord3, maskWord3, nearby, beyond, windows, vectored, singles, masks, vectors, body3, encode3, encoded3, writer3}
-use Rattle.encode.specs.Laws.{reach, near-is, none-left, singles-notes, masks-notes, body-notes, due-notes, encode-notes3}
+use Rattle.encode.specs.Windows.{near-inc}
+use Rattle.encode.specs.Laws.{reach, spread-is, none-left, singles-notes, masks-notes, body-notes, due-notes, encode-notes3}
 use Rattle.formats.specs.Ready.{limit, sayable, Ready, Holds, holds-sent, Sayable, sayable-true, no-event, one-event}
 
 abbrev pub Ready3 : Decoder → List Event → Type 0
@@ -121,7 +122,7 @@ said-masks : (t y p k b : ℕ) (xs : List ℕ) (d : Decoder) (more : List Event)
     → Inc b (b + 12 * k) xs → Rises t (spread t y p xs ++ more) → Reads t y d (masks t y p k b xs) more
 said-masks t y p zero b xs d more f eb ep fits i r = (fixed-ready t y d more f (rw (none-left b (b + 12 * 0) xs (omega arith) i) at r), f)
 said-masks t y p (suc k) b xs d more f eb ep fits i r =
-    let n = near-is t y p (b + 12) b (b + 12 * suc k) xs i in
+    let n = near-inc (b + 12) b (b + 12 * suc k) xs i in
     let near = nearby (b + 12) xs in
     let far = beyond (b + 12) xs in
     let i′ : Inc (b + 12) (b + 12 + 12 * k) far = let e : b + 12 * suc k ≡ b + 12 + 12 * k = omega arith in rw e at (n .1) in
@@ -129,7 +130,7 @@ said-masks t y p (suc k) b xs d more f eb ep fits i r =
     let w = maskWord3 b near in
     let m< : mask b near % 4096 < 4096 = omega arith in
     let is-mask : mask12 w ≡ mask (d .«base_x») near = word-mask12 4 (mask b near % 4096) (omega arith) m< ∙ rw eb (omega arith) in
-    let r₁ : Rises t ((spread t y p near ++ spread t y p far) ++ more) = rw (n .2) r in
+    let r₁ : Rises t ((spread t y p near ++ spread t y p far) ++ more) = rw (spread-is t y p (b + 12) xs) r in
     let r₂ : Rises t (spread t y p near ++ (spread t y p far ++ more)) = rw append-assoc at r₁ in
     let by = started-word d w (type3 w) refl 4 (word-type3 4 (mask b near % 4096) (omega arith) m<) (f .on) in
     let next : min (d .«base_x» + 12) 65535 ≡ b + 12 = omega arith in

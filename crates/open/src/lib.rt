@@ -1,11 +1,30 @@
 // Opening: makes the index of a recording into lent records, for all that the crate `index` defines
-// (`OpensRaw`, `OpensWords` in its specs/Index.antt). Both entries are proved by hand, since they are
-// lent records; what they call takes a record by value.
+// (`OpensRaw`, `OpensWords` in its specs/Index.antt). One loop, in `make`, makes the records of both
+// entries; specs/Made.antt has what it asks and what it says. The functions are proved by hand, since
+// they are lent records; what they call in `index` takes a record by value.
+ghost use lib.ListN.{length};
 ghost use Rattle.index.specs.Index.{OpensRaw, OpensWords};
+ghost use Rattle.open.specs.Made.{Begun, Made};
 use index::Checkpoint;
 use index::OpenAnswer;
 use index::OpenOptions;
+use index::Run;
 use index::WordsOptions;
+
+// Makes the records of a run one after another, and the answer.
+fn make<'a, 'b>(recording: &'a [u8], records: &'b mut [Checkpoint], first: Run) -> OpenAnswer
+    requires { ⌜ Begun (now recording) (length (now records)) first ⌝ }
+    ensures { λ r. ⌜ Made (now (recording .entry)) first r (now (records .entry)) (now (records .exit)) ⌝ }
+{
+    let mut t = first;
+    while t.more {
+        let i = t.at;
+        let m = index::advance(recording, t);
+        records[i] = m.record;
+        t = m.next;
+    }
+    index::conclude(t)
+}
 
 // Makes the index of a recording into the lent records. Refused, no record is touched.
 pub fn open<'a, 'b>(
@@ -15,15 +34,8 @@ pub fn open<'a, 'b>(
 ) -> OpenAnswer
     ensures { λ r. ⌜ OpensRaw (now (recording .entry)) options r (now (records .entry)) (now (records .exit)) ⌝ }
 {
-    let room = records.len();
-    let mut t = index::prepare(recording, options, room);
-    while t.more {
-        let i = t.at;
-        let m = index::advance(recording, t);
-        records[i] = m.record;
-        t = m.next;
-    }
-    index::conclude(t)
+    let first = index::prepare(recording, options, records.len());
+    make(recording, records, first)
 }
 
 // The same for headerless words.
@@ -34,13 +46,6 @@ pub fn open_words<'a, 'b>(
 ) -> OpenAnswer
     ensures { λ r. ⌜ OpensWords (now (words .entry)) options r (now (records .entry)) (now (records .exit)) ⌝ }
 {
-    let room = records.len();
-    let mut t = index::prepare_words(words, options, room);
-    while t.more {
-        let i = t.at;
-        let m = index::advance(words, t);
-        records[i] = m.record;
-        t = m.next;
-    }
-    index::conclude(t)
+    let first = index::prepare_words(words, options, records.len());
+    make(words, records, first)
 }

@@ -15,7 +15,7 @@ use prog.Routine.{Routine}
 use prog.Wp.{Heap, WpFn, Tables}
 use ghost.Atoms.{Atoms, sem}
 use contract.Monad.{Fun, fact}
-use types.Kit.{Given, Item, ‵, raw, _⊛_, some, later, ⋆, _$_, _∵_, !, qed, by, move, keep, drop, use1, use2, split, join, pick, rewrite, fsplit, fjoin, feqL, suffices, frame, await, done}
+use types.Kit.{Given, ‵, raw, _⊛_, some, later, ⋆, _$_, _∵_, !, qed, by, move, keep, drop, use1, use2, split, join, pick, rewrite, fsplit, fjoin, feqL, suffices, frame, await, done}
 use types.Part.{whole, sub, look-in, agg}
 use types.Run.{look, init, forget, stop, hop, fld, from, load, addr, of-opd, and-then, no-more, land, assigns, returns, enter, alloc1, alloc0, params1, pass1, pass0, free1, free0}
 use sound.WpLaws.{fmOf, WpFn-mono}
@@ -71,23 +71,23 @@ pub record Entry : Type 2 where
   pub Opens : List ℕ → options .D → OpenAnswer → (ys zs : List Checkpoint) → Type 0
   pub opens : (l : List ℕ) (s : options .D) (ys zs : List Checkpoint) (t : Run) → Stage.Ended (job l s (length ys)) l ys t zs → (r : OpenAnswer) → r ≡ concluded t → Opens l s r ys zs
 
--- ---- the types of the locals
-abbrev word : Ty
+-- ---- the types of the locals, and machine values: those of `make` too
+abbrev pub word : Ty
 word = tyInt w64
 
-abbrev bslice : Ty
+abbrev pub bslice : Ty
 bslice = sliceTy (tyRef (named 0) imm (tyInt w8))
 
-abbrev rslice : Ty
+abbrev pub rslice : Ty
 rslice = sliceTy (tyRef (named 1) mut (pointee (T.the-row .written)))
 
 abbrev pointer : Ty
 pointer = tyRef erased mut (pointee (T.the-row .written))
 
-abbrev machS : Run → Val
+abbrev pub machS : Run → Val
 machS d = LL.val S.the-type S′.the-laws d
 
-abbrev machE : OpenAnswer → Val
+abbrev pub machE : OpenAnswer → Val
 machE d = EL.val E.the-type E′.the-laws d
 
 module _ (𝓔 : Entry) where

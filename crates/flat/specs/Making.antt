@@ -2,18 +2,15 @@
 use mathlib.Core.Path.{_≡_, refl, sym, ap, subst, _∙_}
 use mathlib.Core.Bool.{Bool, true, false, cond}
 use mathlib.Core.List.{List, [], _∷_, _++_, append-assoc}
-use Prim.Native.Nat.{ℕ, zero, suc, _+_, _-_, _*_, _/_, _≤_, _<_, _^_}
-use native.Mathlib.Numerals.{add-one}
+use Prim.Native.Nat.{ℕ, zero, suc, _+_, _-_, _*_, _≤_, _<_, _^_}
 use native.Mathlib.Omega.{arith}
 use lib.Dec.{ltb}
 use lib.ListN.{length, take, drop, length-append, length-drop}
 use lib.Seq.{sets, sets-eq, length-sets, take-at, drop-at, drop-drop}
 use borrow.Author.Tests.{ltb-true, ltb-false}
 use Rattle.evt.specs.declared.Encoding.{Encoding}
-use Rattle.evt.specs.declared.Encoding.the-variants.{Evt2, Evt3}
 use Rattle.evt.specs.declared.Refusal.the-variants.{InvalidSensorSize, TooLong, InvalidSpacing, TooFewRecords}
 use Rattle.evt.specs.declared.SensorSize.{SensorSize}
-use Rattle.evt.specs.Codec.{freshC, encodingOf}
 use Rattle.evt.specs.Event.{Event}
 use Rattle.evt.specs.Told.{Told}
 use Rattle.header.specs.declared.HeaderAnswer.{HeaderAnswer}
@@ -30,28 +27,14 @@ use Rattle.index.specs.Index as Index
 use Rattle.index.specs.Index.{firsts}
 use Rattle.index.specs.Build.{recordOf, nextOf, Fit, Advanced, Job, firstOf, runAt, idle, buildJob, bodyJob, jobAfter, rawJob, wordsJob, concluded}
 use Rattle.index.specs.Nth.{blank}
-use Rattle.index.specs.Laws.{Sound, run-start, run-next, run-fit, Laid, length-firsts}
+use Rattle.index.specs.Laws.{Sound, run-start, run-next, run-fit, length-firsts}
 use Rattle.index.specs.Open.{Allowed}
+use Rattle.index.specs.Begun.{jobOf, own-job}
 use Rattle.index.specs.Stage.{made, Ended, allowed-raw, allowed-words, opens-raw, opens-words}
 use Rattle.flat.specs.declared.opening.PropheseeOpening.{PropheseeOpening}
 use Rattle.flat.specs.Lookup.{room-fits}
 use Rattle.flat.specs.Opening.{openingOf, Opens}
 use Rattle.flat.specs.Records.{flatRecord, entriesOf, entriesAll, roomOf}
-
--- what a first run is to make
-abbrev pub jobOf : Run → Job
-jobOf t = record { encoding = encodingOf (t .codec); start = t .offset; spacing = t .spacing; cap = t .cap; width = t .width; height = t .height; plan = t .plan }
-
-pub job-back : (job : Job) → jobOf (firstOf job) ≡ job
-job-back job = λ i. record { encoding = back (job .encoding) i; start = job .start; spacing = job .spacing; cap = job .cap; width = job .width; height = job .height; plan = job .plan }
-  where
-    back : (e : Encoding) → encodingOf (freshC e) ≡ e
-    back Evt2 = refl
-    back Evt3 = refl
-
-pub record Prepared (l : List ℕ) (room : ℕ) (t : Run) : Type 0 where
-  pub allowed : Allowed (jobOf t) l room
-  pub first : t ≡ firstOf (jobOf t)
 
 -- the entries of the first n records
 abbrev pub entriesTo : Job → List ℕ → ℕ → List ℕ
@@ -168,15 +151,6 @@ module _ (l : List ℕ) (t₀ : Run) (es₀ : List ℕ) (t : Run) (es : List ℕ
         is-entries = s .laid ∙ ap (λ (n : ℕ). entriesTo (jobOf t₀) l n ++ drop (n * 10) es₀) k;
       }
 
--- ---- a run that was prepared
-
-module _ (l : List ℕ) (job : Job) (room : ℕ) (ok : Allowed job l room) (t : Run) (is : t ≡ firstOf job) where
-  pub own-job : jobOf t ≡ job
-  own-job = ap jobOf is ∙ job-back job
-
-  pub prepared : Prepared l room t
-  prepared = record { allowed = subst (λ (k : Job). Allowed k l room) (sym own-job) ok; first = is ∙ ap firstOf (sym own-job) }
-
 -- ---- what opening promises, from what the library's own opening does into any records
 
 module _ (l : List ℕ) (job : Job) (verdict : Told) (answer : OpenAnswer) (mk ys : List Checkpoint) (fits : job .cap ≤ length ys) (count : length mk ≡ job .cap)
@@ -266,7 +240,7 @@ length-blanks (suc n) = ap suc (length-blanks n)
 module _ (l : List ℕ) (es₀ : List ℕ) (r : Run) (es : List ℕ) (a : OpenAnswer) (is-a : a ≡ concluded r) (n : PropheseeOpening) (is-n : n ≡ openingOf (Index.toldOpen a)) where
   pub opens-raw-entries : (o : OpenOptions) (room : ℕ) (t : Run) → t ≡ firstOf (rawJob l o room) → Makes l t es₀ r es → Opens (Index.rawVerdict l o room) (Index.rawMade l o room) n es₀ es
   opens-raw-entries o room t is m =
-      subst (λ (k : ℕ). (jobOf t ≡ rawJob l o k) → Opens (Index.rawVerdict l o k) (Index.rawMade l o k) n es₀ es) (length-blanks room) go (own-job l (rawJob l o room) room (allowed-raw l o room) t is)
+      subst (λ (k : ℕ). (jobOf t ≡ rawJob l o k) → Opens (Index.rawVerdict l o k) (Index.rawMade l o k) n es₀ es) (length-blanks room) go (own-job (rawJob l o room) t is)
     where
       go : jobOf t ≡ rawJob l o (length (blanks room)) → Opens (Index.rawVerdict l o (length (blanks room))) (Index.rawMade l o (length (blanks room))) n es₀ es
       go own =
@@ -276,7 +250,7 @@ module _ (l : List ℕ) (es₀ : List ℕ) (r : Run) (es : List ℕ) (a : OpenAn
 
   pub opens-words-entries : (o : WordsOptions) (room : ℕ) (t : Run) → t ≡ firstOf (wordsJob l o room) → Makes l t es₀ r es → Opens (Index.wordsVerdict l o room) (Index.wordsMade l o room) n es₀ es
   opens-words-entries o room t is m =
-      subst (λ (k : ℕ). (jobOf t ≡ wordsJob l o k) → Opens (Index.wordsVerdict l o k) (Index.wordsMade l o k) n es₀ es) (length-blanks room) go (own-job l (wordsJob l o room) room (allowed-words l o room) t is)
+      subst (λ (k : ℕ). (jobOf t ≡ wordsJob l o k) → Opens (Index.wordsVerdict l o k) (Index.wordsMade l o k) n es₀ es) (length-blanks room) go (own-job (wordsJob l o room) t is)
     where
       go : jobOf t ≡ wordsJob l o (length (blanks room)) → Opens (Index.wordsVerdict l o (length (blanks room))) (Index.wordsMade l o (length (blanks room))) n es₀ es
       go own =

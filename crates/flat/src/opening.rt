@@ -1,7 +1,8 @@
 // Opening in numbers: options and answers, and records made into lent entries.
 ghost use mathlib.Core.Path.{_≡_};
+ghost use Rattle.index.specs.Begun.{Begun};
 ghost use Rattle.index.specs.Index.{toldOpen};
-ghost use Rattle.flat.specs.Making.{Prepared, Makes};
+ghost use Rattle.flat.specs.Making.{Makes};
 ghost use Rattle.flat.specs.Records.{roomOf};
 ghost use Rattle.flat.specs.Opening.{optionsOf, wordsOptionsOf, openingOf};
 use crate::options::size_of;
@@ -122,7 +123,7 @@ pub fn opening_of(answer: OpenAnswer) -> PropheseeOpening
 
 // Makes the records of a run that was prepared for that many. `requires`: such a run.
 pub fn make_records(recording: &[u8], records: &mut [u64], run: Run) -> Run
-    requires { ⌜ Prepared (now recording) (roomOf (now records)) run ⌝ }
+    requires { ⌜ Begun (now recording) (roomOf (now records)) run ⌝ }
     ensures { λ r. ⌜ Makes (now (recording .entry)) run (now (records .entry)) r (now (records .exit)) ⌝ }
 {
     let mut t = run;

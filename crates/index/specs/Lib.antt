@@ -4,6 +4,7 @@ pub mod Nth
 pub mod Build
 pub mod Laws
 pub mod Open
+pub mod Begun
 pub mod Stage
 pub mod Choose
 pub mod Judge

@@ -44,8 +44,9 @@ use Rattle.index.specs.declared.OpenAnswer.{OpenAnswer}
 use Rattle.index.specs.declared.Run.{Run}
 use Rattle.index.specs.Build.{Job, firstOf, concluded}
 use Rattle.index.specs.Open.{Allowed}
+use Rattle.index.specs.Begun.{Begun, begun}
 use Rattle.index.specs.Stage as Stage
-use Rattle.open.specs.Made.{Begun, Made, begun, ended-as}
+use Rattle.open.specs.Made.{Made, ended-as}
 use Rattle.index.proofs.Checkpoint as T
 use Rattle.index.proofs.Checkpoint.Laws as T′
 use Rattle.index.proofs.Run as S
@@ -225,7 +226,7 @@ module _ (𝓔 : Entry) where
         assigns ! (agg ! (and-then ! (load ! (from ! (stop !)) (look ! 9 refl)) (and-then ! (load ! (from ! (fld ! refl (stop !))) (look-in ! 5 (sub ! 1 refl (whole !)))) (no-more !)))) (from ! (stop !)) (init ! 10 refl (tt, (tt, (record { fits = g .0 }, tt)))) $
         nothing ! $ owned ! S.the-row (Is S.the-row) (LL.makes S.the-type S′.the-plain 𝓤 H A) t _ (subst (λ (u : Val). Is S.the-row t (u ∷ [])) (ap only (LL.tells S.the-type S′.the-laws t _ it)) it) $ fjoin ! $
         move ! (12 ∷ 0 ∷ []) $ fjoin ! $ move ! (3 ∷ 0 ∷ []) $ fjoin ! $ move ! (11 ∷ 2 ∷ []) $ join ! $ move ! (2 ∷ 0 ∷ []) $ join ! $
-        use2 W (raw (Make 𝓤 H A at-mem run .pre (to-make t))) (goes-make t (begun bs (𝓔 .job bs s n) t is n (𝓔 .allowed bs s n))) $
+        use2 W (raw (Make 𝓤 H A at-mem run .pre (to-make t))) (goes-make t (begun bs (𝓔 .job bs s n) n (𝓔 .allowed bs s n) t is)) $
         calls-at ! (fmOf 𝓤 H (W .laws) 𝓣) (Make 𝓤 H A at-mem run) known-make (to-make t) (and-then ! (load ! (from ! (stop !)) (look ! 2 refl)) (and-then ! (load ! (from ! (stop !)) (look ! 8 refl)) (and-then ! (load ! (from ! (stop !)) (look ! 5 refl)) (no-more !)))) (λ vr.
         use1 W (later (some (λ (r : OpenAnswer). ((‵ (flft κ q) ⊛ (‵ (flft κ′ q′) ⊛ ‵ ftrue)) ⊛ ‵ (E.the-row .own r (vr ∷ []))) ⊛ some (λ (ws : Lasts make.ended (κ, (κ′, tt)) (xb, (xr, (t, tt)))). ‵ (lasts make.ended (κ, (κ′, tt)) (xb, (xr, (t, tt))) ws) ⊛ raw (fact 𝓤 (Made bs t r ys (ws .1 .0))))))) (id⊢ 𝓤 _) $ await ! tt $ pick ! (λ r.
         split ! $ move ! (1 ∷ []) $ pick ! (λ ws. split ! $ move ! (1 ∷ []) $ heard ! (Made bs t r ys (ws .1 .0)) (λ m.

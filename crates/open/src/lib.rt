@@ -1,10 +1,12 @@
 // Opening: makes the index of a recording into lent records, for all that the crate `index` defines
 // (`OpensRaw`, `OpensWords` in its specs/Index.antt). One loop, in `make`, makes the records of both
-// entries; specs/Made.antt has what it asks and what it says. The functions are proved by hand, since
-// they are lent records; what they call in `index` takes a record by value.
+// entries: what it asks stands in `index`, specs/Begun.antt, what it says in specs/Made.antt. The
+// functions are proved by hand, since they are lent records; what they call in `index` takes a record
+// by value.
 ghost use lib.ListN.{length};
+ghost use Rattle.index.specs.Begun.{Begun};
 ghost use Rattle.index.specs.Index.{OpensRaw, OpensWords};
-ghost use Rattle.open.specs.Made.{Begun, Made};
+ghost use Rattle.open.specs.Made.{Made};
 use index::Checkpoint;
 use index::OpenAnswer;
 use index::OpenOptions;

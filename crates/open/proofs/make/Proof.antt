@@ -51,8 +51,9 @@ use Rattle.index.specs.declared.Run.{Run}
 use Rattle.index.specs.declared.Ran.{Ran}
 use Rattle.index.specs.Nth.{blank}
 use Rattle.index.specs.Build.{Fit, Advanced, Job, concluded}
+use Rattle.index.specs.Begun.{jobOf, Begun}
 use Rattle.index.specs.Stage.{Stage, Ended, stage-start, stage-fit, stage-place, stage-next, stage-stops, stage-end}
-use Rattle.open.specs.Made.{jobOf, Begun, Made}
+use Rattle.open.specs.Made.{Made}
 use Rattle.index.proofs.Checkpoint as T
 use Rattle.index.proofs.Checkpoint.Laws as T′
 use Rattle.index.proofs.Ran as D

@@ -1,7 +1,8 @@
 use mathlib.Core.Path.{ap}
 use native.Mathlib.Omega.{arith}
 use borrow.Author.Needs.{needs}
-use Rattle.flat.specs.Making.{jobOf, left, Stage, stage-start, stage-fit, stage-room, stage-next, stage-less, makes}
+use Rattle.index.specs.Begun.{jobOf}
+use Rattle.flat.specs.Making.{left, Stage, stage-start, stage-fit, stage-room, stage-next, stage-less, makes}
 use Rattle.flat.proofs.opening.make_records.Statement.{statement}
 use Rattle.flat.proofs.opening.make_records.Tie as tie
 use Rattle.flat.proofs.opening.make_records.Reads as reads
@@ -17,7 +18,7 @@ abbrev μ-loop : tie.MeasureT-loop
 
 -- src/opening.rt:130:5
 loop-holds : tie.Need-loop-holds Inv-loop μ-loop
-loop-holds c = stage-start (jobOf (c .before .before .args .run)) (c .before .before .args .recording .now) (c .before .before .args .records .now) (c .before .before .pre .allowed) (c .before .before .args .run) (c .before .before .pre .first)
+loop-holds c = stage-start (jobOf (c .before .before .args .run)) (c .before .before .args .recording .now) (c .before .before .args .records .now) (c .before .before .pre .allowed) (c .before .before .args .run) (c .before .before .pre .is-first)
 
 -- src/opening.rt:132:13
 advance-requires : tie.Need-advance-requires Inv-loop μ-loop

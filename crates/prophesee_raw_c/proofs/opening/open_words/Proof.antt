@@ -1,8 +1,9 @@
 use mathlib.Core.Path.{ap, _∙_}
 use Rattle.index.specs.declared.WordsOptions.{WordsOptions}
 use Rattle.index.specs.Build.{firstOf, wordsJob}
+use Rattle.index.specs.Begun.{begun}
 use Rattle.index.specs.Stage.{allowed-words}
-use Rattle.flat.specs.Making.{prepared, opens-words-entries}
+use Rattle.flat.specs.Making.{opens-words-entries}
 use Rattle.flat.specs.Opening.{wordsOptionsOf}
 use Rattle.flat.specs.Records.{roomOf}
 use borrow.Author.Needs.{needs}
@@ -26,7 +27,7 @@ prepare-words-requires c κs = search needs
 
 -- src/opening.rt:168:9
 make-records-requires : tie.Need-make-records-requires
-make-records-requires c κs = prepared (c .before .before .before .before .before .args .words .now) (wordsJob (c .before .before .before .before .before .args .words .now) (c .before .before .words-options-of .result) (roomOf (c .before .before .before .before .before .args .records .now))) _ (allowed-words (c .before .before .before .before .before .args .words .now) (c .before .before .words-options-of .result) (roomOf (c .before .before .before .before .before .args .records .now))) _ (c .before .prepare-words .ensures)
+make-records-requires c κs = begun (c .before .before .before .before .before .args .words .now) (wordsJob (c .before .before .before .before .before .args .words .now) (c .before .before .words-options-of .result) (roomOf (c .before .before .before .before .before .args .records .now))) _ (allowed-words (c .before .before .before .before .before .args .words .now) (c .before .before .words-options-of .result) (roomOf (c .before .before .before .before .before .args .records .now))) _ (c .before .prepare-words .ensures)
 
 -- src/opening.rt:169:16
 conclude-requires : tie.Need-conclude-requires

@@ -1,8 +1,9 @@
 use mathlib.Core.Path.{ap, _∙_}
 use Rattle.index.specs.declared.OpenOptions.{OpenOptions}
 use Rattle.index.specs.Build.{firstOf, rawJob}
+use Rattle.index.specs.Begun.{begun}
 use Rattle.index.specs.Stage.{allowed-raw}
-use Rattle.flat.specs.Making.{prepared, opens-raw-entries}
+use Rattle.flat.specs.Making.{opens-raw-entries}
 use Rattle.flat.specs.Opening.{optionsOf}
 use Rattle.flat.specs.Records.{roomOf}
 use borrow.Author.Needs.{needs}
@@ -26,7 +27,7 @@ prepare-requires c κs = search needs
 
 -- src/opening.rt:152:9
 make-records-requires : tie.Need-make-records-requires
-make-records-requires c κs = prepared (c .before .before .before .before .before .args .recording .now) (rawJob (c .before .before .before .before .before .args .recording .now) (c .before .before .options-of .result) (roomOf (c .before .before .before .before .before .args .records .now))) _ (allowed-raw (c .before .before .before .before .before .args .recording .now) (c .before .before .options-of .result) (roomOf (c .before .before .before .before .before .args .records .now))) _ (c .before .prepare .ensures)
+make-records-requires c κs = begun (c .before .before .before .before .before .args .recording .now) (rawJob (c .before .before .before .before .before .args .recording .now) (c .before .before .options-of .result) (roomOf (c .before .before .before .before .before .args .records .now))) _ (allowed-raw (c .before .before .before .before .before .args .recording .now) (c .before .before .options-of .result) (roomOf (c .before .before .before .before .before .args .records .now))) _ (c .before .prepare .ensures)
 
 -- src/opening.rt:153:16
 conclude-requires : tie.Need-conclude-requires

@@ -14,9 +14,9 @@ use Rattle.evt.specs.Event.{Event}
 use Rattle.evt.specs.Evt2.{step2, vector2}
 use Rattle.evt.specs.Evt3.{step3, vector3}
 use Rattle.encode.specs.Encode.{encodeBytes}
-use Rattle.encode.specs.Evt2.{encode2}
-use Rattle.encode.specs.Evt3.{encode3, leads3, body3, windows, vectored, nearby, beyond}
-use Rattle.encode.specs.Sent.{freshState}
+use Rattle.encode2.specs.Evt2.{encode2}
+use Rattle.lead_words.specs.Evt3.{encode3, leads3, body3, windows, vectored, nearby, beyond}
+use Rattle.store.specs.Sent.{freshState}
 
 abbrev ev : (t x y p : ℕ) → Event
 ev t x y p = record { t = t; x = x; y = y; p = p }

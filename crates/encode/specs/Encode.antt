@@ -7,11 +7,11 @@ use Rattle.stream.specs.Words.{stream}
 use Rattle.evt.specs.Event.{Event}
 use Rattle.evt.specs.declared.Encoding.{Encoding}
 use Rattle.evt.specs.declared.Encoding.the-variants.{Evt2, Evt3}
-use Rattle.encode.specs.declared.EncoderState.{EncoderState}
-use Rattle.encode.specs.declared.Put.{Put}
-use Rattle.encode.specs.Evt2.{writer2}
-use Rattle.encode.specs.Runs.{runs}
-use Rattle.encode.specs.Evt3.{writer3}
+use Rattle.store.specs.declared.EncoderState.{EncoderState}
+use Rattle.store.specs.declared.Put.{Put}
+use Rattle.encode2.specs.Evt2.{writer2}
+use Rattle.runs.specs.Runs.{runs}
+use Rattle.lead_words.specs.Evt3.{writer3}
 
 -- the words of events, each with a note of those that it carries
 abbrev pub encodeNotes : Encoding → EncoderState → List Event → List (Note ℕ Event)

@@ -13,17 +13,17 @@ use Rattle.stream.specs.Words.{Fits}
 use Rattle.evt.specs.Event.{Event}
 use Rattle.evt.specs.declared.Encoding.{Encoding}
 use Rattle.evt.specs.declared.Encoding.the-variants.{Evt2, Evt3}
-use Rattle.encode.specs.declared.EncoderState.{EncoderState}
-use Rattle.encode.specs.Columns.{event}
-use Rattle.encode.specs.Sent.{due}
-use Rattle.encode.specs.Evt2.{encoded2, writer2, notes2, fits2}
-use Rattle.encode.specs.Runs.{Run, runs, runs-are, given, givenBy, spread, Rising, Valid, firstX, lastX}
-use Rattle.encode.specs.Evt3.{highWord3, lowWord3, rowWord3, highSent3, lowSent3, rowSent3, leads3, singleWord3, baseWord3, maskWord3, nearby, beyond, windows, vectored, singles, masks, vectors, body3, encode3, encoded3, writer3}
+use Rattle.store.specs.declared.EncoderState.{EncoderState}
+use Rattle.store.specs.Columns.{event}
+use Rattle.store.specs.Sent.{due}
+use Rattle.encode2.specs.Evt2.{encoded2, writer2, notes2, fits2}
+use Rattle.runs.specs.Runs.{Run, runs, runs-are, given, givenBy, spread, Rising, Valid, firstX, lastX}
+use Rattle.lead_words.specs.Evt3.{highWord3, lowWord3, rowWord3, highSent3, lowSent3, rowSent3, leads3, singleWord3, baseWord3, maskWord3, nearby, beyond, windows, vectored, singles, masks, vectors, body3, encode3, encoded3, writer3}
 use Rattle.encode.specs.Encode.{encodeNotes, encodeSize, encodeBytes}
-use Rattle.encode.specs.Storing.{bytesFrom, bytes-cons}
-use Rattle.encode.specs.Pass2.{bytes2, few2}
-use Rattle.encode.specs.Parts.{bytes3, few3}
-use Rattle.encode.specs.Windows.{near-inc, inc-to}
+use Rattle.store.specs.Storing.{bytesFrom, bytes-cons}
+use Rattle.encode2.specs.Pass2.{bytes2, few2}
+use Rattle.run_words.specs.Parts.{bytes3, few3}
+use Rattle.run_words.specs.Windows.{near-inc, inc-to}
 
 -- ---- the windows of a run hold all of it
 

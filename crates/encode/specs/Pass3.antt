@@ -8,17 +8,25 @@ use lib.Seq.{sets}
 use lib.IntN.{ℤ}
 use Rattle.evt.specs.Event.{Event}
 use Rattle.evt.specs.declared.Sent.the-variants.{Value}
-use Rattle.stream.specs.Machine.{All}
+use Rattle.stream.specs.Machine.{run, All}
 use Rattle.stream.specs.Words.{stream}
-use Rattle.encode.specs.Sent.{held}
-use Rattle.encode.specs.declared.EncoderState.{EncoderState}
+use Rattle.store.specs.Sent.{held}
+use Rattle.store.specs.declared.EncoderState.{EncoderState}
+use Rattle.store.specs.declared.Put.{Put}
 use Rattle.evt.specs.Columns.{colX}
-use Rattle.encode.specs.Columns.{Sized, eventsIn, eventsPast, eventOf, events-at, events-end, events-x, events-drop, events-length}
-use Rattle.encode.specs.Storing.{Roomy, Going, going-start, going-turn, going-room, going-end}
-use Rattle.encode.specs.Runs.{Run, Rising, Valid, runs, runs-are, runAt, runOf, runs-at, follow-le}
-use Rattle.encode.specs.Evt3.{writer3}
-use Rattle.encode.specs.Parts.{bytes3, stream3, passed3, few3, leadsBytes, leads-held, bytes-parts, bodyWords, Part, between, between-at, length-between}
-use Rattle.encode.specs.Marks.{goOn, Marked, marks-start}
+use Rattle.store.specs.Columns.{Sized, eventsIn, eventsPast, eventOf, events-at, events-end, events-x, events-drop, events-length}
+use Rattle.store.specs.Storing.{Roomy, bytesFrom, Going, going-start, going-turn, going-room, going-end}
+use Rattle.runs.specs.Runs.{Run, Rising, Valid, runs, runs-are, runAt, runOf, runs-at, follow-le}
+use Rattle.lead_words.specs.Evt3.{writer3}
+use Rattle.lead_words.specs.Leads.{leadsBytes, leads-held}
+use Rattle.run_words.specs.Parts.{bytes3, few3, bytes-parts, bodyWords, Part, between, between-at, length-between}
+use Rattle.runs.specs.Marks.{goOn, Marked, marks-start}
+
+abbrev pub stream3 : EncoderState → List Event → List ℕ
+stream3 v es = bytesFrom 2 writer3 v (runs es)
+
+abbrev pub passed3 : EncoderState → List Event → ℕ → Put
+passed3 v es at = record { state = run writer3 v (runs es); at = at + length (stream3 v es) }
 
 map-take : {A B : Type 0} (f : A → B) (n : ℕ) (l : List A) → map f (take n l) ≡ take n (map f l)
 map-take f zero l = refl

@@ -13,7 +13,7 @@ use Rattle.evt.specs.declared.Encoding.{Encoding}
 use Rattle.evt.specs.declared.codec.Codec.{Codec}
 use Rattle.evt.specs.declared.codec.Codec.the-variants.{Evt2, Evt3}
 use Rattle.evt.specs.Codec.{encodingOf}
-use Rattle.encode.specs.Columns.{natural}
+use Rattle.store.specs.Columns.{natural}
 use Rattle.index.specs.declared.Checkpoint.{Checkpoint}
 use Rattle.index.specs.Index.{firsts}
 use Rattle.index.specs.Nth.{nth, blank}

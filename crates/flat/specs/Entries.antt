@@ -6,7 +6,7 @@ use native.Mathlib.Omega.{arith}
 use lib.ListN.{set}
 use lib.Seq.{sets}
 use Rattle.evt.specs.declared.codec.Codec.{Codec}
-use Rattle.encode.specs.Columns.{natural}
+use Rattle.store.specs.Columns.{natural}
 use Rattle.index.specs.declared.Checkpoint.{Checkpoint}
 use Rattle.flat.specs.declared.records.PropheseeRecord.{PropheseeRecord}
 use Rattle.flat.specs.Records.{flatOf, flatRecord, entriesOf}

@@ -11,7 +11,7 @@ use Rattle.evt.specs.declared.Encoding.the-variants.{Evt2, Evt3}
 use Rattle.evt.specs.declared.Sent.{Sent}
 use Rattle.evt.specs.declared.Sent.the-variants.{Nothing, Value}
 use Rattle.evt.specs.Told.{Told}
-use Rattle.encode.specs.declared.EncoderState.{EncoderState}
+use Rattle.store.specs.declared.EncoderState.{EncoderState}
 use Rattle.sink.specs.declared.LastTime.{LastTime}
 use Rattle.sink.specs.declared.LastTime.the-variants.{Never, At}
 use Rattle.sink.specs.declared.RawEventSink.{RawEventSink}

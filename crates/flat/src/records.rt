@@ -69,7 +69,7 @@ fn flat_record(c: Checkpoint) -> PropheseeRecord
     let codec = c.codec;
     let offset = c.byte_offset as u64;
     let count = c.event_index as u64;
-    let time = encode::time_of(c.time);
+    let time = store::time_of(c.time);
     match codec {
         Codec::Evt2(d) => flat_evt2(offset, count, time, d),
         Codec::Evt3(d) => flat_evt3(offset, count, time, d),

@@ -7,7 +7,6 @@ ghost use Rattle.flat.specs.Writer.{versionOf, sentOf, lastOf, stateOf, 
 use crate::options::is_set;
 use crate::refusal::count_of;
 use crate::refusal::number_of;
-use encode::EncoderState;
 use evt::Encoding;
 use evt::Refusal;
 use evt::Sent;
@@ -15,6 +14,7 @@ use sink::AppendAnswer;
 use sink::Appended;
 use sink::LastTime;
 use sink::RawEventSink;
+use store::EncoderState;
 
 // A writer. `evt3` 0: EVT2, else EVT3. `last_t`, `time_high`, `time_low` and `y` count only where the
 // flag `has_..` beside isn't 0. All zeros: a fresh writer of EVT2, its header due.

@@ -19,8 +19,8 @@ use Rattle.evt.specs.Codec.{eventsFrom}
 use Rattle.sensor.specs.Inside.{inside, clock}
 use Rattle.window.specs.declared.Window.{Window}
 use Rattle.select.specs.Uses.{PastOver}
-use Rattle.encode.specs.declared.EncoderState.{EncoderState}
-use Rattle.encode.specs.Sent.{freshState}
+use Rattle.store.specs.declared.EncoderState.{EncoderState}
+use Rattle.store.specs.Sent.{freshState}
 use Rattle.encode.specs.Encode.{encodeNotes, encodeState, encodeSize, encodeBytes}
 use Rattle.encode.specs.Laws.{encode-notes}
 use Rattle.formats.specs.Ready.{limit, sayable, sayable-true}

@@ -23,9 +23,9 @@ use Rattle.evt.specs.Codec.{freshC, startedC, timeC, eventsFrom, codecAfter}
 use Rattle.sensor.specs.Inside.{inside, clock}
 use Rattle.window.specs.declared.Window.{Window}
 use Rattle.select.specs.Uses.{isTimely, PastOver}
-use Rattle.encode.specs.declared.EncoderState.{EncoderState}
-use Rattle.encode.specs.Sent.{freshState}
-use Rattle.encode.specs.Runs.{Run, runs, runs-are, givenBy}
+use Rattle.store.specs.declared.EncoderState.{EncoderState}
+use Rattle.store.specs.Sent.{freshState}
+use Rattle.runs.specs.Runs.{Run, runs, runs-are, givenBy}
 use Rattle.encode.specs.Encode.{encodeNotes, encodeState, encodeSize}
 use Rattle.formats.specs.Ready.{limit, sayable}
 use Rattle.formats.specs.Lawful2.{Ready2, format2, lawful2}

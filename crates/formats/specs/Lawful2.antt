@@ -15,9 +15,9 @@ use Rattle.evt.specs.Layout.{type2, timeLow2, x2, y2, event-type2, event-low2, 
 use Rattle.evt.specs.Evt2 as Reader
 use Rattle.evt.specs.Evt2.{fresh2, period2, threshold2, step2, vector2, reader2, time-word, event-word}
 use Rattle.sensor.specs.Inside.{clock}
-use Rattle.encode.specs.declared.EncoderState.{EncoderState}
-use Rattle.encode.specs.Sent.{freshState, carries, due}
-use Rattle.encode.specs.Evt2.{highWord2, wordOf2, highSent2, encode2, writer2, encode-notes2}
+use Rattle.store.specs.declared.EncoderState.{EncoderState}
+use Rattle.store.specs.Sent.{freshState, carries, due}
+use Rattle.encode2.specs.Evt2.{highWord2, wordOf2, highSent2, encode2, writer2, encode-notes2}
 use Rattle.formats.specs.Ready.{limit, sayable, Ready, Holds, holds-sent, Sayable, sayable-true, no-event, one-event}
 
 abbrev pub Ready2 : Evt2Decoder → List Event → Type 0

@@ -20,12 +20,12 @@ use Rattle.evt.specs.Event.{Event, eventAt, eventsOf}
 use Rattle.evt.specs.Layout.{type3, x3, polarity3, mask12, time3, word-type3, word-time3, word-mask12, word-y3, word-fits3, column-type3, column-polarity3, column-x3, column-fits3}
 use Rattle.evt.specs.Evt3.{fresh3, period3, threshold3, timed, past, number, step3, vector3, reader3, stepAs, vectorAs, kindOn, started-word, first-word}
 use Rattle.sensor.specs.Inside.{clock}
-use Rattle.encode.specs.declared.EncoderState.{EncoderState}
-use Rattle.encode.specs.Columns.{event}
-use Rattle.encode.specs.Sent.{freshState, sentIs, due}
-use Rattle.encode.specs.Runs.{Run, given, spread, Rising, Valid, firstX, lastX}
-use Rattle.encode.specs.Evt3.{highWord3, lowWord3, rowWord3, lowHeld, highSent3, lowSent3, rowSent3, leads3, singleWord3, baseWord3, maskWord3, nearby, beyond, windows, vectored, singles, masks, vectors, body3, encode3, encoded3, writer3}
-use Rattle.encode.specs.Windows.{near-inc}
+use Rattle.store.specs.declared.EncoderState.{EncoderState}
+use Rattle.store.specs.Columns.{event}
+use Rattle.store.specs.Sent.{freshState, sentIs, due}
+use Rattle.runs.specs.Runs.{Run, given, spread, Rising, Valid, firstX, lastX}
+use Rattle.lead_words.specs.Evt3.{highWord3, lowWord3, rowWord3, lowHeld, highSent3, lowSent3, rowSent3, leads3, singleWord3, baseWord3, maskWord3, nearby, beyond, windows, vectored, singles, masks, vectors, body3, encode3, encoded3, writer3}
+use Rattle.run_words.specs.Windows.{near-inc}
 use Rattle.encode.specs.Laws.{reach, spread-is, none-left, singles-notes, masks-notes, body-notes, due-notes, encode-notes3}
 use Rattle.formats.specs.Ready.{limit, sayable, Ready, Holds, holds-sent, Sayable, sayable-true, no-event, one-event}
 

@@ -17,8 +17,8 @@ use Rattle.evt.specs.Event.{Event, eventsOf, noEvents}
 use Rattle.evt.specs.Evt2.{period2}
 use Rattle.evt.specs.Evt3.{period3}
 use Rattle.sensor.specs.Inside.{clock}
-use Rattle.encode.specs.Columns.{event}
-use Rattle.encode.specs.Sent.{sentIs}
+use Rattle.store.specs.Columns.{event}
+use Rattle.store.specs.Sent.{sentIs}
 
 -- the times that a writer's words can say, those of the first loop: rule 7's bound is not above it
 abbrev pub limit : Encoding → ℕ

@@ -15,8 +15,8 @@ use Rattle.evt.specs.Event.{Event}
 use Rattle.evt.specs.declared.Encoding.{Encoding}
 use Rattle.evt.specs.declared.Encoding.the-variants.{Evt2, Evt3}
 use Rattle.sensor.specs.Inside.{clock}
-use Rattle.encode.specs.declared.EncoderState.{EncoderState}
-use Rattle.encode.specs.Columns.{natural, eventsIn}
+use Rattle.store.specs.declared.EncoderState.{EncoderState}
+use Rattle.store.specs.Columns.{natural, eventsIn}
 use Rattle.encode.specs.Encode.{encodeNotes, encodeBytes}
 use Rattle.formats.specs.Ready.{limit, sayable}
 use Rattle.formats.specs.Either.{freshOf}

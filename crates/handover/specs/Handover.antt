@@ -17,7 +17,7 @@ use Rattle.evt.specs.declared.Encoding.the-variants.{Evt2, Evt3}
 use Rattle.evt.specs.declared.Limit.the-variants.{Unlimited}
 use Rattle.evt.specs.declared.SensorSize.{SensorSize}
 use Rattle.evt.specs.declared.SensorSize.the-variants.{Known}
-use Rattle.encode.specs.Columns.{eventsIn}
+use Rattle.store.specs.Columns.{eventsIn}
 use Rattle.encode.specs.Encode.{encodeNotes, encodeSize}
 use Rattle.sink.specs.declared.RawEventSink.{RawEventSink}
 use Rattle.sink.specs.Append.{freshSink, accepts, handedOver, sinkAfter}

@@ -13,8 +13,8 @@ use Rattle.evt.specs.Columns.{colX, colY, colT, colP}
 use Rattle.evt.specs.Event.{Event}
 use Rattle.evt.specs.declared.Encoding.{Encoding}
 use Rattle.sensor.specs.Inside.{clock}
-use Rattle.encode.specs.Columns.{eventsIn}
-use Rattle.encode.specs.Sent.{freshState}
+use Rattle.store.specs.Columns.{eventsIn}
+use Rattle.store.specs.Sent.{freshState}
 use Rattle.encode.specs.Encode.{encodeBytes}
 use Rattle.encode.specs.Laws.{encode-few}
 use Rattle.formats.specs.Ready.{limit, sayable, Sayable, sayable-true}

@@ -48,7 +48,6 @@
 // Examples: `no_encoding`, `columns_too_short`, `records_too_few`, `output_too_short`, `times_fall`.
 ghost use mathlib.Core.Path.{_≡_};
 ghost use Rattle.evt.specs.Told.{told};
-pub use encode::EncoderState;
 pub use evt::Codec;
 pub use evt::DecodeAnswer;
 pub use evt::Decoder;
@@ -89,6 +88,7 @@ pub use sink::append;
 pub use slice::SliceAnswer;
 pub use slice::slice_index;
 pub use slice::slice_time;
+pub use store::EncoderState;
 
 pub mod fixed;
 

@@ -11,9 +11,9 @@ use Rattle.evt.specs.Told.{Told, told, accepted, refused, short}
 use Rattle.evt.specs.declared.Encoding.{Encoding}
 use Rattle.evt.specs.declared.Refusal.{Refusal}
 use Rattle.evt.specs.declared.Refusal.the-variants.{TooLong, TimeOrder, EventOutOfRange, StateOutOfRange, OutputTooShort, ColumnLengths}
-use Rattle.encode.specs.Columns.{eventsIn}
+use Rattle.store.specs.Columns.{eventsIn}
 use Rattle.encode.specs.Encode.{encodeState, encodeBytes}
-use Rattle.encode.specs.Sent.{freshState}
+use Rattle.store.specs.Sent.{freshState}
 use Rattle.sink.specs.declared.LastTime.{LastTime}
 use Rattle.sink.specs.declared.LastTime.the-variants.{Never, At}
 use Rattle.sink.specs.declared.RawEventSink.{RawEventSink}

@@ -16,8 +16,8 @@ use Rattle.stream.specs.Machine.{and-both}
 use Rattle.evt.specs.declared.Encoding.{Encoding}
 use Rattle.evt.specs.declared.Encoding.the-variants.{Evt2, Evt3}
 use Rattle.evt.specs.declared.Refusal.the-variants.{TooLong, TimeOrder, EventOutOfRange, StateOutOfRange, ColumnLengths}
-use Rattle.encode.specs.declared.EncoderState.{EncoderState}
-use Rattle.encode.specs.Columns.{natural, Sized, Whole}
+use Rattle.store.specs.declared.EncoderState.{EncoderState}
+use Rattle.store.specs.Columns.{natural, Sized, Whole}
 use Rattle.sink.specs.declared.Check.{Check}
 use Rattle.sink.specs.declared.Check.the-variants.{Passed, Failed}
 use Rattle.sink.specs.declared.LastTime.{LastTime}

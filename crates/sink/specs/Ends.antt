@@ -13,10 +13,10 @@ use lib.IntN.{ℤ, pos}
 use Rattle.evt.specs.Told.{Told, told, accepted, refused, short}
 use Rattle.evt.specs.declared.Refusal.{Refusal}
 use Rattle.evt.specs.declared.Refusal.the-variants.{InvalidSensorSize, UnknownEncoding, HeaderNotAscii, TooLong, ColumnsTooShort, TimeOrder, EventOutOfRange, InvalidSpacing, TooFewRecords, StateOutOfRange, OutputTooShort, ColumnLengths}
-use Rattle.encode.specs.declared.Put.{Put}
-use Rattle.encode.specs.Columns.{eventsIn, Sized, events-length}
+use Rattle.store.specs.declared.Put.{Put}
+use Rattle.store.specs.Columns.{eventsIn, Sized, events-length}
 use Rattle.encode.specs.Laws.{encode-few}
-use Rattle.encode.specs.Storing.{Roomy, roomy-rest, stored-both}
+use Rattle.store.specs.Storing.{Roomy, roomy-rest, stored-both}
 use Rattle.encode.specs.Encode.{encodeState, passed}
 use Rattle.evt.specs.declared.Encoding.{Encoding}
 use Rattle.sink.specs.Header.{headerText, header-few}

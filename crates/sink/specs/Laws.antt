@@ -16,12 +16,12 @@ use Rattle.evt.specs.declared.Encoding.{Encoding}
 use Rattle.evt.specs.declared.Encoding.the-variants.{Evt2, Evt3}
 use Rattle.evt.specs.declared.Sent.{Sent}
 use Rattle.evt.specs.declared.Sent.the-variants.{Nothing, Value}
-use Rattle.encode.specs.declared.EncoderState.{EncoderState}
-use Rattle.encode.specs.Columns.{natural, event, eventsIn, Sized}
+use Rattle.store.specs.declared.EncoderState.{EncoderState}
+use Rattle.store.specs.Columns.{natural, event, eventsIn, Sized}
 use Rattle.encode.specs.Encode.{encodeState, encodeBytes}
-use Rattle.encode.specs.Evt2.{writer2}
-use Rattle.encode.specs.Runs.{Run, goes, goes-true, firstOf, single, before, glue, runs, runAt, runs-at, follow}
-use Rattle.encode.specs.Evt3.{writer3}
+use Rattle.encode2.specs.Evt2.{writer2}
+use Rattle.runs.specs.Runs.{Run, goes, goes-true, firstOf, single, before, glue, runs, runAt, runs-at, follow}
+use Rattle.lead_words.specs.Evt3.{writer3}
 use Rattle.sink.specs.declared.Check.{Check}
 use Rattle.sink.specs.declared.Check.the-variants.{Passed, Failed}
 use Rattle.sink.specs.declared.LastTime.{LastTime}

@@ -7,7 +7,7 @@ use native.Mathlib.Nat.{zero-add}
 use native.Mathlib.Numerals.{add-one}
 use lib.ListN.{length, getD, drop, set, drop-of-length-le}
 use lib.Seq.{sets, drop-cons}
-use Rattle.encode.specs.Storing.{Storing, storing-start, storing-turn, storing-end, stored-both}
+use Rattle.store.specs.Storing.{Storing, storing-start, storing-turn, storing-end, stored-both}
 
 -- at index i
 pub record Copying (text : List ℕ) (start : ℕ) (out₀ out : List ℕ) (at i : ℕ) : Type 0 where

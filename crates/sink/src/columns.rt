@@ -4,7 +4,7 @@ ghost use mathlib.Core.Bool.{false};
 ghost use Prim.Native.Nat.{_^_, _≤_};
 ghost use lib.ListN.{length};
 ghost use lib.Signed.{ltZ};
-ghost use Rattle.encode.specs.Columns.{Sized};
+ghost use Rattle.store.specs.Columns.{Sized};
 ghost use Rattle.sink.specs.declared.LastTime.the-variants.{Never};
 ghost use Rattle.sink.specs.Range.{timeInRange, every, atMost, eventsInRange, falls, fallsAfter, sameLengths};
 use crate::LastTime;

@@ -6,7 +6,6 @@ ghost use Prim.Native.Nat.{_+_, _^_, _≤_};
 ghost use lib.ListN.{length};
 ghost use lib.Seq.{sets};
 ghost use Rattle.sink.specs.Header.{ascii, decimal, formatLine, headerText};
-use encode::store;
 use evt::Encoding;
 
 fn put_text(text: &[u8], out: &mut [u8], start: usize) -> usize

@@ -3,9 +3,9 @@ ghost use mathlib.Core.Path.{_≡_};
 ghost use mathlib.Core.Bool.{_&&_};
 ghost use Rattle.sink.specs.Range.{timeBound, timeInRange, isNothing, belongs, sentAtMost, sentInRange, lastInRange};
 use crate::LastTime;
-use encode::EncoderState;
 use evt::Encoding;
 use evt::Sent;
+use store::EncoderState;
 
 fn is_nothing(s: Sent) -> bool
     ensures { λ r. ⌜ r ≡ isNothing s ⌝ }
@@ -63,7 +63,7 @@ pub fn time(version: Encoding, t: i64) -> bool
     if t < 0 {
         false
     } else {
-        encode::time_of(t) < time_bound(version)
+        store::time_of(t) < time_bound(version)
     }
 }
 
@@ -102,7 +102,7 @@ pub fn last(version: Encoding, state: EncoderState, n: usize, last: LastTime) ->
         LastTime::At(t) => and3(
             time(version, t),
             n <= 4611686018427387904,
-            sent(version, state, encode::time_of(t)),
+            sent(version, state, store::time_of(t)),
         ),
     }
 }

@@ -17,7 +17,7 @@ use Rattle.evt.specs.declared.codec.Codec.the-variants.{Evt2, Evt3}
 use Rattle.evt.specs.Evt2.{reader2}
 use Rattle.evt.specs.Evt3.{reader3}
 use Rattle.sensor.specs.Inside.{inside, clock}
-pub use Rattle.encode.specs.Columns.{natural}
+pub use Rattle.store.specs.Columns.{natural}
 use Rattle.window.specs.declared.Window.{Window}
 use Rattle.select.specs.Uses.{isTimely, untilOver}
 use Rattle.read.specs.Read.{kept}

@@ -93,8 +93,8 @@ pub fn by_time(source: RawSliceSource, n: usize, t0: i64, t1: i64) -> Asked
         height: source.height as u64,
         n0: 0,
         n1: 18446744073709551615,
-        t0: encode::time_of(t0),
-        t1: encode::time_of(t1),
+        t0: store::time_of(t0),
+        t1: store::time_of(t1),
     };
     Asked {
         judging,

@@ -6,11 +6,11 @@ use case_text::show;
 use case_text::text;
 use case_text::text::Number;
 use case_text::text::Signed;
-use encode::EncoderState;
 use evt::Encoding;
 use evt::Sent;
 use sink::LastTime;
 use sink::RawEventSink;
+use store::EncoderState;
 
 pub enum Writer {
     Of(RawEventSink),

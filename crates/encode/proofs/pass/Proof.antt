@@ -1,5 +1,5 @@
 use mathlib.Core.Path.{_≡_, refl, sym, ap, _∙_}
-use Rattle.encode.specs.Storing.{bytesFrom}
+use Rattle.store.specs.Storing.{bytesFrom}
 use Rattle.encode.specs.Encode.{encodeBytes}
 use borrow.Author.Needs.{needs}
 use Rattle.encode.proofs.pass.Statement.{statement}

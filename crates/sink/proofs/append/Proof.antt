@@ -2,7 +2,7 @@ use mathlib.Core.Path.{_≡_, refl, sym, ap, _∙_}
 use native.Mathlib.Omega.{arith}
 use denote.Ref.{now}
 use lib.ListN.{length}
-use Rattle.encode.specs.declared.Put.{Put}
+use Rattle.store.specs.declared.Put.{Put}
 use Rattle.sink.specs.Append.{sends}
 use Rattle.sink.specs.Ends.{ends-failed, ends-short, ends-written, short-cases}
 use Rattle.sink.specs.Checks.{checked-of}

@@ -5,7 +5,7 @@ use Rattle.slice.proofs.by_time.Statement.{statement}
 use Rattle.slice.proofs.by_time.Tie as tie
 use Rattle.slice.proofs.by_time.Reads as reads
 use Rattle.slice.proofs.by_time.Lts as lts
-use Rattle.encode.proofs.time_of.Reads as time-of-reads
+use Rattle.store.proofs.time_of.Reads as time-of-reads
 use Rattle.slice.proofs.first_judging.Reads as first-judging-reads
 
 -- src/lib.rt:93:9

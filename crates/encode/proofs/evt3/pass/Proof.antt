@@ -8,11 +8,11 @@ use Rattle.encode.proofs.evt3.pass.Statement.{statement}
 use Rattle.encode.proofs.evt3.pass.Tie as tie
 use Rattle.encode.proofs.evt3.pass.Reads as reads
 use Rattle.encode.proofs.evt3.pass.Lts as lts
-use Rattle.encode.proofs.evt3.put_run.Reads as put-run-reads
-use Rattle.encode.proofs.evt3.run_at.Reads as run-at-reads
+use Rattle.run_words.proofs.put_run.Reads as put-run-reads
+use Rattle.runs.proofs.run_at.Reads as run-at-reads
 use Rattle.encode.proofs.evt3.sent_after.Reads as sent-after-reads
-use Rattle.encode.proofs.held_of.Reads as held-of-reads
-use Rattle.encode.proofs.time_at.Reads as time-at-reads
+use Rattle.store.proofs.held_of.Reads as held-of-reads
+use Rattle.store.proofs.time_at.Reads as time-at-reads
 
 abbrev Inv-loop : tie.InvT-loop
 Inv-loop state xs ys ts ps out₀ start high₀ low₀ row₀ at₀ i₀ mask₀ out high low row at i mask = Under3 state xs ys ts ps start out₀ out high low row at i mask

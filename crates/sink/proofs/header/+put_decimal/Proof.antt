@@ -4,7 +4,7 @@ use Prim.Native.Nat.{_/_, _%_}
 use native.Mathlib.Omega.{arith}
 use borrow.Author.Needs.{needs}
 use denote.Ref.{now}
-use Rattle.encode.specs.Storing.{stored-both}
+use Rattle.store.specs.Storing.{stored-both}
 use Rattle.sink.specs.Header.{digit, decimal, decimal-one, decimal-more, decimal-few}
 use Prim.Native.Nat.{ℕ, _<_}
 use borrow.Fn.Kinds.{In}
@@ -12,7 +12,7 @@ use borrow.Fn.PlainCycle.{Measures, is, falls, and}
 use Rattle.sink.proofs.header.put_decimal.Reads as put-decimal
 use Rattle.sink.proofs.header.put_decimal.Kinds as put-decimal-kinds
 use Rattle.sink.proofs.header.+put_decimal.Lts-put_decimal as put-decimal-lts
-use Rattle.encode.proofs.store.put8.Reads as put8-reads
+use Rattle.store.proofs.put8.Reads as put8-reads
 use Rattle.sink.proofs.header.+put_decimal.{statement}
 use Rattle.sink.proofs.header.+put_decimal.Tie.{close}
 

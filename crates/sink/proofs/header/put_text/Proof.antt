@@ -8,7 +8,7 @@ use Rattle.sink.proofs.header.put_text.Statement.{statement}
 use Rattle.sink.proofs.header.put_text.Tie as tie
 use Rattle.sink.proofs.header.put_text.Reads as reads
 use Rattle.sink.proofs.header.put_text.Lts as lts
-use Rattle.encode.proofs.store.put8.Reads as put8-reads
+use Rattle.store.proofs.put8.Reads as put8-reads
 
 abbrev Inv-loop : tie.InvT-loop
 Inv-loop text out₀ start at₀ i₀ out at i = Copying text start out₀ out at i

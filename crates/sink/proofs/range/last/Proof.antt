@@ -1,6 +1,6 @@
 use mir.Syntax.{w64}
 use mir.ValLaws.{toZ-ofZ}
-use Rattle.encode.specs.Columns.{natural}
+use Rattle.store.specs.Columns.{natural}
 use Rattle.sink.specs.Range.{timeInRange, sentInRange}
 use mathlib.Core.Path.{_≡_, refl, sym, ap, _∙_}
 use borrow.Author.Needs.{needs}
@@ -8,7 +8,7 @@ use Rattle.sink.proofs.range.last.Statement.{statement}
 use Rattle.sink.proofs.range.last.Tie as tie
 use Rattle.sink.proofs.range.last.Reads as reads
 use Rattle.sink.proofs.range.last.Lts as lts
-use Rattle.encode.proofs.time_of.Reads as time-of-reads
+use Rattle.store.proofs.time_of.Reads as time-of-reads
 use Rattle.sink.proofs.range.and2.Reads as and2-reads
 use Rattle.sink.proofs.range.and3.Reads as and3-reads
 use Rattle.sink.proofs.range.is_nothing.Reads as is-nothing-reads

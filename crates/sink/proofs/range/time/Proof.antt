@@ -2,14 +2,14 @@ use mathlib.Core.Path.{_≡_, refl, sym, ap, _∙_}
 use lib.IntN.{pos}
 use mir.Syntax.{w64}
 use mir.ValLaws.{toZ-ofZ}
-use Rattle.encode.specs.Columns.{natural}
+use Rattle.store.specs.Columns.{natural}
 use Rattle.sink.specs.Checks.{time-early, time-late}
 use borrow.Author.Needs.{needs}
 use Rattle.sink.proofs.range.time.Statement.{statement}
 use Rattle.sink.proofs.range.time.Tie as tie
 use Rattle.sink.proofs.range.time.Reads as reads
 use Rattle.sink.proofs.range.time.Lts as lts
-use Rattle.encode.proofs.time_of.Reads as time-of-reads
+use Rattle.store.proofs.time_of.Reads as time-of-reads
 use Rattle.sink.proofs.range.time_bound.Reads as time-bound-reads
 
 -- src/range.rt:70:9

@@ -1,0 +1,89 @@
+// EVT2: the words of events, stored or measured. `pass` is proved to store the bytes of the words
+// that specs/Evt2.antt defines, each with a note of the event that it carries; specs/Pass2.antt has
+// their bytes and the loop.
+ghost use mathlib.Core.Path.{_≡_};
+ghost use Prim.Native.Nat.{_+_, _*_, _/_, _^_, _≤_, _<_};
+ghost use lib.Dec.{eqb};
+ghost use lib.ListN.{length};
+ghost use lib.Seq.{sets};
+ghost use Rattle.store.specs.Columns.{Sized, Whole, event, eventsIn};
+ghost use Rattle.encode2.specs.Evt2.{highWord2, wordOf2};
+ghost use Rattle.store.specs.Storing.{Roomy};
+ghost use Rattle.encode2.specs.Pass2.{eventBytes2, stateAt2, stream2, passed2};
+use evt::Sent;
+use store::EncoderState;
+use store::Put;
+use store::held_of;
+use store::time_at;
+
+fn high_word(t: u64) -> u32
+    ensures { λ r. ⌜ r ≡ highWord2 t ⌝ }
+{
+    2147483648 + (t / 64 % 268435456) as u32
+}
+
+fn event_word(x: u16, y: u16, t: u64, p: u8) -> u32
+    ensures { λ r. ⌜ r ≡ wordOf2 (event x y t p) ⌝ }
+{
+    (p % 2) as u32 * 268435456
+        + (t % 64) as u32 * 4194304
+        + (x % 2048) as u32 * 2048
+        + (y % 2048) as u32
+}
+
+// The words of one event, at `at`, where `high` was sent last. The word of the high half is stored
+// always: where it isn't due the event's word takes its place, which is faster than a branch.
+fn put_event(high: u64, x: u16, y: u16, t: u64, p: u8, out: &mut [u8], at: usize) -> usize
+    requires { ⌜ (at < 2 ^ 60) × Roomy (now out) at (length (eventBytes2 (eqb high (t / 64)) (event x y t p))) ⌝ }
+    ensures { λ r. ⌜ r ≡ at + length (eventBytes2 (eqb high (t / 64)) (event x y t p)) ⌝ ∗ ⌜ now (out .exit) ≡ sets (now (out .entry)) at (eventBytes2 (eqb high (t / 64)) (event x y t p)) ⌝ }
+{
+    let w = event_word(x, y, t, p);
+    let a = store::past(high == t / 64, 4, at);
+    store::put32(&mut *out, at, high_word(t));
+    store::put32(&mut *out, a, w);
+    a + 4
+}
+
+// What has been sent after n events, where `high` was sent last.
+fn sent_after(state: EncoderState, n: usize, high: u64) -> EncoderState
+    ensures { λ r. ⌜ r ≡ stateAt2 state n high ⌝ }
+{
+    if 0 < n {
+        let low = state.time_low;
+        let row = state.y;
+        EncoderState {
+            time_high: Sent::Value(high),
+            time_low: low,
+            y: row,
+        }
+    } else {
+        state
+    }
+}
+
+// The words of all events, from `start` on. The bounds keep `at` from wrapping.
+pub fn pass(
+    state: EncoderState,
+    xs: &[u16],
+    ys: &[u16],
+    ts: &[i64],
+    ps: &[u8],
+    out: &mut [u8],
+    start: usize,
+) -> Put
+    requires { ⌜ Sized (now xs) (now ys) (now ts) (now ps) × (start ≤ 2 ^ 32) × Whole (now ts) × Roomy (now out) start (length (stream2 state (eventsIn (now xs) (now ys) (now ts) (now ps)))) ⌝ }
+    ensures { λ r. ⌜ r ≡ passed2 state (eventsIn (now (xs .entry)) (now (ys .entry)) (now (ts .entry)) (now (ps .entry))) start ⌝ ∗ ⌜ now (out .exit) ≡ sets (now (out .entry)) start (stream2 state (eventsIn (now (xs .entry)) (now (ys .entry)) (now (ts .entry)) (now (ps .entry)))) ⌝ }
+{
+    let sent = state.time_high;
+    let mut high = held_of(sent);
+    let mut at = start;
+    let mut i: usize = 0;
+    while i < xs.len() {
+        let t = time_at(ts, i);
+        at = put_event(high, xs[i], ys[i], t, ps[i], &mut *out, at);
+        high = t / 64;
+        i += 1;
+    }
+    let after = sent_after(state, xs.len(), high);
+    Put { state: after, at }
+}

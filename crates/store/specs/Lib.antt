@@ -1,0 +1,4 @@
+-- The root of what a writer rests on: what each file is stands at its head.
+pub mod Columns
+pub mod Sent
+pub mod Storing

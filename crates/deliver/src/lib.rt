@@ -1,21 +1,17 @@
 // Handing events over into four lent columns: all of them, or none where the columns are too short
 // (5). `deliver_all` has every event inside a sensor, for reading; `deliver` what a pass under a
-// window selects, for reading with a limit and for both slices; timed.rt and numbered.rt pass over
-// what lies before a slice. specs/Deliver.antt says what is answered and what the columns hold.
+// window selects, for reading with a limit and for both slices; plan.rt settles before which bytes
+// are decoded for it. specs/Deliver.antt says what is answered and what the columns hold.
 ghost use mathlib.Core.Path.{_≡_};
-ghost use mathlib.Core.Bool.{true};
 ghost use Prim.Native.Nat.{_≤_, _^_, min, _-_};
 ghost use lib.ListN.{length};
 ghost use Rattle.decode.specs.Decode.{Bounded, insideEvents};
 ghost use Rattle.select.specs.Pass.{Ready, handedOver};
 ghost use Rattle.deliver.specs.Deliver.{mostFrom, mostOver, Enough, Delivers};
-ghost use Rattle.deliver.specs.Timed.{Timed};
-ghost use Rattle.deliver.specs.Numbered.{Numbered};
 use evt::Codec;
 use select::Window;
 
-mod numbered;
-mod timed;
+mod plan;
 
 // How many events were written, or how many places they need.
 pub enum Delivered {
@@ -125,7 +121,7 @@ fn need(bytes: &[u8], codec: Codec, window: Window, number: u64, room: usize) ->
 }
 
 // Writes what the window leaves of all the bytes.
-pub(crate) fn deliver_window(
+fn deliver_window(
     bytes: &[u8],
     codec: Codec,
     window: Window,
@@ -171,24 +167,16 @@ pub fn deliver(
     requires { ⌜ Ready codec number (length (now bytes)) ⌝ }
     ensures { λ r. ⌜ Delivers (handedOver window number codec (now (bytes .entry))) r (now (xs .entry)) (now (ys .entry)) (now (ts .entry)) (now (ps .entry)) (now (xs .exit)) (now (ys .exit)) (now (ts .exit)) (now (ps .exit)) ⌝ }
 {
-    if is_timed(window) {
-        return timed::deliver_time(
-            bytes,
-            codec,
-            window,
-            number,
-            &mut *xs,
-            &mut *ys,
-            &mut *ts,
-            &mut *ps,
-        );
-    }
-    if is_numbered(window, number) {
-        return numbered::deliver_number(
-            bytes,
-            codec,
-            window,
-            number,
+    let p = plan::plan_window(bytes, codec, window, number);
+    let from = p.from;
+    let to = p.to;
+    let there = p.codec;
+    if p.plain {
+        return deliver_all(
+            &bytes[from..to],
+            there,
+            window.width,
+            window.height,
             &mut *xs,
             &mut *ys,
             &mut *ts,
@@ -196,38 +184,13 @@ pub fn deliver(
         );
     }
     deliver_window(
-        bytes,
-        codec,
+        &bytes[from..to],
+        there,
         window,
-        number,
+        p.number,
         &mut *xs,
         &mut *ys,
         &mut *ts,
         &mut *ps,
     )
-}
-
-// Whether a window has every number, and is not empty in time.
-fn is_timed(window: Window) -> bool
-    ensures { λ r. ⌜ (r ≡ true → Timed window) ⌝ }
-{
-    if window.n0 == 0 {
-        if window.n1 == 18446744073709551615 {
-            return window.t0 < window.t1;
-        }
-    }
-    false
-}
-
-// Whether a window has every time, and its first number lies ahead. No index counts more than 2^33.
-fn is_numbered(window: Window, number: u64) -> bool
-    ensures { λ r. ⌜ (r ≡ true → Numbered window number) ⌝ }
-{
-    if window.t1 < 9223372036854775808 {
-        return false;
-    }
-    if 8589934592 < window.n0 {
-        return false;
-    }
-    number < window.n0
 }

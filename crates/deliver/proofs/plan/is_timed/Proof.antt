@@ -1,10 +1,10 @@
 use mathlib.Core.Path.{sym}
 use mathlib.Core.Bool.{true≢false}
 use borrow.Author.Needs.{needs}
-use Rattle.deliver.proofs.is_timed.Statement.{statement}
-use Rattle.deliver.proofs.is_timed.Tie as tie
-use Rattle.deliver.proofs.is_timed.Reads as reads
-use Rattle.deliver.proofs.is_timed.Lts as lts
+use Rattle.deliver.proofs.plan.is_timed.Statement.{statement}
+use Rattle.deliver.proofs.plan.is_timed.Tie as tie
+use Rattle.deliver.proofs.plan.is_timed.Reads as reads
+use Rattle.deliver.proofs.plan.is_timed.Lts as lts
 
 -- src/lib.rt:202:13
 returns : tie.Need-returns

@@ -2,10 +2,10 @@ use mathlib.Core.Path.{sym}
 use mathlib.Core.Bool.{true≢false}
 use native.Mathlib.Omega.{arith}
 use borrow.Author.Tests.{ltb-true}
-use Rattle.deliver.proofs.is_numbered.Statement.{statement}
-use Rattle.deliver.proofs.is_numbered.Tie as tie
-use Rattle.deliver.proofs.is_numbered.Reads as reads
-use Rattle.deliver.proofs.is_numbered.Lts as lts
+use Rattle.deliver.proofs.plan.is_numbered.Statement.{statement}
+use Rattle.deliver.proofs.plan.is_numbered.Tie as tie
+use Rattle.deliver.proofs.plan.is_numbered.Reads as reads
+use Rattle.deliver.proofs.plan.is_numbered.Lts as lts
 
 -- src/lib.rt:227:9
 returns : tie.Need-returns

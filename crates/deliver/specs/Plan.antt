@@ -1,6 +1,6 @@
--- Which bytes are decoded for a window, and why nothing is lost: what lies before its first time or number is passed over, and the plain loops decode up to its last time.
+-- Which bytes are decoded for a window, and why nothing is lost: a window of everything has all events inside the sensor; what lies before its first time or number is passed over, and the plain loops decode up to its last time.
 use mathlib.Core.Path.{_≡_, refl, sym, _∙_}
-use mathlib.Core.Bool.{true, false, true≢false}
+use mathlib.Core.Bool.{Bool, true, false, true≢false}
 use mathlib.Core.List.{List}
 use Prim.Native.Nat.{ℕ, _+_, _-_, _*_, _≤_, _<_, _^_}
 use native.Mathlib.Omega.{arith}
@@ -8,12 +8,14 @@ use native.Mathlib.Nat.{add-sub-cancel-left}
 use lib.IntN.{ℤ}
 use lib.ListN.{length, take, drop, length-take, length-drop}
 use Rattle.evt.specs.declared.codec.Codec.{Codec}
+use Rattle.evt.specs.declared.codec.Codec.the-variants.{Evt2, Evt3}
 use Rattle.evt.specs.Event.{Event}
 use Rattle.decode.specs.declared.Passed.{Passed}
-use Rattle.decode.specs.Decode.{insideEvents, Bounded, passedOf}
-use Rattle.decode.specs.Laws.{bounded-less}
+use Rattle.decode.specs.Decode.{insideEvents, Bounded, Fitting, passedOf}
+use Rattle.decode.specs.Laws.{bounded-less, inside-bytes}
 use Rattle.window.specs.declared.Window.{Window}
 use Rattle.select.specs.Pass.{Able, Ready, handedOver}
+use Rattle.select.specs.Uses.{numberedOver, over-all}
 use Rattle.seek.specs.declared.Sought.{Sought}
 use Rattle.seek.specs.Seek.{soughtOf}
 use Rattle.seek.specs.Laws.{sought-within, sought-from, sought-upto, ready-there, rest-of}
@@ -27,6 +29,12 @@ pub record Timed (win : Window) : Type 0 where
   pub first : win .n0 ≡ 0
   pub last : win .n1 ≡ 18446744073709551615
   pub order : win .t0 < win .t1
+
+-- every number, and every time
+pub record Whole (win : Window) : Type 0 where
+  pub timed : Timed win
+  pub no-start : win .t0 ≡ 0
+  pub no-end : 2 ^ 63 ≤ win .t1
 
 -- all times, and a first number not before the next event's
 pub record Numbered (win : Window) (k : ℕ) : Type 0 where
@@ -67,6 +75,14 @@ module _ {es : List Event} {c : Codec} {l : List ℕ} {r : Delivered} {xs₀ ys�
 
 -- ---- what is planned
 
+numbered-inside : (win : Window) (c : Codec) (l : List ℕ) → numberedOver win c l ≡ insideEvents (win .width) (win .height) c l
+numbered-inside win (Evt2 d) l = refl
+numbered-inside win (Evt3 d) l = refl
+
+able-fitting : (c : Codec) (n : ℕ) → Able n c → Fitting c → Bounded n c
+able-fitting (Evt2 d) n a f = a
+able-fitting (Evt3 d) n a f = record { regular = a .regular; loops = a .loops; column = f }
+
 -- under the window, up to the end
 module _ (win : Window) (k : ℕ) (c : Codec) (l : List ℕ) where
   to-the-end : (at k′ : ℕ) (c′ : Codec) → at ≤ length l → handedOver win k c l ≡ handedOver win k′ c′ (drop at l) → Ready c′ k′ (length (drop at l))
@@ -81,6 +97,21 @@ module _ (win : Window) (k : ℕ) (c : Codec) (l : List ℕ) where
 module _ (win : Window) (k : ℕ) (c : Codec) (l : List ℕ) (ready : Ready c k (length l)) where
   pub planned-all : Planned win k c l (record { plain = false; from = 0; to = length l; codec = c; number = k })
   planned-all = to-the-end win k c l 0 k c (omega arith) refl ready
+
+  -- everything
+  pub planned-whole : Whole win → Fitting c → (plain : Bool) → Planned win k c l (record { plain = plain; from = 0; to = length l; codec = c; number = k })
+  planned-whole whole fit plain = record {
+    order = omega arith;
+    within = omega arith;
+    plainly = λ z. rw (rest-of l 0) (record {
+      same =
+        over-all win c l (ready .able) (whole .no-start) (whole .no-end) k (omega (arith, whole .timed .first)) (rw (numbered-inside win c l) (omega (arith, inside-bytes (win .width) (win .height) c l, ready .long, ready .low, whole .timed .last)))
+        ∙ numbered-inside win c l;
+      long = ready .long;
+      able = able-fitting c (length l) (ready .able) fit;
+    });
+    under = λ z. rw (rest-of l 0) (record { same = refl; ready = ready });
+  }
 
   -- by time
   module _ (timed : Timed win) (s : Sought) (is : s ≡ soughtOf 0 (win .t0) c l) (b : Bounded (length (drop (s .at) l)) (s .codec)) where

@@ -23,9 +23,9 @@ pub use Rattle.deliver.specs.Deliver.{shortest, Handed}
 use Rattle.header.specs.declared.HeaderAnswer.{HeaderAnswer}
 use Rattle.header.specs.declared.HeaderAnswer.the-variants.{Header, Refused as NoHeader}
 use Rattle.header.specs.Header.{encodingNumber, hasZero, headerOf}
-use Rattle.read.specs.declared.LoadOptions.{LoadOptions}
-use Rattle.read.specs.declared.ReadAnswer.{ReadAnswer}
-use Rattle.read.specs.declared.ReadAnswer.the-variants.{Read, Refused}
+use Rattle.answer.specs.declared.LoadOptions.{LoadOptions}
+use Rattle.answer.specs.declared.ReadAnswer.{ReadAnswer}
+use Rattle.answer.specs.declared.ReadAnswer.the-variants.{Read, Refused}
 
 -- ---- the events of a body
 

@@ -10,7 +10,7 @@ use lib.ListN.{length, take, drop, length-map, length-append, length-drop, lengt
 use lib.Seq.{take-at, take-all}
 use native.Mathlib.Numerals.{add-one}
 use native.Mathlib.Nat.{zero-add}
-use borrow.Author.Tests.{le-leb, lt-leb, le-ltb, lt-ltb, leb-true, leb-false, ne-eqb}
+use borrow.Author.Tests.{le-leb, lt-leb, le-ltb, lt-ltb, leb-true, leb-false, ltb-true, ltb-false, ne-eqb}
 use Rattle.stream.specs.Columns.{written}
 use Rattle.stream.specs.Mask.{top}
 use Rattle.stream.specs.Order.{greatest, greatest-map}
@@ -35,16 +35,18 @@ use Rattle.decode.specs.declared.Tally.{Tally}
 use Rattle.decode.specs.declared.Survey.{Survey}
 use Rattle.decode.specs.Decode.{Bounded, insideEvents, tallyOf, surveyOf}
 use Rattle.decode.specs.Turn.{Fits}
-use Rattle.read.specs.declared.Span.{Span}
+use Rattle.answer.specs.declared.Span.{Span}
 use Rattle.deliver.specs.declared.Delivered.{Delivered}
 use Rattle.deliver.specs.declared.Delivered.the-variants.{Written, Needed}
 use Rattle.deliver.specs.Deliver.{Delivers}
 pub use Rattle.deliver.specs.Laws.{handed-none, handed-wrote, fits-room}
-use Rattle.read.specs.declared.ReadAnswer.{ReadAnswer}
-use Rattle.read.specs.declared.ReadAnswer.the-variants.{Read, Refused}
+use Rattle.answer.specs.declared.Judged.{Judged}
+use Rattle.answer.specs.declared.Judged.the-variants.{Fit, Unfit}
+use Rattle.answer.specs.declared.ReadAnswer.{ReadAnswer}
+use Rattle.answer.specs.declared.ReadAnswer.the-variants.{Read, Refused}
 use Rattle.header.specs.declared.HeaderAnswer.{HeaderAnswer}
 use Rattle.header.specs.declared.HeaderAnswer.the-variants.{Header, Refused as NoHeader}
-use Rattle.decode.specs.Laws.{bounded-fresh, range-fresh, all-inside}
+use Rattle.decode.specs.Laws.{bounded-fresh, range-fresh, all-inside, inside-bytes}
 use Rattle.sensor.specs.Inside.{inside}
 use Rattle.window.specs.declared.Window.{Window}
 use Rattle.select.specs.declared.Tally.{Tally as SelectTally}
@@ -53,8 +55,8 @@ use Rattle.select.specs.Pass.{Ready, handedOver, surveyed, filled}
 use Rattle.select.specs.Uses.{able-range, numberedOver, over-limit}
 use Rattle.header.specs.declared.Header as header
 use Rattle.header.specs.Header.{encodingNumber, hasZero, headerOf}
-use Rattle.read.specs.declared.LoadOptions.{LoadOptions}
-use Rattle.read.specs.Read.{kept, bodyEvents, widthOf, heightOf, sizeless, shortest, Handed, toldRead, verdictOf, answerOf, handedOf, Reads, ReadsBody, DecodesWords, ReadsRaw, wordsVerdict, wordsAnswer, wordsHanded, verdictAfter, answerAfter, handedAfter, rawVerdict, rawAnswer, rawHanded}
+use Rattle.answer.specs.declared.LoadOptions.{LoadOptions}
+use Rattle.answer.specs.Read.{kept, bodyEvents, widthOf, heightOf, sizeless, shortest, Handed, toldRead, verdictOf, answerOf, handedOf, Reads, ReadsBody, DecodesWords, ReadsRaw, wordsVerdict, wordsAnswer, wordsHanded, verdictAfter, answerAfter, handedAfter, rawVerdict, rawAnswer, rawHanded}
 
 abbrev pub spanOf : SensorSize → Span
 spanOf Unknown = record { width = 65536; height = 65536 }
@@ -101,10 +103,24 @@ pub body-all : (size : SensorSize) (e : Encoding) (body : List ℕ) → length b
 unfolding bodyEvents
 body-all size e body h = kept-inside size e body h
 
-pub body-some : (size : SensorSize) (e : Encoding) (n : ℕ) (body : List ℕ) → length body ≤ 2 ^ 30
-    → bodyEvents e size (AtMost n) body ≡ take n (sensorEvents (spanOf size .width) (spanOf size .height) e body)
+-- as many as may have a number: more than there are, where there is no limit
+abbrev pub mostOf : Limit → ℕ
+mostOf Unlimited = 18446744073709551615
+mostOf (AtMost n) = n
+
+abbrev pub windowOf : SensorSize → Limit → Window
+windowOf size limit = limitWindow (spanOf size .width) (spanOf size .height) (mostOf limit)
+
+pub window-parts : (size : SensorSize) (limit : Limit) (span : Span) (most : ℕ) → span ≡ spanOf size → most ≡ mostOf limit → limitWindow (span .width) (span .height) most ≡ windowOf size limit
+window-parts size limit span most s m = rw (s, m)
+
+body-most : (size : SensorSize) (e : Encoding) (limit : Limit) (body : List ℕ) → length body ≤ 2 ^ 30
+    → bodyEvents e size limit body ≡ take (mostOf limit) (sensorEvents (spanOf size .width) (spanOf size .height) e body)
 unfolding bodyEvents
-body-some size e n body h = ap (take n) (kept-inside size e body h)
+body-most size e Unlimited body h =
+    let es = sensorEvents (spanOf size .width) (spanOf size .height) e body in
+    kept-inside size e body h ∙ sym (take-all 18446744073709551615 es (omega (arith, inside-bytes (spanOf size .width) (spanOf size .height) (freshC e) body)))
+body-most size e (AtMost n) body h = ap (take n) (kept-inside size e body h)
 
 -- ---- the size
 
@@ -122,23 +138,37 @@ abbrev pub settledOf : Encoding → SensorSize → Delivered → List ℕ → Li
 settledOf e size (Written n) xs ys = sizedOf e size n xs ys
 settledOf e size (Needed n) xs ys = Refused (ColumnsTooShort n)
 
+-- 4, then 1 for a zero size
+abbrev pub judgedOf : (n : ℕ) → SensorSize → Judged
+judgedOf n size = cond (ltb (2 ^ 30) n) (Unfit TooLong) (cond (hasZero size) (Unfit InvalidSensorSize) Fit)
+
+module _ (n : ℕ) (size : SensorSize) where
+  pub judged-long : 2 ^ 30 < n → Unfit TooLong ≡ judgedOf n size
+  judged-long h = rw (lt-ltb (2 ^ 30) n h)
+
+  pub judged-zero : n ≤ 2 ^ 30 → hasZero size ≡ true → Unfit InvalidSensorSize ≡ judgedOf n size
+  judged-zero h z = rw (le-ltb (2 ^ 30) n h, z)
+
+  pub judged-fit : n ≤ 2 ^ 30 → hasZero size ≡ false → Fit ≡ judgedOf n size
+  judged-fit h z = rw (le-ltb (2 ^ 30) n h, z)
+
+  pub fit-judged : judgedOf n size ≡ Fit → (n ≤ 2 ^ 30) × (hasZero size ≡ false)
+  fit-judged = go (ltb (2 ^ 30) n) refl (hasZero size) refl
+    where
+      go : (a : Bool) → ltb (2 ^ 30) n ≡ a → (b : Bool) → hasZero size ≡ b → cond a (Unfit TooLong) (cond b (Unfit InvalidSensorSize) Fit) ≡ Fit → (n ≤ 2 ^ 30) × (hasZero size ≡ false)
+      go true p b z j = let no : _≡_ {A = ℕ} 0 1 = cc in absurd (omega arith)
+      go false p true z j = let no : _≡_ {A = ℕ} 0 1 = cc in absurd (omega arith)
+      go false p false z j = (ltb-false (2 ^ 30) n p, z)
+
 abbrev pub refusalOf : HeaderAnswer → ReadAnswer
 refusalOf (NoHeader r) = Refused r
 refusalOf (Header h) = Refused UnknownEncoding
 
 module _ (size : SensorSize) (e : Encoding) (limit : Limit) (codec : Codec) (is-fresh : codec ≡ freshC e) where
-  pub delivers-body-all : (body : List ℕ) (span : Span) {r : Delivered} {xs₀ ys₀ : List ℕ} {ts₀ : List ℤ} {ps₀ xs ys : List ℕ} {ts : List ℤ} {ps : List ℕ}
-      → length body ≤ 2 ^ 30 → span ≡ spanOf size → limit ≡ Unlimited
-      → Delivers (insideEvents (span .width) (span .height) codec body) r xs₀ ys₀ ts₀ ps₀ xs ys ts ps → Delivers (bodyEvents e size limit body) r xs₀ ys₀ ts₀ ps₀ xs ys ts ps
-  delivers-body-all body span h s l d = rw (l, body-all size e body h, ← s, ← is-fresh) d
-
-  pub delivers-body-some : (n : ℕ) (body : List ℕ) (span : Span) (win : Window) {r : Delivered} {xs₀ ys₀ : List ℕ} {ts₀ : List ℤ} {ps₀ xs ys : List ℕ} {ts : List ℤ} {ps : List ℕ}
-      → length body ≤ 2 ^ 30 → span ≡ spanOf size → limit ≡ AtMost n → win ≡ limitWindow (span .width) (span .height) n
+  pub delivers-body : (body : List ℕ) (win : Window) {r : Delivered} {xs₀ ys₀ : List ℕ} {ts₀ : List ℤ} {ps₀ xs ys : List ℕ} {ts : List ℤ} {ps : List ℕ}
+      → length body ≤ 2 ^ 30 → win ≡ windowOf size limit
       → Delivers (handedOver win 0 codec body) r xs₀ ys₀ ts₀ ps₀ xs ys ts ps → Delivers (bodyEvents e size limit body) r xs₀ ys₀ ts₀ ps₀ xs ys ts ps
-  delivers-body-some n body span win h s l w d = rw (l, body-some size e n body h, ← s, ← handed-limit (span .width) (span .height) n e body h, ← w, ← is-fresh) d
-
-  pub bounded-new : (n : ℕ) → n ≤ 2 ^ 30 → Bounded n codec
-  bounded-new n h = rw is-fresh (bounded-fresh e n h)
+  delivers-body body win h w d = rw (body-most size e limit body h, ← handed-limit (spanOf size .width) (spanOf size .height) (mostOf limit) e body h, ← w, ← is-fresh) d
 
   pub ready-new : (n : ℕ) → n ≤ 2 ^ 30 → Ready codec 0 n
   ready-new n h = rw is-fresh (ready-fresh e n h)
@@ -208,11 +238,11 @@ module _ {xs₀ ys₀ : List ℕ} {ts₀ : List ℤ} {ps₀ xs ys : List ℕ} {t
 
 module _ {xs₀ ys₀ : List ℕ} {ts₀ : List ℤ} {ps₀ : List ℕ} where
   module _ (words : List ℕ) (e : Encoding) (size : SensorSize) (limit : Limit) where
-    pub words-long : 2 ^ 30 < length words → DecodesWords words e size limit (Refused TooLong) xs₀ ys₀ ts₀ ps₀ xs₀ ys₀ ts₀ ps₀
+    words-long : 2 ^ 30 < length words → DecodesWords words e size limit (Refused TooLong) xs₀ ys₀ ts₀ ps₀ xs₀ ys₀ ts₀ ps₀
     unfolding wordsVerdict wordsAnswer wordsHanded
     words-long h = rw (lt-ltb (2 ^ 30) (length words) h) (record { is-told = refl; is-answer = refl; columns = handed-none })
 
-    pub words-zero : length words ≤ 2 ^ 30 → hasZero size ≡ true → DecodesWords words e size limit (Refused InvalidSensorSize) xs₀ ys₀ ts₀ ps₀ xs₀ ys₀ ts₀ ps₀
+    words-zero : length words ≤ 2 ^ 30 → hasZero size ≡ true → DecodesWords words e size limit (Refused InvalidSensorSize) xs₀ ys₀ ts₀ ps₀ xs₀ ys₀ ts₀ ps₀
     unfolding wordsVerdict wordsAnswer wordsHanded
     words-zero h z = rw (le-ltb (2 ^ 30) (length words) h, z) (record { is-told = refl; is-answer = refl; columns = handed-none })
 
@@ -220,6 +250,15 @@ module _ {xs₀ ys₀ : List ℕ} {ts₀ : List ℤ} {ps₀ : List ℕ} where
         → ReadsBody e size (bodyEvents e size limit words) r xs₀ ys₀ ts₀ ps₀ xs ys ts ps → DecodesWords words e size limit r xs₀ ys₀ ts₀ ps₀ xs ys ts ps
     unfolding wordsVerdict wordsAnswer wordsHanded bodyEvents
     words-read h z b = rw (le-ltb (2 ^ 30) (length words) h, z) b
+
+    pub words-refused : (q : Refusal) → judgedOf (length words) size ≡ Unfit q → DecodesWords words e size limit (Refused q) xs₀ ys₀ ts₀ ps₀ xs₀ ys₀ ts₀ ps₀
+    words-refused q = go (ltb (2 ^ 30) (length words)) refl (hasZero size) refl
+      where
+        go : (a : Bool) → ltb (2 ^ 30) (length words) ≡ a → (b : Bool) → hasZero size ≡ b → cond a (Unfit TooLong) (cond b (Unfit InvalidSensorSize) Fit) ≡ Unfit q
+            → DecodesWords words e size limit (Refused q) xs₀ ys₀ ts₀ ps₀ xs₀ ys₀ ts₀ ps₀
+        go true p b z j = let is : TooLong ≡ q = cc in rw (← is) (words-long (ltb-true (2 ^ 30) (length words) p))
+        go false p true z j = let is : InvalidSensorSize ≡ q = cc in rw (← is) (words-zero (ltb-false (2 ^ 30) (length words) p) z)
+        go false p false z j = let no : _≡_ {A = ℕ} 0 1 = cc in absurd (omega arith)
 
   module _ (recording : List ℕ) (o : LoadOptions) (a : HeaderAnswer) (is-header : a ≡ headerOf recording (o .«sensor_size»)) where
     raw-from : {r : ReadAnswer} {xs ys : List ℕ} {ts : List ℤ} {ps : List ℕ}

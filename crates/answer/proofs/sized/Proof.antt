@@ -3,12 +3,12 @@ use native.Mathlib.Omega.{arith}
 use lib.Seq.{length-take-le}
 use borrow.Author.Tests.{eq-eqb, ne-eqb}
 use Rattle.evt.specs.declared.SensorSize.{SensorSize}
-use Rattle.read.specs.Laws.{sizedOf}
+use Rattle.answer.specs.Laws.{sizedOf}
 use borrow.Author.Needs.{needs}
-use Rattle.read.proofs.sized.Statement.{statement}
-use Rattle.read.proofs.sized.Tie as tie
-use Rattle.read.proofs.sized.Reads as reads
-use Rattle.read.proofs.sized.Lts as lts
+use Rattle.answer.proofs.sized.Statement.{statement}
+use Rattle.answer.proofs.sized.Tie as tie
+use Rattle.answer.proofs.sized.Reads as reads
+use Rattle.answer.proofs.sized.Lts as lts
 use Rattle.decode.proofs.extent.greatest.Reads as greatest-reads
 
 -- src/lib.rt:132:27

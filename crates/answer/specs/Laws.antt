@@ -36,10 +36,10 @@ use Rattle.decode.specs.declared.Survey.{Survey}
 use Rattle.decode.specs.Decode.{Bounded, insideEvents, tallyOf, surveyOf}
 use Rattle.decode.specs.Turn.{Fits}
 use Rattle.answer.specs.declared.Span.{Span}
-use Rattle.deliver.specs.declared.Delivered.{Delivered}
-use Rattle.deliver.specs.declared.Delivered.the-variants.{Written, Needed}
-use Rattle.deliver.specs.Deliver.{Delivers}
-pub use Rattle.deliver.specs.Laws.{handed-none, handed-wrote, fits-room}
+use Rattle.room.specs.declared.Delivered.{Delivered}
+use Rattle.room.specs.declared.Delivered.the-variants.{Written, Needed}
+use Rattle.room.specs.Deliver.{Delivers}
+pub use Rattle.room.specs.Laws.{handed-none, handed-wrote, fits-room}
 use Rattle.answer.specs.declared.Judged.{Judged}
 use Rattle.answer.specs.declared.Judged.the-variants.{Fit, Unfit}
 use Rattle.answer.specs.declared.ReadAnswer.{ReadAnswer}

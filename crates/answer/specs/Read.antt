@@ -19,7 +19,7 @@ use Rattle.evt.specs.Columns.{colX, colY}
 use Rattle.evt.specs.Event.{Event}
 use Rattle.evt.specs.Told.{Told, told, accepted, refused, short}
 use Rattle.sensor.specs.Inside.{inside}
-pub use Rattle.deliver.specs.Deliver.{shortest, Handed}
+pub use Rattle.room.specs.Deliver.{shortest, Handed}
 use Rattle.header.specs.declared.HeaderAnswer.{HeaderAnswer}
 use Rattle.header.specs.declared.HeaderAnswer.the-variants.{Header, Refused as NoHeader}
 use Rattle.header.specs.Header.{encodingNumber, hasZero, headerOf}

@@ -5,12 +5,12 @@ ghost use mathlib.Core.Path.{_≡_};
 ghost use Prim.Native.Nat.{_≤_};
 ghost use lib.ListN.{length};
 ghost use Rattle.answer.specs.Laws.{spanOf, mostOf, windowOf, Holds, sizedOf, settledOf, refusalOf, judgedOf};
-use deliver::Delivered;
 use evt::Encoding;
 use evt::Limit;
 use evt::Refusal;
 use evt::SensorSize;
 use header::HeaderAnswer;
+use room::Delivered;
 use select::Window;
 
 // The Rust's options that concern reading.

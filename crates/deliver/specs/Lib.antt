@@ -1,3 +1,1 @@
-pub mod Deliver
-pub mod Laws
 pub mod Plan

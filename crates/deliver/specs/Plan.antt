@@ -20,9 +20,9 @@ use Rattle.seek.specs.declared.Sought.{Sought}
 use Rattle.seek.specs.Seek.{soughtOf}
 use Rattle.seek.specs.Laws.{sought-within, sought-from, sought-upto, ready-there, rest-of}
 use Rattle.pass_over.specs.Laws.{passed-within, passed-few, handed-passed, ready-passed}
-use Rattle.deliver.specs.declared.Delivered.{Delivered}
+use Rattle.room.specs.declared.Delivered.{Delivered}
 use Rattle.deliver.specs.declared.plan.Plan.{Plan}
-use Rattle.deliver.specs.Deliver.{Delivers}
+use Rattle.room.specs.Deliver.{Delivers}
 
 -- every number, and some time
 pub record Timed (win : Window) : Type 0 where
@@ -105,8 +105,8 @@ module _ (win : Window) (k : ℕ) (c : Codec) (l : List ℕ) (ready : Ready c k 
     within = omega arith;
     plainly = λ z. rw (rest-of l 0) (record {
       same =
-        over-all win c l (ready .able) (whole .no-start) (whole .no-end) k (omega (arith, whole .timed .first)) (rw (numbered-inside win c l) (omega (arith, inside-bytes (win .width) (win .height) c l, ready .long, ready .low, whole .timed .last)))
-        ∙ numbered-inside win c l;
+          over-all win c l (ready .able) (whole .no-start) (whole .no-end) k (omega (arith, whole .timed .first)) (rw (numbered-inside win c l) (omega (arith, inside-bytes (win .width) (win .height) c l, ready .long, ready .low, whole .timed .last)))
+          ∙ numbered-inside win c l;
       long = ready .long;
       able = able-fitting c (length l) (ready .able) fit;
     });

@@ -1,60 +1,21 @@
 // Handing events over into four lent columns: all of them, or none where the columns are too short
-// (5). `deliver_all` has every event inside a sensor, for reading; `deliver` what a pass under a
-// window selects, for reading with a limit and for both slices; plan.rt settles before which bytes
-// are decoded for it. specs/Deliver.antt says what is answered and what the columns hold.
+// (5). `deliver_all` has every event inside a sensor; `deliver` what a pass under a window selects,
+// for reading and for both slices; plan.rt settles before which bytes are decoded for it. What is
+// answered and what the columns hold is in specs/Deliver.antt of `room`.
 ghost use mathlib.Core.Path.{_≡_};
-ghost use Prim.Native.Nat.{_≤_, _^_, min, _-_};
+ghost use Prim.Native.Nat.{_≤_, _^_};
 ghost use lib.ListN.{length};
 ghost use Rattle.decode.specs.Decode.{Bounded, insideEvents};
 ghost use Rattle.select.specs.Pass.{Ready, handedOver};
-ghost use Rattle.deliver.specs.Deliver.{mostFrom, mostOver, Enough, Delivers};
+ghost use Rattle.room.specs.Deliver.{Delivers};
 use evt::Codec;
+pub use room::Delivered;
+use room::need;
+use room::need_all;
+use room::shortest;
 use select::Window;
 
 mod plan;
-
-// How many events were written, or how many places they need.
-pub enum Delivered {
-    Written(usize),
-    Needed(usize),
-}
-
-pub fn less(a: usize, b: usize) -> usize
-    ensures { λ r. ⌜ r ≡ min a b ⌝ }
-{
-    if a < b { a } else { b }
-}
-
-// The shortest of four columns counts.
-pub fn shortest(a: usize, b: usize, c: usize, d: usize) -> usize
-    ensures { λ r. ⌜ r ≡ min (min a b) (min c d) ⌝ }
-{
-    less(less(a, b), less(c, d))
-}
-
-// More events than this n bytes can't have. `requires`: every caller has refused longer ones (4).
-pub fn most_from(codec: Codec, n: usize) -> usize
-    requires { ⌜ n ≤ 2 ^ 30 ⌝ }
-    ensures { λ r. ⌜ r ≡ mostFrom codec n ⌝ }
-{
-    match codec {
-        Codec::Evt2(_) => n / 4,
-        Codec::Evt3(_) => n / 2 * 12,
-    }
-}
-
-// Enough places for all events inside the sensor; where that is more than `room`, just as many as
-// they need. Where no bound tells, the bytes are decoded for it.
-fn need_all(bytes: &[u8], codec: Codec, width: u64, height: u64, room: usize) -> usize
-    requires { ⌜ length (now bytes) ≤ 2 ^ 30 ⌝ ∗ ⌜ Bounded (length (now bytes)) codec ⌝ }
-    ensures { λ r. ⌜ Enough (insideEvents width height codec (now (bytes .entry))) room r ⌝ }
-{
-    let most = most_from(codec, bytes.len());
-    if most <= room {
-        return most;
-    }
-    decode::count_all(bytes, codec, width, height).count
-}
 
 // Writes all events inside the sensor, if the columns hold them. `requires`: every caller has refused
 // longer recordings (4), and starts from a decoder in range (10).
@@ -87,37 +48,6 @@ pub fn deliver_all(
         &mut *ps,
     );
     Delivered::Written(t.count)
-}
-
-// How many numbers a window has.
-fn numbers(window: Window) -> u64
-    ensures { λ r. ⌜ r ≡ window .n1 - window .n0 ⌝ }
-{
-    if window.n0 < window.n1 {
-        window.n1 - window.n0
-    } else {
-        0
-    }
-}
-
-// More events than this a pass can't hand over.
-fn most_over(window: Window, codec: Codec, n: usize) -> usize
-    requires { ⌜ n ≤ 2 ^ 30 ⌝ }
-    ensures { λ r. ⌜ r ≡ mostOver window codec n ⌝ }
-{
-    less(numbers(window) as usize, most_from(codec, n))
-}
-
-// The same for what a pass hands over.
-fn need(bytes: &[u8], codec: Codec, window: Window, number: u64, room: usize) -> usize
-    requires { ⌜ Ready codec number (length (now bytes)) ⌝ }
-    ensures { λ r. ⌜ Enough (handedOver window number codec (now (bytes .entry))) room r ⌝ }
-{
-    let bound = most_over(window, codec, bytes.len());
-    if bound <= room {
-        return bound;
-    }
-    select::survey(bytes, codec, window, number).count
 }
 
 // Writes what the window leaves of all the bytes.

@@ -6,15 +6,14 @@ ghost use Prim.Native.Nat.{_≤_, _^_};
 ghost use lib.ListN.{length};
 ghost use Rattle.answer.specs.Read.{bodyEvents, ReadsBody, DecodesWords, ReadsRaw};
 use answer::Judged;
+pub use answer::LoadOptions;
+pub use answer::ReadAnswer;
+pub use answer::Reading;
 use evt::Codec;
 use evt::Encoding;
 use evt::Limit;
 use evt::SensorSize;
 use header::HeaderAnswer;
-
-pub use answer::LoadOptions;
-pub use answer::ReadAnswer;
-pub use answer::Reading;
 
 // A body of at most 2^30 bytes: 1 for no event, 5, or the reading. `requires`: both entries have
 // refused longer ones (4).

@@ -11,8 +11,8 @@ use Rattle.evt.specs.declared.codec.Codec.the-variants.{Evt2, Evt3}
 use Rattle.evt.specs.Columns.{colX, colY, colT, colP}
 use Rattle.evt.specs.Event.{Event}
 use Rattle.window.specs.declared.Window.{Window}
-use Rattle.deliver.specs.declared.Delivered.{Delivered}
-use Rattle.deliver.specs.declared.Delivered.the-variants.{Written, Needed}
+use Rattle.room.specs.declared.Delivered.{Delivered}
+use Rattle.room.specs.declared.Delivered.the-variants.{Written, Needed}
 
 -- ---- columns
 

@@ -1,11 +1,11 @@
 use mathlib.Core.Path.{sym, ap}
 use Rattle.evt.specs.declared.codec.Codec.{Codec}
-use Rattle.deliver.specs.Deliver.{mostFrom}
+use Rattle.room.specs.Deliver.{mostFrom}
 use borrow.Author.Needs.{needs}
-use Rattle.deliver.proofs.most_from.Statement.{statement}
-use Rattle.deliver.proofs.most_from.Tie as tie
-use Rattle.deliver.proofs.most_from.Reads as reads
-use Rattle.deliver.proofs.most_from.Lts as lts
+use Rattle.room.proofs.most_from.Statement.{statement}
+use Rattle.room.proofs.most_from.Tie as tie
+use Rattle.room.proofs.most_from.Reads as reads
+use Rattle.room.proofs.most_from.Lts as lts
 
 -- src/lib.rt:37:27
 enum-told : tie.Need-enum-told

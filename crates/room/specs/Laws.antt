@@ -27,9 +27,9 @@ use Rattle.select.specs.declared.Tally.{Tally}
 use Rattle.select.specs.declared.Filled.{Filled}
 use Rattle.select.specs.Pass.{Ready, handedOver, surveyed, filled}
 use Rattle.select.specs.Uses.{numberedOver, over-few}
-use Rattle.deliver.specs.declared.Delivered.{Delivered}
-use Rattle.deliver.specs.declared.Delivered.the-variants.{Written, Needed}
-use Rattle.deliver.specs.Deliver.{shortest, Handed, deliveredOf, fitting, Delivers, mostFrom, mostOver, Enough}
+use Rattle.room.specs.declared.Delivered.{Delivered}
+use Rattle.room.specs.declared.Delivered.the-variants.{Written, Needed}
+use Rattle.room.specs.Deliver.{shortest, Handed, deliveredOf, fitting, Delivers, mostFrom, mostOver, Enough}
 
 -- ---- what was written
 

@@ -1,4 +1,1 @@
-pub mod Deliver
-pub mod Laws
-pub mod Timed
-pub mod Numbered
+pub mod Plan

@@ -1,64 +1,21 @@
 // Handing events over into four lent columns: all of them, or none where the columns are too short
-// (5). `deliver_all` has every event inside a sensor, for reading; `deliver` what a pass under a
-// window selects, for reading with a limit and for both slices; timed.rt and numbered.rt pass over
-// what lies before a slice. specs/Deliver.antt says what is answered and what the columns hold.
+// (5). `deliver_all` has every event inside a sensor; `deliver` what a pass under a window selects,
+// for reading and for both slices; plan.rt settles before which bytes are decoded for it. What is
+// answered and what the columns hold is in specs/Deliver.antt of `room`.
 ghost use mathlib.Core.Path.{_≡_};
-ghost use mathlib.Core.Bool.{true};
-ghost use Prim.Native.Nat.{_≤_, _^_, min, _-_};
+ghost use Prim.Native.Nat.{_≤_, _^_};
 ghost use lib.ListN.{length};
 ghost use Rattle.decode.specs.Decode.{Bounded, insideEvents};
 ghost use Rattle.select.specs.Pass.{Ready, handedOver};
-ghost use Rattle.deliver.specs.Deliver.{mostFrom, mostOver, Enough, Delivers};
-ghost use Rattle.deliver.specs.Timed.{Timed};
-ghost use Rattle.deliver.specs.Numbered.{Numbered};
+ghost use Rattle.room.specs.Deliver.{Delivers};
 use evt::Codec;
+pub use room::Delivered;
+use room::need;
+use room::need_all;
+use room::shortest;
 use select::Window;
 
-mod numbered;
-mod timed;
-
-// How many events were written, or how many places they need.
-pub enum Delivered {
-    Written(usize),
-    Needed(usize),
-}
-
-pub fn less(a: usize, b: usize) -> usize
-    ensures { λ r. ⌜ r ≡ min a b ⌝ }
-{
-    if a < b { a } else { b }
-}
-
-// The shortest of four columns counts.
-pub fn shortest(a: usize, b: usize, c: usize, d: usize) -> usize
-    ensures { λ r. ⌜ r ≡ min (min a b) (min c d) ⌝ }
-{
-    less(less(a, b), less(c, d))
-}
-
-// More events than this n bytes can't have. `requires`: every caller has refused longer ones (4).
-pub fn most_from(codec: Codec, n: usize) -> usize
-    requires { ⌜ n ≤ 2 ^ 30 ⌝ }
-    ensures { λ r. ⌜ r ≡ mostFrom codec n ⌝ }
-{
-    match codec {
-        Codec::Evt2(_) => n / 4,
-        Codec::Evt3(_) => n / 2 * 12,
-    }
-}
-
-// Enough places for all events inside the sensor; where that is more than `room`, just as many as
-// they need. Where no bound tells, the bytes are decoded for it.
-fn need_all(bytes: &[u8], codec: Codec, width: u64, height: u64, room: usize) -> usize
-    requires { ⌜ length (now bytes) ≤ 2 ^ 30 ⌝ ∗ ⌜ Bounded (length (now bytes)) codec ⌝ }
-    ensures { λ r. ⌜ Enough (insideEvents width height codec (now (bytes .entry))) room r ⌝ }
-{
-    let most = most_from(codec, bytes.len());
-    if most <= room {
-        return most;
-    }
-    decode::count_all(bytes, codec, width, height).count
-}
+mod plan;
 
 // Writes all events inside the sensor, if the columns hold them. `requires`: every caller has refused
 // longer recordings (4), and starts from a decoder in range (10).
@@ -93,39 +50,8 @@ pub fn deliver_all(
     Delivered::Written(t.count)
 }
 
-// How many numbers a window has.
-fn numbers(window: Window) -> u64
-    ensures { λ r. ⌜ r ≡ window .n1 - window .n0 ⌝ }
-{
-    if window.n0 < window.n1 {
-        window.n1 - window.n0
-    } else {
-        0
-    }
-}
-
-// More events than this a pass can't hand over.
-fn most_over(window: Window, codec: Codec, n: usize) -> usize
-    requires { ⌜ n ≤ 2 ^ 30 ⌝ }
-    ensures { λ r. ⌜ r ≡ mostOver window codec n ⌝ }
-{
-    less(numbers(window) as usize, most_from(codec, n))
-}
-
-// The same for what a pass hands over.
-fn need(bytes: &[u8], codec: Codec, window: Window, number: u64, room: usize) -> usize
-    requires { ⌜ Ready codec number (length (now bytes)) ⌝ }
-    ensures { λ r. ⌜ Enough (handedOver window number codec (now (bytes .entry))) room r ⌝ }
-{
-    let bound = most_over(window, codec, bytes.len());
-    if bound <= room {
-        return bound;
-    }
-    select::survey(bytes, codec, window, number).count
-}
-
 // Writes what the window leaves of all the bytes.
-pub(crate) fn deliver_window(
+fn deliver_window(
     bytes: &[u8],
     codec: Codec,
     window: Window,
@@ -171,24 +97,16 @@ pub fn deliver(
     requires { ⌜ Ready codec number (length (now bytes)) ⌝ }
     ensures { λ r. ⌜ Delivers (handedOver window number codec (now (bytes .entry))) r (now (xs .entry)) (now (ys .entry)) (now (ts .entry)) (now (ps .entry)) (now (xs .exit)) (now (ys .exit)) (now (ts .exit)) (now (ps .exit)) ⌝ }
 {
-    if is_timed(window) {
-        return timed::deliver_time(
-            bytes,
-            codec,
-            window,
-            number,
-            &mut *xs,
-            &mut *ys,
-            &mut *ts,
-            &mut *ps,
-        );
-    }
-    if is_numbered(window, number) {
-        return numbered::deliver_number(
-            bytes,
-            codec,
-            window,
-            number,
+    let p = plan::plan_window(bytes, codec, window, number);
+    let from = p.from;
+    let to = p.to;
+    let there = p.codec;
+    if p.plain {
+        return deliver_all(
+            &bytes[from..to],
+            there,
+            window.width,
+            window.height,
             &mut *xs,
             &mut *ys,
             &mut *ts,
@@ -196,38 +114,13 @@ pub fn deliver(
         );
     }
     deliver_window(
-        bytes,
-        codec,
+        &bytes[from..to],
+        there,
         window,
-        number,
+        p.number,
         &mut *xs,
         &mut *ys,
         &mut *ts,
         &mut *ps,
     )
-}
-
-// Whether a window has every number, and is not empty in time.
-fn is_timed(window: Window) -> bool
-    ensures { λ r. ⌜ (r ≡ true → Timed window) ⌝ }
-{
-    if window.n0 == 0 {
-        if window.n1 == 18446744073709551615 {
-            return window.t0 < window.t1;
-        }
-    }
-    false
-}
-
-// Whether a window has every time, and its first number lies ahead. No index counts more than 2^33.
-fn is_numbered(window: Window, number: u64) -> bool
-    ensures { λ r. ⌜ (r ≡ true → Numbered window number) ⌝ }
-{
-    if window.t1 < 9223372036854775808 {
-        return false;
-    }
-    if 8589934592 < window.n0 {
-        return false;
-    }
-    number < window.n0
 }

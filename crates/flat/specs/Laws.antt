@@ -15,9 +15,9 @@ use Rattle.evt.specs.declared.Sent.{Sent}
 use Rattle.evt.specs.declared.Sent.the-variants.{Nothing, Value}
 use Rattle.evt.specs.Event.{Event}
 use Rattle.evt.specs.Told.{Told, told, told-numbered, naturals}
-use Rattle.read.specs.declared.LoadOptions.{LoadOptions}
-use Rattle.read.specs.declared.ReadAnswer.{ReadAnswer}
-use Rattle.read.specs.Read as Read
+use Rattle.answer.specs.declared.LoadOptions.{LoadOptions}
+use Rattle.answer.specs.declared.ReadAnswer.{ReadAnswer}
+use Rattle.answer.specs.Read as Read
 use Rattle.index.specs.declared.Checkpoint.{Checkpoint}
 use Rattle.index.specs.declared.Judging.{Judging}
 use Rattle.index.specs.declared.RawSliceSource.{RawSliceSource}

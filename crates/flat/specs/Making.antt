@@ -16,7 +16,7 @@ use Rattle.evt.specs.Told.{Told}
 use Rattle.header.specs.declared.HeaderAnswer.{HeaderAnswer}
 use Rattle.header.specs.declared.HeaderAnswer.the-variants.{Header, Refused as NoHeader}
 use Rattle.header.specs.Header.{hasZero, headerOf}
-use Rattle.read.specs.Read.{sizeless}
+use Rattle.answer.specs.Read.{sizeless}
 use Rattle.index.specs.declared.Checkpoint.{Checkpoint}
 use Rattle.index.specs.declared.OpenAnswer.{OpenAnswer}
 use Rattle.index.specs.declared.OpenOptions.{OpenOptions}

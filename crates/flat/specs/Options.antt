@@ -6,7 +6,7 @@ use Rattle.evt.specs.declared.Limit.{Limit}
 use Rattle.evt.specs.declared.Limit.the-variants.{Unlimited, AtMost}
 use Rattle.evt.specs.declared.SensorSize.{SensorSize}
 use Rattle.evt.specs.declared.SensorSize.the-variants.{Unknown, Known}
-use Rattle.read.specs.declared.LoadOptions.{LoadOptions}
+use Rattle.answer.specs.declared.LoadOptions.{LoadOptions}
 use Rattle.flat.specs.declared.options.PropheseeOptions.{PropheseeOptions}
 
 -- a flag: any number but 0 is true

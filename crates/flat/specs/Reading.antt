@@ -9,7 +9,7 @@ use lib.ListN.{getD}
 use Rattle.evt.specs.declared.Encoding.{Encoding}
 use Rattle.evt.specs.Event.{Event}
 use Rattle.evt.specs.Told.{Told, naturals}
-use Rattle.read.specs.Read.{Handed, shortest, wordsVerdict, wordsHanded, rawVerdict, rawHanded}
+use Rattle.answer.specs.Read.{Handed, shortest, wordsVerdict, wordsHanded, rawVerdict, rawHanded}
 use Rattle.flat.specs.declared.options.PropheseeOptions.{PropheseeOptions}
 use Rattle.flat.specs.declared.reading.PropheseeReading.{PropheseeReading}
 use Rattle.flat.specs.Options.{optionsOf}

@@ -6,7 +6,7 @@ use lib.IntN.{ℤ}
 use Rattle.evt.specs.declared.Encoding.{Encoding}
 use Rattle.evt.specs.Event.{Event}
 use Rattle.evt.specs.Told.{Told}
-use Rattle.read.specs.Read.{shortest, Handed}
+use Rattle.answer.specs.Read.{shortest, Handed}
 use Rattle.index.specs.declared.Checkpoint.{Checkpoint}
 use Rattle.index.specs.declared.RawSliceSource.{RawSliceSource}
 use Rattle.slice.specs.Slice.{indexEvents, timeEvents, sliceVerdict, sliceHanded}

@@ -2,7 +2,7 @@
 ghost use mathlib.Core.Path.{_≡_};
 ghost use Rattle.evt.specs.declared.Encoding.the-variants.{Evt2, Evt3};
 ghost use Rattle.header.specs.Header.{encodingNumber};
-ghost use Rattle.read.specs.Read.{toldRead};
+ghost use Rattle.answer.specs.Read.{toldRead};
 ghost use Rattle.flat.specs.Reading.{readingOf};
 use crate::refusal::count_of;
 use crate::refusal::number_of;

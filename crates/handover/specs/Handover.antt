@@ -21,10 +21,10 @@ use Rattle.store.specs.Columns.{eventsIn}
 use Rattle.encode.specs.Encode.{encodeNotes, encodeSize}
 use Rattle.sink.specs.declared.RawEventSink.{RawEventSink}
 use Rattle.sink.specs.Append.{freshSink, accepts, handedOver, sinkAfter}
-use Rattle.read.specs.declared.ReadAnswer.{ReadAnswer}
-use Rattle.read.specs.declared.ReadAnswer.the-variants.{Read}
+use Rattle.answer.specs.declared.ReadAnswer.{ReadAnswer}
+use Rattle.answer.specs.declared.ReadAnswer.the-variants.{Read}
 use Rattle.header.specs.Header.{hasZero}
-use Rattle.read.specs.Read.{DecodesWords, Handed, shortest, kept, widthOf, heightOf, sizeless}
+use Rattle.answer.specs.Read.{DecodesWords, Handed, shortest, kept, widthOf, heightOf, sizeless}
 use Rattle.index.specs.declared.Checkpoint.{Checkpoint}
 use Rattle.index.specs.declared.RawSliceSource.{RawSliceSource}
 use Rattle.index.specs.declared.OpenAnswer.{OpenAnswer}

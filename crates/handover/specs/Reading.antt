@@ -14,8 +14,8 @@ use Rattle.evt.specs.declared.SensorSize.{SensorSize}
 use Rattle.header.specs.Header.{hasZero}
 use Rattle.window.specs.declared.Window.{Window}
 use Rattle.select.specs.Uses.{PastOver}
-use Rattle.read.specs.declared.ReadAnswer.the-variants.{Read}
-use Rattle.read.specs.Read.{wordsAnswer, wordsHanded, bodyEvents, shortest, sizeless, widthOf, heightOf}
+use Rattle.answer.specs.declared.ReadAnswer.the-variants.{Read}
+use Rattle.answer.specs.Read.{wordsAnswer, wordsHanded, bodyEvents, shortest, sizeless, widthOf, heightOf}
 use Rattle.index.specs.declared.Checkpoint.{Checkpoint}
 use Rattle.index.specs.declared.Opening.{Opening}
 use Rattle.index.specs.declared.OpenAnswer.the-variants.{Opened}

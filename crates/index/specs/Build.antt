@@ -21,7 +21,7 @@ use Rattle.header.specs.declared.HeaderAnswer.{HeaderAnswer}
 use Rattle.header.specs.declared.HeaderAnswer.the-variants.{Header, Refused as NoHeader}
 use Rattle.header.specs.Header.{hasZero, headerOf}
 use Rattle.window.specs.declared.Window.{Window}
-use Rattle.read.specs.Read.{widthOf, heightOf, sizeless}
+use Rattle.answer.specs.Read.{widthOf, heightOf, sizeless}
 use Rattle.index.specs.declared.Checkpoint.{Checkpoint}
 use Rattle.index.specs.declared.OpenOptions.{OpenOptions}
 use Rattle.index.specs.declared.WordsOptions.{WordsOptions}

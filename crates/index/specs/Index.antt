@@ -18,7 +18,7 @@ use Rattle.sensor.specs.Inside.{clock}
 use Rattle.header.specs.declared.HeaderAnswer.{HeaderAnswer}
 use Rattle.header.specs.declared.HeaderAnswer.the-variants.{Header, Refused as NoHeader}
 use Rattle.header.specs.Header.{encodingNumber, hasZero, headerOf}
-use Rattle.read.specs.Read.{kept, widthOf, heightOf, sizeless}
+use Rattle.answer.specs.Read.{kept, widthOf, heightOf, sizeless}
 use Rattle.index.specs.declared.Checkpoint.{Checkpoint}
 use Rattle.index.specs.declared.RawSliceSource.{RawSliceSource}
 use Rattle.index.specs.declared.OpenOptions.{OpenOptions}

@@ -35,8 +35,8 @@ use Rattle.select.specs.Uses.{numberedOver, over-all}
 use Rattle.window.specs.declared.Window.{Window}
 use Rattle.evt.specs.declared.codec.Codec.{Codec}
 use Rattle.index.specs.declared.Plan.the-variants.{Refuse, Build}
-use Rattle.read.specs.Laws.{ready-fresh, rest-of}
-use Rattle.read.specs.Read.{kept, widthOf, heightOf, sizeless}
+use Rattle.answer.specs.Laws.{ready-fresh, rest-of}
+use Rattle.answer.specs.Read.{kept, widthOf, heightOf, sizeless}
 use Rattle.index.specs.declared.Checkpoint.{Checkpoint}
 use Rattle.index.specs.declared.OpenAnswer.{OpenAnswer}
 use Rattle.index.specs.declared.OpenAnswer.the-variants.{Opened, Refused}

@@ -29,14 +29,14 @@ use Rattle.header.specs.Header.{headerOf, headerVerdict, toldHeader, namedNumbe
 use Rattle.header.specs.Laws.{verdict-of}
 use Rattle.header.specs.Text.{any, notAscii}
 use Rattle.header.specs.Lines.{headerBytes, bodyStart}
-use Rattle.read.specs.declared.Reading.{Reading}
-use Rattle.read.specs.declared.ReadAnswer.{ReadAnswer}
-use Rattle.read.specs.declared.ReadAnswer.the-variants.{Read, Refused}
-use Rattle.read.specs.Read.{toldRead, bodyEvents, sizeless, widthOf, heightOf, answerOf, handedOf, answerAfter, handedAfter, rawAnswer, rawHanded, shortest, Handed, ReadsRaw}
+use Rattle.answer.specs.declared.Reading.{Reading}
+use Rattle.answer.specs.declared.ReadAnswer.{ReadAnswer}
+use Rattle.answer.specs.declared.ReadAnswer.the-variants.{Read, Refused}
+use Rattle.answer.specs.Read.{toldRead, bodyEvents, sizeless, widthOf, heightOf, answerOf, handedOf, answerAfter, handedAfter, rawAnswer, rawHanded, shortest, Handed, ReadsRaw}
 use Rattle.evt.specs.Codec.{freshC}
-use Rattle.deliver.specs.Deliver.{mostFrom}
-use Rattle.deliver.specs.Laws.{few-inside}
-use Rattle.read.specs.Laws.{spanOf, body-all}
+use Rattle.room.specs.Deliver.{mostFrom}
+use Rattle.room.specs.Laws.{few-inside}
+use Rattle.answer.specs.Laws.{spanOf, body-all}
 use Rattle.listing_text.specs.declared.Begun.{Begun}
 use Rattle.listing_text.specs.Listing.{field, space, newline, tooLong, refusedLine, readLine, eventLine, eventLines, mostBytes, listOptions, listRoom, answerText, listingOf}
 use Rattle.listing_text.specs.Store.{Stored, stored-then, stored-weaken}

@@ -11,11 +11,11 @@ use Rattle.evt.specs.declared.Refusal.{Refusal}
 use Rattle.evt.specs.Event.{Event}
 use Rattle.evt.specs.Told.{told}
 use Rattle.header.specs.Header.{encodingNumber}
-use Rattle.read.specs.declared.LoadOptions.{LoadOptions}
-use Rattle.read.specs.declared.Reading.{Reading}
-use Rattle.read.specs.declared.ReadAnswer.{ReadAnswer}
-use Rattle.read.specs.declared.ReadAnswer.the-variants.{Read, Refused}
-use Rattle.read.specs.Read.{rawAnswer, rawHanded}
+use Rattle.answer.specs.declared.LoadOptions.{LoadOptions}
+use Rattle.answer.specs.declared.Reading.{Reading}
+use Rattle.answer.specs.declared.ReadAnswer.{ReadAnswer}
+use Rattle.answer.specs.declared.ReadAnswer.the-variants.{Read, Refused}
+use Rattle.answer.specs.Read.{rawAnswer, rawHanded}
 
 -- ---- numbers
 

@@ -12,9 +12,9 @@ use Rattle.evt.specs.Event.{Event}
 use Rattle.header.specs.Header.{hasZero}
 use Rattle.window.specs.declared.Window.{Window}
 use Rattle.select.specs.Pass.{handedOver}
-use Rattle.deliver.specs.declared.Delivered.{Delivered}
-use Rattle.deliver.specs.declared.Delivered.the-variants.{Written, Needed}
-use Rattle.deliver.specs.Deliver.{shortest, Handed}
+use Rattle.room.specs.declared.Delivered.{Delivered}
+use Rattle.room.specs.declared.Delivered.the-variants.{Written, Needed}
+use Rattle.room.specs.Deliver.{shortest, Handed}
 use Rattle.index.specs.declared.Checkpoint.{Checkpoint}
 use Rattle.index.specs.declared.RawSliceSource.{RawSliceSource}
 use Rattle.index.specs.Index.{spacingOk}

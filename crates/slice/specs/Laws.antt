@@ -28,12 +28,12 @@ use Rattle.select.specs.declared.Tally.{Tally}
 use Rattle.select.specs.declared.Filled.{Filled}
 use Rattle.select.specs.Pass.{Ready, Able, handedOver, surveyed, filled}
 use Rattle.select.specs.Uses.{able-range, numberedOver, over-few, over-by-number, over-by-time}
-use Rattle.read.specs.Read.{kept}
-use Rattle.deliver.specs.declared.Delivered.{Delivered}
-use Rattle.deliver.specs.declared.Delivered.the-variants.{Written, Needed}
-use Rattle.deliver.specs.Deliver.{shortest, Handed, Delivers, mostFrom}
-use Rattle.deliver.specs.Laws.{numbered-most, handed-none}
-use Rattle.read.specs.Laws.{rest-of}
+use Rattle.answer.specs.Read.{kept}
+use Rattle.room.specs.declared.Delivered.{Delivered}
+use Rattle.room.specs.declared.Delivered.the-variants.{Written, Needed}
+use Rattle.room.specs.Deliver.{shortest, Handed, Delivers, mostFrom}
+use Rattle.room.specs.Laws.{numbered-most, handed-none}
+use Rattle.answer.specs.Laws.{rest-of}
 use Rattle.index.specs.declared.Checkpoint.{Checkpoint}
 use Rattle.index.specs.declared.Judging.{Judging}
 use Rattle.index.specs.declared.RawSliceSource.{RawSliceSource}

@@ -23,7 +23,7 @@ use Rattle.header.specs.declared.HeaderAnswer.{HeaderAnswer}
 use Rattle.header.specs.declared.HeaderAnswer.the-variants.{Header, Refused as NoHeader}
 use Rattle.header.specs.Header.{hasZero, headerOf}
 use Rattle.header.specs.Laws.{of-accepted}
-use Rattle.read.specs.Read.{widthOf, heightOf, sizeless}
+use Rattle.answer.specs.Read.{widthOf, heightOf, sizeless}
 use Rattle.index.specs.declared.Checkpoint.{Checkpoint}
 use Rattle.index.specs.declared.Opening.{Opening}
 use Rattle.index.specs.declared.OpenAnswer.{OpenAnswer}

@@ -28,7 +28,7 @@ use Rattle.header.specs.Header.{hasZero}
 use Rattle.window.specs.declared.Window.{Window}
 use Rattle.select.specs.Uses.{isTimely, numberedOver, PastOver}
 use Rattle.select.specs.Parts.{Whole, time-from}
-use Rattle.read.specs.Read.{kept, widthOf, heightOf}
+use Rattle.answer.specs.Read.{kept, widthOf, heightOf}
 use Rattle.index.specs.declared.Checkpoint.{Checkpoint}
 use Rattle.index.specs.declared.RawSliceSource.{RawSliceSource}
 use Rattle.index.specs.Index.{keptEvents, recordAt, firsts, recordCount, recordsOf, spacingOk, sourceOf}

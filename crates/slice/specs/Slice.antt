@@ -22,7 +22,7 @@ use Rattle.evt.specs.Evt2.{reader2}
 use Rattle.evt.specs.Evt3.{reader3}
 use Rattle.evt.specs.Told.{Told, told, accepted, refused, short}
 use Rattle.header.specs.Header.{hasZero}
-use Rattle.read.specs.Read.{kept, shortest, Handed}
+use Rattle.answer.specs.Read.{kept, shortest, Handed}
 use Rattle.index.specs.declared.Checkpoint.{Checkpoint}
 use Rattle.index.specs.declared.RawSliceSource.{RawSliceSource}
 use Rattle.index.specs.Index.{spacingOk}

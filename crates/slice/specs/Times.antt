@@ -20,7 +20,7 @@ use Rattle.sensor.specs.Inside.{inside, clock}
 pub use Rattle.store.specs.Columns.{natural}
 use Rattle.window.specs.declared.Window.{Window}
 use Rattle.select.specs.Uses.{isTimely, untilOver}
-use Rattle.read.specs.Read.{kept}
+use Rattle.answer.specs.Read.{kept}
 use Rattle.slice.specs.Slice.{isDuring, isAt, eventsUntil}
 
 from-natural : (z : ℤ) (t : ℕ) → leZ z (pos t) ≡ leb (natural z) t

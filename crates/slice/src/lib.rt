@@ -6,13 +6,13 @@ ghost use Prim.Native.Nat.{max};
 ghost use Rattle.index.specs.Judge.{firstJudging};
 ghost use Rattle.slice.specs.Slice.{SlicesIndex, SlicesTime};
 ghost use Rattle.slice.specs.From.{askedByNumber, askedByTime, passedFrom, answerOf, SlicesFrom, Startable};
-use deliver::Delivered;
 use evt::Refusal;
 use evt::SensorSize;
 use index::Checkpoint;
 use index::Choice;
 use index::Judging;
 use index::RawSliceSource;
+use room::Delivered;
 use select::Window;
 
 pub enum SliceAnswer {
@@ -55,8 +55,8 @@ fn first_judging(source: RawSliceSource, n: usize) -> Judging
 pub fn by_number(source: RawSliceSource, n: usize, i0: usize, i1: usize) -> Asked
     ensures { λ r. ⌜ r ≡ askedByNumber source n i0 i1 ⌝ }
 {
-    let first = deliver::less(i0, source.n_events);
-    let end = greater(first, deliver::less(i1, source.n_events));
+    let first = room::less(i0, source.n_events);
+    let end = greater(first, room::less(i1, source.n_events));
     let judging = first_judging(source, n);
     let choice = Choice {
         by_time: false,
@@ -137,7 +137,7 @@ pub fn slice_from(
     let encoding = source.encoding;
     if index::spacing_ok(encoding, source.spacing) {
         if ok {
-            let at = deliver::less(start.byte_offset, recording.len());
+            let at = room::less(start.byte_offset, recording.len());
             let codec = start.codec;
             let number = start.event_index as u64;
             let delivered = deliver::deliver(

@@ -1,45 +1,59 @@
-use Rattle.read.specs.Laws.{holds-delivered, reads-body}
+use lib.ListN.{length}
+use Rattle.answer.specs.Read.{bodyEvents}
+use Rattle.answer.specs.Laws.{ready-new, delivers-body, holds-delivered, reads-body}
 use borrow.Author.Needs.{needs}
 use Rattle.read.proofs.read_body.Statement.{statement}
 use Rattle.read.proofs.read_body.Tie as tie
 use Rattle.read.proofs.read_body.Reads as reads
 use Rattle.read.proofs.read_body.Lts as lts
-use Rattle.read.proofs.hand_over.Reads as hand-over-reads
-use Rattle.read.proofs.settle.Reads as settle-reads
+use Rattle.answer.proofs.settle.Reads as settle-reads
+use Rattle.answer.proofs.window_of.Reads as window-of-reads
+use Rattle.deliver.proofs.deliver.Reads as deliver-reads
+use Rattle.evt.proofs.codec.Codec.new.Reads as new-reads
 
--- src/lib.rt:253:9
-hand-over-requires : tie.Need-hand-over-requires
-hand-over-requires c κs = search needs
+-- src/lib.rt:34:9
+new-requires : tie.Need-new-requires
+new-requires c κs = search needs
 
--- src/lib.rt:254:5
+-- src/lib.rt:35:9
+window-of-requires : tie.Need-window-of-requires
+window-of-requires c κs = search needs
+
+-- src/lib.rt:36:9
+deliver-requires : tie.Need-deliver-requires
+deliver-requires c κs = ready-new (c .before .before .before .before .before .before .before .before .before .before .args .size) (c .before .before .before .before .before .before .before .before .before .before .args .encoding) (c .before .before .before .before .before .before .before .before .before .before .args .limit) (c .before .before .before .before .before .new .result) (c .before .before .before .before .before .new .ensures) (length (c .before .before .before .before .before .before .before .before .before .before .args .body .now)) (c .before .before .before .before .before .before .before .before .before .before .pre)
+
+-- src/lib.rt:46:5
 settle-requires : tie.Need-settle-requires
-settle-requires c κs = holds-delivered _ (c .before .before .before .before .before .before .before .before .before .hand-over .result) (c .before .before .before .before .before .before .before .before .before .hand-over .ensures)
+settle-requires c κs = holds-delivered _ (c .before .before .before .before .before .before .before .before .before .deliver .result) (c .before .before .before .before .before .before .before .before .before .deliver .ensures)
 
--- src/lib.rt:240:1
+-- src/lib.rt:21:1
 same-length : tie.Need-same-length
 same-length c = search needs
 
--- src/lib.rt:240:1
+-- src/lib.rt:21:1
 same-length-2 : tie.Need-same-length-2
 same-length-2 c = search needs
 
--- src/lib.rt:240:1
+-- src/lib.rt:21:1
 same-length-3 : tie.Need-same-length-3
 same-length-3 c = search needs
 
--- src/lib.rt:240:1
+-- src/lib.rt:21:1
 same-length-4 : tie.Need-same-length-4
 same-length-4 c = search needs
 
--- src/lib.rt:240:1
+-- src/lib.rt:21:1
 returns : tie.Need-returns
-returns c = reads-body _ (c .before .before .before .before .before .before .before .before .before .before .hand-over .result) (c .before .before .before .before .before .before .before .before .before .before .hand-over .ensures) (c .before .before .before .before .before .before .before .before .before .before .before .before .before .before .before .before .before .before .before .args .encoding) (c .before .before .before .before .before .before .before .before .before .before .before .before .before .before .before .before .before .before .before .args .size) (c .settle .result) (c .settle .ensures)
+returns c = reads-body (bodyEvents (c .before .before .before .before .before .before .before .before .before .before .before .before .before .before .before .before .before .before .before .before .before .args .encoding) (c .before .before .before .before .before .before .before .before .before .before .before .before .before .before .before .before .before .before .before .before .before .args .size) (c .before .before .before .before .before .before .before .before .before .before .before .before .before .before .before .before .before .before .before .before .before .args .limit) (c .before .before .before .before .before .before .before .before .before .before .before .before .before .before .before .before .before .before .before .before .before .args .body .now)) (c .before .before .before .before .before .before .before .before .before .before .deliver .result) (delivers-body (c .before .before .before .before .before .before .before .before .before .before .before .before .before .before .before .before .before .before .before .before .before .args .size) (c .before .before .before .before .before .before .before .before .before .before .before .before .before .before .before .before .before .before .before .before .before .args .encoding) (c .before .before .before .before .before .before .before .before .before .before .before .before .before .before .before .before .before .before .before .before .before .args .limit) (c .before .before .before .before .before .before .before .before .before .before .before .before .before .before .before .before .new .result) (c .before .before .before .before .before .before .before .before .before .before .before .before .before .before .before .before .new .ensures) (c .before .before .before .before .before .before .before .before .before .before .before .before .before .before .before .before .before .before .before .before .before .args .body .now) (c .before .before .before .before .before .before .before .before .before .before .before .before .before .before .before .window-of .result) (c .before .before .before .before .before .before .before .before .before .before .before .before .before .before .before .before .before .before .before .before .before .pre) (c .before .before .before .before .before .before .before .before .before .before .before .before .before .before .before .window-of .ensures) (c .before .before .before .before .before .before .before .before .before .before .deliver .ensures)) (c .before .before .before .before .before .before .before .before .before .before .before .before .before .before .before .before .before .before .before .before .before .args .encoding) (c .before .before .before .before .before .before .before .before .before .before .before .before .before .before .before .before .before .before .before .before .before .args .size) (c .settle .result) (c .settle .ensures)
 
 pub read-body-spec : {M : Type 1} → statement M
 read-body-spec =
     tie.close
     (tie.spec
-    hand-over-requires
+    new-requires
+    window-of-requires
+    deliver-requires
     settle-requires
     same-length
     same-length-2

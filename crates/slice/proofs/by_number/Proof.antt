@@ -5,7 +5,7 @@ use Rattle.slice.proofs.by_number.Reads as reads
 use Rattle.slice.proofs.by_number.Lts as lts
 use Rattle.slice.proofs.first_judging.Reads as first-judging-reads
 use Rattle.slice.proofs.greater.Reads as greater-reads
-use Rattle.deliver.proofs.less.Reads as less-reads
+use Rattle.room.proofs.less.Reads as less-reads
 
 -- src/lib.rt:66:9
 less-requires : tie.Need-less-requires

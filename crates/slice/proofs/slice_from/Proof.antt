@@ -9,7 +9,7 @@ use Rattle.slice.proofs.slice_from.Lts as lts
 use Rattle.header.proofs.has_zero.Reads as has-zero-reads
 use Rattle.index.proofs.spacing_ok.Reads as spacing-ok-reads
 use Rattle.deliver.proofs.deliver.Reads as deliver-reads
-use Rattle.deliver.proofs.less.Reads as less-reads
+use Rattle.room.proofs.less.Reads as less-reads
 use Rattle.slice.proofs.answer_of.Reads as answer-of-reads
 
 -- src/lib.rt:99:9

@@ -5,10 +5,3 @@ pub mod Build
 pub mod Laws
 pub mod Open
 pub mod Stage
-pub mod Choose
-pub mod Judge
-pub mod InRange
-pub mod Start
-pub mod JudgeLaws
-pub mod Halves
-pub mod Search

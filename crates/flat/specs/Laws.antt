@@ -19,10 +19,10 @@ use Rattle.answer.specs.declared.LoadOptions.{LoadOptions}
 use Rattle.answer.specs.declared.ReadAnswer.{ReadAnswer}
 use Rattle.answer.specs.Read as Read
 use Rattle.index.specs.declared.Checkpoint.{Checkpoint}
-use Rattle.index.specs.declared.Judging.{Judging}
+use Rattle.checkpoints.specs.declared.Judging.{Judging}
 use Rattle.index.specs.declared.RawSliceSource.{RawSliceSource}
-use Rattle.index.specs.Choose.{Chose}
-use Rattle.index.specs.Judge.{judgedAll}
+use Rattle.checkpoints.specs.Choose.{Chose}
+use Rattle.checkpoints.specs.Judge.{judgedAll}
 use Rattle.slice.specs.declared.Asked.{Asked}
 use Rattle.slice.specs.declared.SliceAnswer.{SliceAnswer}
 use Rattle.slice.specs.Slice as Slice

@@ -12,16 +12,16 @@ use lib.Seq.{getD-append-seam}
 use borrow.Author.Tests.{ltb-true, ltb-false}
 use Rattle.evt.specs.declared.Encoding.{Encoding}
 use Rattle.index.specs.declared.Checkpoint.{Checkpoint}
-use Rattle.index.specs.declared.Choice.{Choice}
-use Rattle.index.specs.declared.Judging.{Judging}
-use Rattle.index.specs.declared.Search.{Search}
-use Rattle.index.specs.Choose.{Chose}
+use Rattle.checkpoints.specs.declared.Choice.{Choice}
+use Rattle.checkpoints.specs.declared.Judging.{Judging}
+use Rattle.checkpoints.specs.declared.Search.{Search}
+use Rattle.checkpoints.specs.Choose.{Chose}
 use Rattle.index.specs.Index.{firsts}
-use Rattle.index.specs.Halves.{bracketOf, narrowed}
-use Rattle.index.specs.Judge.{judgedOf, judgedAll}
+use Rattle.checkpoints.specs.Halves.{bracketOf, narrowed}
+use Rattle.checkpoints.specs.Judge.{judgedOf, judgedAll}
 use Rattle.index.specs.Laws.{length-firsts}
 use Rattle.index.specs.Nth.{nth, blank}
-use Rattle.index.specs.Search.{Searching, search-start, search-place, search-turn}
+use Rattle.checkpoints.specs.Search.{Searching, search-start, search-place, search-turn}
 use Rattle.flat.specs.Records.{roomOf, recordAt, recordsIn}
 
 judged-more : (s : Judging) (l : List Checkpoint) (c : Checkpoint) → judgedAll s (l ++ (c ∷ [])) ≡ judgedOf (judgedAll s l) c

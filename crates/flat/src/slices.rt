@@ -1,7 +1,7 @@
 // An index and a slice's answer in numbers; judging and choosing among records that are entries.
 ghost use mathlib.Core.Path.{_≡_};
-ghost use Rattle.index.specs.Choose.{Chose};
-ghost use Rattle.index.specs.Judge.{judgedAll};
+ghost use Rattle.checkpoints.specs.Choose.{Chose};
+ghost use Rattle.checkpoints.specs.Judge.{judgedAll};
 ghost use Rattle.slice.specs.Slice.{toldSlice};
 ghost use Rattle.flat.specs.Opening.{sourceOf};
 ghost use Rattle.flat.specs.Records.{recordsIn};
@@ -10,11 +10,11 @@ use crate::opening::PropheseeSource;
 use crate::records::record_at;
 use crate::refusal::count_of;
 use crate::refusal::number_of;
+use checkpoints::Choice;
+use checkpoints::Judging;
 use evt::Encoding;
 use evt::Refusal;
 use index::Checkpoint;
-use index::Choice;
-use index::Judging;
 use index::RawSliceSource;
 use slice::SliceAnswer;
 
@@ -50,7 +50,7 @@ pub fn judge_entries(encoding: Encoding, records: &[u64], s: Judging) -> Judging
     let mut i: usize = 0;
     while i < n {
         let c = record_at(encoding, records, i * 10);
-        t = index::judge(t, c);
+        t = checkpoints::judge(t, c);
         i += 1;
     }
     t
@@ -61,11 +61,11 @@ pub fn choose_entries(encoding: Encoding, records: &[u64], asked: Choice) -> Che
     ensures { λ r. ⌜ Chose asked (recordsIn encoding (now (records .entry))) r ⌝ }
 {
     let n = records.len() / 10;
-    let mut t = index::first_search(n, asked);
+    let mut t = checkpoints::first_search(n, asked);
     while t.more {
         let i = t.at;
         let c = record_at(encoding, records, i * 10);
-        t = index::narrow(t, c);
+        t = checkpoints::narrow(t, c);
     }
     t.best
 }

@@ -15,11 +15,12 @@ use Rattle.header.specs.declared.Scan.{Scan}
 use Rattle.header.specs.declared.Named.the-variants.{As, Nothing}
 use Rattle.header.specs.declared.HeaderAnswer.{HeaderAnswer}
 use Rattle.header.specs.declared.HeaderAnswer.the-variants.{Header, Refused}
-use Rattle.header.specs.Text.{notAscii, any, begins, same}
+use Rattle.header_text.specs.Text.{notAscii, any, begins, same}
 use Rattle.header.specs.Lines.{headerLines, headerBytes, bodyStart, keyOf}
 use Rattle.header.specs.Header.{geometryName, formatName, evtName, evt2, evt3, two, three, Said, readLine, readAll, nothing, saidBy, encodingOf, sizeThatHolds, hasZero, withEncoding, toldHeader, headerOf, Parsed}
 use Rattle.header.specs.Notes.{versionOf, seenOf, noteLine, noteAll, blankNote, scanOf, nameOf}
-use Rattle.header.specs.Laws.{by-bool, header-part, body-within, verdict-of}
+use Rattle.header_text.specs.Cases.{by-bool}
+use Rattle.header.specs.Laws.{header-part, body-within, verdict-of}
 
 note-read : (said : Said) (l : List ℕ) → noteLine (seenOf said) l ≡ seenOf (readLine said l)
 unfolding noteLine readLine

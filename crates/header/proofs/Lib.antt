@@ -1,5 +1,3 @@
-pub mod TextLaws
-pub mod SizeLaws
 pub mod LineLaws
 pub mod AnswerLaws
 pub mod Examples

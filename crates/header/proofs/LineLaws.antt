@@ -11,13 +11,13 @@ use borrow.Author.Tests.{lt-ltb, le-ltb, ne-eqb}
 use Rattle.evt.specs.declared.SensorSize.{SensorSize}
 use Rattle.header.specs.declared.Seen.{Seen}
 use Rattle.header.specs.declared.Scan.{Scan}
-use Rattle.header.specs.Text.{isBlank, isByte, upTo, from, any, trimOf, same}
-use Rattle.header.specs.Size.{geometryOf}
+use Rattle.header_text.specs.Text.{isBlank, isByte, upTo, from, any, trimOf, same}
+use Rattle.header_text.specs.Size.{geometryOf}
 use Rattle.header.specs.Lines.{joined, linesOf, startsPercent, leading, headerLines, bytesOf, headerBytes, bodyStart, bodyOf, keyOf, valueOf}
 use Rattle.header.specs.Header.{geometryName, formatName, evtName, evt2, evt3, two, three}
-use Rattle.header.specs.Laws.{by-bool}
+use Rattle.header_text.specs.Cases.{by-bool}
 use Rattle.header.specs.Notes.{lineLength, versionOf, noteLine, noteAll, blankNote, scanOf}
-use Rattle.header.proofs.TextLaws.{at-drop, at-end, lt-upTo, count-take, count-drop}
+use Rattle.header_text.proofs.TextLaws.{at-drop, at-end, lt-upTo, count-take, count-drop}
 
 -- ---- the first line
 

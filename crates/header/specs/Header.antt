@@ -15,8 +15,8 @@ use Rattle.header.specs.declared.Named.{Named}
 use Rattle.header.specs.declared.Named.the-variants.{As, Nothing}
 use Rattle.header.specs.declared.HeaderAnswer.{HeaderAnswer}
 use Rattle.header.specs.declared.HeaderAnswer.the-variants.{Header, Refused}
-use Rattle.header.specs.Text.{notAscii, any, begins, same}
-use Rattle.header.specs.Size.{geometryOf}
+use Rattle.header_text.specs.Text.{notAscii, any, begins, same}
+use Rattle.header_text.specs.Size.{geometryOf}
 use Rattle.header.specs.Lines.{headerLines, headerBytes, bodyStart, keyOf, valueOf}
 
 -- ---- the keys, and what their values begin with

@@ -21,13 +21,10 @@ use Rattle.header.specs.declared.Named.the-variants.{As, Nothing}
 use Rattle.header.specs.declared.Header as header
 use Rattle.header.specs.declared.HeaderAnswer.{HeaderAnswer}
 use Rattle.header.specs.declared.HeaderAnswer.the-variants.{Header, Refused}
-use Rattle.header.specs.Text.{notAscii, any}
+use Rattle.header_text.specs.Cases.{by-bool}
+use Rattle.header_text.specs.Text.{notAscii, any}
 use Rattle.header.specs.Lines.{joined, linesOf, startsPercent, leading, headerLines, bytesOf, headerBytes, bodyStart}
 use Rattle.header.specs.Header.{saidBy, encodingOf, sizeThatHolds, hasZero, encodingNumber, namedNumber, sizeValues, toldHeader, headerVerdict, withEncoding, headerOf}
-
-pub by-bool : {P : Type 0} (b : Bool) → (b ≡ true → P) → (b ≡ false → P) → P
-by-bool true t f = t refl
-by-bool false t f = f refl
 
 -- ---- the header is a part of the recording
 

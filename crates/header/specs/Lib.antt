@@ -1,5 +1,3 @@
-pub mod Text
-pub mod Size
 pub mod Lines
 pub mod Header
 pub mod Notes

@@ -4,7 +4,7 @@ use mathlib.Core.List.{List, [], _∷_, _++_}
 use mathlib.Core.Bool.{Bool, false, cond}
 use lib.ListN.{length}
 use lib.Dec.{eqb}
-use Rattle.header.specs.Text.{isBlank, notPercent, upTo, from, trimOf}
+use Rattle.header_text.specs.Text.{isBlank, notPercent, upTo, from, trimOf}
 
 -- a byte put before the first line
 unfoldable pub joined : ℕ → List (List ℕ) → List (List ℕ)

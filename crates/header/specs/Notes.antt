@@ -1,39 +1,24 @@
--- What the code keeps: classes of bytes, and of the `format` and the `evt` value only the version that it begins with. No contract of
--- a public function cites these definitions.
-use Prim.Native.Nat.{ℕ, suc, _+_}
+-- What the code keeps: of the `format` and the `evt` value only the version that it begins with. No contract of a public function cites
+-- these definitions.
+use Prim.Native.Nat.{ℕ, suc}
 use mathlib.Core.List.{List, [], _∷_}
-use mathlib.Core.Bool.{Bool, cond, _||_}
-use lib.ListN.{take, drop}
+use mathlib.Core.Bool.{cond, _||_}
 use lib.Dec.{eqb}
 use Rattle.evt.specs.declared.Encoding.the-variants.{Evt2, Evt3}
-use Rattle.evt.specs.declared.SensorSize.{SensorSize}
 use Rattle.evt.specs.declared.SensorSize.the-variants.{Unknown}
-use Rattle.header.specs.declared.text.ByteClass.{ByteClass}
-use Rattle.header.specs.declared.text.ByteClass.the-variants.{Blank, NotBlank, NotPercent, NotAscii, Byte}
 use Rattle.header.specs.declared.Named.{Named}
 use Rattle.header.specs.declared.Named.the-variants.{As, Nothing}
 use Rattle.header.specs.declared.Seen.{Seen}
 use Rattle.header.specs.declared.Scan.{Scan}
-use Rattle.header.specs.Text.{isBlank, notBlank, notPercent, notAscii, isByte, trimOf, begins, same}
-use Rattle.header.specs.Size.{numberOf, both, geometryOf}
+use Rattle.header_text.specs.Text.{begins, same}
+use Rattle.header_text.specs.Size.{geometryOf}
 use Rattle.header.specs.Lines.{headerLines, bodyStart, keyOf, valueOf}
 use Rattle.header.specs.Header.{Said, geometryName, formatName, evtName, evt2, evt3, two, three}
-
-abbrev pub isIn : ByteClass → ℕ → Bool
-isIn Blank = isBlank
-isIn NotBlank = notBlank
-isIn NotPercent = notPercent
-isIn NotAscii = notAscii
-isIn (Byte x) = isByte x
 
 -- how long the first line is
 unfoldable pub lineLength : List ℕ → ℕ
 lineLength [] = 0
 lineLength (b ∷ s) = cond (eqb b 10) 1 (suc (lineLength s))
-
--- the size of a value that parts at its byte n
-unfoldable pub halvesAt : ℕ → List ℕ → SensorSize
-halvesAt n s = both (numberOf (trimOf (take n s))) (numberOf (trimOf (drop (n + 1) s)))
 
 -- the version that a text begins with: 3, 2, or 0 for neither
 unfoldable pub versionOf : List ℕ → List ℕ → List ℕ → ℕ

@@ -1,26 +1,23 @@
 // The header of a Prophesee RAW recording: the lines before the body, each of which begins with
 // `%`. `parse_header` is total, and its whole answer is one equation. What the answer is stands in
-// specs/Header.antt, over the lines (specs/Lines.antt), the numbers and sizes (specs/Size.antt) and
-// the texts (specs/Text.antt). specs/Notes.antt has only what the functions in here keep.
+// specs/Header.antt, over the lines (specs/Lines.antt), and in crate `header_text` the numbers and
+// sizes (specs/Size.antt) and the texts (specs/Text.antt). specs/Notes.antt has only what the functions
+// in here keep.
 ghost use mathlib.Core.Path.{_≡_};
 ghost use Rattle.header.specs.Lines.{bodyOf};
 ghost use Rattle.header.specs.Header.{sizeThatHolds, hasZero, Parsed};
 ghost use Rattle.header.specs.Notes.{lineLength, versionOf, noteLine, scanOf, nameOf};
-
-mod size;
-mod text;
-
-use crate::size::geometry;
-use crate::text::ByteClass;
-use crate::text::begins_with;
-use crate::text::has;
-use crate::text::is_word;
-use crate::text::tail_from;
-use crate::text::trim;
-use crate::text::until;
 use evt::Encoding;
 use evt::Refusal;
 use evt::SensorSize;
+use header_text::size::geometry;
+use header_text::text::ByteClass;
+use header_text::text::begins_with;
+use header_text::text::has;
+use header_text::text::is_word;
+use header_text::text::tail_from;
+use header_text::text::trim;
+use header_text::text::until;
 
 // Where the body starts, the size that holds (the caller's before the header's), and the encoding.
 pub struct Header {

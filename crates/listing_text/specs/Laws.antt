@@ -27,7 +27,7 @@ use Rattle.header.specs.declared.HeaderAnswer.{HeaderAnswer}
 use Rattle.header.specs.declared.HeaderAnswer.the-variants.{Header, Refused as NoHeader}
 use Rattle.header.specs.Header.{headerOf, headerVerdict, toldHeader, namedNumber, encodingOf, saidBy, hasZero, sizeThatHolds, sizeValues, encodingNumber}
 use Rattle.header.specs.Laws.{verdict-of}
-use Rattle.header.specs.Text.{any, notAscii}
+use Rattle.header_text.specs.Text.{any, notAscii}
 use Rattle.header.specs.Lines.{headerBytes, bodyStart}
 use Rattle.answer.specs.declared.Reading.{Reading}
 use Rattle.answer.specs.declared.ReadAnswer.{ReadAnswer}

@@ -18,7 +18,7 @@ use Rattle.room.specs.Deliver.{shortest, Handed}
 use Rattle.index.specs.declared.Checkpoint.{Checkpoint}
 use Rattle.index.specs.declared.RawSliceSource.{RawSliceSource}
 use Rattle.index.specs.Index.{spacingOk}
-use Rattle.index.specs.Judge.{firstJudging}
+use Rattle.checkpoints.specs.Judge.{firstJudging}
 use Rattle.slice.specs.declared.Asked.{Asked}
 use Rattle.slice.specs.declared.SliceAnswer.{SliceAnswer}
 use Rattle.slice.specs.declared.SliceAnswer.the-variants.{Sliced, Refused}

@@ -35,15 +35,15 @@ use Rattle.room.specs.Deliver.{shortest, Handed, Delivers, mostFrom}
 use Rattle.room.specs.Laws.{numbered-most, handed-none}
 use Rattle.answer.specs.Laws.{rest-of}
 use Rattle.index.specs.declared.Checkpoint.{Checkpoint}
-use Rattle.index.specs.declared.Judging.{Judging}
+use Rattle.checkpoints.specs.declared.Judging.{Judging}
 use Rattle.index.specs.declared.RawSliceSource.{RawSliceSource}
 use Rattle.index.specs.Index.{spacingOk}
-use Rattle.index.specs.InRange.{indexInRange}
-use Rattle.index.specs.Choose.{passesOf, Chose}
-use Rattle.index.specs.Judge.{firstJudging, judgedAll}
-use Rattle.index.specs.JudgeLaws.{judged-in-range, Good, parted-passes, last-good}
+use Rattle.checkpoints.specs.InRange.{indexInRange}
+use Rattle.checkpoints.specs.Choose.{passesOf, Chose}
+use Rattle.checkpoints.specs.Judge.{firstJudging, judgedAll}
+use Rattle.checkpoints.specs.JudgeLaws.{judged-in-range, Good, parted-passes, last-good}
 use Rattle.index.specs.Open.{spaced}
-use Rattle.index.specs.Start.{lastPassing}
+use Rattle.checkpoints.specs.Start.{lastPassing}
 use Rattle.slice.specs.declared.SliceAnswer.{SliceAnswer}
 use Rattle.slice.specs.declared.SliceAnswer.the-variants.{Sliced, Refused}
 use Rattle.slice.specs.declared.Asked.{Asked}

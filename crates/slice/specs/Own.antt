@@ -32,10 +32,10 @@ use Rattle.answer.specs.Read.{kept, widthOf, heightOf}
 use Rattle.index.specs.declared.Checkpoint.{Checkpoint}
 use Rattle.index.specs.declared.RawSliceSource.{RawSliceSource}
 use Rattle.index.specs.Index.{keptEvents, recordAt, firsts, recordCount, recordsOf, spacingOk, sourceOf}
-use Rattle.index.specs.InRange.{recordInRange, recordsInRange, indexInRange}
-use Rattle.index.specs.Judge.{isOther}
+use Rattle.checkpoints.specs.InRange.{recordInRange, recordsInRange, indexInRange}
+use Rattle.checkpoints.specs.Judge.{isOther}
 use Rattle.index.specs.Open.{spaced, count-within, kept-inside}
-use Rattle.index.specs.JudgeLaws.{last-passes}
+use Rattle.checkpoints.specs.JudgeLaws.{last-passes}
 use Rattle.slice.specs.Slice.{startingAt, sizeOf, firstOf, endOf, indexEvents, isDuring, eventsUntil, timeEvents, byRules}
 use Rattle.slice.specs.Times.{natural, before-natural, during-natural, timeWindow, time-over}
 

@@ -26,8 +26,8 @@ use Rattle.answer.specs.Read.{kept, shortest, Handed}
 use Rattle.index.specs.declared.Checkpoint.{Checkpoint}
 use Rattle.index.specs.declared.RawSliceSource.{RawSliceSource}
 use Rattle.index.specs.Index.{spacingOk}
-use Rattle.index.specs.InRange.{indexInRange}
-use Rattle.index.specs.Start.{lastPassing}
+use Rattle.checkpoints.specs.InRange.{indexInRange}
+use Rattle.checkpoints.specs.Start.{lastPassing}
 use Rattle.slice.specs.declared.SliceAnswer.{SliceAnswer}
 use Rattle.slice.specs.declared.SliceAnswer.the-variants.{Sliced, Refused}
 

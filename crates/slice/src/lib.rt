@@ -3,14 +3,14 @@
 // the parts say.
 ghost use mathlib.Core.Path.{_≡_};
 ghost use Prim.Native.Nat.{max};
-ghost use Rattle.index.specs.Judge.{firstJudging};
+ghost use Rattle.checkpoints.specs.Judge.{firstJudging};
 ghost use Rattle.slice.specs.Slice.{SlicesIndex, SlicesTime};
 ghost use Rattle.slice.specs.From.{askedByNumber, askedByTime, passedFrom, answerOf, SlicesFrom, Startable};
+use checkpoints::Choice;
+use checkpoints::Judging;
 use evt::Refusal;
 use evt::SensorSize;
 use index::Checkpoint;
-use index::Choice;
-use index::Judging;
 use index::RawSliceSource;
 use room::Delivered;
 use select::Window;
@@ -173,8 +173,8 @@ pub fn slice_index(
     ensures { λ r. ⌜ SlicesIndex (now (recording .entry)) source (now (records .entry)) i0 i1 r (now (xs .entry)) (now (ys .entry)) (now (ts .entry)) (now (ps .entry)) (now (xs .exit)) (now (ys .exit)) (now (ts .exit)) (now (ps .exit)) ⌝ }
 {
     let asked = by_number(source, records.len(), i0, i1);
-    let judged = index::judge_all(records, asked.judging);
-    let start = index::choose(records, asked.choice);
+    let judged = checkpoints::judge_all(records, asked.judging);
+    let start = checkpoints::choose(records, asked.choice);
     slice_from(
         recording,
         source,
@@ -203,8 +203,8 @@ pub fn slice_time(
     ensures { λ r. ⌜ SlicesTime (now (recording .entry)) source (now (records .entry)) t0 t1 r (now (xs .entry)) (now (ys .entry)) (now (ts .entry)) (now (ps .entry)) (now (xs .exit)) (now (ys .exit)) (now (ts .exit)) (now (ps .exit)) ⌝ }
 {
     let asked = by_time(source, records.len(), t0, t1);
-    let judged = index::judge_all(records, asked.judging);
-    let start = index::choose(records, asked.choice);
+    let judged = checkpoints::judge_all(records, asked.judging);
+    let start = checkpoints::choose(records, asked.choice);
     slice_from(
         recording,
         source,

@@ -1,7 +1,7 @@
 -- `header::line_body` meets its contract.
 use mathlib.Core.Path.{_∙_, ap}
 use borrow.Author.Needs.{needs}
-use Rattle.header.specs.Text.{notPercent, from, trimOf}
+use Rattle.header_text.specs.Text.{notPercent, from, trimOf}
 use Rattle.header.specs.Lines.{bodyOf}
 use Rattle.header.proofs.line_body.Statement.{statement}
 use Rattle.header.proofs.line_body.Tie as tie

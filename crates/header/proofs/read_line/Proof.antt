@@ -2,7 +2,7 @@
 use mathlib.Core.Path.{sym, _∙_}
 use borrow.Author.Needs.{needs}
 use lib.Seq.{length-take-le}
-use Rattle.header.proofs.TextLaws.{count-le}
+use Rattle.header_text.proofs.TextLaws.{count-le}
 use Rattle.header.proofs.LineLaws as laws
 use Rattle.header.proofs.read_line.Statement.{statement}
 use Rattle.header.proofs.read_line.Tie as tie

@@ -6,7 +6,7 @@ use borrow.Author.Needs.{needs}
 use lib.ListN.{length, drop}
 use lib.Seq.{length-take-le}
 use Rattle.header.specs.Notes.{scanOf}
-use Rattle.header.proofs.TextLaws.{tail-part}
+use Rattle.header_text.proofs.TextLaws.{tail-part}
 use Rattle.header.proofs.LineLaws as laws
 use Rattle.header.proofs.scan_lines.Statement.{statement}
 use Rattle.header.proofs.scan_lines.Tie as tie

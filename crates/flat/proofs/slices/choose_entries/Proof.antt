@@ -4,8 +4,8 @@ use Rattle.flat.proofs.slices.choose_entries.Statement.{statement}
 use Rattle.flat.proofs.slices.choose_entries.Tie as tie
 use Rattle.flat.proofs.slices.choose_entries.Reads as reads
 use Rattle.flat.proofs.slices.choose_entries.Lts as lts
-use Rattle.index.proofs.first_search.Reads as first-search-reads
-use Rattle.index.proofs.narrow.Reads as narrow-reads
+use Rattle.checkpoints.proofs.first_search.Reads as first-search-reads
+use Rattle.checkpoints.proofs.narrow.Reads as narrow-reads
 use Rattle.flat.proofs.records.record_at.Reads as record-at-reads
 
 abbrev Inv-loop : tie.InvT-loop

@@ -7,7 +7,7 @@ use Rattle.flat.proofs.slices.judge_entries.Statement.{statement}
 use Rattle.flat.proofs.slices.judge_entries.Tie as tie
 use Rattle.flat.proofs.slices.judge_entries.Reads as reads
 use Rattle.flat.proofs.slices.judge_entries.Lts as lts
-use Rattle.index.proofs.judge.Reads as judge-reads
+use Rattle.checkpoints.proofs.judge.Reads as judge-reads
 use Rattle.flat.proofs.records.record_at.Reads as record-at-reads
 
 abbrev Inv-loop : tie.InvT-loop

@@ -1,0 +1,17 @@
+use borrow.Author.Needs.{needs}
+use Rattle.checkpoints.proofs.bracket.Statement.{statement}
+use Rattle.checkpoints.proofs.bracket.Tie as tie
+use Rattle.checkpoints.proofs.bracket.Reads as reads
+use Rattle.checkpoints.proofs.bracket.Lts as lts
+use Rattle.checkpoints.proofs.place.Reads as place-reads
+
+-- src/lib.rt:466:9
+place-requires : tie.Need-place-requires
+place-requires c κs = search needs
+
+-- src/lib.rt:463:1
+returns : tie.Need-returns
+returns c = rw (c .place .ensures)
+
+pub bracket-spec : {M : Type 1} → statement M
+bracket-spec = tie.close (tie.spec place-requires returns)

@@ -1,0 +1,20 @@
+use mathlib.Core.Path.{_≡_, refl, sym, ap, _∙_}
+use mathlib.Core.Bool.{Bool, cond}
+use borrow.Author.Needs.{needs}
+use lib.Signed.{ltZ}
+use lib.Dec.{leb}
+use Rattle.checkpoints.proofs.passes.Statement.{statement}
+use Rattle.checkpoints.proofs.passes.Tie as tie
+use Rattle.checkpoints.proofs.passes.Reads as reads
+use Rattle.checkpoints.proofs.passes.Lts as lts
+
+-- src/lib.rt:399:9
+returns : tie.Need-returns
+returns c = rw (c .before .before .before .before .if1 .taken) (search needs)
+
+-- src/lib.rt:395:1
+returns-2 : tie.Need-returns-2
+returns-2 c = rw (c .before .before .if1 .left)
+
+pub passes-spec : {M : Type 1} → statement M
+passes-spec = tie.close (tie.spec returns returns-2)

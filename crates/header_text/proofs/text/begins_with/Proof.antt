@@ -1,0 +1,63 @@
+-- `header_text::text::begins_with` meets its contract.
+use Prim.Native.Nat.{_-_, _≤_}
+use mathlib.Core.Path.{_≡_, sym, _∙_}
+use native.Mathlib.Omega.{arith}
+use borrow.Author.Needs.{needs}
+use lib.ListN.{length, drop}
+use Rattle.header_text.specs.Text.{begins}
+use Rattle.header_text.proofs.TextLaws as laws
+use Rattle.header_text.proofs.text.begins_with.Statement.{statement}
+use Rattle.header_text.proofs.text.begins_with.Tie as tie
+
+abbrev Inv-loop : tie.InvT-loop
+Inv-loop s name i₀ i = (i ≤ length name) × ((i ≤ length s) × (begins (drop i name) (drop i s) ≡ begins name s))
+
+abbrev μ-loop : tie.MeasureT-loop
+μ-loop s name i₀ i = length name - i
+
+loop-holds : tie.Need-loop-holds Inv-loop μ-loop
+loop-holds c = search needs
+
+returns : tie.Need-returns Inv-loop μ-loop
+returns c = laws.begins-short _ _ _ (c .before .before .loop .inv .1 .1) (c .before .loop-test .taken) (c .if1 .taken)
+
+shared-slice-read-lower : tie.Need-shared-slice-read-lower Inv-loop μ-loop
+shared-slice-read-lower c = search needs
+
+lower-requires : tie.Need-lower-requires Inv-loop μ-loop
+lower-requires c κs = search needs
+
+shared-slice-read-if2 : tie.Need-shared-slice-read-if2 Inv-loop μ-loop
+shared-slice-read-if2 c = search needs
+
+returns-2 : tie.Need-returns-2 Inv-loop μ-loop
+returns-2 c = laws.begins-wrong _ _ _ (c .before .before .before .before .before .before .loop .inv .1 .1) (c .before .before .before .before .before .loop-test .taken) (c .before .before .before .before .if1 .left) (λ e. c .if2 .taken (c .before .before .lower .ensures ∙ e))
+
+add-i : tie.Need-add-i Inv-loop μ-loop
+add-i c = search needs
+
+loop-less : tie.Need-loop-less Inv-loop μ-loop
+loop-less c = search needs
+
+loop-again : tie.Need-loop-again Inv-loop μ-loop
+loop-again c = (omega arith, (omega arith, laws.begins-next _ _ _ (c .before .before .before .before .before .before .loop .inv .1 .1) (c .before .before .before .before .before .loop-test .taken) (c .before .before .before .before .if1 .left) (sym (c .before .before .lower .ensures) ∙ c .if2 .left)))
+
+returns-3 : tie.Need-returns-3 Inv-loop μ-loop
+returns-3 c = laws.begins-end _ _ _ (c .before .loop .inv .1 .1) (c .loop-test .left)
+
+pub begins-with-spec : {M : Type 1} → statement M
+begins-with-spec =
+    tie.close
+    (tie.spec
+    Inv-loop
+    μ-loop
+    loop-holds
+    returns
+    shared-slice-read-lower
+    lower-requires
+    shared-slice-read-if2
+    returns-2
+    add-i
+    loop-less
+    loop-again
+    returns-3)

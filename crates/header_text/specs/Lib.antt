@@ -1,0 +1,5 @@
+-- What each file is stands at its head.
+pub mod Text
+pub mod Size
+pub mod Parts
+pub mod Cases

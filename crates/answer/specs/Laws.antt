@@ -32,8 +32,9 @@ use Rattle.evt.specs.Evt2.{fresh2}
 use Rattle.evt.specs.Evt3.{fresh3}
 use Rattle.decode.specs.Loops.{few2, few3}
 use Rattle.decode.specs.declared.Tally.{Tally}
-use Rattle.decode.specs.declared.Survey.{Survey}
-use Rattle.decode.specs.Decode.{Bounded, insideEvents, tallyOf, surveyOf}
+use Rattle.count.specs.declared.Survey.{Survey}
+use Rattle.decode.specs.Decode.{Bounded, insideEvents, tallyOf}
+use Rattle.count.specs.Count.{surveyOf}
 use Rattle.decode.specs.Turn.{Fits}
 use Rattle.answer.specs.declared.Span.{Span}
 use Rattle.room.specs.declared.Delivered.{Delivered}

@@ -26,8 +26,7 @@ use Rattle.evt.specs.Range.{Bounded2, Bounded3, bounded-step2, bounded-step3, b
 use Rattle.sensor.specs.Inside.{inside, clock, all-mapped, events-few, sift-few}
 use Rattle.decode.specs.Decode.{eventsFrom, codecAfter, insideEvents, Bounded, Fitting}
 use Rattle.decode.specs.Turn.{decode-few}
-use Rattle.decode.specs.Glance.{small-mask3}
-use Rattle.decode.specs.Loops.{small-mask2}
+use Rattle.decode.specs.Loops.{small-mask2, small-mask3}
 
 -- ---- in chunks of 4 bytes, whatever the encoding
 

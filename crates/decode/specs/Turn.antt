@@ -1,22 +1,21 @@
 -- A loop over the words of some bytes, for every machine and every word size: what holds at index i, at the start, after a turn, at the end.
--- While columns are filled it is `Filling`, while events are counted `Counting`.
+-- While columns are filled it is `Filling`.
 use mathlib.Core.Path.{_≡_, refl, sym, ap, _∙_}
 use mathlib.Core.List.{List, [], _∷_, _++_}
-use Prim.Native.Nat.{ℕ, suc, _+_, _*_, _≤_, _<_, max}
+use Prim.Native.Nat.{ℕ, suc, _+_, _*_, _≤_, _<_}
 use native.Mathlib.Omega.{arith}
 use native.Mathlib.Nat.{mul-suc}
 use lib.ListN.{length, take, drop, length-append}
 use lib.IntN.{ℤ}
 use Rattle.stream.specs.Machine.{Machine, run, emits}
 use Rattle.stream.specs.Words.{wordsOf, value, words-next, words-end}
-use Rattle.stream.specs.Order.{greatest, greatest-append}
 use Rattle.stream.specs.Slice.{sift, sift-append}
 use Rattle.stream.specs.Stream.{decode, after}
 use Rattle.evt.specs.declared.vector.Vector.{Vector}
 use Rattle.evt.specs.Event.{Event, eventsOf, Narrow}
 pub use Rattle.evt.specs.Columns.{Fits}
 use Rattle.evt.specs.Columns.{Going, Room, Wrote, going-start, going-run, going-end}
-use Rattle.sensor.specs.Inside.{inside, insideOf, clock, latestOf, inside-latest}
+use Rattle.sensor.specs.Inside.{inside, insideOf}
 
 module _ {S : Type 0} (n : ℕ) (M : Machine S ℕ Event) where
   -- all events of the bytes inside the sensor
@@ -34,10 +33,10 @@ module _ {S : Type 0} (n : ℕ) (M : Machine S ℕ Event) (Inv : ℕ → S → T
   all = insideAll n M width height s₀ bytes
 
   -- the words left, and the events left
-  abbrev rest : ℕ → List ℕ
+  abbrev pub rest : ℕ → List ℕ
   rest i = wordsOf n (drop i bytes)
 
-  abbrev left : S → ℕ → List Event
+  abbrev pub left : S → ℕ → List Event
   left s i = sift (inside width height) (emits M s (rest i))
 
   -- at index i
@@ -49,11 +48,6 @@ module _ {S : Type 0} (n : ℕ) (M : Machine S ℕ Event) (Inv : ℕ → S → T
   pub record Filling (xs₀ ys₀ : List ℕ) (ts₀ : List ℤ) (ps₀ xs ys : List ℕ) (ts : List ℤ) (ps : List ℕ) (s : S) (count i : ℕ) : Type 0 where
     pub stand : Standing s i
     pub going : Going all 0 xs₀ ys₀ ts₀ ps₀ (left s i) count xs ys ts ps
-
-  pub record Counting (s : S) (count top i : ℕ) : Type 0 where
-    pub stand : Standing s i
-    pub counts : count + length (left s i) ≡ length all
-    pub notes : max top (greatest clock (left s i)) ≡ greatest clock all
 
 -- A turn: the word at i takes the state from s to s′, and its events are those of v.
 pub record Turn {S : Type 0} (n : ℕ) (M : Machine S ℕ Event) (bytes : List ℕ) (s : S) (i : ℕ) (s′ : S) (v : Vector) : Type 0 where
@@ -70,23 +64,23 @@ turn-words {S} {n} {M} {bytes} {s} {s′} {i} pos t = words-next n pos bytes i (
 module _ {S : Type 0} {n : ℕ} {M : Machine S ℕ Event} {Inv : ℕ → S → Type 0} {width height : ℕ} {s₀ : S} {bytes : List ℕ} (pos : 0 < n)
     (keeps : (k : ℕ) (s : S) (w : ℕ) → Inv (suc k) s → Inv k (M .step s w)) where
   module _ {s : S} {i : ℕ} (u : Standing n M Inv width height s₀ bytes s i) where
-    none-left : length bytes < i + n → left n M Inv width height s₀ bytes s i ≡ []
+    pub none-left : length bytes < i + n → left n M Inv width height s₀ bytes s i ≡ []
     none-left h = rw (words-end n pos bytes i h)
 
-    at-end : length bytes < i + n → s ≡ after n M s₀ bytes
+    pub at-end : length bytes < i + n → s ≡ after n M s₀ bytes
     at-end h = rw (words-end n pos bytes i h) at (u .ends)
 
     module _ {s′ : S} {v : Vector} (t : Turn n M bytes s i s′ v) where
-      stand-turn : Standing n M Inv width height s₀ bytes s′ (i + n)
+      pub stand-turn : Standing n M Inv width height s₀ bytes s′ (i + n)
       stand-turn =
           let inv : Inv (suc (length (wordsOf n (drop (i + n) bytes)))) s = rw (turn-words pos t) at (u .inv) in
           rw (t .is-next) (record { within = t .more; inv = keeps (length (wordsOf n (drop (i + n) bytes))) s (t .word) inv; ends = rw (turn-words pos t) at (u .ends) })
 
       -- the word's events come first
-      splits : left n M Inv width height s₀ bytes s i ≡ insideOf width height v ++ left n M Inv width height s₀ bytes s′ (i + n)
+      pub splits : left n M Inv width height s₀ bytes s i ≡ insideOf width height v ++ left n M Inv width height s₀ bytes s′ (i + n)
       splits = rw (turn-words pos t, t .is-events, t .is-next) (sift-append (inside width height) (eventsOf v) (emits M (M .step s (t .word)) (wordsOf n (drop (i + n) bytes))))
 
-  stand-start : Inv (length (wordsOf n bytes)) s₀ → Standing n M Inv width height s₀ bytes s₀ 0
+  pub stand-start : Inv (length (wordsOf n bytes)) s₀ → Standing n M Inv width height s₀ bytes s₀ 0
   stand-start b = record { within = omega arith; inv = b; ends = refl }
 
   -- ---- filling
@@ -134,40 +128,3 @@ module _ {S : Type 0} {n : ℕ} {M : Machine S ℕ Event} {Inv : ℕ → S → T
         filling-turn small wrote =
             let r = filling-room small in
             record { stand = stand-turn (u .stand) t; going = going-run (insideOf width height v) (r .room-x) (r .room-y) (r .room-t) (r .room-p) wrote going-now }
-
-  -- ---- counting
-
-  pub counting-start : Inv (length (wordsOf n bytes)) s₀ → Counting n M Inv width height s₀ bytes s₀ 0 0 0
-  counting-start b = record { stand = stand-start b; counts = omega arith; notes = omega arith }
-
-  module _ {s : S} {count top i : ℕ} (u : Counting n M Inv width height s₀ bytes s count top i) where
-    pub counting-end : length bytes < i + n
-        → (count ≡ length (insideAll n M width height s₀ bytes)) × (top ≡ greatest clock (insideAll n M width height s₀ bytes)) × (s ≡ after n M s₀ bytes)
-    counting-end h =
-        let c : count + 0 ≡ length (insideAll n M width height s₀ bytes) = rw (none-left (u .stand) h) at (u .counts) in
-        let t : max top 0 ≡ greatest clock (insideAll n M width height s₀ bytes) = rw (none-left (u .stand) h) at (u .notes) in
-        (omega arith, omega arith, at-end (u .stand) h)
-
-    module _ {s′ : S} {v : Vector} (t : Turn n M bytes s i s′ v) where
-      abbrev behind : List Event
-      behind = left n M Inv width height s₀ bytes s′ (i + n)
-
-      -- the count never passes the whole
-      pub counting-few : count + length (insideOf width height v) ≤ length (insideAll n M width height s₀ bytes)
-      counting-few =
-          let c : count + length (insideOf width height v ++ behind) ≡ length (insideAll n M width height s₀ bytes) = rw (splits (u .stand) t) at (u .counts) in
-          omega (arith, c, length-append (insideOf width height v) behind)
-
-      pub counting-turn : (m : ℕ) → m ≡ length (insideOf width height v) → (top′ : ℕ) → top′ ≡ max top (latestOf m (v .t))
-          → Counting n M Inv width height s₀ bytes s′ (count + m) top′ (i + n)
-      counting-turn m is-m top′ is-top =
-          let seen = insideOf width height v in
-          let e = splits (u .stand) t in
-          let c : count + length (seen ++ behind) ≡ length (insideAll n M width height s₀ bytes) = rw e at (u .counts) in
-          let l : max top (greatest clock (seen ++ behind)) ≡ greatest clock (insideAll n M width height s₀ bytes) = rw e at (u .notes) in
-          let a : greatest clock seen ≡ latestOf m (v .t) = inside-latest width height v ∙ ap (λ (k : ℕ). latestOf k (v .t)) (sym is-m) in
-          record {
-            stand = stand-turn (u .stand) t;
-            counts = omega (arith, c, is-m, length-append seen behind);
-            notes = omega (arith, l, a, is-top, greatest-append clock seen behind);
-          }

@@ -10,8 +10,9 @@ use lib.ListN.{length, take, drop, length-take, length-drop}
 use Rattle.evt.specs.declared.codec.Codec.{Codec}
 use Rattle.evt.specs.declared.codec.Codec.the-variants.{Evt2, Evt3}
 use Rattle.evt.specs.Event.{Event}
-use Rattle.decode.specs.declared.Passed.{Passed}
-use Rattle.decode.specs.Decode.{insideEvents, Bounded, Fitting, passedOf}
+use Rattle.count.specs.declared.Passed.{Passed}
+use Rattle.decode.specs.Decode.{insideEvents, Bounded, Fitting}
+use Rattle.count.specs.Count.{passedOf}
 use Rattle.decode.specs.Laws.{bounded-less, inside-bytes}
 use Rattle.window.specs.declared.Window.{Window}
 use Rattle.select.specs.Pass.{Able, Ready, handedOver}

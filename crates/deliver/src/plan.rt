@@ -91,7 +91,7 @@ fn plan_number(bytes: &[u8], codec: Codec, window: Window, number: u64) -> Plan
     ensures { λ r. ⌜ Planned window number codec (now (bytes .entry)) r ⌝ }
 {
     let most = (window.n0 - number) as usize;
-    let p = decode::count_to(bytes, codec, window.width, window.height, most);
+    let p = count::count_to(bytes, codec, window.width, window.height, most);
     let there = p.codec;
     let next = number + p.count as u64;
     Plan {

@@ -16,7 +16,8 @@ use Rattle.evt.specs.declared.SensorSize.the-variants.{Unknown, Known}
 use Rattle.evt.specs.Codec.{freshC, codecAfter}
 use Rattle.evt.specs.Event.{Event}
 use Rattle.sensor.specs.Inside.{clock}
-use Rattle.decode.specs.Decode.{Bounded, insideEvents, surveyOf}
+use Rattle.decode.specs.Decode.{Bounded, insideEvents}
+use Rattle.count.specs.Count.{surveyOf}
 use Rattle.header.specs.declared.HeaderAnswer.{HeaderAnswer}
 use Rattle.header.specs.declared.HeaderAnswer.the-variants.{Header, Refused as NoHeader}
 use Rattle.header.specs.Header.{hasZero, headerOf}

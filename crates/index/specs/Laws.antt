@@ -16,13 +16,14 @@ use Rattle.evt.specs.declared.codec.Codec.{Codec}
 use Rattle.evt.specs.Codec.{freshC, codecAfter}
 use Rattle.evt.specs.Event.{Event}
 use Rattle.sensor.specs.Inside.{clock}
-use Rattle.decode.specs.Decode.{Bounded, insideEvents, surveyOf}
+use Rattle.decode.specs.Decode.{Bounded, insideEvents}
+use Rattle.count.specs.Count.{surveyOf}
 use Rattle.decode.specs.Laws.{codec-append, codec-nil, events-nil, count-append, latest-append, bounded-after, bounded-fresh, bounded-less, inside-bytes, latest-small}
 use Rattle.index.specs.declared.Checkpoint.{Checkpoint}
 use Rattle.index.specs.declared.Plan.{Plan}
 use Rattle.index.specs.declared.Run.{Run}
 use Rattle.index.specs.Index.{firsts}
-use Rattle.decode.specs.declared.Survey.{Survey}
+use Rattle.count.specs.declared.Survey.{Survey}
 use Rattle.index.specs.Build.{Advanced, recordOf, chunkOf, nextOf, Fit, Job, firstOf, frontOf, seenOf, runAt}
 
 -- ---- one turn

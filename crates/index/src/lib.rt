@@ -113,7 +113,7 @@ pub fn advance(recording: &[u8], run: Run) -> Ran
     let start = run.offset;
     let next_offset = start + run.spacing;
     let end = less(next_offset, recording.len());
-    let s = decode::count_all(&recording[start..end], codec, run.width, run.height);
+    let s = count::count_all(&recording[start..end], codec, run.width, run.height);
     let count = run.count + s.count;
     let latest = later(run.latest, s.latest);
     let at = run.at + 1;

@@ -15,9 +15,10 @@ use Rattle.evt.specs.Evt2.{reader2}
 use Rattle.evt.specs.Evt3.{reader3}
 use Rattle.evt.specs.Codec.{codecAfter}
 use Rattle.sensor.specs.Inside.{inside}
-use Rattle.decode.specs.declared.Passed.{Passed}
-use Rattle.decode.specs.Decode.{insideEvents, Bounded, Steady, passedOf}
+use Rattle.decode.specs.Decode.{insideEvents, Bounded, Steady}
 use Rattle.decode.specs.Laws.{inside-bytes}
+use Rattle.count.specs.declared.Passed.{Passed}
+use Rattle.count.specs.Count.{passedOf}
 use Rattle.window.specs.declared.Window.{Window}
 use Rattle.window.specs.Window.{spanOf, reading2, reading3}
 use Rattle.select.specs.Pass.{handedOver, Able, Ready}

@@ -17,9 +17,10 @@ use Rattle.evt.specs.declared.codec.Codec.{Codec}
 use Rattle.evt.specs.declared.codec.Codec.the-variants.{Evt2, Evt3}
 use Rattle.evt.specs.Columns.{colX, colY, colT, colP, Wrote, Fits}
 use Rattle.evt.specs.Event.{Event}
-use Rattle.decode.specs.declared.Survey.{Survey}
+use Rattle.count.specs.declared.Survey.{Survey}
 use Rattle.decode.specs.declared.Tally.{Tally as Filling}
-use Rattle.decode.specs.Decode.{insideEvents, tallyOf, surveyOf}
+use Rattle.decode.specs.Decode.{insideEvents, tallyOf}
+use Rattle.count.specs.Count.{surveyOf}
 use Rattle.decode.specs.Loops.{few2, few3}
 use Rattle.window.specs.declared.Window.{Window}
 use Rattle.window.specs.Window.{spanOf, reading2, reading3}

@@ -51,7 +51,7 @@ pub fn need_all(bytes: &[u8], codec: Codec, width: u64, height: u64, room: usize
     if most <= room {
         return most;
     }
-    decode::count_all(bytes, codec, width, height).count
+    count::count_all(bytes, codec, width, height).count
 }
 
 // How many numbers a window has.

@@ -4,18 +4,18 @@ use mathlib.Core.Bool.{true, false}
 use mathlib.Core.List.{List, [], _++_}
 use Prim.Native.Nat.{ℕ, _+_, _-_, _/_, _≤_, _<_, _^_}
 use native.Mathlib.Omega.{arith}
-use lib.ListN.{length, take, drop, length-append}
+use lib.ListN.{length, length-append}
 use lib.IntN.{ℤ}
-use Rattle.stream.specs.Words.{wordsOf, value}
+use Rattle.stream.specs.Words.{wordsOf}
 use Rattle.stream.specs.Select.{End}
 use Rattle.evt.specs.declared.vector.Vector.{Vector}
 use Rattle.evt.specs.Event.{Event, eventsOf}
 use Rattle.evt.specs.Columns.{Going, Room, Wrote, going-start, going-run, going-end}
 use Rattle.window.specs.declared.Window.{Window}
 use Rattle.window.specs.declared.trim.Trimmed.{Trimmed}
-use Rattle.window.specs.Trim.{Picked, masked}
+use Rattle.window.specs.Trim.{Picked, masked, events-few}
 use Rattle.select.specs.Pass.{Fits, endOf, filledOf}
-use Rattle.select.specs.Turn.{Source, Laws, At, all, left, last, leftIf, lastIf, stops, stand-start, stand-end, none-left, narrow-here, given-left, pend-turn, quiet-left, pend-quiet, done-end, done-count}
+use Rattle.select.specs.Turn.{Source, Laws, Turned, At, all, left, last, leftIf, lastIf, stops, stand-start, stand-end, none-left, narrow-here, number-here, given-left, pend-turn, done-end, done-count}
 
 module _ (Q : Source) (win : Window) (number : ℕ) (s₀ : Q .State) (bytes : List ℕ) (xs₀ ys₀ : List ℕ) (ts₀ : List ℤ) (ps₀ : List ℕ) where
   -- n events are in the columns, and `es` are still to be written
@@ -57,46 +57,51 @@ module _ {Q : Source} (L : Laws Q) {win : Window} {number : ℕ} {s₀ : Q .Stat
       pub fills-end : length bytes < i + Q .size → Full Q win number s₀ bytes xs₀ ys₀ ts₀ ps₀ xs ys ts ps s k n i
       fills-end h = record { at = stand-end L (u .at) h; going = rw (none-left L (u .at) h) at (u .going) }
 
-      module _ (h : i + Q .size ≤ length bytes) (w : ℕ) (is-word : w ≡ value (take (Q .size) (drop i bytes)))
-          (s′ : Q .State) (is-next : s′ ≡ Q .machine .step s w) (v : Vector) (is-events : v ≡ Q .vector s w) where
-        pub fills-quiet : v .mask ≡ 0 → FillsIf Q win number s₀ bytes xs₀ ys₀ ts₀ ps₀ xs ys ts ps s′ k n (i + Q .size)
-        fills-quiet z = record {
-          at = pend-quiet L (u .at) h w is-word s′ is-next v is-events z;
-          going = rw (quiet-left L (u .at) h w is-word s′ is-next v is-events z) at (u .going);
-        }
+      -- a word, of whose events r leaves those of `kept`
+      module _ {s′ : Q .State} {v : Vector} (o : Turned Q bytes i s s′ v) (fits : Fits (length (all Q win number s₀ bytes)) (length xs₀) (length ys₀) (length ts₀) (length ps₀))
+          (r : Trimmed) (q : Picked v win k r) {kept : Vector} (is-kept : kept ≡ masked v (r .mask)) where
+        abbrev given : List Event
+        given = eventsOf kept
 
-        module _ (fits : Fits (length (all Q win number s₀ bytes)) (length xs₀) (length ys₀) (length ts₀) (length ps₀)) (r : Trimmed) (q : Picked v win k r) where
-          abbrev given : List Event
-          given = eventsOf (masked v (r .mask))
+        -- m of them
+        count-of : (m : ℕ) → m ≡ length given → m ≡ length (eventsOf (masked v (r .mask)))
+        count-of m e = rw is-kept at e
 
-          going-here : (m : ℕ) → m ≡ length given
-              → Going (all Q win number s₀ bytes) 0 xs₀ ys₀ ts₀ ps₀ (given ++ leftIf Q win number s₀ bytes (stops Q win number s₀ bytes (k + m + r .extra) s′) (k + m + r .extra) s′ (i + Q .size)) n xs ys ts ps
-          going-here m e = rw (given-left L (u .at) h w is-word s′ is-next v is-events r q m e) at (u .going)
+        going-here : (m : ℕ) → m ≡ length given
+            → Going (all Q win number s₀ bytes) 0 xs₀ ys₀ ts₀ ps₀ (given ++ leftIf Q win number s₀ bytes (stops Q win number s₀ bytes (k + m + r .extra) s′) (k + m + r .extra) s′ (i + Q .size)) n xs ys ts ps
+        going-here m e = rw is-kept (rw (given-left L (u .at) o r q m (count-of m e)) at (u .going))
 
-          pub room-here : Room (length given) (masked v (r .mask)) n (length xs) (length ys) (length ts) (length ps)
-          room-here =
-              let o = narrow-here L (u .at) h w is-word s′ is-next v is-events in
-              let g = going-here (length given) refl in
-              let cut = length-append given (leftIf Q win number s₀ bytes (stops Q win number s₀ bytes (k + length given + r .extra) s′) (k + length given + r .extra) s′ (i + Q .size)) in
-              record {
-                mask = omega (arith, q .low, o .mask<);
-                column = omega (arith, o .x<);
-                row = omega (arith, o .y<);
-                time = o .t<;
-                sign = o .p<;
-                room-x = omega (arith, g .count, g .in-x .long, fits .fit-x, cut);
-                room-y = omega (arith, g .count, g .in-y .long, fits .fit-y, cut);
-                room-t = omega (arith, g .count, g .in-t .long, fits .fit-t, cut);
-                room-p = omega (arith, g .count, g .in-p .long, fits .fit-p, cut);
-              }
+        pub room-here : Room (length given) kept n (length xs) (length ys) (length ts) (length ps)
+        room-here =
+            let b = narrow-here L (u .at) o in
+            let g = going-here (length given) refl in
+            let cut = length-append given (leftIf Q win number s₀ bytes (stops Q win number s₀ bytes (k + length given + r .extra) s′) (k + length given + r .extra) s′ (i + Q .size)) in
+            record {
+              mask = rw is-kept (omega (arith, q .low, b .mask<));
+              column = rw is-kept (omega (arith, b .x<));
+              row = rw is-kept (omega (arith, b .y<));
+              time = rw is-kept (b .t<);
+              sign = rw is-kept (b .p<);
+              room-x = omega (arith, g .count, g .in-x .long, fits .fit-x, cut);
+              room-y = omega (arith, g .count, g .in-y .long, fits .fit-y, cut);
+              room-t = omega (arith, g .count, g .in-t .long, fits .fit-t, cut);
+              room-p = omega (arith, g .count, g .in-p .long, fits .fit-p, cut);
+            }
 
-          pub fills-turn : (n′ : ℕ) → n′ ≡ n + length given → {xs′ ys′ : List ℕ} {ts′ : List ℤ} {ps′ : List ℕ} → Wrote given n xs ys ts ps xs′ ys′ ts′ ps′
-              → FillsIf Q win number s₀ bytes xs₀ ys₀ ts₀ ps₀ xs′ ys′ ts′ ps′ s′ (k + (n′ - n) + r .extra) n′ (i + Q .size)
-          fills-turn n′ e wrote =
-              let o = room-here in
+        module _ (n′ : ℕ) (e : n′ ≡ n + length given) where
+          pub number-fits : (n ≤ n′) × (k + (n′ - n) + r .extra < 2 ^ 64)
+          number-fits =
+              let few : length given ≤ 32 = events-few 32 32 kept (room-here .mask) in
+              let low : r .extra < 2 ^ 32 = omega (arith, q .few, narrow-here L (u .at) o .mask<) in
+              (omega arith, omega (arith, number-here L (u .at)))
+
+          pub fills-turn : {k′ : ℕ} → k′ ≡ k + (n′ - n) + r .extra → {xs′ ys′ : List ℕ} {ts′ : List ℤ} {ps′ : List ℕ} → Wrote given n xs ys ts ps xs′ ys′ ts′ ps′
+              → FillsIf Q win number s₀ bytes xs₀ ys₀ ts₀ ps₀ xs′ ys′ ts′ ps′ s′ k′ n′ (i + Q .size)
+          fills-turn is-k wrote =
+              let a = room-here in
               let m : n′ - n ≡ length given = omega (arith, e) in
               let back : n + (n′ - n) ≡ n′ = omega (arith, e) in
-              record {
-                at = rw back at (pend-turn L (u .at) h w is-word s′ is-next v is-events r q (n′ - n) m);
-                going = rw (sym e) at (going-run given (o .room-x) (o .room-y) (o .room-t) (o .room-p) wrote (going-here (n′ - n) m));
-              }
+              rw is-k (record {
+                at = rw back at (pend-turn L (u .at) o r q (n′ - n) (count-of (n′ - n) m));
+                going = rw (sym e) at (going-run given (a .room-x) (a .room-y) (a .room-t) (a .room-p) wrote (going-here (n′ - n) m));
+              })

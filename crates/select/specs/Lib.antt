@@ -1,5 +1,6 @@
 -- What each file is stands at its head.
 pub mod Pass
+pub mod Word
 pub mod Turn
 pub mod Count
 pub mod Fill

@@ -1,7 +1,7 @@
 -- The two decoders as sources of a pass.
-use mathlib.Core.Path.{refl}
+use mathlib.Core.Path.{_≡_, refl, ap, _∙_}
 use mathlib.Core.List.{List}
-use Prim.Native.Nat.{ℕ, _≤_, _<_, _^_}
+use Prim.Native.Nat.{ℕ, _+_, _≤_, _<_, _^_}
 use native.Mathlib.Omega.{arith}
 use lib.ListN.{length}
 use Rattle.stream.specs.Words.{wordsOf, length-words}
@@ -9,11 +9,13 @@ use Rattle.evt.specs.declared.evt2.Evt2Decoder.{Evt2Decoder}
 use Rattle.evt.specs.declared.evt3.Decoder.{Decoder}
 use Rattle.evt.specs.declared.codec.Codec.the-variants.{Evt2, Evt3}
 use Rattle.evt.specs.Layout.{type2}
-use Rattle.evt.specs.Evt2.{reader2, vector2, vectorAs, by-kinds}
-use Rattle.evt.specs.Evt3.{reader3, vector3}
+use Rattle.evt.specs.declared.vector.Vector.{Vector}
+use Rattle.evt.specs.Evt2.{step2, reader2, vector2, vectorAs, by-kinds}
+use Rattle.evt.specs.Evt3.{step3, reader3, vector3}
 use Rattle.evt.specs.Range.{Bounded2, Bounded3, bounded-step2, bounded-step3, bounded-narrow2, bounded-narrow3}
+use Rattle.words.specs.Ahead.{ahead, ahead-some}
 use Rattle.select.specs.Pass.{Ready}
-use Rattle.select.specs.Turn.{Source, Laws}
+use Rattle.select.specs.Turn.{Source, Laws, Turned}
 
 abbrev pub source2 : Source
 source2 = record {
@@ -53,6 +55,23 @@ pub inv3 : {number : ℕ} (d : Decoder) (l : List ℕ) → Ready (Evt3 d) number
 inv3 d l r x = rw (length-words 2 l) (record { regular = r .able .regular; loops = r .able .loops; column = x })
 
 -- an EVT2 word has one event at most
-pub mask2 : (d : Evt2Decoder) (w : ℕ) → vector2 d w .mask ≤ 1
+mask2 : (d : Evt2Decoder) (w : ℕ) → vector2 d w .mask ≤ 1
 unfolding vector2
 mask2 d w = by-kinds (λ k. vectorAs k d w .mask ≤ 1) (type2 w) (d .initialised) (omega arith) (λ on q. omega arith) (omega arith)
+
+-- ---- a word as the loops read it, and its step
+
+pub turned2 : {l : List ℕ} {i w : ℕ} {s s′ : Evt2Decoder} {v : Vector} → i + 3 < length l → w ≡ ahead 4 l i → s′ ≡ step2 s w → v ≡ vector2 s w → Turned source2 l i s s′ v
+turned2 {l = l} {i = i} {s = s} h e n m =
+    let whole : i + 4 ≤ length l = omega arith in
+    let is = e ∙ ahead-some 4 l i whole in
+    record { h = whole; is-next = n ∙ ap (step2 s) is; is-events = m ∙ ap (vector2 s) is }
+
+pub turned3 : {l : List ℕ} {i w : ℕ} {s s′ : Decoder} {v : Vector} → i + 1 < length l → w ≡ ahead 2 l i → s′ ≡ step3 s w → v ≡ vector3 s w → Turned source3 l i s s′ v
+turned3 {l = l} {i = i} {s = s} h e n m =
+    let whole : i + 2 ≤ length l = omega arith in
+    let is = e ∙ ahead-some 2 l i whole in
+    record { h = whole; is-next = n ∙ ap (step3 s) is; is-events = m ∙ ap (vector3 s) is }
+
+pub mask-here : {l : List ℕ} {i : ℕ} {s s′ : Evt2Decoder} {v : Vector} → Turned source2 l i s s′ v → v .mask ≤ 1
+mask-here {s = s} o = rw (o .is-events) (mask2 s _)

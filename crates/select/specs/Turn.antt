@@ -1,25 +1,24 @@
 -- A loop over the words of some bytes under a window, for every machine and every word size: what holds at index i, at the start, after a word, at the end.
 use mathlib.Core.Path.{_≡_, sym, ap, _∙_}
 use mathlib.Core.Bool.{Bool, true, false}
-use mathlib.Core.List.{List, [], _∷_, _++_, map}
+use mathlib.Core.List.{List, [], _∷_, _++_}
 use Prim.Native.Nat.{ℕ, suc, _+_, _*_, _/_, _≤_, _<_, _^_}
 use native.Mathlib.Omega.{arith}
 use native.Mathlib.Nat.{add-zero, zero-div, add-div-right}
 use lib.ListN.{length, take, drop, length-append}
 use Rattle.stream.specs.Machine.{Machine}
 use Rattle.stream.specs.Words.{wordsOf, value, words-next, words-end}
-use Rattle.stream.specs.Mask.{bits-zero}
 use Rattle.stream.specs.Slice.{sift, unless}
 use Rattle.stream.specs.Select as Select
 use Rattle.stream.specs.Select.{End, endAt, oneMore, handed, ended}
 use Rattle.evt.specs.declared.vector.Vector.{Vector}
 use Rattle.evt.specs.declared.codec.Codec.{Codec}
-use Rattle.evt.specs.Event.{Event, eventAt, eventsOf, Narrow}
+use Rattle.evt.specs.Event.{Event, eventsOf, Narrow}
 use Rattle.sensor.specs.Inside.{inside, sift-few}
 use Rattle.window.specs.declared.Window.{Window}
 use Rattle.window.specs.declared.trim.Trimmed.{Trimmed}
 use Rattle.window.specs.Window.{spanOf, reading, choose, chosen-choose}
-use Rattle.window.specs.Trim.{Picked, masked, eventsIn, insideIn, events-few, picked-none}
+use Rattle.window.specs.Trim.{Picked, masked, eventsIn, insideIn, events-few}
 
 -- a decoder: its machine over words of `size` bytes, the vector that a word carries, and what holds of a state that takes n words more
 pub record Source : Type 1 where
@@ -37,6 +36,12 @@ pub record Laws (Q : Source) : Type 0 where
   pub emits : (s : Q .State) (w : ℕ) → Q .machine .emit s w ≡ eventsOf (Q .vector s w)
   pub steps : (n : ℕ) (s : Q .State) (w : ℕ) → Q .Inv (suc n) s → Q .Inv n (Q .machine .step s w)
   pub narrow : (n : ℕ) (s : Q .State) (w : ℕ) → Q .Inv n s → Narrow (Q .vector s w)
+
+-- the word at index i takes s to s′, with the events of v
+pub record Turned (Q : Source) (bytes : List ℕ) (i : ℕ) (s s′ : Q .State) (v : Vector) : Type 0 where
+  pub h : i + Q .size ≤ length bytes
+  pub is-next : s′ ≡ Q .machine .step s (value (take (Q .size) (drop i bytes)))
+  pub is-events : v ≡ Q .vector s (value (take (Q .size) (drop i bytes)))
 
 -- an end, where c words were consumed before
 abbrev pub after : {S : Type 0} → ℕ → End S → End S
@@ -127,6 +132,9 @@ module _ {Q : Source} (L : Laws Q) {win : Window} {number : ℕ} {s₀ : Q .Stat
     done-end p = ap (λ (c : ℕ). record { number = k; state = s; consumed = c }) (sym (add-zero (i / Q .size))) ∙ p .ends
 
     module _ (u : Stand Q win number s₀ bytes s k n i) where
+      pub number-here : k < 2 ^ 62 + 2 ^ 61
+      number-here = omega (arith, u .high, u .low, u .within, u .long)
+
       -- ---- no word is left
 
       module _ (h : length bytes < i + Q .size) where
@@ -141,31 +149,30 @@ module _ {Q : Source} (L : Laws Q) {win : Window} {number : ℕ} {s₀ : Q .Stat
         pub stand-end : Done Q win number s₀ bytes s k n i
         stand-end = rw (none-left, last-left) at u
 
-      -- ---- the next word, after which the state is s′, with the events of v
+      -- ---- the next word
 
-      module _ (h : i + Q .size ≤ length bytes) (w : ℕ) (is-word : w ≡ value (take (Q .size) (drop i bytes)))
-          (s′ : Q .State) (is-next : s′ ≡ Q .machine .step s w) (v : Vector) (is-events : v ≡ Q .vector s w) where
+      module _ {s′ : Q .State} {v : Vector} (o : Turned Q bytes i s s′ v) where
         abbrev j : ℕ
         j = i + Q .size
 
+        abbrev w : ℕ
+        w = value (take (Q .size) (drop i bytes))
+
         words-here : rest Q win number s₀ bytes i ≡ w ∷ rest Q win number s₀ bytes j
-        words-here = words-next (Q .size) (L .some) bytes i h ∙ ap (λ (x : ℕ). x ∷ rest Q win number s₀ bytes j) (sym is-word)
+        words-here = words-next (Q .size) (L .some) bytes i (o .h)
 
         pub narrow-here : Narrow v
-        narrow-here = rw is-events (L .narrow _ s w (u .inv))
-
-        pub number-here : k < 2 ^ 62 + 2 ^ 61
-        number-here = omega (arith, u .high, u .low, u .within, u .long)
+        narrow-here = rw (o .is-events) (L .narrow _ s w (u .inv))
 
         inv-next : Q .Inv (length (rest Q win number s₀ bytes j)) s′
-        inv-next = rw is-next (L .steps _ s w (rw words-here at (u .inv)))
+        inv-next = rw (o .is-next) (L .steps _ s w (rw words-here at (u .inv)))
 
         -- those of its events that have a number
         abbrev numbered : List Event
         numbered = insideIn 32 v win
 
         numbered-is : Select.numberedOf (source Q win number s₀ bytes) s w ≡ numbered
-        numbered-is = ap (sift (inside (win .width) (win .height))) (L .emits s w ∙ ap eventsOf (sym is-events))
+        numbered-is = ap (sift (inside (win .width) (win .height))) (L .emits s w ∙ ap eventsOf (sym (o .is-events)))
 
         numbered-few : length numbered ≤ 32
         numbered-few = omega (arith, sift-few (inside (win .width) (win .height)) (eventsIn 32 v), events-few 32 32 v (narrow-here .mask<))
@@ -180,7 +187,7 @@ module _ {Q : Source} (L : Laws Q) {win : Window} {number : ℕ} {s₀ : Q .Stat
             ∙ ap (λ (l : List Event). l ++ leftIf Q win number s₀ bytes (stops Q win number s₀ bytes (k + length here) t) (k + length here) t j)
             (chosen-choose (Q .machine) (Q .live) (Q .time) win k here ∙ ap (choose win k) numbered-is)
             ∙ ap (λ (x : ℕ). choose win k numbered ++ leftIf Q win number s₀ bytes (stops Q win number s₀ bytes x t) x t j) (ap (λ (l : List Event). k + length l) numbered-is ∙ sym e)
-            ∙ ap (λ (x : Q .State). choose win k numbered ++ leftIf Q win number s₀ bytes (stops Q win number s₀ bytes k′ x) k′ x j) (sym is-next)
+            ∙ ap (λ (x : Q .State). choose win k numbered ++ leftIf Q win number s₀ bytes (stops Q win number s₀ bytes k′ x) k′ x j) (sym (o .is-next))
 
         finishes : (k′ : ℕ) → k′ ≡ k + length numbered
             → last Q win number s₀ bytes k s i ≡ oneMore (lastIf Q win number s₀ bytes (stops Q win number s₀ bytes k′ s′) k′ s′ j)
@@ -189,7 +196,7 @@ module _ {Q : Source} (L : Laws Q) {win : Window} {number : ℕ} {s₀ : Q .Stat
             let t = Q .machine .step s w in
             ap (ended (source Q win number s₀ bytes) (spanOf win) k s) words-here
             ∙ ap (λ (x : ℕ). oneMore (lastIf Q win number s₀ bytes (stops Q win number s₀ bytes x t) x t j)) (ap (λ (l : List Event). k + length l) numbered-is ∙ sym e)
-            ∙ ap (λ (x : Q .State). oneMore (lastIf Q win number s₀ bytes (stops Q win number s₀ bytes k′ x) k′ x j)) (sym is-next)
+            ∙ ap (λ (x : Q .State). oneMore (lastIf Q win number s₀ bytes (stops Q win number s₀ bytes k′ x) k′ x j)) (sym (o .is-next))
 
         -- m of them are handed over, as v with the mask of r
         module _ (r : Trimmed) (q : Picked v win k r) (m : ℕ) (is-m : m ≡ length (eventsOf (masked v (r .mask)))) where
@@ -204,7 +211,7 @@ module _ {Q : Source} (L : Laws Q) {win : Window} {number : ℕ} {s₀ : Q .Stat
 
           pub pend-turn : Pend Q win number s₀ bytes s′ k′ (n + m) j
           pend-turn = record {
-            within = h;
+            within = o .h;
             long = u .long;
             low = u .low;
             high = omega (arith, number-is, numbered-few, u .high, L .some);
@@ -215,14 +222,3 @@ module _ {Q : Source} (L : Laws Q) {win : Window} {number : ℕ} {s₀ : Q .Stat
                 sym (after-more (i / Q .size) (j / Q .size) (lastIf Q win number s₀ bytes (stops Q win number s₀ bytes k′ s′) k′ s′ j) (add-div-right i (L .some)))
                 ∙ ap (after (i / Q .size)) (sym (finishes k′ number-is)) ∙ u .ends;
           }
-
-        -- a word without events
-        module _ (z : v .mask ≡ 0) where
-          no-events : eventsOf (masked v 0) ≡ []
-          no-events = ap (map (eventAt v)) (bits-zero 32 (v .x))
-
-          pub quiet-left : left Q win number s₀ bytes k s i ≡ leftIf Q win number s₀ bytes (stops Q win number s₀ bytes k s′) k s′ j
-          quiet-left = rw (no-events, add-zero, add-zero) at (given-left (record { mask = 0; extra = 0 }) (picked-none v win k z) 0 (sym (ap length no-events)))
-
-          pub pend-quiet : Pend Q win number s₀ bytes s′ k n j
-          pend-quiet = rw (add-zero, add-zero, add-zero) at (pend-turn (record { mask = 0; extra = 0 }) (picked-none v win k z) 0 (sym (ap length no-events)))

@@ -1,26 +1,18 @@
 // The passes over EVT2 words, for `survey` and `fill` alone, which say what is required and why.
 ghost use mathlib.Core.Path.{_≡_};
-ghost use Prim.Native.Nat.{_+_, _*_};
 ghost use lib.ListN.{length};
 ghost use Rattle.evt.specs.declared.codec.Codec.the-variants.{Evt2};
 ghost use Rattle.evt.specs.Columns.{Wrote};
 ghost use Rattle.select.specs.Pass.{Ready, Fits, handedOver, surveyed, filled};
 use crate::Filled;
 use crate::Tally;
+use crate::word;
+use crate::word::Notes;
 use evt::Codec;
 use evt::Evt2Decoder;
 use evt::evt2::advance;
-use evt::vector::Vector;
 use window::Window;
-use window::extent;
-use window::extent::Extent;
 use window::trim;
-
-fn word4(a: u8, b: u8, c: u8, d: u8) -> u64
-    ensures { λ r. ⌜ r ≡ a + b * 256 + c * 65536 + d * 16777216 ⌝ }
-{
-    a as u64 + b as u64 * 256 + c as u64 * 65536 + d as u64 * 16777216
-}
 
 // Counts the events that the window leaves of each word.
 pub fn survey2(bytes: &[u8], d: Evt2Decoder, win: Window, number: u64) -> Tally
@@ -28,44 +20,32 @@ pub fn survey2(bytes: &[u8], d: Evt2Decoder, win: Window, number: u64) -> Tally
     ensures { λ r. ⌜ r ≡ surveyed win number (Evt2 d) (now (bytes .entry)) ⌝ }
 {
     let mut s = d;
-    let mut k = number;
-    let mut n: usize = 0;
-    let mut seen = Extent {
+    let mut t = Notes {
+        number,
+        count: 0,
         latest: 0,
         width: 0,
         height: 0,
     };
     let mut i: usize = 0;
     while i + 3 < bytes.len() {
-        let w = word4(bytes[i], bytes[i + 1], bytes[i + 2], bytes[i + 3]);
+        let w = words::four_at(bytes, i);
         let step = advance(s, w);
         let v = step.events;
         s = step.next;
         i += 4;
-        if v.mask != 0 {
-            let r = trim::single(v, win, k);
-            let kept = Vector {
-                x: v.x,
-                y: v.y,
-                t: v.t,
-                p: v.p,
-                mask: r.mask,
-            };
-            let m = u64::count_ones(r.mask);
-            seen = extent::see(seen, kept);
-            n += m as usize;
-            k = k + m as u64 + r.extra;
-        }
-        if trim::stopped(win, k, s.initialised, s.time) {
+        let r = word::cut2(v, win, t.number);
+        t = word::note(t, v, r);
+        if trim::stopped(win, t.number, s.initialised, s.time) {
             break;
         }
     }
     Tally {
-        number: k,
-        count: n,
-        latest: seen.latest,
-        width: seen.width,
-        height: seen.height,
+        number: t.number,
+        count: t.count,
+        latest: t.latest,
+        width: t.width,
+        height: t.height,
         consumed: i / 4,
         codec: Codec::Evt2(s),
     }
@@ -90,24 +70,16 @@ pub fn fill2(
     let mut n: usize = 0;
     let mut i: usize = 0;
     while i + 3 < bytes.len() {
-        let w = word4(bytes[i], bytes[i + 1], bytes[i + 2], bytes[i + 3]);
+        let w = words::four_at(bytes, i);
         let step = advance(s, w);
         let v = step.events;
         s = step.next;
         i += 4;
-        if v.mask != 0 {
-            let r = trim::single(v, win, k);
-            let kept = Vector {
-                x: v.x,
-                y: v.y,
-                t: v.t,
-                p: v.p,
-                mask: r.mask,
-            };
-            let was = n;
-            n = sensor::put_all(kept, was, &mut *xs, &mut *ys, &mut *ts, &mut *ps);
-            k = k + (n - was) as u64 + r.extra;
-        }
+        let r = word::cut2(v, win, k);
+        let kept = word::masked(v, r.mask);
+        let was = n;
+        n = sensor::put_all(kept, was, &mut *xs, &mut *ys, &mut *ts, &mut *ps);
+        k = word::after(k, was, n, r.extra);
         if trim::stopped(win, k, s.initialised, s.time) {
             break;
         }

@@ -32,6 +32,7 @@ pub struct Filled {
 
 mod evt2;
 mod evt3;
+mod word;
 
 // Counts what a pass hands over, from a decoder and the next event's number, and alters nothing.
 // `Ready` is every caller's to show: it refuses a decoder out of range (10) and more than 2^30

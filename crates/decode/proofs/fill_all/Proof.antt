@@ -28,7 +28,7 @@ same-length-4 : tie.Need-same-length-4
 same-length-4 c = search needs
 
 returns : tie.Need-returns
-returns c = let e = c .before .before .before .before .before .before .before .before .evt2 .ensures in rw (c .before .before .before .before .before .before .before .before .before .before .before .before .before .before .codec .given .1) (rw (e .0 .0, e .0 .1), e .1)
+returns c = rw (c .before .before .before .before .before .before .before .before .before .before .before .before .before .codec .given .1) (c .before .before .before .before .before .before .before .evt2 .ensures)
 
 same-length-5 : tie.Need-same-length-5
 same-length-5 c = search needs
@@ -43,7 +43,7 @@ same-length-8 : tie.Need-same-length-8
 same-length-8 c = search needs
 
 returns-2 : tie.Need-returns-2
-returns-2 c = let e = c .before .before .before .before .before .before .before .before .evt3 .ensures in rw (c .before .before .before .before .before .before .before .before .before .before .before .before .before .before .codec2 .given .1) (rw (e .0 .0, e .0 .1), e .1)
+returns-2 c = rw (c .before .before .before .before .before .before .before .before .before .before .before .before .before .codec2 .given .1) (c .before .before .before .before .before .before .before .evt3 .ensures)
 
 pub fill-all-spec : {M : Type 1} → statement M
 fill-all-spec =

@@ -8,7 +8,7 @@ use Rattle.index.proofs.advance.Statement.{statement}
 use Rattle.index.proofs.advance.Tie as tie
 use Rattle.index.proofs.advance.Reads as reads
 use Rattle.index.proofs.advance.Lts as lts
-use Rattle.decode.proofs.count_all.Reads as count-all-reads
+use Rattle.count.proofs.count_all.Reads as count-all-reads
 use Rattle.index.proofs.later.Reads as later-reads
 use Rattle.index.proofs.less.Reads as less-reads
 

@@ -5,7 +5,7 @@ use Rattle.room.proofs.need_all.Statement.{statement}
 use Rattle.room.proofs.need_all.Tie as tie
 use Rattle.room.proofs.need_all.Reads as reads
 use Rattle.room.proofs.need_all.Lts as lts
-use Rattle.decode.proofs.count_all.Reads as count-all-reads
+use Rattle.count.proofs.count_all.Reads as count-all-reads
 use Rattle.room.proofs.most_from.Reads as most-from-reads
 
 -- src/lib.rt:50:9

@@ -4,9 +4,10 @@ use native.Mathlib.Omega.{arith}
 use borrow.Author.Needs.{needs}
 use lib.ListN.{length}
 use denote.Ref.{now}
+use Rattle.evt.specs.Event.{Narrow}
 use Rattle.evt.specs.Evt3.{reader3, slimmed}
 use Rattle.evt.specs.Range.{Bounded3, bounded-step3, bounded-sane3, bounded-slim3}
-use Rattle.decode.specs.Turn.{Fits, insideAll, Filling, filling-start, filling-room, filling-turn, filling-end}
+use Rattle.decode.specs.Turn.{Fits, insideAll, Turn, Filling, filling-start, filling-room, filling-turn, filling-end}
 use Rattle.decode.specs.Loops.{start3, turn3, small3}
 use Rattle.decode.proofs.fill.evt3.Statement.{statement}
 use Rattle.decode.proofs.fill.evt3.Tie as tie
@@ -23,6 +24,13 @@ fits-at : (c : tie.After-widen Inv-loop μ-loop) →
     Fits (length (insideAll 2 reader3 (a .width) (a .height) (slimmed (c .widen .result)) (now (a .bytes)))) (length (now (a .xs))) (length (now (a .ys))) (length (now (a .ts))) (length (now (a .ps)))
 fits-at c = rw (c .widen .ensures .0) (c .before .before .before .before .before .pre .1)
 
+-- the word's step, and its events
+turn : (c : tie.After-clean Inv-loop μ-loop) → Turn 2 reader3 (now (c .before .before .before .before .before .before .before .before .before .before .before .args .bytes)) (slimmed (c .before .before .before .before .before .loop .s)) (c .before .before .before .before .before .loop .i) (slimmed (c .before .before .advance .result .next)) (c .before .before .advance .result .events)
+turn c = turn3 (c .before .before .before .before .loop-test .taken) (c .before .before .before .two-at .result) (c .before .before .before .two-at .ensures) (c .before .before .advance .result) (c .before .before .advance .ensures)
+
+small : (c : tie.After-clean Inv-loop μ-loop) → Narrow (c .before .before .advance .result .events)
+small c = small3 (c .before .before .before .before .before .loop .inv .stand .inv) (c .before .before .before .two-at .result) (c .before .before .advance .result .events) (c .before .before .advance .ensures .1)
+
 widen-requires : tie.Need-widen-requires Inv-loop μ-loop
 widen-requires c κs = search needs
 
@@ -32,35 +40,26 @@ loop-holds c = rw (c .widen .ensures .0) (filling-start (omega arith) bounded-st
 add-loop : tie.Need-add-loop Inv-loop μ-loop
 add-loop c = omega (arith, c .loop .inv .stand .within, c .before .before .before .before .before .before .pre .0 .loops)
 
-shared-slice-read-two : tie.Need-shared-slice-read-two Inv-loop μ-loop
-shared-slice-read-two c = omega arith
-
-add-two : tie.Need-add-two Inv-loop μ-loop
-add-two c = omega arith
-
-shared-slice-read-two-2 : tie.Need-shared-slice-read-two-2 Inv-loop μ-loop
-shared-slice-read-two-2 c = omega arith
-
-two-requires : tie.Need-two-requires Inv-loop μ-loop
-two-requires c κs = search needs
+two-at-requires : tie.Need-two-at-requires Inv-loop μ-loop
+two-at-requires c κs = omega (arith, c .loop-test .taken, c .before .before .before .before .before .before .before .pre .0 .loops)
 
 advance-requires : tie.Need-advance-requires Inv-loop μ-loop
-advance-requires c κs = bounded-sane3 (c .before .before .before .before .loop .inv .stand .inv)
+advance-requires c κs = bounded-sane3 (c .before .before .loop .inv .stand .inv)
 
 clean-requires : tie.Need-clean-requires Inv-loop μ-loop
 clean-requires c κs = search needs
 
 add-i : tie.Need-add-i Inv-loop μ-loop
-add-i c = omega (arith, c .before .before .before .before .before .before .before .loop .inv .stand .within, c .before .before .before .before .before .before .loop-test .taken, c .before .before .before .before .before .before .before .before .before .before .before .before .before .pre .0 .loops)
+add-i c = omega (arith, c .before .before .before .before .loop-test .taken, c .before .before .before .before .before .before .before .before .before .before .before .pre .0 .loops)
 
 place-requires : tie.Need-place-requires Inv-loop μ-loop
-place-requires c κs = filling-room (omega arith) bounded-step3 (fits-at (c .before .before .before .before .before .before .before .before .before .before .before .before)) (c .before .before .before .before .before .before .before .before .before .before .before .loop .inv) (turn3 (c .before .before .before .before .before .before .before .before .before .before .loop-test .taken) (c .before .before .before .before .before .before .before .two .result) (c .before .before .before .before .before .before .before .two .ensures) (c .before .before .before .before .before .before .advance .result) (c .before .before .before .before .before .before .advance .ensures)) (small3 (c .before .before .before .before .before .before .before .before .before .before .before .loop .inv .stand .inv) (c .before .before .before .before .before .before .before .two .result) (c .before .before .before .before .before .before .advance .result .events) (c .before .before .before .before .before .before .advance .ensures .1))
+place-requires c κs = filling-room (omega arith) bounded-step3 (fits-at (c .before .before .before .before .before .before .before .before .before .before)) (c .before .before .before .before .before .before .before .before .before .loop .inv) (turn (c .before .before .before .before)) (small (c .before .before .before .before))
 
 loop-less : tie.Need-loop-less Inv-loop μ-loop
-loop-less c = omega (arith, c .before .before .before .before .before .before .before .before .before .before .before .before .before .before .before .before .before .before .loop-test .taken)
+loop-less c = omega (arith, c .before .before .before .before .before .before .before .before .before .before .before .before .before .before .before .before .loop-test .taken)
 
 loop-again : tie.Need-loop-again Inv-loop μ-loop
-loop-again c = rw (c .before .before .before .before .before .before .before .before .before .before .before .before .clean .ensures, c .before .before .before .before .before .before .before .place .ensures .0) (filling-turn (omega arith) bounded-step3 (fits-at (c .before .before .before .before .before .before .before .before .before .before .before .before .before .before .before .before .before .before .before .before)) (c .before .before .before .before .before .before .before .before .before .before .before .before .before .before .before .before .before .before .before .loop .inv) (turn3 (c .before .before .before .before .before .before .before .before .before .before .before .before .before .before .before .before .before .before .loop-test .taken) (c .before .before .before .before .before .before .before .before .before .before .before .before .before .before .before .two .result) (c .before .before .before .before .before .before .before .before .before .before .before .before .before .before .before .two .ensures) (c .before .before .before .before .before .before .before .before .before .before .before .before .before .before .advance .result) (c .before .before .before .before .before .before .before .before .before .before .before .before .before .before .advance .ensures)) (small3 (c .before .before .before .before .before .before .before .before .before .before .before .before .before .before .before .before .before .before .before .loop .inv .stand .inv) (c .before .before .before .before .before .before .before .before .before .before .before .before .before .before .before .two .result) (c .before .before .before .before .before .before .before .before .before .before .before .before .before .before .advance .result .events) (c .before .before .before .before .before .before .before .before .before .before .before .before .before .before .advance .ensures .1)) (c .before .before .before .before .before .before .before .place .ensures .1))
+loop-again c = rw (c .before .before .before .before .before .before .before .before .before .before .before .before .clean .ensures, c .before .before .before .before .before .before .before .place .ensures .0) (filling-turn (omega arith) bounded-step3 (fits-at (c .before .before .before .before .before .before .before .before .before .before .before .before .before .before .before .before .before .before)) (c .before .before .before .before .before .before .before .before .before .before .before .before .before .before .before .before .before .loop .inv) (turn (c .before .before .before .before .before .before .before .before .before .before .before .before)) (small (c .before .before .before .before .before .before .before .before .before .before .before .before)) (c .before .before .before .before .before .before .before .place .ensures .1))
 
 slim-requires : tie.Need-slim-requires Inv-loop μ-loop
 slim-requires c κs = bounded-slim3 (c .before .loop .inv .stand .inv)
@@ -78,7 +77,9 @@ same-length-4 : tie.Need-same-length-4 Inv-loop μ-loop
 same-length-4 c = c .before .before .loop .inv .going .in-p .long
 
 returns : tie.Need-returns Inv-loop μ-loop
-returns c = let q = rw (c .before .before .before .widen .ensures .0) at (filling-end (omega arith) bounded-step3 (fits-at (c .before .before .before)) (c .before .before .loop .inv) (omega (arith, c .before .loop-test .left))) in rw (c .slim .ensures) ((q .0, q .1), q .2)
+returns c =
+    let q = rw (c .before .before .before .widen .ensures .0) at (filling-end (omega arith) bounded-step3 (fits-at (c .before .before .before)) (c .before .before .loop .inv) (omega (arith, c .before .loop-test .left))) in
+    (rw (c .slim .ensures, q .0, q .1), q .2)
 
 pub evt3-spec : {M : Type 1} → statement M
 evt3-spec =
@@ -89,10 +90,7 @@ evt3-spec =
     widen-requires
     loop-holds
     add-loop
-    shared-slice-read-two
-    add-two
-    shared-slice-read-two-2
-    two-requires
+    two-at-requires
     advance-requires
     clean-requires
     add-i

@@ -1,24 +1,19 @@
--- The loop's invariant is `Fills` at EVT3; what a turn keeps is in specs/Turn.antt and specs/Fill.antt.
-use Rattle.select.proofs.evt3.fill3.Statement.{statement}
-use Rattle.select.proofs.evt3.fill3.Tie as tie
-use mathlib.Core.Path.{_≡_, sym, ap, _∙_}
+-- `select::evt3::fill3` meets its contract. The loop's invariant is `Fills`; what a turn keeps is in specs/Turn.antt and specs/Fill.antt.
+use mathlib.Core.Path.{sym, ap, _∙_}
 use mathlib.Core.Logic.{⊎-elim}
 use native.Mathlib.Omega.{arith}
 use borrow.Author.Needs.{needs}
-use Prim.Native.Nat.{_+_, _-_, _≤_, _<_, _^_}
+use Prim.Native.Nat.{_-_}
 use denote.Ref.{now}
-use lib.ListN.{length, take, drop}
-use Rattle.stream.specs.Words.{value, value-two}
-use Rattle.evt.specs.Event.{Narrow, eventsOf}
-use Rattle.evt.specs.Columns.{Room}
-use Rattle.evt.specs.Evt3.{slimmed}
+use lib.ListN.{length}
 use Rattle.evt.specs.Range.{bounded-sane3, bounded-slim3}
-use Rattle.evt.specs.Evt3.{step3, vector3}
-use Rattle.window.specs.Trim.{masked, events-few}
+use Rattle.evt.specs.Evt3.{slimmed}
 use Rattle.select.specs.Pass.{Fits}
-use Rattle.select.specs.Turn.{all, narrow-here, number-here}
-use Rattle.select.specs.Fill.{Fills, FillsIf, Full, fills-start, fills-on, fills-stop, full, full-wrote, fills-end, fills-turn, fills-quiet, room-here}
-use Rattle.select.specs.Sources.{source3, laws3, inv3}
+use Rattle.select.specs.Turn.{Turned, all, narrow-here, number-here}
+use Rattle.select.specs.Fill.{Fills, Full, fills-start, fills-on, fills-stop, full, full-wrote, fills-end, fills-turn, room-here, number-fits}
+use Rattle.select.specs.Sources.{source3, laws3, inv3, turned3}
+use Rattle.select.proofs.evt3.fill3.Statement.{statement}
+use Rattle.select.proofs.evt3.fill3.Tie as tie
 
 abbrev Inv-loop : tie.InvT-loop
 Inv-loop bytes win number xs₀ ys₀ ts₀ ps₀ s₀ k₀ n₀ i₀ xs ys ts ps s k n i = Fills source3 win number (slimmed s₀) bytes xs₀ ys₀ ts₀ ps₀ xs ys ts ps (slimmed s) k n i
@@ -30,43 +25,14 @@ abbrev μ-loop : tie.MeasureT-loop
 fits-at : (c : tie.After-widen Inv-loop μ-loop) → Fits (length (all source3 (c .before .before .before .before .before .args .win) (c .before .before .before .before .before .args .number) (slimmed (c .widen .result)) (now (c .before .before .before .before .before .args .bytes)))) (length (now (c .before .before .before .before .before .args .xs))) (length (now (c .before .before .before .before .before .args .ys))) (length (now (c .before .before .before .before .before .args .ts))) (length (now (c .before .before .before .before .before .args .ps)))
 fits-at c = rw (c .widen .ensures .0) (c .before .before .before .before .before .pre .1)
 
--- the word and the step
-h-at : (c : tie.After-struct-known Inv-loop μ-loop) → c .before .before .before .before .before .before .before .before .loop .i + 2 ≤ length (now (c .before .before .before .before .before .before .before .before .before .before .before .before .before .before .args .bytes))
-h-at c = omega (arith, c .before .before .before .before .before .before .before .loop-test .taken)
-
-word-at : (c : tie.After-struct-known Inv-loop μ-loop) → c .before .before .before .before .word2 .result ≡ value (take 2 (drop (c .before .before .before .before .before .before .before .before .loop .i) (now (c .before .before .before .before .before .before .before .before .before .before .before .before .before .before .args .bytes))))
-word-at c = c .before .before .before .before .word2 .ensures ∙ sym (value-two (now (c .before .before .before .before .before .before .before .before .before .before .before .before .before .before .args .bytes)) (c .before .before .before .before .before .before .before .before .loop .i) (h-at c))
-
-next-at : (c : tie.After-struct-known Inv-loop μ-loop) → (slimmed (c .before .before .before .advance .result .next)) ≡ step3 (slimmed (c .before .before .before .before .before .before .before .before .loop .s)) (c .before .before .before .before .word2 .result)
-next-at c = ap slimmed (c .before .before .before .advance .ensures .0)
-
-events-at : (c : tie.After-struct-known Inv-loop μ-loop) → c .before .before .before .advance .result .events ≡ vector3 (slimmed (c .before .before .before .before .before .before .before .before .loop .s)) (c .before .before .before .before .word2 .result)
-events-at c = c .before .before .before .advance .ensures .1
-
-narrow-at : (c : tie.After-struct-known Inv-loop μ-loop) → Narrow (c .before .before .before .advance .result .events)
-narrow-at c = narrow-here laws3 (c .before .before .before .before .before .before .before .before .loop .inv .at) (h-at c) (c .before .before .before .before .word2 .result) (word-at c) (slimmed (c .before .before .before .advance .result .next)) (next-at c) (c .before .before .before .advance .result .events) (events-at c)
-
-number-at : (c : tie.After-struct-known Inv-loop μ-loop) → c .before .before .before .before .before .before .before .before .loop .k < 2 ^ 62 + 2 ^ 61
-number-at c = number-here laws3 (c .before .before .before .before .before .before .before .before .loop .inv .at) (h-at c) (c .before .before .before .before .word2 .result) (word-at c) (slimmed (c .before .before .before .advance .result .next)) (next-at c) (c .before .before .before .advance .result .events) (events-at c)
-
-room-at : (c : tie.After-trim Inv-loop μ-loop) → Room (length (eventsOf (masked (c .before .before .before .before .before .advance .result .events) (c .trim .result .mask)))) (masked (c .before .before .before .before .before .advance .result .events) (c .trim .result .mask)) (c .before .before .before .before .before .before .before .before .before .before .loop .n) (length (c .before .before .before .before .before .before .before .before .before .before .loop .xs)) (length (c .before .before .before .before .before .before .before .before .before .before .loop .ys)) (length (c .before .before .before .before .before .before .before .before .before .before .loop .ts)) (length (c .before .before .before .before .before .before .before .before .before .before .loop .ps))
-room-at c = room-here laws3 (c .before .before .before .before .before .before .before .before .before .before .loop .inv) (h-at (c .before .before)) (c .before .before .before .before .before .before .word2 .result) (word-at (c .before .before)) (slimmed (c .before .before .before .before .before .advance .result .next)) (next-at (c .before .before)) (c .before .before .before .before .before .advance .result .events) (events-at (c .before .before)) (fits-at (c .before .before .before .before .before .before .before .before .before .before .before)) (c .trim .result) (c .trim .ensures)
-
-few-at : (c : tie.After-trim Inv-loop μ-loop) → length (eventsOf (masked (c .before .before .before .before .before .advance .result .events) (c .trim .result .mask))) ≤ 32
-few-at c = events-few 32 32 (masked (c .before .before .before .before .before .advance .result .events) (c .trim .result .mask)) (room-at c .mask)
-
-pend : (c : tie.Joined1 Inv-loop μ-loop) → FillsIf source3 (c .before .before .before .before .before .before .before .before .before .before .before .before .before .before .before .args .win) (c .before .before .before .before .before .before .before .before .before .before .before .before .before .before .before .args .number) (slimmed (c .before .before .before .before .before .before .before .before .before .before .widen .result)) (now (c .before .before .before .before .before .before .before .before .before .before .before .before .before .before .before .args .bytes)) (now (c .before .before .before .before .before .before .before .before .before .before .before .before .before .before .before .args .xs)) (now (c .before .before .before .before .before .before .before .before .before .before .before .before .before .before .before .args .ys)) (now (c .before .before .before .before .before .before .before .before .before .before .before .before .before .before .before .args .ts)) (now (c .before .before .before .before .before .before .before .before .before .before .before .before .before .before .before .args .ps)) (c .if1 .xs) (c .if1 .ys) (c .if1 .ts) (c .if1 .ps) (slimmed (c .before .before .before .before .advance .result .next)) (c .if1 .k) (c .if1 .n) (c .before .before .before .before .before .before .before .before .before .loop .i + 2)
-pend c =
-    ⊎-elim
-    (λ w. rw (w .15, w .16, w .17, w .18, w .19, w .20) (fills-turn laws3 (c .before .before .before .before .before .before .before .before .before .loop .inv) (h-at (c .before)) (c .before .before .before .before .before .word2 .result) (word-at (c .before)) (slimmed (c .before .before .before .before .advance .result .next)) (next-at (c .before)) (c .before .before .before .before .advance .result .events) (events-at (c .before)) (fits-at (c .before .before .before .before .before .before .before .before .before .before)) (w .1 .result) (w .1 .ensures) (w .6 .result) (w .6 .ensures .0) (w .6 .ensures .1)))
-    (λ w. rw (w .1, w .2, w .3, w .4, w .5, w .6) (fills-quiet laws3 (c .before .before .before .before .before .before .before .before .before .loop .inv) (h-at (c .before)) (c .before .before .before .before .before .word2 .result) (word-at (c .before)) (slimmed (c .before .before .before .before .advance .result .next)) (next-at (c .before)) (c .before .before .before .before .advance .result .events) (events-at (c .before)) (w .0 .left)))
-    (c .if1 .came)
+turned : (c : tie.After-s Inv-loop μ-loop) → Turned source3 (now (c .before .before .before .before .before .before .before .before .before .before .before .args .bytes)) (c .before .before .before .before .before .loop .i) (slimmed (c .before .before .before .before .before .loop .s)) (slimmed (c .before .before .advance .result .next)) (c .before .before .advance .result .events)
+turned c = turned3 (c .before .before .before .before .loop-test .taken) (c .before .before .before .two-at .ensures) (ap slimmed (c .before .before .advance .ensures .0)) (c .before .before .advance .ensures .1)
 
 done : (c : tie.Left-loop Inv-loop μ-loop) → Full source3 (c .before .before .before .before .before .before .before .args .win) (c .before .before .before .before .before .before .before .args .number) (slimmed (c .before .before .widen .result)) (now (c .before .before .before .before .before .before .before .args .bytes)) (now (c .before .before .before .before .before .before .before .args .xs)) (now (c .before .before .before .before .before .before .before .args .ys)) (now (c .before .before .before .before .before .before .before .args .ts)) (now (c .before .before .before .before .before .before .before .args .ps)) (c .loop-test .xs) (c .loop-test .ys) (c .loop-test .ts) (c .loop-test .ps) (slimmed (c .loop-test .s)) (c .loop-test .k) (c .loop-test .n) (c .loop-test .i)
 done c =
     ⊎-elim
     (λ w. rw (w .1, w .2, w .3, w .4, w .5, w .6, w .7, w .8) (fills-end laws3 (c .before .loop .inv) (omega (arith, w .0 .left))))
-    (λ w. rw (w .11, w .12, w .13, w .14, w .15, w .16, w .17, w .18) (fills-stop laws3 (sym (w .9 .ensures) ∙ w .10 .taken) (pend (record { before = record { before = record { before = record { before = record { before = record { before = record { before = record { before = record { before = c .before; loop-test = w .0 }; shared-slice-known2 = w .1 }; shared-slice-known3 = w .2 }; word2 = w .3 }; advance = w .4 }; v = w .5 }; s = w .6 }; struct-known = w .7 }; if1 = w .8 }))))
+    (λ w. rw (w .22, w .23, w .24, w .25, w .26, w .27, w .28, w .29) (fills-stop laws3 (sym (w .20 .ensures) ∙ w .21 .taken) (fills-turn laws3 (c .before .loop .inv) (turned (record { before = record { before = record { before = record { before = record { before = c .before; loop-test = w .0 }; two-at = w .1 }; advance = w .2 }; v = w .3 }; s = w .4 })) (fits-at (c .before .before)) (w .5 .result) (w .5 .ensures) (w .6 .ensures) (w .11 .result) (w .11 .ensures .0) (w .19 .ensures) (w .11 .ensures .1))))
     (c .loop-test .came)
 
 widen-requires : tie.Need-widen-requires Inv-loop μ-loop
@@ -78,47 +44,35 @@ loop-holds c = rw (c .widen .ensures .0) (fills-start laws3 (inv3 (c .before .be
 add-loop : tie.Need-add-loop Inv-loop μ-loop
 add-loop c = omega (arith, c .loop .inv .at .within, c .loop .inv .at .long)
 
-shared-slice-read-word2 : tie.Need-shared-slice-read-word2 Inv-loop μ-loop
-shared-slice-read-word2 c = omega (arith, c .before .loop-test .taken)
-
-add-word2 : tie.Need-add-word2 Inv-loop μ-loop
-add-word2 c = omega (arith, c .before .loop-test .taken)
-
-shared-slice-read-word2-2 : tie.Need-shared-slice-read-word2-2 Inv-loop μ-loop
-shared-slice-read-word2-2 c = omega (arith, c .before .before .loop-test .taken)
-
-word2-requires : tie.Need-word2-requires Inv-loop μ-loop
-word2-requires c κs = search needs
+two-at-requires : tie.Need-two-at-requires Inv-loop μ-loop
+two-at-requires c κs = omega (arith, c .loop-test .taken, c .before .loop .inv .at .long)
 
 advance-requires : tie.Need-advance-requires Inv-loop μ-loop
-advance-requires c κs = bounded-sane3 (c .before .before .before .before .loop .inv .at .inv)
+advance-requires c κs = bounded-sane3 (c .before .before .loop .inv .at .inv)
 
 add-i : tie.Need-add-i Inv-loop μ-loop
-add-i c = omega (arith, c .before .before .before .before .before .before .before .loop .inv .at .within, c .before .before .before .before .before .before .before .loop .inv .at .long)
+add-i c = omega (arith, c .before .before .before .before .before .loop .inv .at .within, c .before .before .before .before .before .loop .inv .at .long)
 
-trim-requires : tie.Need-trim-requires Inv-loop μ-loop
-trim-requires c κs = (narrow-at (c .before), number-at (c .before))
+keep3-requires : tie.Need-keep3-requires Inv-loop μ-loop
+keep3-requires c κs = (narrow-here laws3 (c .before .before .before .before .before .loop .inv .at) (turned c), number-here laws3 (c .before .before .before .before .before .loop .inv .at))
+
+masked-requires : tie.Need-masked-requires Inv-loop μ-loop
+masked-requires c κs = search needs
 
 put-all-requires : tie.Need-put-all-requires Inv-loop μ-loop
-put-all-requires c κs = room-at (c .before .before .before .before)
+put-all-requires c κs = room-here laws3 (c .before .before .before .before .before .before .before .before .before .before .before .loop .inv) (turned (c .before .before .before .before .before .before)) (fits-at (c .before .before .before .before .before .before .before .before .before .before .before .before)) (c .before .before .before .before .before .keep3 .result) (c .before .before .before .before .before .keep3 .ensures) (c .before .before .before .before .masked .ensures)
 
-sub-k : tie.Need-sub-k Inv-loop μ-loop
-sub-k c = omega (arith, c .before .before .before .before .before .before .before .put-all .ensures .0)
-
-add-k : tie.Need-add-k Inv-loop μ-loop
-add-k c = omega (arith, c .before .before .before .before .before .before .before .put-all .ensures .0, few-at (c .before .before .before .before .before .before .before .before .before .before .before .before), number-at (c .before .before .before .before .before .before .before .before .before .before .before .before .before .before))
-
-add-k-2 : tie.Need-add-k-2 Inv-loop μ-loop
-add-k-2 c = omega (arith, c .before .before .before .before .before .before .before .before .put-all .ensures .0, few-at (c .before .before .before .before .before .before .before .before .before .before .before .before .before), number-at (c .before .before .before .before .before .before .before .before .before .before .before .before .before .before .before), narrow-at (c .before .before .before .before .before .before .before .before .before .before .before .before .before .before .before) .mask<, c .before .before .before .before .before .before .before .before .before .before .before .before .before .trim .ensures .few)
+after-requires : tie.Need-after-requires Inv-loop μ-loop
+after-requires c κs = number-fits laws3 (c .before .before .before .before .before .before .before .before .before .before .before .before .before .before .before .before .before .before .before .loop .inv) (turned (c .before .before .before .before .before .before .before .before .before .before .before .before .before .before)) (fits-at (c .before .before .before .before .before .before .before .before .before .before .before .before .before .before .before .before .before .before .before .before)) (c .before .before .before .before .before .before .before .before .before .before .before .before .before .keep3 .result) (c .before .before .before .before .before .before .before .before .before .before .before .before .before .keep3 .ensures) (c .before .before .before .before .before .before .before .before .before .before .before .before .masked .ensures) (c .before .before .before .before .before .before .before .put-all .result) (c .before .before .before .before .before .before .before .put-all .ensures .0)
 
 stopped-requires : tie.Need-stopped-requires Inv-loop μ-loop
 stopped-requires c κs = search needs
 
 loop-less : tie.Need-loop-less Inv-loop μ-loop
-loop-less c = omega (arith, c .before .before .before .before .before .before .before .before .before .before .loop-test .taken)
+loop-less c = omega (arith, c .before .before .before .before .before .before .before .before .before .before .before .before .before .before .before .before .before .before .before .before .before .loop-test .taken)
 
 loop-again : tie.Need-loop-again Inv-loop μ-loop
-loop-again c = fills-on laws3 (sym (c .before .stopped .ensures) ∙ c .if2 .left) (pend (c .before .before))
+loop-again c = fills-on laws3 (sym (c .before .stopped .ensures) ∙ c .if1 .left) (fills-turn laws3 (c .before .before .before .before .before .before .before .before .before .before .before .before .before .before .before .before .before .before .before .before .before .before .loop .inv) (turned (c .before .before .before .before .before .before .before .before .before .before .before .before .before .before .before .before .before)) (fits-at (c .before .before .before .before .before .before .before .before .before .before .before .before .before .before .before .before .before .before .before .before .before .before .before)) (c .before .before .before .before .before .before .before .before .before .before .before .before .before .before .before .before .keep3 .result) (c .before .before .before .before .before .before .before .before .before .before .before .before .before .before .before .before .keep3 .ensures) (c .before .before .before .before .before .before .before .before .before .before .before .before .before .before .before .masked .ensures) (c .before .before .before .before .before .before .before .before .before .before .put-all .result) (c .before .before .before .before .before .before .before .before .before .before .put-all .ensures .0) (c .before .before .after .ensures) (c .before .before .before .before .before .before .before .before .before .before .put-all .ensures .1))
 
 slim-requires : tie.Need-slim-requires Inv-loop μ-loop
 slim-requires c κs = bounded-slim3 (done c .at .inv)
@@ -147,17 +101,13 @@ fill3-spec =
     widen-requires
     loop-holds
     add-loop
-    shared-slice-read-word2
-    add-word2
-    shared-slice-read-word2-2
-    word2-requires
+    two-at-requires
     advance-requires
     add-i
-    trim-requires
+    keep3-requires
+    masked-requires
     put-all-requires
-    sub-k
-    add-k
-    add-k-2
+    after-requires
     stopped-requires
     loop-less
     loop-again

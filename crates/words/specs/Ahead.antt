@@ -1,0 +1,27 @@
+-- The word at an index of some bytes, which a loop may have read before its turn: 0 where none is whole.
+use mathlib.Core.Path.{_≡_, sym, _∙_}
+use mathlib.Core.Bool.{cond}
+use mathlib.Core.List.{List}
+use Prim.Native.Nat.{ℕ, _+_, _*_, _≤_, _<_}
+use native.Mathlib.Omega.{arith}
+use lib.Dec.{leb}
+use lib.ListN.{length, take, drop, getD}
+use borrow.Author.Tests.{le-leb, lt-leb}
+use Rattle.stream.specs.Words.{value, value-two, value-four}
+
+abbrev pub ahead : ℕ → List ℕ → ℕ → ℕ
+ahead n l i = cond (leb (i + n) (length l)) (value (take n (drop i l))) 0
+
+module _ (n : ℕ) (l : List ℕ) (i : ℕ) where
+  pub ahead-some : i + n ≤ length l → ahead n l i ≡ value (take n (drop i l))
+  ahead-some h = rw (le-leb (i + n) (length l) h)
+
+  pub ahead-none : length l < i + n → ahead n l i ≡ 0
+  ahead-none h = rw (lt-leb (i + n) (length l) h)
+
+module _ (l : List ℕ) (i w : ℕ) where
+  pub ahead-two : i + 1 < length l → w ≡ getD l i 0 + getD l (i + 1) 0 * 256 → w ≡ ahead 2 l i
+  ahead-two h e = e ∙ sym (ahead-some 2 l i (omega arith) ∙ value-two l i (omega arith))
+
+  pub ahead-four : i + 3 < length l → w ≡ getD l i 0 + getD l (i + 1) 0 * 256 + getD l (i + 2) 0 * 65536 + getD l (i + 3) 0 * 16777216 → w ≡ ahead 4 l i
+  ahead-four h e = e ∙ sym (ahead-some 4 l i (omega arith) ∙ value-four l i (omega arith))

@@ -6,14 +6,14 @@ use lib.Dec.{ltb}
 use lib.ListN.{length, take}
 use Rattle.stream.specs.Words.{value}
 use Rattle.stream.specs.Stream.{decode, after}
-use Rattle.evt.specs.declared.vector.Vector.{Vector}
-use Rattle.evt.specs.Event.{Event, noEvents}
-use Rattle.evt.specs.declared.Encoding.{Encoding}
-use Rattle.evt.specs.declared.Encoding.the-variants as E
+use Rattle.evt_types.specs.declared.vector.Vector.{Vector}
+use Rattle.evt_types.specs.Event.{Event, noEvents}
+use Rattle.evt_types.specs.declared.Encoding.{Encoding}
+use Rattle.evt_types.specs.declared.Encoding.the-variants as E
 use Rattle.evt.specs.declared.codec.Codec.{Codec}
 use Rattle.evt.specs.declared.codec.Codec.the-variants.{Evt2, Evt3}
-use Rattle.evt.specs.Evt2.{fresh2, inRange2, step2, vector2, reader2}
-use Rattle.evt.specs.Evt3.{fresh3, inRange3, step3, vector3, reader3}
+use Rattle.evt2_decoder.specs.Evt2.{fresh2, inRange2, step2, vector2, reader2}
+use Rattle.evt3_decoder.specs.Evt3.{fresh3, inRange3, step3, vector3, reader3}
 
 abbrev pub freshC : Encoding → Codec
 freshC E.Evt2 = Evt2 fresh2

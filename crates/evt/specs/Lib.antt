@@ -1,10 +1,2 @@
-pub mod Told
-pub mod Event
-pub mod Layout
-pub mod Clock
-pub mod Evt2
-pub mod Evt3
 pub mod Codec
 pub mod Decode
-pub mod Range
-pub mod Columns

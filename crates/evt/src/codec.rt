@@ -1,16 +1,17 @@
 // A decoder of either encoding.
 ghost use mathlib.Core.Path.{_≡_};
-ghost use Rattle.evt.specs.Event.{noEvents};
+ghost use Rattle.evt_types.specs.Event.{noEvents};
 ghost use Rattle.evt.specs.Codec.{freshC, wordSize, inRangeC, stepC, vectorC};
-ghost use Rattle.evt.specs.Decode.{Owed, DecodedC};
-use crate::DecodeAnswer;
-use crate::Encoding;
-use crate::Refusal;
-use crate::evt2::Evt2Decoder;
-use crate::evt3::Decoder;
-use crate::fields::word16;
-use crate::fields::word32;
-use crate::vector;
+ghost use Rattle.evt.specs.Decode.{DecodedC};
+ghost use Rattle.evt_types.specs.Owed.{Owed};
+use evt_types::DecodeAnswer;
+use evt_types::Encoding;
+use evt_types::Refusal;
+use evt_types::fields::word16;
+use evt_types::fields::word32;
+use evt_types::vector;
+use evt2_decoder::Evt2Decoder;
+use evt3_decoder::Decoder;
 
 pub enum Codec {
     Evt2(Evt2Decoder),

@@ -8,8 +8,8 @@ use Rattle.evt.proofs.codec.first_evt2.Tie as tie
 use Rattle.evt.proofs.codec.first_evt2.Reads as reads
 use Rattle.evt.proofs.codec.first_evt2.Lts as lts
 use Rattle.evt.proofs.codec.Codec.idle.Reads as idle-reads
-use Rattle.evt.proofs.evt2.Evt2Decoder.step.Reads as step-reads
-use Rattle.evt.proofs.fields.word32.Reads as word32-reads
+use Rattle.evt2_decoder.proofs.Evt2Decoder.step.Reads as step-reads
+use Rattle.evt_types.proofs.fields.word32.Reads as word32-reads
 
 -- src/codec.rt:88:9
 idle-requires : tie.Need-idle-requires

@@ -8,8 +8,8 @@ use Rattle.evt.proofs.codec.first_evt3.Tie as tie
 use Rattle.evt.proofs.codec.first_evt3.Reads as reads
 use Rattle.evt.proofs.codec.first_evt3.Lts as lts
 use Rattle.evt.proofs.codec.Codec.idle.Reads as idle-reads
-use Rattle.evt.proofs.evt3.Decoder.step.Reads as step-reads
-use Rattle.evt.proofs.fields.word16.Reads as word16-reads
+use Rattle.evt3_decoder.proofs.Decoder.step.Reads as step-reads
+use Rattle.evt_types.proofs.fields.word16.Reads as word16-reads
 
 -- src/codec.rt:103:9
 idle-requires : tie.Need-idle-requires

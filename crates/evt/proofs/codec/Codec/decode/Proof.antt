@@ -10,14 +10,14 @@ use denote.Memory.{pointee}
 use denote.Struct.Laws as LL
 use denote.Triple.Spec.{tripleOf}
 use denote.Triple.Table.{entered, cited}
-use Rattle.evt.specs.declared.DecodeAnswer.{DecodeAnswer}
+use Rattle.evt_types.specs.declared.DecodeAnswer.{DecodeAnswer}
 use Rattle.evt.specs.declared.codec.Codec.{Codec}
 use Rattle.evt.specs.Codec.{stepC, vectorC, inRangeC}
-use Rattle.evt.specs.Decode.{Owed}
-use Rattle.evt.proofs.Lent.{Datum, Answered, ofEnum}
-use Rattle.evt.proofs.LentBytes.{lent-bytes}
-use Rattle.evt.proofs.DecodeAnswer as B
-use Rattle.evt.proofs.DecodeAnswer.Laws as B′
+use Rattle.evt_types.specs.Owed.{Owed}
+use Rattle.evt_types.proofs.Lent.{Datum, Answered, ofEnum}
+use Rattle.evt_types.proofs.LentBytes.{lent-bytes}
+use Rattle.evt_types.proofs.DecodeAnswer as B
+use Rattle.evt_types.proofs.DecodeAnswer.Laws as B′
 use Rattle.evt.proofs.codec.Codec as D
 use Rattle.evt.proofs.codec.Codec.Laws as D′
 use Rattle.evt.proofs.codec.CodecDecoded as S

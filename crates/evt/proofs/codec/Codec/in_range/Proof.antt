@@ -5,8 +5,8 @@ use Rattle.evt.proofs.codec.Codec.in_range.Statement.{statement}
 use Rattle.evt.proofs.codec.Codec.in_range.Tie as tie
 use Rattle.evt.proofs.codec.Codec.in_range.Reads as reads
 use Rattle.evt.proofs.codec.Codec.in_range.Lts as lts
-use Rattle.evt.proofs.evt2.Evt2Decoder.in_range.Reads as evt2-Evt2Decoder-in-range-reads
-use Rattle.evt.proofs.evt3.Decoder.in_range.Reads as evt3-Decoder-in-range-reads
+use Rattle.evt2_decoder.proofs.Evt2Decoder.in_range.Reads as evt2-Evt2Decoder-in-range-reads
+use Rattle.evt3_decoder.proofs.Decoder.in_range.Reads as evt3-Decoder-in-range-reads
 
 -- src/codec.rt:50:25
 enum-known-self : tie.Need-enum-known-self

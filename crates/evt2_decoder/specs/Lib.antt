@@ -1,0 +1,3 @@
+pub mod Evt2
+pub mod Decode
+pub mod Range

@@ -1,0 +1,3 @@
+pub mod Evt3
+pub mod Decode
+pub mod Range

@@ -1,0 +1,66 @@
+// The types that every crate here shares, and what all encodings have in common: the public word
+// layouts of EVT 2.0 and EVT 3.0 (specs/Layout.antt), fields of a word, the clock that counts loops
+// (specs/Clock.antt), the events of a word (specs/Event.antt), and the number and the values of
+// every refusal (specs/Told.antt).
+
+// An event: column, row, time in microseconds, polarity 0 or 1.
+pub struct RawEvent {
+    pub x: u16,
+    pub y: u16,
+    pub t: i64,
+    pub p: u8,
+}
+
+pub enum Encoding {
+    Evt2,
+    Evt3,
+}
+
+// The name that the writer and `decode_words` have for it in the Rust.
+pub type EvtVersion = Encoding;
+
+// A sensor's width and height, where they are known.
+pub enum SensorSize {
+    Unknown,
+    Known(usize, usize),
+}
+
+// How many events are handed over at most.
+pub enum Limit {
+    Unlimited,
+    AtMost(usize),
+}
+
+// A half of the time or a row that a writer has sent, if it has sent one.
+pub enum Sent {
+    Nothing,
+    Value(u64),
+}
+
+// Why a call is refused: a case for each number of the table, with the count that it tells.
+pub enum Refusal {
+    InvalidSensorSize,
+    UnknownEncoding,
+    HeaderNotAscii,
+    TooLong,
+    ColumnsTooShort(usize),
+    TimeOrder,
+    EventOutOfRange,
+    InvalidSpacing,
+    TooFewRecords(usize),
+    StateOutOfRange,
+    OutputTooShort(usize),
+    ColumnLengths,
+}
+
+// What decoding one word answers.
+pub enum DecodeAnswer {
+    Events(EventVector),
+    Refused(Refusal),
+}
+
+pub mod clock;
+pub mod fields;
+pub mod vector;
+
+pub use vector::EventVector;

@@ -15,21 +15,21 @@ use Rattle.stream.specs.Columns.{written}
 use Rattle.stream.specs.Mask.{top}
 use Rattle.stream.specs.Order.{greatest, greatest-map}
 use Rattle.stream.specs.Slice.{sift}
-use Rattle.evt.specs.declared.Encoding.{Encoding}
-use Rattle.evt.specs.declared.Encoding.the-variants.{Evt2, Evt3}
-use Rattle.evt.specs.declared.Refusal.{Refusal}
-use Rattle.evt.specs.declared.Refusal.the-variants.{InvalidSensorSize, UnknownEncoding, TooLong, ColumnsTooShort}
-use Rattle.evt.specs.declared.Limit.{Limit}
-use Rattle.evt.specs.declared.Limit.the-variants.{Unlimited, AtMost}
-use Rattle.evt.specs.declared.SensorSize.{SensorSize}
-use Rattle.evt.specs.declared.SensorSize.the-variants.{Unknown, Known}
+use Rattle.evt_types.specs.declared.Encoding.{Encoding}
+use Rattle.evt_types.specs.declared.Encoding.the-variants.{Evt2, Evt3}
+use Rattle.evt_types.specs.declared.Refusal.{Refusal}
+use Rattle.evt_types.specs.declared.Refusal.the-variants.{InvalidSensorSize, UnknownEncoding, TooLong, ColumnsTooShort}
+use Rattle.evt_types.specs.declared.Limit.{Limit}
+use Rattle.evt_types.specs.declared.Limit.the-variants.{Unlimited, AtMost}
+use Rattle.evt_types.specs.declared.SensorSize.{SensorSize}
+use Rattle.evt_types.specs.declared.SensorSize.the-variants.{Unknown, Known}
 use Rattle.evt.specs.declared.codec.Codec.{Codec}
 use Rattle.evt.specs.Codec.{freshC, eventsFrom}
-use Rattle.evt.specs.Columns.{colX, colY, colT, colP, Wrote}
-use Rattle.evt.specs.Event.{Event}
-use Rattle.evt.specs.Told.{accepted, refused, short}
-use Rattle.evt.specs.Evt2.{fresh2}
-use Rattle.evt.specs.Evt3.{fresh3}
+use Rattle.evt_types.specs.Columns.{colX, colY, colT, colP, Wrote}
+use Rattle.evt_types.specs.Event.{Event}
+use Rattle.evt_types.specs.Told.{accepted, refused, short}
+use Rattle.evt2_decoder.specs.Evt2.{fresh2}
+use Rattle.evt3_decoder.specs.Evt3.{fresh3}
 use Rattle.decode.specs.Loops.{few2, few3}
 use Rattle.decode.specs.declared.Tally.{Tally}
 use Rattle.count.specs.declared.Survey.{Survey}

@@ -8,16 +8,16 @@ use lib.IntN.{ℤ}
 use lib.ListN.{length, take, drop}
 use Rattle.stream.specs.Order.{greatest}
 use Rattle.stream.specs.Slice.{sift}
-use Rattle.evt.specs.declared.Encoding.{Encoding}
-use Rattle.evt.specs.declared.Limit.{Limit}
-use Rattle.evt.specs.declared.Limit.the-variants.{Unlimited, AtMost}
-use Rattle.evt.specs.declared.Refusal.the-variants.{InvalidSensorSize, TooLong, ColumnsTooShort}
-use Rattle.evt.specs.declared.SensorSize.{SensorSize}
-use Rattle.evt.specs.declared.SensorSize.the-variants.{Unknown, Known}
+use Rattle.evt_types.specs.declared.Encoding.{Encoding}
+use Rattle.evt_types.specs.declared.Limit.{Limit}
+use Rattle.evt_types.specs.declared.Limit.the-variants.{Unlimited, AtMost}
+use Rattle.evt_types.specs.declared.Refusal.the-variants.{InvalidSensorSize, TooLong, ColumnsTooShort}
+use Rattle.evt_types.specs.declared.SensorSize.{SensorSize}
+use Rattle.evt_types.specs.declared.SensorSize.the-variants.{Unknown, Known}
 use Rattle.evt.specs.Codec.{freshC, eventsFrom}
-use Rattle.evt.specs.Columns.{colX, colY}
-use Rattle.evt.specs.Event.{Event}
-use Rattle.evt.specs.Told.{Told, told, accepted, refused, short}
+use Rattle.evt_types.specs.Columns.{colX, colY}
+use Rattle.evt_types.specs.Event.{Event}
+use Rattle.evt_types.specs.Told.{Told, told, accepted, refused, short}
 use Rattle.sensor.specs.Inside.{inside}
 pub use Rattle.room.specs.Deliver.{shortest, Handed}
 use Rattle.header.specs.declared.HeaderAnswer.{HeaderAnswer}

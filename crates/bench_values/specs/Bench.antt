@@ -7,12 +7,12 @@ use Rattle.stream.specs.Loop.{loopsAfter, timeAfter}
 use Rattle.stream.specs.Machine.{All}
 use Rattle.stream.specs.Mask.{bits}
 use Rattle.stream.specs.Words.{stream}
-use Rattle.evt.specs.declared.Encoding.{Encoding}
-use Rattle.evt.specs.declared.Encoding.the-variants.{Evt2, Evt3}
+use Rattle.evt_types.specs.declared.Encoding.{Encoding}
+use Rattle.evt_types.specs.declared.Encoding.the-variants.{Evt2, Evt3}
 use Rattle.evt.specs.Codec.{freshC, eventsFrom, codecAfter, timeC, loopsC}
-use Rattle.evt.specs.Event.{Event}
-use Rattle.evt.specs.Evt2.{step2, vector2}
-use Rattle.evt.specs.Evt3.{step3, vector3}
+use Rattle.evt_types.specs.Event.{Event}
+use Rattle.evt2_decoder.specs.Evt2.{step2, vector2}
+use Rattle.evt3_decoder.specs.Evt3.{step3, vector3}
 use Rattle.encode.specs.Encode.{encodeBytes}
 use Rattle.encode2.specs.Evt2.{encode2}
 use Rattle.lead_words.specs.Evt3.{encode3, leads3, body3, windows, vectored, nearby, beyond}

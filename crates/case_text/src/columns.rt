@@ -3,7 +3,7 @@ ghost use mathlib.Core.Path.{_≡_};
 ghost use Prim.Native.Nat.{_≤_};
 ghost use lib.ListN.{length};
 use crate::show;
-use evt::RawEvent;
+use evt_types::RawEvent;
 
 const SHORT: u16 = 43981;
 

@@ -2,9 +2,9 @@
 // the four columns, `R` for all of them or `X,Y,T,P`.
 use crate::text;
 use crate::text::Number;
-use evt::Encoding;
-use evt::Limit;
-use evt::SensorSize;
+use evt_types::Encoding;
+use evt_types::Limit;
+use evt_types::SensorSize;
 
 pub enum Size {
     Of(SensorSize),

@@ -1,7 +1,7 @@
 // Printing to standard output: text, numbers, bytes, events, encodings, refusals.
-use evt::Encoding;
-use evt::RawEvent;
-use evt::Refusal;
+use evt_types::Encoding;
+use evt_types::RawEvent;
+use evt_types::Refusal;
 use libc::STDOUT_FILENO;
 
 pub fn text(s: &[u8]) {

@@ -4,8 +4,8 @@ use crate::show;
 use crate::text;
 use crate::text::Number;
 use evt::Codec;
-use evt::Decoder;
-use evt::Evt2Decoder;
+use evt2_decoder::Evt2Decoder;
+use evt3_decoder::Decoder;
 
 pub enum State {
     Of(Codec),

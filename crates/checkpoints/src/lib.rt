@@ -11,7 +11,7 @@ ghost use Rattle.checkpoints.specs.Choose.{passesOf, Chose};
 ghost use Rattle.checkpoints.specs.Halves.{middleOf, placeOf, bracketOf, narrowed};
 ghost use Rattle.checkpoints.specs.Judge.{isOther, standsOf, aheadOf, onwardOf, admitsOf, judgedOf, judgedAll};
 use evt::Codec;
-use evt::Encoding;
+use evt_types::Encoding;
 use index::Checkpoint;
 
 // What a slice asks of the record it starts at: a count at most `index`, or, by time, a time below

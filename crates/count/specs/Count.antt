@@ -8,8 +8,8 @@ use Rattle.stream.specs.Words.{wordsOf}
 use Rattle.evt.specs.declared.codec.Codec.{Codec}
 use Rattle.evt.specs.declared.codec.Codec.the-variants.{Evt2, Evt3}
 pub use Rattle.evt.specs.Codec.{eventsFrom, codecAfter}
-use Rattle.evt.specs.Evt2.{reader2}
-use Rattle.evt.specs.Evt3.{reader3}
+use Rattle.evt2_decoder.specs.Evt2.{reader2}
+use Rattle.evt3_decoder.specs.Evt3.{reader3}
 use Rattle.sensor.specs.Inside.{inside, clock}
 use Rattle.decode.specs.Decode.{insideEvents}
 use Rattle.count.specs.declared.Survey.{Survey}

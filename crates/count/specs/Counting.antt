@@ -8,8 +8,8 @@ use Rattle.stream.specs.Machine.{Machine}
 use Rattle.stream.specs.Words.{wordsOf}
 use Rattle.stream.specs.Order.{greatest, greatest-append}
 use Rattle.stream.specs.Stream.{after}
-use Rattle.evt.specs.declared.vector.Vector.{Vector}
-use Rattle.evt.specs.Event.{Event}
+use Rattle.evt_types.specs.declared.vector.Vector.{Vector}
+use Rattle.evt_types.specs.Event.{Event}
 use Rattle.sensor.specs.Inside.{insideOf, clock, latestOf, inside-latest}
 use Rattle.decode.specs.Turn.{insideAll, Standing, left, Turn, none-left, at-end, stand-turn, splits, stand-start}
 

@@ -10,13 +10,14 @@ use Rattle.stream.specs.Words.{wordsOf}
 use Rattle.stream.specs.Order.{greatest}
 use Rattle.stream.specs.Stream.{after}
 use Rattle.words.specs.Ahead.{ahead, ahead-some}
-use Rattle.evt.specs.declared.vector.Vector.{Vector}
-use Rattle.evt.specs.declared.evt2.Evt2Decoder.{Evt2Decoder}
-use Rattle.evt.specs.declared.evt3.Decoder.{Decoder}
-use Rattle.evt.specs.Layout.{timeLow2}
-use Rattle.evt.specs.Evt2.{step2, vector2, reader2}
-use Rattle.evt.specs.Evt3.{vector3, reader3, slimmed}
-use Rattle.evt.specs.Range.{Bounded2, Bounded3, bounded-step2, bounded-step3}
+use Rattle.evt_types.specs.declared.vector.Vector.{Vector}
+use Rattle.evt2_decoder.specs.declared.Evt2Decoder.{Evt2Decoder}
+use Rattle.evt3_decoder.specs.declared.Decoder.{Decoder}
+use Rattle.evt_types.specs.Layout.{timeLow2}
+use Rattle.evt2_decoder.specs.Evt2.{step2, vector2, reader2}
+use Rattle.evt3_decoder.specs.Evt3.{vector3, reader3, slimmed}
+use Rattle.evt2_decoder.specs.Range.{Bounded2, bounded-step2}
+use Rattle.evt3_decoder.specs.Range.{Bounded3, bounded-step3}
 use Rattle.sensor.specs.Inside.{insideOf, clock, latestOf}
 use Rattle.decode.specs.Turn.{Turn, insideAll}
 use Rattle.decode.specs.Loops.{start3}

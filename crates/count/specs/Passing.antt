@@ -8,8 +8,8 @@ use lib.ListN.{length, drop}
 use Rattle.stream.specs.Machine.{Machine}
 use Rattle.stream.specs.Words.{wordsOf, words-end, length-words}
 use Rattle.stream.specs.PassOver.{Over, here, oneOver, over, numbersIn, over-nil, over-on, over-stop}
-use Rattle.evt.specs.declared.vector.Vector.{Vector}
-use Rattle.evt.specs.Event.{Event}
+use Rattle.evt_types.specs.declared.vector.Vector.{Vector}
+use Rattle.evt_types.specs.Event.{Event}
 use Rattle.sensor.specs.Inside.{inside, insideOf}
 use Rattle.decode.specs.Turn.{Turn, turn-words}
 

@@ -2,15 +2,16 @@
 ghost use mathlib.Core.Path.{_≡_};
 ghost use Prim.Native.Nat.{_+_, _*_, _/_, _≤_, _^_};
 ghost use lib.ListN.{length};
-ghost use Rattle.evt.specs.Evt2.{reader2};
-ghost use Rattle.evt.specs.Evt3.{reader3};
-ghost use Rattle.evt.specs.Range.{Bounded2, Bounded3, Regular3};
+ghost use Rattle.evt2_decoder.specs.Evt2.{reader2};
+ghost use Rattle.evt3_decoder.specs.Evt3.{reader3};
+ghost use Rattle.evt2_decoder.specs.Range.{Bounded2};
+ghost use Rattle.evt3_decoder.specs.Range.{Bounded3, Regular3};
 ghost use Rattle.count.specs.Passing.{Reached};
-use evt::Decoder;
-use evt::Evt2Decoder;
-use evt::evt2::advance;
-use evt::evt3::widen;
-use evt::fields::bits;
+use evt_types::fields::bits;
+use evt2_decoder::Evt2Decoder;
+use evt2_decoder::advance;
+use evt3_decoder::Decoder;
+use evt3_decoder::widen;
 use glance::ones;
 use glance::quick;
 

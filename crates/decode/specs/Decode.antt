@@ -5,9 +5,10 @@ use lib.ListN.{length}
 use Rattle.stream.specs.Slice.{sift}
 use Rattle.evt.specs.declared.codec.Codec.{Codec}
 use Rattle.evt.specs.declared.codec.Codec.the-variants.{Evt2, Evt3}
-use Rattle.evt.specs.Event.{Event}
+use Rattle.evt_types.specs.Event.{Event}
 pub use Rattle.evt.specs.Codec.{eventsFrom, codecAfter}
-use Rattle.evt.specs.Range.{Bounded2, Bounded3, Regular3}
+use Rattle.evt2_decoder.specs.Range.{Bounded2}
+use Rattle.evt3_decoder.specs.Range.{Bounded3, Regular3}
 use Rattle.sensor.specs.Inside.{inside}
 use Rattle.decode.specs.declared.Tally.{Tally}
 

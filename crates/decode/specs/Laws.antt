@@ -13,16 +13,17 @@ use Rattle.stream.specs.Mask.{bits}
 use Rattle.stream.specs.Order.{greatest, greatest-append, greatest-le}
 use Rattle.stream.specs.Slice.{sift, sift-append, sift-all, all-sift}
 use Rattle.stream.specs.Stream.{decode-append, after-append}
-use Rattle.evt.specs.declared.Encoding.{Encoding}
-use Rattle.evt.specs.declared.Encoding.the-variants as E
+use Rattle.evt_types.specs.declared.Encoding.{Encoding}
+use Rattle.evt_types.specs.declared.Encoding.the-variants as E
 use Rattle.evt.specs.declared.codec.Codec.{Codec}
 use Rattle.evt.specs.declared.codec.Codec.the-variants.{Evt2, Evt3}
-use Rattle.evt.specs.declared.vector.Vector.{Vector}
-use Rattle.evt.specs.Event.{Event, eventAt, eventsOf, Narrow}
+use Rattle.evt_types.specs.declared.vector.Vector.{Vector}
+use Rattle.evt_types.specs.Event.{Event, eventAt, eventsOf, Narrow}
 use Rattle.evt.specs.Codec.{freshC, wordSize, inRangeC}
-use Rattle.evt.specs.Evt2.{vector2, reader2}
-use Rattle.evt.specs.Evt3.{vector3, reader3}
-use Rattle.evt.specs.Range.{Bounded2, Bounded3, bounded-step2, bounded-step3, bounded-narrow2, bounded-narrow3, bounded-range2, bounded-range3, fresh-range2, fresh-range3}
+use Rattle.evt2_decoder.specs.Evt2.{vector2, reader2}
+use Rattle.evt3_decoder.specs.Evt3.{vector3, reader3}
+use Rattle.evt2_decoder.specs.Range.{Bounded2, bounded-step2, bounded-narrow2, bounded-range2, fresh-range2}
+use Rattle.evt3_decoder.specs.Range.{Bounded3, bounded-step3, bounded-narrow3, bounded-range3, fresh-range3}
 use Rattle.sensor.specs.Inside.{inside, clock, all-mapped, events-few, sift-few}
 use Rattle.decode.specs.Decode.{eventsFrom, codecAfter, insideEvents, Bounded, Fitting}
 use Rattle.decode.specs.Turn.{decode-few}

@@ -7,17 +7,18 @@ use lib.ListN.{length}
 use Rattle.stream.specs.Words.{wordsOf, length-words}
 use Rattle.stream.specs.Stream.{decode}
 use Rattle.words.specs.Ahead.{ahead, ahead-some}
-use Rattle.evt.specs.declared.vector.Vector.{Vector}
-use Rattle.evt.specs.declared.evt2.Evt2Decoder.{Evt2Decoder}
-use Rattle.evt.specs.declared.evt2.Evt2Step.{Evt2Step}
-use Rattle.evt.specs.declared.evt3.Decoder.{Decoder}
-use Rattle.evt.specs.declared.evt3.WideStep.{WideStep}
-use Rattle.evt.specs.Event.{eventsOf, Narrow}
-use Rattle.evt.specs.Layout.{type2, type3}
-use Rattle.evt.specs.Evt2 as Evt2
-use Rattle.evt.specs.Evt2.{step2, vector2, reader2}
-use Rattle.evt.specs.Evt3.{step3, vector3, vectorAs, reader3, widened, slimmed, by-kinds}
-use Rattle.evt.specs.Range.{Bounded2, Bounded3, bounded-narrow2, bounded-narrow3}
+use Rattle.evt_types.specs.declared.vector.Vector.{Vector}
+use Rattle.evt2_decoder.specs.declared.Evt2Decoder.{Evt2Decoder}
+use Rattle.evt2_decoder.specs.declared.Evt2Step.{Evt2Step}
+use Rattle.evt3_decoder.specs.declared.Decoder.{Decoder}
+use Rattle.evt3_decoder.specs.declared.WideStep.{WideStep}
+use Rattle.evt_types.specs.Event.{eventsOf, Narrow}
+use Rattle.evt_types.specs.Layout.{type2, type3}
+use Rattle.evt2_decoder.specs.Evt2 as Evt2
+use Rattle.evt2_decoder.specs.Evt2.{step2, vector2, reader2}
+use Rattle.evt3_decoder.specs.Evt3.{step3, vector3, vectorAs, reader3, widened, slimmed, by-kinds}
+use Rattle.evt2_decoder.specs.Range.{Bounded2, bounded-narrow2}
+use Rattle.evt3_decoder.specs.Range.{Bounded3, bounded-narrow3}
 use Rattle.sensor.specs.Inside.{inside, events-few, sift-few}
 use Rattle.decode.specs.Turn.{Turn, insideAll, decode-few}
 

@@ -11,10 +11,10 @@ use Rattle.stream.specs.Machine.{Machine, run, emits}
 use Rattle.stream.specs.Words.{wordsOf, value, words-next, words-end}
 use Rattle.stream.specs.Slice.{sift, sift-append}
 use Rattle.stream.specs.Stream.{decode, after}
-use Rattle.evt.specs.declared.vector.Vector.{Vector}
-use Rattle.evt.specs.Event.{Event, eventsOf, Narrow}
-pub use Rattle.evt.specs.Columns.{Fits}
-use Rattle.evt.specs.Columns.{Going, Room, Wrote, going-start, going-run, going-end}
+use Rattle.evt_types.specs.declared.vector.Vector.{Vector}
+use Rattle.evt_types.specs.Event.{Event, eventsOf, Narrow}
+pub use Rattle.evt_types.specs.Columns.{Fits}
+use Rattle.evt_types.specs.Columns.{Going, Room, Wrote, going-start, going-run, going-end}
 use Rattle.sensor.specs.Inside.{inside, insideOf}
 
 module _ {S : Type 0} (n : ℕ) (M : Machine S ℕ Event) where

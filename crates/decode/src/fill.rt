@@ -2,16 +2,16 @@
 ghost use mathlib.Core.Path.{_≡_};
 ghost use lib.ListN.{length};
 ghost use Rattle.evt.specs.declared.codec.Codec.the-variants.{Evt2, Evt3};
-ghost use Rattle.evt.specs.Columns.{Wrote};
+ghost use Rattle.evt_types.specs.Columns.{Wrote};
 ghost use Rattle.decode.specs.Turn.{Fits};
 ghost use Rattle.decode.specs.Decode.{Bounded, insideEvents, tallyOf};
 use crate::Tally;
 use evt::Codec;
-use evt::Decoder;
-use evt::Evt2Decoder;
-use evt::evt2::advance;
-use evt::evt3::WideDecoder;
-use evt::evt3::widen;
+use evt2_decoder::Evt2Decoder;
+use evt2_decoder::advance;
+use evt3_decoder::Decoder;
+use evt3_decoder::WideDecoder;
+use evt3_decoder::widen;
 
 pub fn evt2(
     bytes: &[u8],

@@ -7,7 +7,7 @@
 ghost use mathlib.Core.Path.{_≡_};
 ghost use lib.ListN.{length};
 ghost use Rattle.evt.specs.Codec.{inRangeC};
-ghost use Rattle.evt.specs.Columns.{Wrote};
+ghost use Rattle.evt_types.specs.Columns.{Wrote};
 ghost use Rattle.decode.specs.Turn.{Fits};
 ghost use Rattle.decode.specs.Decode.{Bounded, Fitting, insideEvents, tallyOf};
 use evt::Codec;

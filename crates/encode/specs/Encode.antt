@@ -4,9 +4,9 @@ use Prim.Native.Nat.{ℕ, _+_}
 use lib.ListN.{length}
 use Rattle.stream.specs.Machine.{Note, run, emits, words}
 use Rattle.stream.specs.Words.{stream}
-use Rattle.evt.specs.Event.{Event}
-use Rattle.evt.specs.declared.Encoding.{Encoding}
-use Rattle.evt.specs.declared.Encoding.the-variants.{Evt2, Evt3}
+use Rattle.evt_types.specs.Event.{Event}
+use Rattle.evt_types.specs.declared.Encoding.{Encoding}
+use Rattle.evt_types.specs.declared.Encoding.the-variants.{Evt2, Evt3}
 use Rattle.store.specs.declared.EncoderState.{EncoderState}
 use Rattle.store.specs.declared.Put.{Put}
 use Rattle.encode2.specs.Evt2.{writer2}

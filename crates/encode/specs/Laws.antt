@@ -10,9 +10,9 @@ use borrow.Author.Tests.{ltb-true, ltb-false}
 use Rattle.stream.specs.Machine.{Note, All, all-append, emits, words, words-append, notes, notes-append}
 use Rattle.stream.specs.Mask.{Inc, mask}
 use Rattle.stream.specs.Words.{Fits}
-use Rattle.evt.specs.Event.{Event}
-use Rattle.evt.specs.declared.Encoding.{Encoding}
-use Rattle.evt.specs.declared.Encoding.the-variants.{Evt2, Evt3}
+use Rattle.evt_types.specs.Event.{Event}
+use Rattle.evt_types.specs.declared.Encoding.{Encoding}
+use Rattle.evt_types.specs.declared.Encoding.the-variants.{Evt2, Evt3}
 use Rattle.store.specs.declared.EncoderState.{EncoderState}
 use Rattle.store.specs.Columns.{event}
 use Rattle.store.specs.Sent.{due}

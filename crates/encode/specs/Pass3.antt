@@ -6,14 +6,14 @@ use native.Mathlib.Omega.{arith}
 use lib.ListN.{length, getD, take, drop, length-drop}
 use lib.Seq.{sets}
 use lib.IntN.{ℤ}
-use Rattle.evt.specs.Event.{Event}
-use Rattle.evt.specs.declared.Sent.the-variants.{Value}
+use Rattle.evt_types.specs.Event.{Event}
+use Rattle.evt_types.specs.declared.Sent.the-variants.{Value}
 use Rattle.stream.specs.Machine.{run, All}
 use Rattle.stream.specs.Words.{stream}
 use Rattle.store.specs.Sent.{held}
 use Rattle.store.specs.declared.EncoderState.{EncoderState}
 use Rattle.store.specs.declared.Put.{Put}
-use Rattle.evt.specs.Columns.{colX}
+use Rattle.evt_types.specs.Columns.{colX}
 use Rattle.store.specs.Columns.{Sized, eventsIn, eventsPast, eventOf, events-at, events-end, events-x, events-drop, events-length}
 use Rattle.store.specs.Storing.{Roomy, bytesFrom, Going, going-start, going-turn, going-room, going-end}
 use Rattle.runs.specs.Runs.{Run, Rising, Valid, runs, runs-are, runAt, runOf, runs-at, follow-le}

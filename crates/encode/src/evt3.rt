@@ -6,7 +6,7 @@ ghost use lib.Seq.{sets};
 ghost use Rattle.store.specs.Columns.{Sized, Whole, eventsIn};
 ghost use Rattle.store.specs.Storing.{Roomy};
 ghost use Rattle.encode.specs.Pass3.{stateAt3, stream3, passed3};
-use evt::Sent;
+use evt_types::Sent;
 use run_words::put_run;
 use runs::run_at;
 use store::EncoderState;

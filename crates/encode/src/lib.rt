@@ -9,7 +9,7 @@ ghost use lib.Seq.{sets};
 ghost use Rattle.store.specs.Columns.{Sized, Whole, eventsIn};
 ghost use Rattle.store.specs.Storing.{Roomy};
 ghost use Rattle.encode.specs.Encode.{encodeBytes, passed};
-use evt::Encoding;
+use evt_types::Encoding;
 use store::EncoderState;
 use store::Put;
 

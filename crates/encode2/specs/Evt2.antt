@@ -6,9 +6,9 @@ use Prim.Native.Nat.{ℕ, _/_, _%_, _^_, _<_}
 use native.Mathlib.Omega.{arith}
 use Rattle.stream.specs.Machine.{Machine, Note, All, all-append, words, notes, notes-append, words-append, emits}
 use Rattle.stream.specs.Words.{Fits}
-use Rattle.evt.specs.Event.{Event}
-use Rattle.evt.specs.Layout.{eventWord2, timeWord2}
-use Rattle.evt.specs.declared.Sent.the-variants.{Value}
+use Rattle.evt_types.specs.Event.{Event}
+use Rattle.evt_types.specs.Layout.{eventWord2, timeWord2}
+use Rattle.evt_types.specs.declared.Sent.the-variants.{Value}
 use Rattle.store.specs.declared.EncoderState.{EncoderState}
 use Rattle.store.specs.Sent.{sentIs, carries, due}
 

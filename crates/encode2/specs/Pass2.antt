@@ -12,8 +12,8 @@ use lib.Seq.{sets}
 use Rattle.stream.specs.Machine.{run, words}
 use Rattle.stream.specs.Columns.{sets-append}
 use Rattle.stream.specs.Words.{stream, bytes}
-use Rattle.evt.specs.Event.{Event}
-use Rattle.evt.specs.declared.Sent.the-variants.{Value}
+use Rattle.evt_types.specs.Event.{Event}
+use Rattle.evt_types.specs.declared.Sent.the-variants.{Value}
 use Rattle.store.specs.declared.EncoderState.{EncoderState}
 use Rattle.store.specs.declared.Put.{Put}
 use Rattle.store.specs.Columns.{Sized, eventsIn, eventsPast, eventOf, events-at, events-end}

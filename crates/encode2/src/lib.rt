@@ -10,7 +10,7 @@ ghost use Rattle.store.specs.Columns.{Sized, Whole, event, eventsIn};
 ghost use Rattle.encode2.specs.Evt2.{highWord2, wordOf2};
 ghost use Rattle.store.specs.Storing.{Roomy};
 ghost use Rattle.encode2.specs.Pass2.{eventBytes2, stateAt2, stream2, passed2};
-use evt::Sent;
+use evt_types::Sent;
 use store::EncoderState;
 use store::Put;
 use store::held_of;

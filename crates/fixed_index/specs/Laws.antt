@@ -10,7 +10,7 @@ use lib.ListN.{length, take, drop, take-append-drop, length-append, replicate}
 use lib.Dec.{ltb}
 use lib.Seq.{length-take-le, take-all}
 use borrow.Author.Tests.{ltb-true, ltb-false}
-use Rattle.evt.specs.Told.{Told}
+use Rattle.evt_types.specs.Told.{Told}
 use Rattle.index.specs.declared.Checkpoint.{Checkpoint}
 use Rattle.index.specs.declared.OpenAnswer.{OpenAnswer}
 use Rattle.index.specs.Index.{Opens}

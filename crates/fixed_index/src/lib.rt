@@ -9,7 +9,7 @@ ghost use Rattle.index.specs.Index.{Opens, rawVerdict, rawAnswer, rawMade, word
 ghost use Rattle.index.specs.Nth.{blank as blankRecord};
 ghost use Rattle.slice.specs.Slice.{SlicesIndex, SlicesTime};
 use evt::Codec;
-use evt::Encoding;
+use evt_types::Encoding;
 use index::Checkpoint;
 use index::OpenAnswer;
 use index::OpenOptions;

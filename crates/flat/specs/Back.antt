@@ -9,7 +9,7 @@ use lib.IntN.{ℤ, pos, negsuc}
 use lib.ListN.{length, take, getD}
 use lib.Seq.{getD-append-add, take-suc, take-length}
 use borrow.Author.Tests.{lt-ltb}
-use Rattle.evt.specs.declared.Encoding.{Encoding}
+use Rattle.evt_types.specs.declared.Encoding.{Encoding}
 use Rattle.evt.specs.declared.codec.Codec.{Codec}
 use Rattle.evt.specs.declared.codec.Codec.the-variants.{Evt2, Evt3}
 use Rattle.evt.specs.Codec.{encodingOf}

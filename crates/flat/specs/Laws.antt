@@ -8,13 +8,13 @@ use lib.Dec.{eqb}
 use lib.IntN.{ℤ}
 use lib.ListN.{length, getD}
 use borrow.Author.Tests.{ne-eqb}
-use Rattle.evt.specs.declared.Encoding.{Encoding}
-use Rattle.evt.specs.declared.Encoding.the-variants.{Evt2, Evt3}
-use Rattle.evt.specs.declared.Refusal.{Refusal}
-use Rattle.evt.specs.declared.Sent.{Sent}
-use Rattle.evt.specs.declared.Sent.the-variants.{Nothing, Value}
-use Rattle.evt.specs.Event.{Event}
-use Rattle.evt.specs.Told.{Told, told, told-numbered, naturals}
+use Rattle.evt_types.specs.declared.Encoding.{Encoding}
+use Rattle.evt_types.specs.declared.Encoding.the-variants.{Evt2, Evt3}
+use Rattle.evt_types.specs.declared.Refusal.{Refusal}
+use Rattle.evt_types.specs.declared.Sent.{Sent}
+use Rattle.evt_types.specs.declared.Sent.the-variants.{Nothing, Value}
+use Rattle.evt_types.specs.Event.{Event}
+use Rattle.evt_types.specs.Told.{Told, told, told-numbered, naturals}
 use Rattle.answer.specs.declared.LoadOptions.{LoadOptions}
 use Rattle.answer.specs.declared.ReadAnswer.{ReadAnswer}
 use Rattle.answer.specs.Read as Read

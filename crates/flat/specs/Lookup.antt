@@ -10,7 +10,7 @@ use lib.Dec.{ltb}
 use lib.ListN.{length, List·getD-append}
 use lib.Seq.{getD-append-seam}
 use borrow.Author.Tests.{ltb-true, ltb-false}
-use Rattle.evt.specs.declared.Encoding.{Encoding}
+use Rattle.evt_types.specs.declared.Encoding.{Encoding}
 use Rattle.index.specs.declared.Checkpoint.{Checkpoint}
 use Rattle.checkpoints.specs.declared.Choice.{Choice}
 use Rattle.checkpoints.specs.declared.Judging.{Judging}

@@ -3,8 +3,8 @@ use mathlib.Core.Path.{_≡_}
 use mathlib.Core.List.{List, _++_}
 use Prim.Native.Nat.{ℕ}
 use lib.ListN.{length, drop}
-use Rattle.evt.specs.declared.Encoding.{Encoding}
-use Rattle.evt.specs.Told.{Told}
+use Rattle.evt_types.specs.declared.Encoding.{Encoding}
+use Rattle.evt_types.specs.Told.{Told}
 use Rattle.index.specs.declared.Checkpoint.{Checkpoint}
 use Rattle.index.specs.declared.OpenOptions.{OpenOptions}
 use Rattle.index.specs.declared.RawSliceSource.{RawSliceSource}

@@ -2,10 +2,10 @@
 use mathlib.Core.Bool.{Bool, cond, not}
 use Prim.Native.Nat.{ℕ}
 use lib.Dec.{eqb}
-use Rattle.evt.specs.declared.Limit.{Limit}
-use Rattle.evt.specs.declared.Limit.the-variants.{Unlimited, AtMost}
-use Rattle.evt.specs.declared.SensorSize.{SensorSize}
-use Rattle.evt.specs.declared.SensorSize.the-variants.{Unknown, Known}
+use Rattle.evt_types.specs.declared.Limit.{Limit}
+use Rattle.evt_types.specs.declared.Limit.the-variants.{Unlimited, AtMost}
+use Rattle.evt_types.specs.declared.SensorSize.{SensorSize}
+use Rattle.evt_types.specs.declared.SensorSize.the-variants.{Unknown, Known}
 use Rattle.answer.specs.declared.LoadOptions.{LoadOptions}
 use Rattle.flat.specs.declared.options.PropheseeOptions.{PropheseeOptions}
 

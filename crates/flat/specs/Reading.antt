@@ -6,9 +6,9 @@ use Prim.Native.Nat.{ℕ}
 use lib.Dec.{eqb}
 use lib.IntN.{ℤ}
 use lib.ListN.{getD}
-use Rattle.evt.specs.declared.Encoding.{Encoding}
-use Rattle.evt.specs.Event.{Event}
-use Rattle.evt.specs.Told.{Told, naturals}
+use Rattle.evt_types.specs.declared.Encoding.{Encoding}
+use Rattle.evt_types.specs.Event.{Event}
+use Rattle.evt_types.specs.Told.{Told, naturals}
 use Rattle.answer.specs.Read.{Handed, shortest, wordsVerdict, wordsHanded, rawVerdict, rawHanded}
 use Rattle.flat.specs.declared.options.PropheseeOptions.{PropheseeOptions}
 use Rattle.flat.specs.declared.reading.PropheseeReading.{PropheseeReading}

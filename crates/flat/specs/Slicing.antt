@@ -3,9 +3,9 @@ use mathlib.Core.Path.{_≡_}
 use mathlib.Core.List.{List}
 use Prim.Native.Nat.{ℕ}
 use lib.IntN.{ℤ}
-use Rattle.evt.specs.declared.Encoding.{Encoding}
-use Rattle.evt.specs.Event.{Event}
-use Rattle.evt.specs.Told.{Told}
+use Rattle.evt_types.specs.declared.Encoding.{Encoding}
+use Rattle.evt_types.specs.Event.{Event}
+use Rattle.evt_types.specs.Told.{Told}
 use Rattle.answer.specs.Read.{shortest, Handed}
 use Rattle.index.specs.declared.Checkpoint.{Checkpoint}
 use Rattle.index.specs.declared.RawSliceSource.{RawSliceSource}

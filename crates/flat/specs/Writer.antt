@@ -6,11 +6,11 @@ use Prim.Native.Nat.{ℕ}
 use lib.Dec.{eqb}
 use lib.IntN.{ℤ, pos}
 use lib.ListN.{length, drop}
-use Rattle.evt.specs.declared.Encoding.{Encoding}
-use Rattle.evt.specs.declared.Encoding.the-variants.{Evt2, Evt3}
-use Rattle.evt.specs.declared.Sent.{Sent}
-use Rattle.evt.specs.declared.Sent.the-variants.{Nothing, Value}
-use Rattle.evt.specs.Told.{Told}
+use Rattle.evt_types.specs.declared.Encoding.{Encoding}
+use Rattle.evt_types.specs.declared.Encoding.the-variants.{Evt2, Evt3}
+use Rattle.evt_types.specs.declared.Sent.{Sent}
+use Rattle.evt_types.specs.declared.Sent.the-variants.{Nothing, Value}
+use Rattle.evt_types.specs.Told.{Told}
 use Rattle.store.specs.declared.EncoderState.{EncoderState}
 use Rattle.sink.specs.declared.LastTime.{LastTime}
 use Rattle.sink.specs.declared.LastTime.the-variants.{Never, At}

@@ -1,8 +1,8 @@
 // A size that may be unknown and a limit that may be absent, as numbers.
 ghost use mathlib.Core.Path.{_≡_};
 ghost use Rattle.flat.specs.Options.{flag, sizeOf, limitOf, optionsOf};
-use evt::Limit;
-use evt::SensorSize;
+use evt_types::Limit;
+use evt_types::SensorSize;
 use read::LoadOptions;
 
 // `sized` 0: the size is unknown; else it is `width` by `height`. `limited` 0: there is no limit; else

@@ -1,13 +1,13 @@
 // A reading's answer in numbers.
 ghost use mathlib.Core.Path.{_≡_};
-ghost use Rattle.evt.specs.declared.Encoding.the-variants.{Evt2, Evt3};
+ghost use Rattle.evt_types.specs.declared.Encoding.the-variants.{Evt2, Evt3};
 ghost use Rattle.header.specs.Header.{encodingNumber};
 ghost use Rattle.answer.specs.Read.{toldRead};
 ghost use Rattle.flat.specs.Reading.{readingOf};
 use crate::refusal::count_of;
 use crate::refusal::number_of;
-use evt::Encoding;
-use evt::Refusal;
+use evt_types::Encoding;
+use evt_types::Refusal;
 use read::ReadAnswer;
 use read::Reading;
 

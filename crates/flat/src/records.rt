@@ -8,9 +8,9 @@ ghost use Rattle.flat.specs.Records.{flatOf, flatRecord, entriesOf, time
 use crate::options::is_set_wide;
 use crate::writer::bit_of;
 use evt::Codec;
-use evt::Decoder;
-use evt::Encoding;
-use evt::Evt2Decoder;
+use evt_types::Encoding;
+use evt2_decoder::Evt2Decoder;
+use evt3_decoder::Decoder;
 use index::Checkpoint;
 
 // The entries of a record in their order. `initialised` and `polarity`: 0 is false, else true. `y`,

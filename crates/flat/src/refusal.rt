@@ -1,8 +1,8 @@
 // A refusal in numbers.
 ghost use mathlib.Core.Path.{_≡_};
-ghost use Rattle.evt.specs.Told.{told};
+ghost use Rattle.evt_types.specs.Told.{told};
 ghost use Rattle.flat.specs.Reading.{countOf};
-use evt::Refusal;
+use evt_types::Refusal;
 
 // Document 01's number.
 pub fn number_of(refusal: Refusal) -> u32

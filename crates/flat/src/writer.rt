@@ -1,15 +1,15 @@
 // The writer and what an append answers, in numbers.
 ghost use mathlib.Core.Path.{_≡_};
-ghost use Rattle.evt.specs.declared.Encoding.the-variants.{Evt2, Evt3};
+ghost use Rattle.evt_types.specs.declared.Encoding.the-variants.{Evt2, Evt3};
 ghost use Rattle.sink.specs.Append.{toldAppend};
 ghost use Rattle.flat.specs.Options.{flag};
 ghost use Rattle.flat.specs.Writer.{versionOf, sentOf, lastOf, stateOf, sinkOf, bit, evt3Of, hasSent, sentValue, hasLast, lastValue, flatSink, appendedOf};
 use crate::options::is_set;
 use crate::refusal::count_of;
 use crate::refusal::number_of;
-use evt::Encoding;
-use evt::Refusal;
-use evt::Sent;
+use evt_types::Encoding;
+use evt_types::Refusal;
+use evt_types::Sent;
 use sink::AppendAnswer;
 use sink::Appended;
 use sink::LastTime;

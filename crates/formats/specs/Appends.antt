@@ -13,8 +13,8 @@ use Rattle.stream.specs.Stream.{after, bytesOf, decode-whole, decode-cut, bytes
 use Rattle.stream.specs.Checkpoint.{good-timed}
 use Rattle.stream.specs.Order.{Rise}
 use Rattle.stream.specs.Slice.{Past, within, reached, over-time, says-past}
-use Rattle.evt.specs.declared.Encoding.{Encoding}
-use Rattle.evt.specs.Event.{Event}
+use Rattle.evt_types.specs.declared.Encoding.{Encoding}
+use Rattle.evt_types.specs.Event.{Event}
 use Rattle.evt.specs.Codec.{eventsFrom}
 use Rattle.sensor.specs.Inside.{inside, clock}
 use Rattle.window.specs.declared.Window.{Window}

@@ -10,15 +10,15 @@ use Rattle.stream.specs.Format.{Format, Lawful, through, givens}
 use Rattle.stream.specs.Stream.{decode, after}
 use Rattle.stream.specs.Order.{Rise, rise-all}
 use Rattle.stream.specs.Slice.{Past, reached, past-then}
-use Rattle.evt.specs.declared.Encoding.{Encoding}
-use Rattle.evt.specs.declared.Encoding.the-variants.{Evt2, Evt3}
-use Rattle.evt.specs.declared.evt2.Evt2Decoder.{Evt2Decoder}
-use Rattle.evt.specs.declared.evt3.Decoder.{Decoder}
+use Rattle.evt_types.specs.declared.Encoding.{Encoding}
+use Rattle.evt_types.specs.declared.Encoding.the-variants.{Evt2, Evt3}
+use Rattle.evt2_decoder.specs.declared.Evt2Decoder.{Evt2Decoder}
+use Rattle.evt3_decoder.specs.declared.Decoder.{Decoder}
 use Rattle.evt.specs.declared.codec.Codec.{Codec}
 use Rattle.evt.specs.declared.codec.Codec.the-variants as C
-use Rattle.evt.specs.Event.{Event}
-use Rattle.evt.specs.Evt2.{fresh2, reader2}
-use Rattle.evt.specs.Evt3.{fresh3, reader3}
+use Rattle.evt_types.specs.Event.{Event}
+use Rattle.evt2_decoder.specs.Evt2.{fresh2, reader2}
+use Rattle.evt3_decoder.specs.Evt3.{fresh3, reader3}
 use Rattle.evt.specs.Codec.{freshC, startedC, timeC, eventsFrom, codecAfter}
 use Rattle.sensor.specs.Inside.{inside, clock}
 use Rattle.window.specs.declared.Window.{Window}

@@ -8,12 +8,12 @@ use Rattle.stream.specs.Machine.{run, words}
 use Rattle.stream.specs.Format.{Format, Lawful, Good}
 use Rattle.stream.specs.Loop.{tracks-same}
 use Rattle.stream.specs.Order.{rise-first}
-use Rattle.evt.specs.declared.Encoding.the-variants.{Evt2}
-use Rattle.evt.specs.declared.evt2.Evt2Decoder.{Evt2Decoder}
-use Rattle.evt.specs.Event.{Event, eventsOf}
-use Rattle.evt.specs.Layout.{type2, timeLow2, x2, y2, event-type2, event-low2, event-x2, event-y2, event-fits2, time-type2, time-high2, time-fits2}
-use Rattle.evt.specs.Evt2 as Reader
-use Rattle.evt.specs.Evt2.{fresh2, period2, threshold2, step2, vector2, reader2, time-word, event-word}
+use Rattle.evt_types.specs.declared.Encoding.the-variants.{Evt2}
+use Rattle.evt2_decoder.specs.declared.Evt2Decoder.{Evt2Decoder}
+use Rattle.evt_types.specs.Event.{Event, eventsOf}
+use Rattle.evt_types.specs.Layout.{type2, timeLow2, x2, y2, event-type2, event-low2, event-x2, event-y2, event-fits2, time-type2, time-high2, time-fits2}
+use Rattle.evt2_decoder.specs.Evt2 as Reader
+use Rattle.evt2_decoder.specs.Evt2.{fresh2, period2, threshold2, step2, vector2, reader2, time-word, event-word}
 use Rattle.sensor.specs.Inside.{clock}
 use Rattle.store.specs.declared.EncoderState.{EncoderState}
 use Rattle.store.specs.Sent.{freshState, carries, due}

@@ -12,13 +12,13 @@ use Rattle.stream.specs.Format.{Format, Lawful, Good}
 use Rattle.stream.specs.Loop.{tracks-same}
 use Rattle.stream.specs.Mask.{Inc, mask, bits, bits-mask, mask-lt}
 use Rattle.stream.specs.Order.{Rise, rise-from, rise-suffix}
-use Rattle.evt.specs.declared.Encoding.the-variants.{Evt3}
-use Rattle.evt.specs.declared.evt3.Decoder.{Decoder}
-use Rattle.evt.specs.declared.Sent.{Sent}
-use Rattle.evt.specs.declared.vector.Vector.{Vector}
-use Rattle.evt.specs.Event.{Event, eventAt, eventsOf}
-use Rattle.evt.specs.Layout.{type3, x3, polarity3, mask12, time3, word-type3, word-time3, word-mask12, word-y3, word-fits3, column-type3, column-polarity3, column-x3, column-fits3}
-use Rattle.evt.specs.Evt3.{fresh3, period3, threshold3, timed, past, number, step3, vector3, reader3, stepAs, vectorAs, kindOn, started-word, first-word}
+use Rattle.evt_types.specs.declared.Encoding.the-variants.{Evt3}
+use Rattle.evt3_decoder.specs.declared.Decoder.{Decoder}
+use Rattle.evt_types.specs.declared.Sent.{Sent}
+use Rattle.evt_types.specs.declared.vector.Vector.{Vector}
+use Rattle.evt_types.specs.Event.{Event, eventAt, eventsOf}
+use Rattle.evt_types.specs.Layout.{type3, x3, polarity3, mask12, time3, word-type3, word-time3, word-mask12, word-y3, word-fits3, column-type3, column-polarity3, column-x3, column-fits3}
+use Rattle.evt3_decoder.specs.Evt3.{fresh3, period3, threshold3, timed, past, number, step3, vector3, reader3, stepAs, vectorAs, kindOn, started-word, first-word}
 use Rattle.sensor.specs.Inside.{clock}
 use Rattle.store.specs.declared.EncoderState.{EncoderState}
 use Rattle.store.specs.Columns.{event}

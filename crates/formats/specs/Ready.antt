@@ -9,13 +9,13 @@ use borrow.Author.Tests.{leb-true, ltb-true, eqb-true}
 use Rattle.stream.specs.Machine.{and-both}
 use Rattle.stream.specs.Mask.{bits-zero, bits-one}
 use Rattle.stream.specs.Order.{Rise}
-use Rattle.evt.specs.declared.Encoding.{Encoding}
-use Rattle.evt.specs.declared.Encoding.the-variants.{Evt2, Evt3}
-use Rattle.evt.specs.declared.Sent.{Sent}
-use Rattle.evt.specs.declared.Sent.the-variants.{Nothing, Value}
-use Rattle.evt.specs.Event.{Event, eventsOf, noEvents}
-use Rattle.evt.specs.Evt2.{period2}
-use Rattle.evt.specs.Evt3.{period3}
+use Rattle.evt_types.specs.declared.Encoding.{Encoding}
+use Rattle.evt_types.specs.declared.Encoding.the-variants.{Evt2, Evt3}
+use Rattle.evt_types.specs.declared.Sent.{Sent}
+use Rattle.evt_types.specs.declared.Sent.the-variants.{Nothing, Value}
+use Rattle.evt_types.specs.Event.{Event, eventsOf, noEvents}
+use Rattle.evt2_decoder.specs.Evt2.{period2}
+use Rattle.evt3_decoder.specs.Evt3.{period3}
 use Rattle.sensor.specs.Inside.{clock}
 use Rattle.store.specs.Columns.{event}
 use Rattle.store.specs.Sent.{sentIs}

@@ -10,12 +10,12 @@ use lib.Dec.{eqb}
 use lib.ListN.{getD}
 use borrow.Author.Tests.{eqb-true, ne-eqb}
 use Rattle.stream.specs.Mask.{bits-zero}
-use Rattle.evt.specs.declared.vector.Vector.{Vector}
-use Rattle.evt.specs.declared.evt3.Decoder.{Decoder}
-use Rattle.evt.specs.declared.evt3.WideDecoder.{WideDecoder}
-use Rattle.evt.specs.Event.{eventsOf}
-use Rattle.evt.specs.Layout.{type3, y3, x3, time3}
-use Rattle.evt.specs.Evt3.{Kind, vect12, vect8, kindOn, kindOf, stepAs, vectorAs, step3, vector3, widened, slimmed, by-kinds}
+use Rattle.evt_types.specs.declared.vector.Vector.{Vector}
+use Rattle.evt3_decoder.specs.declared.Decoder.{Decoder}
+use Rattle.evt3_decoder.specs.declared.WideDecoder.{WideDecoder}
+use Rattle.evt_types.specs.Event.{eventsOf}
+use Rattle.evt_types.specs.Layout.{type3, y3, x3, time3}
+use Rattle.evt3_decoder.specs.Evt3.{Kind, vect12, vect8, kindOn, kindOf, stepAs, vectorAs, step3, vector3, widened, slimmed, by-kinds}
 use Rattle.glance.specs.declared.Scan.{Scan}
 use Rattle.glance.specs.declared.Glance.{Glance}
 use Rattle.glance.specs.Tables.{tableOf, table-at}

@@ -14,8 +14,8 @@ use lib.Pow.{field, mod-mod-pow, pow-mono}
 use borrow.Author.Tests.{ltb-true, ltb-false, lt-ltb, le-ltb}
 use Rattle.stream.specs.Mask.{bits, bits-zero, bits-even, bits-odd, bits-count, parity}
 use Rattle.stream.specs.Slice.{onto, sift}
-use Rattle.evt.specs.declared.vector.Vector.{Vector}
-use Rattle.evt.specs.Event.{eventAt}
+use Rattle.evt_types.specs.declared.vector.Vector.{Vector}
+use Rattle.evt_types.specs.Event.{eventAt}
 use Rattle.sensor.specs.Inside.{inside, insideOf, inside-out}
 use Rattle.glance.specs.Tables.{tableOf, table-at}
 

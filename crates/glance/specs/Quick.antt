@@ -8,10 +8,10 @@ use lib.Dec.{ltb}
 use lib.ListN.{length}
 use borrow.Author.Tests.{ltb-true, ltb-false, lt-ltb, le-ltb}
 use Rattle.stream.specs.Slice.{onto}
-use Rattle.evt.specs.declared.evt2.Evt2Decoder.{Evt2Decoder}
-use Rattle.evt.specs.declared.vector.Vector.{Vector}
-use Rattle.evt.specs.Layout.{field, type2, timeLow2, x2, y2}
-use Rattle.evt.specs.Evt2.{event, stepAs, vectorAs, step2, vector2, event-word, by-kinds}
+use Rattle.evt2_decoder.specs.declared.Evt2Decoder.{Evt2Decoder}
+use Rattle.evt_types.specs.declared.vector.Vector.{Vector}
+use Rattle.evt_types.specs.Layout.{field, type2, timeLow2, x2, y2}
+use Rattle.evt2_decoder.specs.Evt2.{event, stepAs, vectorAs, step2, vector2, event-word, by-kinds}
 use Rattle.sensor.specs.Inside.{isInside, insideOf, insideAt, firstOf, inside-none, inside-one}
 
 -- a bound of the column with the row below it, for a decoder that has started

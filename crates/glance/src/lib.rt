@@ -5,10 +5,10 @@
 ghost use mathlib.Core.Path.{_≡_};
 ghost use mathlib.Core.Bool.{cond};
 ghost use Prim.Native.Nat.{min};
-ghost use Rattle.evt.specs.Evt3.{Sane3, Slim, slimmed};
+ghost use Rattle.evt3_decoder.specs.Evt3.{Sane3, Slim, slimmed};
 ghost use Rattle.glance.specs.Glance.{scanned, spanTable, vectTable, Glanced, glanced};
-use evt::evt3::WideDecoder;
-use evt::fields::bits;
+use evt_types::fields::bits;
+use evt3_decoder::WideDecoder;
 
 pub mod ones;
 pub mod quick;

@@ -3,7 +3,7 @@ ghost use mathlib.Core.Path.{_≡_};
 ghost use Prim.Native.Nat.{_-_, _%_, _<_, _^_};
 ghost use lib.Count.{ones};
 ghost use Rattle.glance.specs.Ones.{sixTable, wideOf, countOf};
-use evt::fields::bits;
+use evt_types::fields::bits;
 
 // How many bits are set in each number of six bits.
 const SIXES: [usize; 64] = [

@@ -1,7 +1,7 @@
 // EVT2 for counting: whether a word is an event inside the sensor, by two comparisons.
 ghost use mathlib.Core.Path.{_≡_};
 ghost use Rattle.glance.specs.Quick.{limitOf, isSeen};
-use evt::fields::bits;
+use evt_types::fields::bits;
 
 // The bound of type and column: width x 2048, at most 2^22; 0 for a decoder that hasn't started.
 pub fn limit(on: bool, width: u64) -> u64

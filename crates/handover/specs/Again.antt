@@ -10,8 +10,8 @@ use lib.ListN.{length, take, drop, length-append, length-drop}
 use lib.Seq.{take-append-le, drop-append-le}
 use borrow.Author.Tests.{leb-true, leb-false}
 use Rattle.stream.specs.Machine.{Note}
-use Rattle.evt.specs.Event.{Event}
-use Rattle.evt.specs.declared.Encoding.{Encoding}
+use Rattle.evt_types.specs.Event.{Event}
+use Rattle.evt_types.specs.declared.Encoding.{Encoding}
 use Rattle.slice.specs.declared.SliceAnswer.{SliceAnswer}
 use Rattle.handover.specs.Handover.{Call, acceptedEvents, streamOf, streamWords, fresh, others, joined, numbered, Gives, Exact, Claim}
 use Rattle.handover.specs.Proof.{Sent, fresh-sent, joinedWords, joined-sent, exact-whole, claim}

@@ -11,7 +11,7 @@ use lib.Seq.{take-nil, drop-nil}
 use borrow.Author.Tests.{leb-true, leb-false}
 use Rattle.stream.specs.Machine.{Note, notes, notes-split}
 use Rattle.stream.specs.Words as Words
-use Rattle.evt.specs.Event.{Event}
+use Rattle.evt_types.specs.Event.{Event}
 use Rattle.handover.specs.Handover.{wholeBefore, brokenAfter}
 
 module _ (size cut : ℕ) (sized : 0 < size) where

@@ -7,10 +7,10 @@ use native.Mathlib.Omega.{arith}
 use borrow.Author.Tests.{le-leb}
 use Rattle.stream.specs.Machine.{All, all-append, emits}
 use Rattle.stream.specs.Mask.{mask}
-use Rattle.evt.specs.Event.{Event}
-use Rattle.evt.specs.declared.Encoding.{Encoding}
-use Rattle.evt.specs.declared.Encoding.the-variants.{Evt2, Evt3}
-use Rattle.evt.specs.Layout.{event-type2, word-type3, column-type3}
+use Rattle.evt_types.specs.Event.{Event}
+use Rattle.evt_types.specs.declared.Encoding.{Encoding}
+use Rattle.evt_types.specs.declared.Encoding.the-variants.{Evt2, Evt3}
+use Rattle.evt_types.specs.Layout.{event-type2, word-type3, column-type3}
 use Rattle.store.specs.declared.EncoderState.{EncoderState}
 use Rattle.store.specs.Sent.{carries, due}
 use Rattle.encode2.specs.Evt2.{wordOf2, highWord2, highSent2, encode2, encoded2, writer2}

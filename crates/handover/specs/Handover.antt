@@ -10,13 +10,13 @@ use lib.ListN.{length, take, drop}
 use Rattle.stream.specs.Machine.{Note, All, words, notes}
 use Rattle.stream.specs.Slice.{sift}
 use Rattle.stream.specs.Words.{stream}
-use Rattle.evt.specs.Event.{Event}
-use Rattle.evt.specs.Layout.{type2, type3}
-use Rattle.evt.specs.declared.Encoding.{Encoding}
-use Rattle.evt.specs.declared.Encoding.the-variants.{Evt2, Evt3}
-use Rattle.evt.specs.declared.Limit.the-variants.{Unlimited}
-use Rattle.evt.specs.declared.SensorSize.{SensorSize}
-use Rattle.evt.specs.declared.SensorSize.the-variants.{Known}
+use Rattle.evt_types.specs.Event.{Event}
+use Rattle.evt_types.specs.Layout.{type2, type3}
+use Rattle.evt_types.specs.declared.Encoding.{Encoding}
+use Rattle.evt_types.specs.declared.Encoding.the-variants.{Evt2, Evt3}
+use Rattle.evt_types.specs.declared.Limit.the-variants.{Unlimited}
+use Rattle.evt_types.specs.declared.SensorSize.{SensorSize}
+use Rattle.evt_types.specs.declared.SensorSize.the-variants.{Known}
 use Rattle.store.specs.Columns.{eventsIn}
 use Rattle.encode.specs.Encode.{encodeNotes, encodeSize}
 use Rattle.sink.specs.declared.RawEventSink.{RawEventSink}

@@ -9,9 +9,9 @@ use lib.ListN.{length, length-map}
 use borrow.Author.Tests.{eq-eqb, le-leb, le-ltb, lt-ltb}
 use Rattle.stream.specs.Machine.{All, all-map}
 use Rattle.stream.specs.Order.{Rise, rise-suffix}
-use Rattle.evt.specs.Columns.{colX, colY, colT, colP}
-use Rattle.evt.specs.Event.{Event}
-use Rattle.evt.specs.declared.Encoding.{Encoding}
+use Rattle.evt_types.specs.Columns.{colX, colY, colT, colP}
+use Rattle.evt_types.specs.Event.{Event}
+use Rattle.evt_types.specs.declared.Encoding.{Encoding}
 use Rattle.sensor.specs.Inside.{clock}
 use Rattle.store.specs.Columns.{eventsIn}
 use Rattle.store.specs.Sent.{freshState}

@@ -10,9 +10,9 @@ use lib.Seq.{take-take}
 use Rattle.stream.specs.Machine.{Note, All, all-append, all-append-left, all-take, notes, notes-append, notes-split}
 use Rattle.stream.specs.Order.{Rise}
 use Rattle.stream.specs.Slice.{sift-all}
-use Rattle.evt.specs.Event.{Event}
+use Rattle.evt_types.specs.Event.{Event}
 use Rattle.evt.specs.Codec.{eventsFrom}
-use Rattle.evt.specs.declared.Encoding.{Encoding}
+use Rattle.evt_types.specs.declared.Encoding.{Encoding}
 use Rattle.header.specs.Header.{hasZero}
 use Rattle.sensor.specs.Inside.{clock, inside}
 use Rattle.window.specs.declared.Window.{Window}

@@ -6,8 +6,8 @@ use Prim.Native.Nat.{ℕ, _^_}
 use lib.Dec.{eqb, leb}
 use lib.ListN.{length, take}
 use lib.Seq.{take-at}
-use Rattle.evt.specs.declared.Refusal.the-variants.{TooLong, TimeOrder, EventOutOfRange, StateOutOfRange, OutputTooShort, ColumnLengths}
-use Rattle.evt.specs.Told.{accepted, refused, short}
+use Rattle.evt_types.specs.declared.Refusal.the-variants.{TooLong, TimeOrder, EventOutOfRange, StateOutOfRange, OutputTooShort, ColumnLengths}
+use Rattle.evt_types.specs.Told.{accepted, refused, short}
 use Rattle.sink.specs.declared.RawEventSink.{RawEventSink}
 use Rattle.sink.specs.declared.AppendAnswer.{AppendAnswer}
 use Rattle.sink.specs.declared.AppendAnswer.the-variants.{Written, Refused}

@@ -6,11 +6,11 @@ use Prim.Native.Nat.{ℕ, _^_, _≤_}
 use borrow.Author.Tests.{le-ltb}
 use lib.IntN.{ℤ}
 use lib.ListN.{length, take}
-use Rattle.evt.specs.Event.{Event}
+use Rattle.evt_types.specs.Event.{Event}
 use Rattle.evt.specs.Codec.{freshC, eventsFrom}
-use Rattle.evt.specs.declared.Encoding.{Encoding}
-use Rattle.evt.specs.declared.Limit.the-variants.{Unlimited}
-use Rattle.evt.specs.declared.SensorSize.{SensorSize}
+use Rattle.evt_types.specs.declared.Encoding.{Encoding}
+use Rattle.evt_types.specs.declared.Limit.the-variants.{Unlimited}
+use Rattle.evt_types.specs.declared.SensorSize.{SensorSize}
 use Rattle.header.specs.Header.{hasZero}
 use Rattle.window.specs.declared.Window.{Window}
 use Rattle.select.specs.Uses.{PastOver}

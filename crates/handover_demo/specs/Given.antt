@@ -6,8 +6,8 @@ use lib.IntN.{ℤ, pos}
 use lib.ListN.{length, take}
 use lib.Signed.{ltZ}
 use Rattle.stream.specs.Slice.{sift}
-use Rattle.evt.specs.declared.Encoding.{Encoding}
-use Rattle.evt.specs.declared.Encoding.the-variants.{Evt2, Evt3}
+use Rattle.evt_types.specs.declared.Encoding.{Encoding}
+use Rattle.evt_types.specs.declared.Encoding.the-variants.{Evt2, Evt3}
 
 unfoldable pub givenXs : List ℕ
 givenXs = 10 ∷ 10 ∷ 20 ∷ 21 ∷ 23 ∷ 31 ∷ 31 ∷ 3 ∷ 100 ∷ 103 ∷ 111 ∷ 112 ∷ 119 ∷ 119 ∷ 5 ∷ 2047 ∷ []

@@ -5,7 +5,7 @@ use crate::compare::Difference;
 use crate::given;
 use crate::print;
 use crate::reading;
-use evt::Encoding;
+use evt_types::Encoding;
 use index::Checkpoint;
 use index::OpenAnswer;
 use index::RawSliceSource;

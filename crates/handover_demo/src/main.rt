@@ -6,9 +6,9 @@
 ghost use mathlib.Core.Path.{_≡_};
 ghost use Prim.Native.Nat.{_≤_, _<_};
 ghost use lib.ListN.{length};
-use evt::Decoder;
-use evt::Encoding;
-use evt::Evt2Decoder;
+use evt_types::Encoding;
+use evt2_decoder::Evt2Decoder;
+use evt3_decoder::Decoder;
 
 mod compare;
 mod exact;

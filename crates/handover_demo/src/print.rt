@@ -1,7 +1,7 @@
 // Printing to standard output.
 ghost use Prim.Native.Nat.{_<_};
-use evt::Encoding;
-use evt::Refusal;
+use evt_types::Encoding;
+use evt_types::Refusal;
 use libc::STDOUT_FILENO;
 use sink::AppendAnswer;
 

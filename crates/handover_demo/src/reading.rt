@@ -1,9 +1,9 @@
 // Bytes read back, into columns of 16: decoded whole, or a slice by an index of them.
 use crate::compare::Got;
 use crate::print;
-use evt::Encoding;
-use evt::Limit;
-use evt::SensorSize;
+use evt_types::Encoding;
+use evt_types::Limit;
+use evt_types::SensorSize;
 use fixed_index::FixedIndex;
 use index::Checkpoint;
 use index::RawSliceSource;

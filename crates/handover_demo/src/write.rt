@@ -5,7 +5,7 @@ ghost use Prim.Native.Nat.{_≤_};
 ghost use lib.ListN.{length, drop};
 use crate::given;
 use crate::print;
-use evt::Encoding;
+use evt_types::Encoding;
 use sink::AppendAnswer;
 use sink::RawEventSink;
 

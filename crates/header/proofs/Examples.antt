@@ -2,8 +2,8 @@
 use Prim.Native.Nat.{ℕ}
 use mathlib.Core.Path.{_≡_, refl}
 use mathlib.Core.List.{List, [], _∷_}
-use Rattle.evt.specs.declared.SensorSize.the-variants.{Unknown, Known}
-use Rattle.evt.specs.Told.{accepted, refused}
+use Rattle.evt_types.specs.declared.SensorSize.the-variants.{Unknown, Known}
+use Rattle.evt_types.specs.Told.{accepted, refused}
 use Rattle.header_text.specs.Text.{isBlank, upTo, from, any, restOf, trimStart, trimEnd, trimOf, lowerOf, begins, same}
 use Rattle.header_text.specs.Size.{isDigit, allDigits, decimal, numberFrom, digitsOf, numberOf, both, sizeAt, geometryOf}
 use Rattle.header.specs.Lines.{joined, linesOf, startsPercent, leading, headerLines, bytesOf, headerBytes, bodyStart, bodyOf, keyOf, valueOf}

@@ -3,7 +3,7 @@ use Prim.Native.Nat.{ℕ, _+_}
 use mathlib.Core.List.{List}
 use mathlib.Core.Bool.{Bool}
 use lib.ListN.{take, drop}
-use Rattle.evt.specs.declared.SensorSize.{SensorSize}
+use Rattle.evt_types.specs.declared.SensorSize.{SensorSize}
 use Rattle.header_text.specs.declared.text.ByteClass.{ByteClass}
 use Rattle.header_text.specs.declared.text.ByteClass.the-variants.{Blank, NotBlank, NotPercent, NotAscii, Byte}
 use Rattle.header_text.specs.Text.{isBlank, notBlank, notPercent, notAscii, isByte, trimOf}

@@ -7,7 +7,7 @@ ghost use Rattle.header_text.specs.Parts.{halvesAt};
 use crate::text::ByteClass;
 use crate::text::trim;
 use crate::text::until;
-use evt::SensorSize;
+use evt_types::SensorSize;
 
 enum Number {
     Invalid,

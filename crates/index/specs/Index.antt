@@ -7,13 +7,13 @@ use lib.Dec.{ltb, leb, eqb}
 use lib.IntN.{pos}
 use lib.ListN.{length, take, drop}
 use Rattle.stream.specs.Order.{greatest}
-use Rattle.evt.specs.declared.Encoding.{Encoding}
-use Rattle.evt.specs.declared.Encoding.the-variants.{Evt2, Evt3}
-use Rattle.evt.specs.declared.Refusal.the-variants.{InvalidSensorSize, TooLong, InvalidSpacing, TooFewRecords}
-use Rattle.evt.specs.declared.SensorSize.{SensorSize}
+use Rattle.evt_types.specs.declared.Encoding.{Encoding}
+use Rattle.evt_types.specs.declared.Encoding.the-variants.{Evt2, Evt3}
+use Rattle.evt_types.specs.declared.Refusal.the-variants.{InvalidSensorSize, TooLong, InvalidSpacing, TooFewRecords}
+use Rattle.evt_types.specs.declared.SensorSize.{SensorSize}
 use Rattle.evt.specs.Codec.{freshC, eventsFrom, codecAfter}
-use Rattle.evt.specs.Event.{Event}
-use Rattle.evt.specs.Told.{Told, told, accepted, refused, short}
+use Rattle.evt_types.specs.Event.{Event}
+use Rattle.evt_types.specs.Told.{Told, told, accepted, refused, short}
 use Rattle.sensor.specs.Inside.{clock}
 use Rattle.header.specs.declared.HeaderAnswer.{HeaderAnswer}
 use Rattle.header.specs.declared.HeaderAnswer.the-variants.{Header, Refused as NoHeader}

@@ -14,7 +14,7 @@ use borrow.Author.Tests.{lt-ltb, le-ltb}
 use Rattle.stream.specs.Order.{greatest}
 use Rattle.evt.specs.declared.codec.Codec.{Codec}
 use Rattle.evt.specs.Codec.{freshC, codecAfter}
-use Rattle.evt.specs.Event.{Event}
+use Rattle.evt_types.specs.Event.{Event}
 use Rattle.sensor.specs.Inside.{clock}
 use Rattle.decode.specs.Decode.{Bounded, insideEvents}
 use Rattle.count.specs.Count.{surveyOf}

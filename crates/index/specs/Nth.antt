@@ -3,7 +3,7 @@ use Prim.Native.Nat.{ℕ}
 use mathlib.Core.List.{List}
 use lib.IntN.{pos}
 use lib.ListN.{getD}
-use Rattle.evt.specs.declared.Encoding.the-variants.{Evt2}
+use Rattle.evt_types.specs.declared.Encoding.the-variants.{Evt2}
 use Rattle.evt.specs.Codec.{freshC}
 use Rattle.index.specs.declared.Checkpoint.{Checkpoint}
 

@@ -11,16 +11,16 @@ use lib.ListN.{length, take, drop, length-take, length-drop}
 use lib.Seq.{take-all}
 use borrow.Author.Tests.{lt-ltb, le-ltb, ltb-true, ltb-false, eqb-true}
 use Rattle.stream.specs.Order.{greatest}
-use Rattle.evt.specs.declared.Encoding.{Encoding}
-use Rattle.evt.specs.declared.Encoding.the-variants.{Evt2, Evt3}
-use Rattle.evt.specs.declared.Refusal.{Refusal}
-use Rattle.evt.specs.declared.Refusal.the-variants.{InvalidSensorSize, TooLong, InvalidSpacing, TooFewRecords}
-use Rattle.evt.specs.declared.SensorSize.{SensorSize}
-use Rattle.evt.specs.declared.SensorSize.the-variants.{Unknown, Known}
+use Rattle.evt_types.specs.declared.Encoding.{Encoding}
+use Rattle.evt_types.specs.declared.Encoding.the-variants.{Evt2, Evt3}
+use Rattle.evt_types.specs.declared.Refusal.{Refusal}
+use Rattle.evt_types.specs.declared.Refusal.the-variants.{InvalidSensorSize, TooLong, InvalidSpacing, TooFewRecords}
+use Rattle.evt_types.specs.declared.SensorSize.{SensorSize}
+use Rattle.evt_types.specs.declared.SensorSize.the-variants.{Unknown, Known}
 use Rattle.evt.specs.Codec.{freshC, eventsFrom, codecAfter}
-use Rattle.evt.specs.Columns.{colX, colY}
-use Rattle.evt.specs.Event.{Event}
-use Rattle.evt.specs.Told.{told, accepted, refused, short}
+use Rattle.evt_types.specs.Columns.{colX, colY}
+use Rattle.evt_types.specs.Event.{Event}
+use Rattle.evt_types.specs.Told.{told, accepted, refused, short}
 use Rattle.sensor.specs.Inside.{clock}
 use Rattle.decode.specs.Decode.{insideEvents}
 use Rattle.decode.specs.Laws.{bounded-fresh, all-inside, inside-bytes}

@@ -10,9 +10,9 @@ ghost use lib.ListN.{length};
 ghost use Rattle.index.specs.Index.{spacingOk, recordCount};
 ghost use Rattle.index.specs.Build.{Fit, Advanced, firstOf, idle, bodyJob, rawJob, refusedJob, wholeWindow, wordsJob, concluded};
 use evt::Codec;
-use evt::Encoding;
-use evt::Refusal;
-use evt::SensorSize;
+use evt_types::Encoding;
+use evt_types::Refusal;
+use evt_types::SensorSize;
 use header::HeaderAnswer;
 use select::Window;
 

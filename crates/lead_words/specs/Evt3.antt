@@ -6,10 +6,10 @@ use lib.Dec.{ltb}
 use lib.ListN.{length}
 use Rattle.stream.specs.Machine.{Machine, Note}
 use Rattle.stream.specs.Mask.{mask}
-use Rattle.evt.specs.Event.{Event}
-use Rattle.evt.specs.Layout.{word3, columnWord3}
-use Rattle.evt.specs.declared.Sent.{Sent}
-use Rattle.evt.specs.declared.Sent.the-variants.{Value}
+use Rattle.evt_types.specs.Event.{Event}
+use Rattle.evt_types.specs.Layout.{word3, columnWord3}
+use Rattle.evt_types.specs.declared.Sent.{Sent}
+use Rattle.evt_types.specs.declared.Sent.the-variants.{Value}
 use Rattle.store.specs.declared.EncoderState.{EncoderState}
 use Rattle.store.specs.Columns.{event}
 use Rattle.store.specs.Sent.{sentIs, quiet, carries, due}

@@ -11,7 +11,7 @@ use lib.Seq.{sets}
 use Rattle.stream.specs.Machine.{words, words-append}
 use Rattle.stream.specs.Columns.{sets-append}
 use Rattle.stream.specs.Words.{stream, bytes, stream-append}
-use Rattle.evt.specs.declared.Sent.{Sent}
+use Rattle.evt_types.specs.declared.Sent.{Sent}
 use Rattle.store.specs.declared.EncoderState.{EncoderState}
 use Rattle.store.specs.Sent.{due, held, held-is}
 use Rattle.store.specs.Storing.{sets-over}

@@ -10,16 +10,16 @@ use borrow.Author.Tests.{lt-ltb, le-ltb}
 use lib.Dec.{ltb, eqb}
 use lib.IntN.{ℤ, pos, negsuc}
 use lib.ListN.{length, getD, drop, length-append, length-drop}
-use Rattle.evt.specs.declared.Encoding.{Encoding}
-use Rattle.evt.specs.declared.Encoding.the-variants.{Evt2, Evt3}
-use Rattle.evt.specs.declared.Limit.the-variants.{Unlimited}
-use Rattle.evt.specs.declared.Refusal.{Refusal}
-use Rattle.evt.specs.declared.Refusal.the-variants.{InvalidSensorSize, ColumnsTooShort}
-use Rattle.evt.specs.declared.SensorSize.{SensorSize}
-use Rattle.evt.specs.declared.SensorSize.the-variants.{Unknown, Known}
-use Rattle.evt.specs.Event.{Event}
-use Rattle.evt.specs.Columns.{colX, colY, colT, colP}
-use Rattle.evt.specs.Told.{told, accepted, refused}
+use Rattle.evt_types.specs.declared.Encoding.{Encoding}
+use Rattle.evt_types.specs.declared.Encoding.the-variants.{Evt2, Evt3}
+use Rattle.evt_types.specs.declared.Limit.the-variants.{Unlimited}
+use Rattle.evt_types.specs.declared.Refusal.{Refusal}
+use Rattle.evt_types.specs.declared.Refusal.the-variants.{InvalidSensorSize, ColumnsTooShort}
+use Rattle.evt_types.specs.declared.SensorSize.{SensorSize}
+use Rattle.evt_types.specs.declared.SensorSize.the-variants.{Unknown, Known}
+use Rattle.evt_types.specs.Event.{Event}
+use Rattle.evt_types.specs.Columns.{colX, colY, colT, colP}
+use Rattle.evt_types.specs.Told.{told, accepted, refused}
 use Rattle.stream.specs.Columns.{sets-append}
 use lib.Seq.{sets, length-sets}
 use Rattle.header.specs.declared.Header as header

@@ -5,11 +5,11 @@ use mathlib.Core.List.{List, [], _∷_, _++_}
 use Prim.Native.Nat.{ℕ, zero, suc, _+_, _/_, _%_, _*_}
 use lib.Dec.{ltb}
 use lib.ListN.{length}
-use Rattle.evt.specs.declared.Limit.the-variants.{Unlimited}
-use Rattle.evt.specs.declared.SensorSize.the-variants.{Unknown}
-use Rattle.evt.specs.declared.Refusal.{Refusal}
-use Rattle.evt.specs.Event.{Event}
-use Rattle.evt.specs.Told.{told}
+use Rattle.evt_types.specs.declared.Limit.the-variants.{Unlimited}
+use Rattle.evt_types.specs.declared.SensorSize.the-variants.{Unknown}
+use Rattle.evt_types.specs.declared.Refusal.{Refusal}
+use Rattle.evt_types.specs.Event.{Event}
+use Rattle.evt_types.specs.Told.{told}
 use Rattle.header.specs.Header.{encodingNumber}
 use Rattle.answer.specs.declared.LoadOptions.{LoadOptions}
 use Rattle.answer.specs.declared.Reading.{Reading}

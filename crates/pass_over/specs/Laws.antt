@@ -7,12 +7,12 @@ use lib.ListN.{length, take, drop, length-take, length-drop}
 use Rattle.stream.specs.Words.{wordsOf, length-words, words-taken, words-dropped}
 use Rattle.stream.specs.Select.{handed}
 use Rattle.stream.specs.PassOver.{Passes, over, over-passes, handed-over}
-use Rattle.evt.specs.declared.evt2.Evt2Decoder.{Evt2Decoder}
-use Rattle.evt.specs.declared.evt3.Decoder.{Decoder}
+use Rattle.evt2_decoder.specs.declared.Evt2Decoder.{Evt2Decoder}
+use Rattle.evt3_decoder.specs.declared.Decoder.{Decoder}
 use Rattle.evt.specs.declared.codec.Codec.{Codec}
 use Rattle.evt.specs.declared.codec.Codec.the-variants.{Evt2, Evt3}
-use Rattle.evt.specs.Evt2.{reader2}
-use Rattle.evt.specs.Evt3.{reader3}
+use Rattle.evt2_decoder.specs.Evt2.{reader2}
+use Rattle.evt3_decoder.specs.Evt3.{reader3}
 use Rattle.evt.specs.Codec.{codecAfter}
 use Rattle.sensor.specs.Inside.{inside}
 use Rattle.decode.specs.Decode.{insideEvents, Bounded, Steady}

@@ -1,7 +1,7 @@
 // Opening a recording, or headerless words: the index's records are made into lent entries.
-ghost use Rattle.evt.specs.declared.Encoding.the-variants.{Evt2, Evt3};
+ghost use Rattle.evt_types.specs.declared.Encoding.the-variants.{Evt2, Evt3};
 ghost use Rattle.flat.specs.Opening.{OpensRaw, OpensWords};
-use evt::Encoding;
+use evt_types::Encoding;
 use flat::opening::PropheseeOpenOptions;
 use flat::opening::PropheseeOpening;
 use flat::opening::make_records;

@@ -1,7 +1,7 @@
 // Reading a recording, or headerless words, into four lent columns.
-ghost use Rattle.evt.specs.declared.Encoding.the-variants.{Evt2, Evt3};
+ghost use Rattle.evt_types.specs.declared.Encoding.the-variants.{Evt2, Evt3};
 ghost use Rattle.flat.specs.Reading.{DecodesWords, ReadsRaw};
-use evt::Encoding;
+use evt_types::Encoding;
 use flat::options::PropheseeOptions;
 use flat::options::options_of;
 use flat::reading::PropheseeReading;

@@ -1,7 +1,7 @@
 // Slices by number and by time, over records as entries.
-ghost use Rattle.evt.specs.declared.Encoding.the-variants.{Evt2, Evt3};
+ghost use Rattle.evt_types.specs.declared.Encoding.the-variants.{Evt2, Evt3};
 ghost use Rattle.flat.specs.Slicing.{SlicesIndex, SlicesTime};
-use evt::Encoding;
+use evt_types::Encoding;
 use flat::opening::PropheseeSource;
 use flat::slices::PropheseeSlice;
 use flat::slices::choose_entries;

@@ -1,10 +1,10 @@
 // The writer: fresh ones, and appending.
 ghost use mathlib.Core.Path.{_≡_};
-ghost use Rattle.evt.specs.declared.Encoding.the-variants.{Evt2, Evt3};
+ghost use Rattle.evt_types.specs.declared.Encoding.the-variants.{Evt2, Evt3};
 ghost use Rattle.sink.specs.Append.{freshSink};
 ghost use Rattle.flat.specs.Options.{flag};
 ghost use Rattle.flat.specs.Writer.{flatSink, Appends};
-use evt::Encoding;
+use evt_types::Encoding;
 use flat::options::is_set;
 use flat::writer::PropheseeAppended;
 use flat::writer::PropheseeSink;

@@ -10,9 +10,9 @@ pub use answer::LoadOptions;
 pub use answer::ReadAnswer;
 pub use answer::Reading;
 use evt::Codec;
-use evt::Encoding;
-use evt::Limit;
-use evt::SensorSize;
+use evt_types::Encoding;
+use evt_types::Limit;
+use evt_types::SensorSize;
 use header::HeaderAnswer;
 
 // A body of at most 2^30 bytes: 1 for no event, 5, or the reading. `requires`: both entries have

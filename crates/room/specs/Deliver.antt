@@ -8,8 +8,8 @@ use lib.IntN.{ℤ}
 use lib.ListN.{length, drop}
 use Rattle.evt.specs.declared.codec.Codec.{Codec}
 use Rattle.evt.specs.declared.codec.Codec.the-variants.{Evt2, Evt3}
-use Rattle.evt.specs.Columns.{colX, colY, colT, colP}
-use Rattle.evt.specs.Event.{Event}
+use Rattle.evt_types.specs.Columns.{colX, colY, colT, colP}
+use Rattle.evt_types.specs.Event.{Event}
 use Rattle.window.specs.declared.Window.{Window}
 use Rattle.room.specs.declared.Delivered.{Delivered}
 use Rattle.room.specs.declared.Delivered.the-variants.{Written, Needed}

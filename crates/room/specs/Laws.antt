@@ -15,8 +15,8 @@ use Rattle.stream.specs.Select as Select
 use Rattle.stream.specs.Words.{wordsOf}
 use Rattle.evt.specs.declared.codec.Codec.{Codec}
 use Rattle.evt.specs.declared.codec.Codec.the-variants.{Evt2, Evt3}
-use Rattle.evt.specs.Columns.{colX, colY, colT, colP, Wrote, Fits}
-use Rattle.evt.specs.Event.{Event}
+use Rattle.evt_types.specs.Columns.{colX, colY, colT, colP, Wrote, Fits}
+use Rattle.evt_types.specs.Event.{Event}
 use Rattle.count.specs.declared.Survey.{Survey}
 use Rattle.decode.specs.declared.Tally.{Tally as Filling}
 use Rattle.decode.specs.Decode.{insideEvents, tallyOf}

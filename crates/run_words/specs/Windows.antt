@@ -12,7 +12,7 @@ use lib.Seq.{sets}
 use borrow.Author.Tests.{ltb-true, ltb-false, lt-ltb, le-ltb}
 use Rattle.stream.specs.Mask.{Inc, mask, mask-lt}
 use Rattle.stream.specs.Words.{stream, bytes, stream-append, length-stream}
-use Rattle.evt.specs.Layout.{word3}
+use Rattle.evt_types.specs.Layout.{word3}
 use Rattle.run_words.specs.declared.Window.{Window}
 use Rattle.runs.specs.Runs.{Rising, firstX, lastX}
 use Rattle.lead_words.specs.Evt3.{maskWord3, nearby, beyond}

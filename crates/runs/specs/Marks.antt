@@ -12,7 +12,7 @@ use lib.ListN.{length}
 use lib.Pow.{shr-shr}
 use borrow.Author.Tests.{lt-ltb, le-ltb, ltb-true, ltb-false, eq-eqb, ne-eqb}
 use Rattle.stream.specs.Mask.{trailing-lt}
-use Rattle.evt.specs.Event.{Event}
+use Rattle.evt_types.specs.Event.{Event}
 use Rattle.runs.specs.declared.Found.{Found}
 use Rattle.store.specs.Columns.{Sized, eventOf, eventsPast, events-at, events-end}
 use Rattle.runs.specs.Runs.{goes, goes-true, follow}

@@ -10,8 +10,8 @@ use borrow.Author.Tests.{eq-eqb, eqb-true, ltb-true}
 use lib.ListN.{length, getD, take, drop}
 use Rattle.stream.specs.Machine.{All, and-both}
 use Rattle.stream.specs.Mask.{Inc}
-use Rattle.evt.specs.Event.{Event}
-use Rattle.evt.specs.Columns.{colX}
+use Rattle.evt_types.specs.Event.{Event}
+use Rattle.evt_types.specs.Columns.{colX}
 use Rattle.store.specs.Columns.{event}
 
 pub record Run : Type 0 where

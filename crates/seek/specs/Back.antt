@@ -10,9 +10,9 @@ use borrow.Author.Tests.{eq-eqb, ne-eqb}
 use Rattle.stream.specs.Machine.{run}
 use Rattle.stream.specs.Words.{wordsOf, value-two, words-next, words-end}
 use Rattle.stream.specs.Stream.{split-words}
-use Rattle.evt.specs.declared.evt3.Decoder.{Decoder}
-use Rattle.evt.specs.Layout.{type3, y3, x3, polarity3}
-use Rattle.evt.specs.Evt3.{Kind, kindOn, stepAs, step3, reader3}
+use Rattle.evt3_decoder.specs.declared.Decoder.{Decoder}
+use Rattle.evt_types.specs.Layout.{type3, y3, x3, polarity3}
+use Rattle.evt3_decoder.specs.Evt3.{Kind, kindOn, stepAs, step3, reader3}
 use Rattle.seek.specs.declared.back.Column.{Column}
 use Rattle.seek.specs.declared.times.Times.{Times}
 use Rattle.seek.specs.Times.{timesOf, by-type, started-step, step-on}

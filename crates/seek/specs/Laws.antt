@@ -14,18 +14,19 @@ use Rattle.stream.specs.Mask.{bits, bits-zero}
 use Rattle.stream.specs.Slice.{sift, sift-none, early, late}
 use Rattle.stream.specs.Select as Select
 use Rattle.stream.specs.Seek.{Reach, reach-most, handed-from, handed-upto}
-use Rattle.evt.specs.declared.evt2.Evt2Decoder.{Evt2Decoder}
-use Rattle.evt.specs.declared.evt3.Decoder.{Decoder}
+use Rattle.evt2_decoder.specs.declared.Evt2Decoder.{Evt2Decoder}
+use Rattle.evt3_decoder.specs.declared.Decoder.{Decoder}
 use Rattle.evt.specs.declared.codec.Codec.{Codec}
 use Rattle.evt.specs.declared.codec.Codec.the-variants.{Evt2, Evt3}
-use Rattle.evt.specs.declared.vector.Vector.{Vector}
-use Rattle.evt.specs.Event.{Event, eventAt, eventsOf}
-use Rattle.evt.specs.Layout.{type2, type3}
-use Rattle.evt.specs.Evt2 as Evt2
-use Rattle.evt.specs.Evt2.{step2, vector2, reader2}
-use Rattle.evt.specs.Evt3 as Evt3
-use Rattle.evt.specs.Evt3.{step3, vector3, reader3}
-use Rattle.evt.specs.Range.{Regular2, Regular3, regular-step2, regular-step3}
+use Rattle.evt_types.specs.declared.vector.Vector.{Vector}
+use Rattle.evt_types.specs.Event.{Event, eventAt, eventsOf}
+use Rattle.evt_types.specs.Layout.{type2, type3}
+use Rattle.evt2_decoder.specs.Evt2 as Evt2
+use Rattle.evt2_decoder.specs.Evt2.{step2, vector2, reader2}
+use Rattle.evt3_decoder.specs.Evt3 as Evt3
+use Rattle.evt3_decoder.specs.Evt3.{step3, vector3, reader3}
+use Rattle.evt2_decoder.specs.Range.{Regular2, regular-step2}
+use Rattle.evt3_decoder.specs.Range.{Regular3, regular-step3}
 use Rattle.sensor.specs.Inside.{clock, all-mapped}
 use Rattle.decode.specs.Decode.{insideEvents, Bounded}
 use Rattle.decode.specs.Laws.{inside-bytes}

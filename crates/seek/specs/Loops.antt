@@ -8,15 +8,16 @@ use lib.Dec.{ltb}
 use lib.ListN.{length, drop, getD}
 use Rattle.stream.specs.Words.{value-two, value-four, length-words}
 use Rattle.stream.specs.Seek.{Reach}
-use Rattle.evt.specs.declared.evt2.Evt2Decoder.{Evt2Decoder}
-use Rattle.evt.specs.declared.evt2.Evt2Step.{Evt2Step}
-use Rattle.evt.specs.declared.evt3.Decoder.{Decoder}
-use Rattle.evt.specs.declared.evt3.WideDecoder.{WideDecoder}
+use Rattle.evt2_decoder.specs.declared.Evt2Decoder.{Evt2Decoder}
+use Rattle.evt2_decoder.specs.declared.Evt2Step.{Evt2Step}
+use Rattle.evt3_decoder.specs.declared.Decoder.{Decoder}
+use Rattle.evt3_decoder.specs.declared.WideDecoder.{WideDecoder}
 use Rattle.evt.specs.declared.codec.Codec.the-variants.{Evt2, Evt3}
-use Rattle.evt.specs.Layout.{type2, type3}
-use Rattle.evt.specs.Evt2.{step2, reader2}
-use Rattle.evt.specs.Evt3.{step3, reader3, widened, slimmed}
-use Rattle.evt.specs.Range.{Bounded2, Bounded3, bounded-step2, bounded-step3, bounded-sane3}
+use Rattle.evt_types.specs.Layout.{type2, type3}
+use Rattle.evt2_decoder.specs.Evt2.{step2, reader2}
+use Rattle.evt3_decoder.specs.Evt3.{step3, reader3, widened, slimmed}
+use Rattle.evt2_decoder.specs.Range.{Bounded2, bounded-step2}
+use Rattle.evt3_decoder.specs.Range.{Bounded3, bounded-step3, bounded-sane3}
 use Rattle.seek.specs.declared.times.Times.{Times}
 use Rattle.seek.specs.Seek.{carries2, carriesAs, carries3, soughtOf, reach3}
 use Rattle.seek.specs.Turn.{Seeking, Found, seeking-start, seeking-end, seeking-stop, seeking-turn, found-is}

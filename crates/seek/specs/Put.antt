@@ -8,10 +8,10 @@ use lib.ListN.{length, take, drop, length-take}
 use Rattle.stream.specs.Machine.{run}
 use Rattle.stream.specs.Words.{wordsOf, length-words}
 use Rattle.stream.specs.Seek.{Reach, reach-state, reach-most}
-use Rattle.evt.specs.declared.evt3.Decoder.{Decoder}
+use Rattle.evt3_decoder.specs.declared.Decoder.{Decoder}
 use Rattle.evt.specs.declared.codec.Codec.the-variants.{Evt3}
-use Rattle.evt.specs.Evt3.{reader3}
-use Rattle.evt.specs.Range.{Bounded3}
+use Rattle.evt3_decoder.specs.Evt3.{reader3}
+use Rattle.evt3_decoder.specs.Range.{Bounded3}
 use Rattle.seek.specs.declared.evt3.Passed.{Passed}
 use Rattle.seek.specs.Seek.{carries3, reach3, soughtOf}
 use Rattle.seek.specs.Times.{timesOf, passedOf}

@@ -7,13 +7,13 @@ use lib.Dec.{eqb, ltb}
 use lib.ListN.{length, drop}
 use Rattle.stream.specs.Words.{wordsOf}
 use Rattle.stream.specs.Seek.{Reach, reach}
-use Rattle.evt.specs.declared.evt2.Evt2Decoder.{Evt2Decoder}
-use Rattle.evt.specs.declared.evt3.Decoder.{Decoder}
+use Rattle.evt2_decoder.specs.declared.Evt2Decoder.{Evt2Decoder}
+use Rattle.evt3_decoder.specs.declared.Decoder.{Decoder}
 use Rattle.evt.specs.declared.codec.Codec.{Codec}
 use Rattle.evt.specs.declared.codec.Codec.the-variants.{Evt2, Evt3}
-use Rattle.evt.specs.Layout.{type2, type3}
-use Rattle.evt.specs.Evt2.{reader2}
-use Rattle.evt.specs.Evt3.{reader3}
+use Rattle.evt_types.specs.Layout.{type2, type3}
+use Rattle.evt2_decoder.specs.Evt2.{reader2}
+use Rattle.evt3_decoder.specs.Evt3.{reader3}
 use Rattle.decode.specs.Decode.{Bounded}
 use Rattle.seek.specs.declared.Sought.{Sought}
 

@@ -9,14 +9,15 @@ use lib.ListN.{length, take, drop, getD}
 use borrow.Author.Tests.{eq-eqb, ne-eqb, le-ltb}
 use Rattle.stream.specs.Machine.{run}
 use Rattle.stream.specs.Words.{wordsOf, length-words}
-use Rattle.evt.specs.declared.evt2.Evt2Decoder.{Evt2Decoder}
-use Rattle.evt.specs.declared.evt3.Decoder.{Decoder}
+use Rattle.evt2_decoder.specs.declared.Evt2Decoder.{Evt2Decoder}
+use Rattle.evt3_decoder.specs.declared.Decoder.{Decoder}
 use Rattle.evt.specs.declared.codec.Codec.the-variants.{Evt2, Evt3}
-use Rattle.evt.specs.Layout.{type2, type3}
-use Rattle.evt.specs.Evt2 as Evt2
-use Rattle.evt.specs.Evt2.{step2, reader2}
-use Rattle.evt.specs.Evt3.{step3, reader3}
-use Rattle.evt.specs.Range.{Bounded2, Bounded3, Regular2, Regular3, bounded-step2, bounded-step3, bounded-sane2, regular-step2, regular-step3}
+use Rattle.evt_types.specs.Layout.{type2, type3}
+use Rattle.evt2_decoder.specs.Evt2 as Evt2
+use Rattle.evt2_decoder.specs.Evt2.{step2, reader2}
+use Rattle.evt3_decoder.specs.Evt3.{step3, reader3}
+use Rattle.evt2_decoder.specs.Range.{Bounded2, Regular2, bounded-step2, bounded-sane2, regular-step2}
+use Rattle.evt3_decoder.specs.Range.{Bounded3, Regular3, bounded-step3, regular-step3}
 use Rattle.seek.specs.declared.times.Times.{Times}
 use Rattle.seek.specs.Seek.{carries2, carriesAs, carries3, soughtOf, Midway}
 use Rattle.seek.specs.Turn.{Seeking, seeking-start, seeking-same}

@@ -8,9 +8,9 @@ use lib.Dec.{eqb}
 use borrow.Author.Tests.{eqb-true}
 use Rattle.stream.specs.Loop.{loopsAfter, timeAfter}
 use Rattle.stream.specs.Seek.{Reach}
-use Rattle.evt.specs.declared.evt3.Decoder.{Decoder}
-use Rattle.evt.specs.Layout.{type3, time3}
-use Rattle.evt.specs.Evt3.{Kind, kindOn, kindOf, stepAs, step3, period3, threshold3}
+use Rattle.evt3_decoder.specs.declared.Decoder.{Decoder}
+use Rattle.evt_types.specs.Layout.{type3, time3}
+use Rattle.evt3_decoder.specs.Evt3.{Kind, kindOn, kindOf, stepAs, step3, period3, threshold3}
 pub use Rattle.seek.specs.Seek.{carriesAs}
 use Rattle.seek.specs.declared.times.Times.{Times}
 use Rattle.seek.specs.declared.evt3.Passed.{Passed}

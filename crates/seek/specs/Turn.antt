@@ -11,7 +11,7 @@ use Rattle.stream.specs.Machine.{Machine, run, run-append}
 use Rattle.stream.specs.Words.{wordsOf, value, words-next, words-end, length-words}
 use Rattle.stream.specs.Seek.{Reach, reach, reachIf, behind, behind-none, behind-stay, behind-more, strays, reach-nil, reach-on, reach-stop}
 use Rattle.evt.specs.declared.codec.Codec.{Codec}
-use Rattle.evt.specs.Event.{Event}
+use Rattle.evt_types.specs.Event.{Event}
 use Rattle.seek.specs.Seek.{soughtAs, further}
 use Rattle.seek.specs.Cut.{drop-words}
 

@@ -4,7 +4,7 @@ ghost use mathlib.Core.Path.{_≡_};
 ghost use Prim.Native.Nat.{_+_, _*_, _≤_, min};
 ghost use Rattle.stream.specs.Words.{wordsOf};
 ghost use Rattle.seek.specs.Back.{rowAfter, baseAfter, width};
-use evt::fields::bits;
+use evt_types::fields::bits;
 
 pub struct Column {
     pub x: u16,

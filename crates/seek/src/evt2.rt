@@ -3,16 +3,16 @@ ghost use mathlib.Core.Path.{_≡_};
 ghost use Prim.Native.Nat.{_+_, _*_, _/_, _≤_, _^_};
 ghost use lib.ListN.{length, drop};
 ghost use Rattle.evt.specs.declared.codec.Codec.the-variants.{Evt2};
-ghost use Rattle.evt.specs.Range.{Bounded2};
+ghost use Rattle.evt2_decoder.specs.Range.{Bounded2};
 ghost use Rattle.decode.specs.Decode.{Bounded};
 ghost use Rattle.seek.specs.Seek.{soughtOf, Midway};
 use crate::Marked;
 use crate::Sought;
 use crate::strays;
 use evt::Codec;
-use evt::Evt2Decoder;
-use evt::evt2::advance;
-use evt::fields::bits;
+use evt_types::fields::bits;
+use evt2_decoder::Evt2Decoder;
+use evt2_decoder::advance;
 
 fn word4(a: u8, b: u8, c: u8, d: u8) -> u64
     ensures { λ r. ⌜ r ≡ a + b * 256 + c * 65536 + d * 16777216 ⌝ }

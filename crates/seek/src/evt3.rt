@@ -4,7 +4,7 @@ ghost use mathlib.Core.Bool.{true, false};
 ghost use Prim.Native.Nat.{_/_, _≤_, _^_};
 ghost use lib.ListN.{length, drop};
 ghost use Rattle.evt.specs.declared.codec.Codec.the-variants.{Evt3};
-ghost use Rattle.evt.specs.Range.{Bounded3};
+ghost use Rattle.evt3_decoder.specs.Range.{Bounded3};
 ghost use Rattle.select.specs.Pass.{Paced3};
 ghost use Rattle.decode.specs.Decode.{Bounded};
 ghost use Rattle.seek.specs.Seek.{soughtOf, reach3, Midway};
@@ -19,9 +19,9 @@ use crate::strays;
 use crate::times;
 use crate::times::Times;
 use evt::Codec;
-use evt::Decoder;
-use evt::evt3::widen;
-use evt::fields::bits;
+use evt_types::fields::bits;
+use evt3_decoder::Decoder;
+use evt3_decoder::widen;
 
 // Behind the words that were passed over.
 pub struct Passed {

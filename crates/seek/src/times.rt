@@ -3,9 +3,9 @@
 ghost use mathlib.Core.Path.{_≡_};
 ghost use mathlib.Core.Bool.{cond};
 ghost use Rattle.seek.specs.Times.{timesOf, ticked, Slow, carriesAs};
-use evt::Decoder;
-use evt::clock;
-use evt::fields::bits;
+use evt_types::clock;
+use evt_types::fields::bits;
+use evt3_decoder::Decoder;
 
 pub struct Times {
     pub base: u64,

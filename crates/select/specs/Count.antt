@@ -8,8 +8,8 @@ use lib.ListN.{length}
 use lib.Count.{ones}
 use Rattle.stream.specs.Words.{wordsOf}
 use Rattle.stream.specs.Select.{End}
-use Rattle.evt.specs.declared.vector.Vector.{Vector}
-use Rattle.evt.specs.Event.{Event, eventsOf}
+use Rattle.evt_types.specs.declared.vector.Vector.{Vector}
+use Rattle.evt_types.specs.Event.{Event, eventsOf}
 use Rattle.window.specs.declared.Window.{Window}
 use Rattle.window.specs.declared.trim.Trimmed.{Trimmed}
 use Rattle.window.specs.declared.extent.Extent.{Extent}

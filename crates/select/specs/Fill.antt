@@ -8,9 +8,9 @@ use lib.ListN.{length, length-append}
 use lib.IntN.{ℤ}
 use Rattle.stream.specs.Words.{wordsOf}
 use Rattle.stream.specs.Select.{End}
-use Rattle.evt.specs.declared.vector.Vector.{Vector}
-use Rattle.evt.specs.Event.{Event, eventsOf}
-use Rattle.evt.specs.Columns.{Going, Room, Wrote, going-start, going-run, going-end}
+use Rattle.evt_types.specs.declared.vector.Vector.{Vector}
+use Rattle.evt_types.specs.Event.{Event, eventsOf}
+use Rattle.evt_types.specs.Columns.{Going, Room, Wrote, going-start, going-run, going-end}
 use Rattle.window.specs.declared.Window.{Window}
 use Rattle.window.specs.declared.trim.Trimmed.{Trimmed}
 use Rattle.window.specs.Trim.{Picked, masked, events-few}

@@ -4,12 +4,13 @@ use Prim.Native.Nat.{ℕ, _+_, _*_, _/_, _^_, _≤_}
 use lib.ListN.{length}
 use Rattle.stream.specs.Words.{wordsOf}
 use Rattle.stream.specs.Select.{End, handed, ended}
-use Rattle.evt.specs.declared.evt3.Decoder.{Decoder}
+use Rattle.evt3_decoder.specs.declared.Decoder.{Decoder}
 use Rattle.evt.specs.declared.codec.Codec.{Codec}
 use Rattle.evt.specs.declared.codec.Codec.the-variants.{Evt2, Evt3}
-pub use Rattle.evt.specs.Columns.{Fits}
-use Rattle.evt.specs.Event.{Event}
-use Rattle.evt.specs.Range.{Bounded2, Regular3}
+pub use Rattle.evt_types.specs.Columns.{Fits}
+use Rattle.evt_types.specs.Event.{Event}
+use Rattle.evt2_decoder.specs.Range.{Bounded2}
+use Rattle.evt3_decoder.specs.Range.{Regular3}
 use Rattle.window.specs.declared.Window.{Window}
 use Rattle.select.specs.declared.Tally.{Tally}
 use Rattle.select.specs.declared.Filled.{Filled}

@@ -5,14 +5,15 @@ use Prim.Native.Nat.{ℕ, _+_, _≤_, _<_, _^_}
 use native.Mathlib.Omega.{arith}
 use lib.ListN.{length}
 use Rattle.stream.specs.Words.{wordsOf, length-words}
-use Rattle.evt.specs.declared.evt2.Evt2Decoder.{Evt2Decoder}
-use Rattle.evt.specs.declared.evt3.Decoder.{Decoder}
+use Rattle.evt2_decoder.specs.declared.Evt2Decoder.{Evt2Decoder}
+use Rattle.evt3_decoder.specs.declared.Decoder.{Decoder}
 use Rattle.evt.specs.declared.codec.Codec.the-variants.{Evt2, Evt3}
-use Rattle.evt.specs.Layout.{type2}
-use Rattle.evt.specs.declared.vector.Vector.{Vector}
-use Rattle.evt.specs.Evt2.{step2, reader2, vector2, vectorAs, by-kinds}
-use Rattle.evt.specs.Evt3.{step3, reader3, vector3}
-use Rattle.evt.specs.Range.{Bounded2, Bounded3, bounded-step2, bounded-step3, bounded-narrow2, bounded-narrow3}
+use Rattle.evt_types.specs.Layout.{type2}
+use Rattle.evt_types.specs.declared.vector.Vector.{Vector}
+use Rattle.evt2_decoder.specs.Evt2.{step2, reader2, vector2, vectorAs, by-kinds}
+use Rattle.evt3_decoder.specs.Evt3.{step3, reader3, vector3}
+use Rattle.evt2_decoder.specs.Range.{Bounded2, bounded-step2, bounded-narrow2}
+use Rattle.evt3_decoder.specs.Range.{Bounded3, bounded-step3, bounded-narrow3}
 use Rattle.words.specs.Ahead.{ahead, ahead-some}
 use Rattle.select.specs.Pass.{Ready}
 use Rattle.select.specs.Turn.{Source, Laws, Turned}

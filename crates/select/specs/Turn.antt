@@ -11,9 +11,9 @@ use Rattle.stream.specs.Words.{wordsOf, value, words-next, words-end}
 use Rattle.stream.specs.Slice.{sift, unless}
 use Rattle.stream.specs.Select as Select
 use Rattle.stream.specs.Select.{End, endAt, oneMore, handed, ended}
-use Rattle.evt.specs.declared.vector.Vector.{Vector}
+use Rattle.evt_types.specs.declared.vector.Vector.{Vector}
 use Rattle.evt.specs.declared.codec.Codec.{Codec}
-use Rattle.evt.specs.Event.{Event, eventsOf, Narrow}
+use Rattle.evt_types.specs.Event.{Event, eventsOf, Narrow}
 use Rattle.sensor.specs.Inside.{inside, sift-few}
 use Rattle.window.specs.declared.Window.{Window}
 use Rattle.window.specs.declared.trim.Trimmed.{Trimmed}

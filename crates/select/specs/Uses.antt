@@ -12,18 +12,19 @@ use Rattle.stream.specs.Mask.{bits}
 use Rattle.stream.specs.Slice.{sift, all-sift, andThen, until, Past, within, timely}
 use Rattle.stream.specs.Select as Select
 use Rattle.stream.specs.Select.{End, byNumber}
-use Rattle.evt.specs.declared.evt2.Evt2Decoder.{Evt2Decoder}
-use Rattle.evt.specs.declared.evt3.Decoder.{Decoder}
+use Rattle.evt2_decoder.specs.declared.Evt2Decoder.{Evt2Decoder}
+use Rattle.evt3_decoder.specs.declared.Decoder.{Decoder}
 use Rattle.evt.specs.declared.codec.Codec.{Codec}
 use Rattle.evt.specs.declared.codec.Codec.the-variants.{Evt2, Evt3}
-use Rattle.evt.specs.declared.vector.Vector.{Vector}
-use Rattle.evt.specs.Event.{Event, eventAt, eventsOf}
-use Rattle.evt.specs.Layout.{type3, time3}
-use Rattle.evt.specs.Evt2.{reader2, vector2}
-use Rattle.evt.specs.Evt3 as Evt3
-use Rattle.evt.specs.Evt3.{reader3, step3, vector3, period3, threshold3}
+use Rattle.evt_types.specs.declared.vector.Vector.{Vector}
+use Rattle.evt_types.specs.Event.{Event, eventAt, eventsOf}
+use Rattle.evt_types.specs.Layout.{type3, time3}
+use Rattle.evt2_decoder.specs.Evt2.{reader2, vector2}
+use Rattle.evt3_decoder.specs.Evt3 as Evt3
+use Rattle.evt3_decoder.specs.Evt3.{reader3, step3, vector3, period3, threshold3}
 use Rattle.evt.specs.Codec.{inRangeC, wordSize, eventsFrom, codecAfter}
-use Rattle.evt.specs.Range.{Bounded2, Bounded3, bounded-range2, bounded-step2, bounded-narrow2, regular-range3, regular-step3}
+use Rattle.evt2_decoder.specs.Range.{Bounded2, bounded-range2, bounded-step2, bounded-narrow2}
+use Rattle.evt3_decoder.specs.Range.{Bounded3, regular-range3, regular-step3}
 use Rattle.sensor.specs.Inside.{inside, clock}
 use Rattle.window.specs.declared.Window.{Window}
 use Rattle.window.specs.Window.{spanOf, reading, reading2, reading3}

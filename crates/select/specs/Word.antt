@@ -1,8 +1,8 @@
 -- What one word adds to what a survey has noted.
 use Prim.Native.Nat.{ℕ, _+_, _≤_, _<_, _^_}
 use lib.Count.{ones}
-use Rattle.evt.specs.declared.vector.Vector.{Vector}
-use Rattle.evt.specs.Event.{Narrow, eventsOf}
+use Rattle.evt_types.specs.declared.vector.Vector.{Vector}
+use Rattle.evt_types.specs.Event.{Narrow, eventsOf}
 use Rattle.window.specs.declared.trim.Trimmed.{Trimmed}
 use Rattle.window.specs.declared.extent.Extent.{Extent}
 use Rattle.window.specs.Trim.{masked}

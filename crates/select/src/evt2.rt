@@ -2,15 +2,15 @@
 ghost use mathlib.Core.Path.{_≡_};
 ghost use lib.ListN.{length};
 ghost use Rattle.evt.specs.declared.codec.Codec.the-variants.{Evt2};
-ghost use Rattle.evt.specs.Columns.{Wrote};
+ghost use Rattle.evt_types.specs.Columns.{Wrote};
 ghost use Rattle.select.specs.Pass.{Ready, Fits, handedOver, surveyed, filled};
 use crate::Filled;
 use crate::Tally;
 use crate::word;
 use crate::word::Notes;
 use evt::Codec;
-use evt::Evt2Decoder;
-use evt::evt2::advance;
+use evt2_decoder::Evt2Decoder;
+use evt2_decoder::advance;
 use window::Window;
 use window::trim;
 

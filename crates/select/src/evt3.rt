@@ -2,15 +2,15 @@
 ghost use mathlib.Core.Path.{_≡_};
 ghost use lib.ListN.{length};
 ghost use Rattle.evt.specs.declared.codec.Codec.the-variants.{Evt3};
-ghost use Rattle.evt.specs.Columns.{Wrote};
+ghost use Rattle.evt_types.specs.Columns.{Wrote};
 ghost use Rattle.select.specs.Pass.{Ready, Fits, handedOver, surveyed, filled};
 use crate::Filled;
 use crate::Tally;
 use crate::word;
 use crate::word::Notes;
 use evt::Codec;
-use evt::Decoder;
-use evt::evt3::widen;
+use evt3_decoder::Decoder;
+use evt3_decoder::widen;
 use window::Window;
 use window::trim;
 

@@ -1,11 +1,11 @@
 // What one word adds to a pass, for the loops of both encodings.
 ghost use mathlib.Core.Path.{_≡_};
 ghost use Prim.Native.Nat.{_+_, _-_, _≤_, _<_, _^_};
-ghost use Rattle.evt.specs.Event.{Narrow};
+ghost use Rattle.evt_types.specs.Event.{Narrow};
 ghost use Rattle.window.specs.Trim.{Picked};
 ghost use Rattle.window.specs.Trim as T;
 ghost use Rattle.select.specs.Word.{Notable, noted};
-use evt::vector::Vector;
+use evt_types::vector::Vector;
 use window::Window;
 use window::extent;
 use window::extent::Extent;

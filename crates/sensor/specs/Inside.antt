@@ -13,8 +13,8 @@ use Rattle.stream.specs.Machine.{All, all-of}
 use Rattle.stream.specs.Mask.{bits, bits-zero, bits-one, bits-few, low-bit, trailing-wide}
 use Rattle.stream.specs.Order.{greatest}
 use Rattle.stream.specs.Slice.{onto, sift, sift-none}
-use Rattle.evt.specs.declared.vector.Vector.{Vector}
-use Rattle.evt.specs.Event.{Event, eventAt, eventsOf}
+use Rattle.evt_types.specs.declared.vector.Vector.{Vector}
+use Rattle.evt_types.specs.Event.{Event, eventAt, eventsOf}
 
 abbrev pub isInside : (width height x y : ℕ) → Bool
 isInside width height x y = ltb x width && ltb y height

@@ -9,10 +9,10 @@ ghost use Prim.Native.Nat.{_+_, _≤_, _<_, min, max};
 ghost use lib.Count.{trailingZeros};
 ghost use lib.ListN.{length};
 ghost use Rattle.stream.specs.Slice.{onto};
-ghost use Rattle.evt.specs.Event.{eventsOf};
-ghost use Rattle.evt.specs.Columns.{Room, Wrote};
+ghost use Rattle.evt_types.specs.Event.{eventsOf};
+ghost use Rattle.evt_types.specs.Columns.{Room, Wrote};
 ghost use Rattle.sensor.specs.Inside.{isInside, insideOf, firstOf, latestOf};
-use evt::vector::Vector;
+use evt_types::vector::Vector;
 
 // The column of the lowest set bit: x plus the bit's number, held at 65,535.
 fn column(x: u64, mask: u64) -> u64

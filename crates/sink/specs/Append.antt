@@ -6,11 +6,11 @@ use Prim.Native.Nat.{ℕ, _+_, _^_}
 use lib.Dec.{eqb, leb}
 use lib.ListN.{length, drop}
 use lib.IntN.{ℤ}
-use Rattle.evt.specs.Event.{Event}
-use Rattle.evt.specs.Told.{Told, told, accepted, refused, short}
-use Rattle.evt.specs.declared.Encoding.{Encoding}
-use Rattle.evt.specs.declared.Refusal.{Refusal}
-use Rattle.evt.specs.declared.Refusal.the-variants.{TooLong, TimeOrder, EventOutOfRange, StateOutOfRange, OutputTooShort, ColumnLengths}
+use Rattle.evt_types.specs.Event.{Event}
+use Rattle.evt_types.specs.Told.{Told, told, accepted, refused, short}
+use Rattle.evt_types.specs.declared.Encoding.{Encoding}
+use Rattle.evt_types.specs.declared.Refusal.{Refusal}
+use Rattle.evt_types.specs.declared.Refusal.the-variants.{TooLong, TimeOrder, EventOutOfRange, StateOutOfRange, OutputTooShort, ColumnLengths}
 use Rattle.store.specs.Columns.{eventsIn}
 use Rattle.encode.specs.Encode.{encodeState, encodeBytes}
 use Rattle.store.specs.Sent.{freshState}

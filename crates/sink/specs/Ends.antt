@@ -10,15 +10,15 @@ use borrow.Author.Tests.{le-leb, lt-leb, lt-ltb, leb-true, leb-false}
 use lib.ListN.{length, getD, drop, length-append}
 use lib.Seq.{sets, sets-eq}
 use lib.IntN.{ℤ, pos}
-use Rattle.evt.specs.Told.{Told, told, accepted, refused, short}
-use Rattle.evt.specs.declared.Refusal.{Refusal}
-use Rattle.evt.specs.declared.Refusal.the-variants.{InvalidSensorSize, UnknownEncoding, HeaderNotAscii, TooLong, ColumnsTooShort, TimeOrder, EventOutOfRange, InvalidSpacing, TooFewRecords, StateOutOfRange, OutputTooShort, ColumnLengths}
+use Rattle.evt_types.specs.Told.{Told, told, accepted, refused, short}
+use Rattle.evt_types.specs.declared.Refusal.{Refusal}
+use Rattle.evt_types.specs.declared.Refusal.the-variants.{InvalidSensorSize, UnknownEncoding, HeaderNotAscii, TooLong, ColumnsTooShort, TimeOrder, EventOutOfRange, InvalidSpacing, TooFewRecords, StateOutOfRange, OutputTooShort, ColumnLengths}
 use Rattle.store.specs.declared.Put.{Put}
 use Rattle.store.specs.Columns.{eventsIn, Sized, events-length}
 use Rattle.encode.specs.Laws.{encode-few}
 use Rattle.store.specs.Storing.{Roomy, roomy-rest, stored-both}
 use Rattle.encode.specs.Encode.{encodeState, passed}
-use Rattle.evt.specs.declared.Encoding.{Encoding}
+use Rattle.evt_types.specs.declared.Encoding.{Encoding}
 use Rattle.sink.specs.Header.{headerText, header-few}
 use Rattle.sink.specs.declared.Check.{Check}
 use Rattle.sink.specs.declared.Check.the-variants.{Passed, Failed}

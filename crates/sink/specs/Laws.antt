@@ -10,12 +10,12 @@ use lib.ListN.{length, drop}
 use lib.IntN.{ℤ, pos}
 use borrow.Author.Tests.{eq-eqb, le-leb, eqb-true}
 use Rattle.stream.specs.Machine.{run, and-both}
-use Rattle.evt.specs.Event.{Event}
-use Rattle.evt.specs.Told.{Told, accepted}
-use Rattle.evt.specs.declared.Encoding.{Encoding}
-use Rattle.evt.specs.declared.Encoding.the-variants.{Evt2, Evt3}
-use Rattle.evt.specs.declared.Sent.{Sent}
-use Rattle.evt.specs.declared.Sent.the-variants.{Nothing, Value}
+use Rattle.evt_types.specs.Event.{Event}
+use Rattle.evt_types.specs.Told.{Told, accepted}
+use Rattle.evt_types.specs.declared.Encoding.{Encoding}
+use Rattle.evt_types.specs.declared.Encoding.the-variants.{Evt2, Evt3}
+use Rattle.evt_types.specs.declared.Sent.{Sent}
+use Rattle.evt_types.specs.declared.Sent.the-variants.{Nothing, Value}
 use Rattle.store.specs.declared.EncoderState.{EncoderState}
 use Rattle.store.specs.Columns.{natural, event, eventsIn, Sized}
 use Rattle.encode.specs.Encode.{encodeState, encodeBytes}

@@ -6,10 +6,10 @@ use lib.Dec.{eqb, ltb, leb}
 use lib.ListN.{length}
 use lib.IntN.{ℤ, pos}
 use lib.Signed.{ltZ, nonNeg}
-use Rattle.evt.specs.declared.Encoding.{Encoding}
-use Rattle.evt.specs.declared.Encoding.the-variants.{Evt2, Evt3}
-use Rattle.evt.specs.declared.Sent.{Sent}
-use Rattle.evt.specs.declared.Sent.the-variants.{Nothing, Value}
+use Rattle.evt_types.specs.declared.Encoding.{Encoding}
+use Rattle.evt_types.specs.declared.Encoding.the-variants.{Evt2, Evt3}
+use Rattle.evt_types.specs.declared.Sent.{Sent}
+use Rattle.evt_types.specs.declared.Sent.the-variants.{Nothing, Value}
 use Rattle.store.specs.declared.EncoderState.{EncoderState}
 use Rattle.store.specs.Columns.{natural}
 use Rattle.sink.specs.declared.LastTime.{LastTime}

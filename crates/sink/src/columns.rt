@@ -9,7 +9,7 @@ ghost use Rattle.sink.specs.declared.LastTime.the-variants.{Never};
 ghost use Rattle.sink.specs.Range.{timeInRange, every, atMost, eventsInRange, falls, fallsAfter, sameLengths};
 use crate::LastTime;
 use crate::range;
-use evt::Encoding;
+use evt_types::Encoding;
 
 pub fn same_lengths(a: usize, b: usize, c: usize, d: usize) -> bool
     ensures { λ r. ⌜ r ≡ sameLengths a b c d ⌝ }

@@ -6,7 +6,7 @@ ghost use Prim.Native.Nat.{_+_, _^_, _≤_};
 ghost use lib.ListN.{length};
 ghost use lib.Seq.{sets};
 ghost use Rattle.sink.specs.Header.{ascii, decimal, formatLine, headerText};
-use evt::Encoding;
+use evt_types::Encoding;
 
 fn put_text(text: &[u8], out: &mut [u8], start: usize) -> usize
     requires { ⌜ (length (now text) ≤ 1000) × (start ≤ 2 ^ 20) ⌝ }

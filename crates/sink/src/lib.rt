@@ -11,9 +11,9 @@ ghost use Rattle.store.specs.Storing.{Roomy};
 ghost use Rattle.sink.specs.Range.{sinkInRange};
 ghost use Rattle.sink.specs.Append.{freshSink, headerDue, some, lastAfter, sends, AppendOwed};
 ghost use Rattle.sink.specs.Ends.{checkOf, wrote};
-use evt::Encoding;
-use evt::Refusal;
-use evt::Sent;
+use evt_types::Encoding;
+use evt_types::Refusal;
+use evt_types::Sent;
 use store::EncoderState;
 use store::Put;
 

@@ -3,8 +3,8 @@ ghost use mathlib.Core.Path.{_≡_};
 ghost use mathlib.Core.Bool.{_&&_};
 ghost use Rattle.sink.specs.Range.{timeBound, timeInRange, isNothing, belongs, sentAtMost, sentInRange, lastInRange};
 use crate::LastTime;
-use evt::Encoding;
-use evt::Sent;
+use evt_types::Encoding;
+use evt_types::Sent;
 use store::EncoderState;
 
 fn is_nothing(s: Sent) -> bool

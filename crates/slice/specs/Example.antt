@@ -6,10 +6,10 @@ use lib.IntN.{pos}
 use Rattle.stream.specs.Loop.{loopsAfter, timeAfter}
 use Rattle.stream.specs.Mask.{bits}
 use Rattle.stream.specs.Words.{stream}
-use Rattle.evt.specs.declared.Encoding.the-variants.{Evt3}
-use Rattle.evt.specs.declared.SensorSize.the-variants.{Known}
-use Rattle.evt.specs.Event.{Event}
-use Rattle.evt.specs.Evt3.{step3, vector3}
+use Rattle.evt_types.specs.declared.Encoding.the-variants.{Evt3}
+use Rattle.evt_types.specs.declared.SensorSize.the-variants.{Known}
+use Rattle.evt_types.specs.Event.{Event}
+use Rattle.evt3_decoder.specs.Evt3.{step3, vector3}
 use Rattle.index.specs.Index.{recordAt, recordsOf}
 use Rattle.slice.specs.Slice.{timeEvents}
 use Rattle.slice.specs.Own.{ownSource, ownRecords}

@@ -6,9 +6,9 @@ use Prim.Native.Nat.{ℕ, _≤_, _^_}
 use lib.Dec.{ltb}
 use lib.IntN.{ℤ, pos}
 use lib.ListN.{length, drop}
-use Rattle.evt.specs.declared.Refusal.the-variants.{InvalidSensorSize, TooLong, ColumnsTooShort, InvalidSpacing, StateOutOfRange}
+use Rattle.evt_types.specs.declared.Refusal.the-variants.{InvalidSensorSize, TooLong, ColumnsTooShort, InvalidSpacing, StateOutOfRange}
 use Rattle.evt.specs.Codec.{inRangeC}
-use Rattle.evt.specs.Event.{Event}
+use Rattle.evt_types.specs.Event.{Event}
 use Rattle.header.specs.Header.{hasZero}
 use Rattle.window.specs.declared.Window.{Window}
 use Rattle.select.specs.Pass.{handedOver}

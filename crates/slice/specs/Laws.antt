@@ -13,13 +13,13 @@ use Rattle.stream.specs.Slice.{onto, sift}
 use Rattle.stream.specs.Select as Select
 use Rattle.stream.specs.Select.{byNumber}
 use Rattle.stream.specs.Words.{wordsOf}
-use Rattle.evt.specs.declared.Refusal.the-variants.{InvalidSensorSize, TooLong, ColumnsTooShort, InvalidSpacing, StateOutOfRange}
+use Rattle.evt_types.specs.declared.Refusal.the-variants.{InvalidSensorSize, TooLong, ColumnsTooShort, InvalidSpacing, StateOutOfRange}
 use Rattle.evt.specs.declared.codec.Codec.{Codec}
 use Rattle.evt.specs.declared.codec.Codec.the-variants.{Evt2, Evt3}
 use Rattle.evt.specs.Codec.{eventsFrom}
-use Rattle.evt.specs.Columns.{Wrote, Fits}
-use Rattle.evt.specs.Event.{Event}
-use Rattle.evt.specs.Told.{accepted, refused, short}
+use Rattle.evt_types.specs.Columns.{Wrote, Fits}
+use Rattle.evt_types.specs.Event.{Event}
+use Rattle.evt_types.specs.Told.{accepted, refused, short}
 use Rattle.header.specs.Header.{hasZero}
 use Rattle.decode.specs.Loops.{few2, few3}
 use Rattle.window.specs.declared.Window.{Window}

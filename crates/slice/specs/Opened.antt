@@ -11,13 +11,13 @@ use lib.Seq.{take-at}
 use borrow.Author.Tests.{ltb-false, le-ltb}
 use Rattle.stream.specs.Slice.{sift}
 use Rattle.stream.specs.Order.{greatest}
-use Rattle.evt.specs.declared.Encoding.{Encoding}
-use Rattle.evt.specs.declared.Refusal.{Refusal}
-use Rattle.evt.specs.declared.Refusal.the-variants.{InvalidSensorSize, TooLong, InvalidSpacing, TooFewRecords}
-use Rattle.evt.specs.declared.SensorSize.{SensorSize}
-use Rattle.evt.specs.declared.SensorSize.the-variants.{Unknown, Known}
-use Rattle.evt.specs.Columns.{colX, colY}
-use Rattle.evt.specs.Event.{Event}
+use Rattle.evt_types.specs.declared.Encoding.{Encoding}
+use Rattle.evt_types.specs.declared.Refusal.{Refusal}
+use Rattle.evt_types.specs.declared.Refusal.the-variants.{InvalidSensorSize, TooLong, InvalidSpacing, TooFewRecords}
+use Rattle.evt_types.specs.declared.SensorSize.{SensorSize}
+use Rattle.evt_types.specs.declared.SensorSize.the-variants.{Unknown, Known}
+use Rattle.evt_types.specs.Columns.{colX, colY}
+use Rattle.evt_types.specs.Event.{Event}
 use Rattle.header.specs.declared.Header as header
 use Rattle.header.specs.declared.HeaderAnswer.{HeaderAnswer}
 use Rattle.header.specs.declared.HeaderAnswer.the-variants.{Header, Refused as NoHeader}

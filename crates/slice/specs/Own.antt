@@ -15,13 +15,13 @@ use Rattle.stream.specs.Machine.{All, all-append-left, all-drop}
 use Rattle.stream.specs.Order.{greatest, greatest-append, greatest-lt}
 use Rattle.stream.specs.Select.{byNumber}
 use Rattle.stream.specs.Slice.{sift, sift-all, sift-append, all-early}
-use Rattle.evt.specs.declared.Encoding.{Encoding}
-use Rattle.evt.specs.declared.Encoding.the-variants.{Evt2, Evt3}
-use Rattle.evt.specs.declared.SensorSize.{SensorSize}
-use Rattle.evt.specs.declared.SensorSize.the-variants.{Unknown, Known}
+use Rattle.evt_types.specs.declared.Encoding.{Encoding}
+use Rattle.evt_types.specs.declared.Encoding.the-variants.{Evt2, Evt3}
+use Rattle.evt_types.specs.declared.SensorSize.{SensorSize}
+use Rattle.evt_types.specs.declared.SensorSize.the-variants.{Unknown, Known}
 use Rattle.evt.specs.Codec.{freshC, inRangeC, eventsFrom, codecAfter}
-use Rattle.evt.specs.Columns.{colX, colY}
-use Rattle.evt.specs.Event.{Event}
+use Rattle.evt_types.specs.Columns.{colX, colY}
+use Rattle.evt_types.specs.Event.{Event}
 use Rattle.sensor.specs.Inside.{inside, clock}
 use Rattle.decode.specs.Laws.{events-append, events-nil, fresh-range, inside-bytes}
 use Rattle.header.specs.Header.{hasZero}

@@ -11,16 +11,16 @@ use Rattle.stream.specs.Machine.{emits}
 use Rattle.stream.specs.Select.{byNumber}
 use Rattle.stream.specs.Slice.{sift, until}
 use Rattle.stream.specs.Words.{wordsOf}
-use Rattle.evt.specs.declared.Refusal.the-variants.{InvalidSensorSize, TooLong, ColumnsTooShort, InvalidSpacing, StateOutOfRange}
-use Rattle.evt.specs.declared.SensorSize.{SensorSize}
-use Rattle.evt.specs.declared.SensorSize.the-variants.{Known}
+use Rattle.evt_types.specs.declared.Refusal.the-variants.{InvalidSensorSize, TooLong, ColumnsTooShort, InvalidSpacing, StateOutOfRange}
+use Rattle.evt_types.specs.declared.SensorSize.{SensorSize}
+use Rattle.evt_types.specs.declared.SensorSize.the-variants.{Known}
 use Rattle.evt.specs.declared.codec.Codec.{Codec}
 use Rattle.evt.specs.declared.codec.Codec.the-variants.{Evt2, Evt3}
 use Rattle.evt.specs.Codec.{eventsFrom}
-use Rattle.evt.specs.Event.{Event}
-use Rattle.evt.specs.Evt2.{reader2}
-use Rattle.evt.specs.Evt3.{reader3}
-use Rattle.evt.specs.Told.{Told, told, accepted, refused, short}
+use Rattle.evt_types.specs.Event.{Event}
+use Rattle.evt2_decoder.specs.Evt2.{reader2}
+use Rattle.evt3_decoder.specs.Evt3.{reader3}
+use Rattle.evt_types.specs.Told.{Told, told, accepted, refused, short}
 use Rattle.header.specs.Header.{hasZero}
 use Rattle.answer.specs.Read.{kept, shortest, Handed}
 use Rattle.index.specs.declared.Checkpoint.{Checkpoint}

@@ -11,11 +11,11 @@ use borrow.Author.Tests.{le-ltb}
 use Rattle.stream.specs.Machine.{emits}
 use Rattle.stream.specs.Slice.{sift, until, within}
 use Rattle.stream.specs.Words.{wordsOf}
-use Rattle.evt.specs.declared.SensorSize.the-variants.{Known}
+use Rattle.evt_types.specs.declared.SensorSize.the-variants.{Known}
 use Rattle.evt.specs.declared.codec.Codec.{Codec}
 use Rattle.evt.specs.declared.codec.Codec.the-variants.{Evt2, Evt3}
-use Rattle.evt.specs.Evt2.{reader2}
-use Rattle.evt.specs.Evt3.{reader3}
+use Rattle.evt2_decoder.specs.Evt2.{reader2}
+use Rattle.evt3_decoder.specs.Evt3.{reader3}
 use Rattle.sensor.specs.Inside.{inside, clock}
 pub use Rattle.store.specs.Columns.{natural}
 use Rattle.window.specs.declared.Window.{Window}

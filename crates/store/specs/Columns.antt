@@ -9,8 +9,8 @@ use lib.ListN.{length, getD, drop, length-drop, drop-of-length-le, length-map}
 use lib.Seq.{drop-cons, drop-drop}
 use lib.IntN.{ℤ, pos, negsuc}
 use lib.Signed.{mag, nonNeg}
-use Rattle.evt.specs.Event.{Event}
-use Rattle.evt.specs.Columns.{colX}
+use Rattle.evt_types.specs.Event.{Event}
+use Rattle.evt_types.specs.Columns.{colX}
 
 -- a time as a natural number: 0 where it is negative
 abbrev pub natural : ℤ → ℕ

@@ -7,9 +7,9 @@ use native.Mathlib.Omega.{arith}
 use borrow.Author.Tests.{ne-eqb}
 use lib.Dec.{eqb}
 use Rattle.stream.specs.Machine.{Note}
-use Rattle.evt.specs.Event.{Event}
-use Rattle.evt.specs.declared.Sent.{Sent}
-use Rattle.evt.specs.declared.Sent.the-variants.{Nothing, Value}
+use Rattle.evt_types.specs.Event.{Event}
+use Rattle.evt_types.specs.declared.Sent.{Sent}
+use Rattle.evt_types.specs.declared.Sent.the-variants.{Nothing, Value}
 use Rattle.store.specs.declared.EncoderState.{EncoderState}
 
 -- a fresh writer has sent no half and no row

@@ -13,7 +13,7 @@ ghost use Rattle.stream.specs.Words.{bytes};
 ghost use Rattle.store.specs.Columns.{natural, Whole};
 ghost use Rattle.store.specs.Sent.{held};
 ghost use Rattle.store.specs.Storing.{Roomy};
-use evt::Sent;
+use evt_types::Sent;
 
 // What the writer has sent: the halves of the time, and the row.
 pub struct EncoderState {

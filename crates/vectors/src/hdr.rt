@@ -5,7 +5,7 @@ use case_text::options::Size;
 use case_text::show;
 use case_text::text;
 use case_text::text::Bytes;
-use evt::SensorSize;
+use evt_types::SensorSize;
 use header::Header;
 use header::HeaderAnswer;
 

@@ -12,7 +12,7 @@ use case_text::options::Version;
 use case_text::show;
 use case_text::text;
 use case_text::text::Bytes;
-use evt::Encoding;
+use evt_types::Encoding;
 use read::LoadOptions;
 use read::ReadAnswer;
 use read::Reading;

@@ -7,9 +7,9 @@ use case_text::state::State;
 use case_text::text;
 use case_text::text::Bytes;
 use evt::Codec;
-use evt::DecodeAnswer;
-use evt::EventVector;
-use evt::vector::NextEvent;
+use evt_types::DecodeAnswer;
+use evt_types::EventVector;
+use evt_types::vector::NextEvent;
 
 // How far a run has come: the decoder, the number of a refusal (0 if there was none) and of the
 // events so far.

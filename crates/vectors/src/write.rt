@@ -12,7 +12,7 @@ use case_text::show;
 use case_text::text;
 use case_text::text::Bytes;
 use case_text::text::Number;
-use evt::SensorSize;
+use evt_types::SensorSize;
 use sink::AppendAnswer;
 use sink::Appended;
 use sink::RawEventSink;

@@ -7,7 +7,7 @@ use case_text::text;
 use case_text::text::Number;
 use case_text::text::Signed;
 use evt::Codec;
-use evt::Decoder;
+use evt3_decoder::Decoder;
 use index::Checkpoint;
 
 const ROW: u16 = 43981;

@@ -4,7 +4,7 @@ use case_text::options::Version;
 use case_text::show;
 use case_text::state;
 use case_text::text;
-use evt::Encoding;
+use evt_types::Encoding;
 use index::RawSliceSource;
 
 pub enum Source {

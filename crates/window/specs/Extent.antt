@@ -6,8 +6,8 @@ use native.Mathlib.Omega.{arith}
 use lib.Count.{leadingZeros, leading-top}
 use Rattle.stream.specs.Order.{greatest, greatest-append, greatest-map}
 use Rattle.stream.specs.Mask.{bits, bits-zero, greatest-leading}
-use Rattle.evt.specs.declared.vector.Vector.{Vector}
-use Rattle.evt.specs.Event.{Event, eventAt, eventsOf}
+use Rattle.evt_types.specs.declared.vector.Vector.{Vector}
+use Rattle.evt_types.specs.Event.{Event, eventAt, eventsOf}
 use Rattle.window.specs.declared.extent.Extent.{Extent}
 
 -- of events: the greatest time, the greatest column plus 1, the greatest row plus 1, each 0 of none

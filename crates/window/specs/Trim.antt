@@ -12,8 +12,8 @@ use Rattle.stream.specs.Machine.{All, all-of, all-map, and-both}
 use Rattle.stream.specs.Mask.{bits, bits-zero, bits-even, bits-odd, bits-in, bits-few, bits-count}
 use Rattle.stream.specs.Slice.{sift, sift-all, sift-none}
 use Rattle.stream.specs.Select as Select
-use Rattle.evt.specs.declared.vector.Vector.{Vector}
-use Rattle.evt.specs.Event.{Event, eventAt, eventsOf, Narrow}
+use Rattle.evt_types.specs.declared.vector.Vector.{Vector}
+use Rattle.evt_types.specs.Event.{Event, eventAt, eventsOf, Narrow}
 use Rattle.sensor.specs.Inside.{isInside, inside}
 use Rattle.window.specs.declared.Window.{Window}
 use Rattle.window.specs.declared.trim.Trimmed.{Trimmed}

@@ -7,11 +7,11 @@ use lib.Dec.{leb, ltb}
 use Rattle.stream.specs.Machine.{Machine}
 use Rattle.stream.specs.Slice.{onto}
 use Rattle.stream.specs.Select as Select
-use Rattle.evt.specs.Event.{Event}
-use Rattle.evt.specs.declared.evt2.Evt2Decoder.{Evt2Decoder}
-use Rattle.evt.specs.declared.evt3.Decoder.{Decoder}
-use Rattle.evt.specs.Evt2.{reader2}
-use Rattle.evt.specs.Evt3.{reader3}
+use Rattle.evt_types.specs.Event.{Event}
+use Rattle.evt2_decoder.specs.declared.Evt2Decoder.{Evt2Decoder}
+use Rattle.evt3_decoder.specs.declared.Decoder.{Decoder}
+use Rattle.evt2_decoder.specs.Evt2.{reader2}
+use Rattle.evt3_decoder.specs.Evt3.{reader3}
 use Rattle.sensor.specs.Inside.{inside, clock}
 use Rattle.window.specs.declared.Window.{Window}
 

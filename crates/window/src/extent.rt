@@ -1,10 +1,10 @@
 // The greatest time, column and row of events, for a recording that names no size.
 ghost use mathlib.Core.Path.{_≡_};
 ghost use Prim.Native.Nat.{max};
-ghost use Rattle.evt.specs.Event.{Narrow, eventsOf};
+ghost use Rattle.evt_types.specs.Event.{Narrow, eventsOf};
 ghost use Rattle.window.specs.Extent.{extentWith};
 use crate::trim::held;
-use evt::vector::Vector;
+use evt_types::vector::Vector;
 
 // The greatest time, and the greatest column and row plus 1; 0 of no events.
 pub struct Extent {

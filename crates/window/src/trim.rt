@@ -1,12 +1,12 @@
 // Which events of one word a window hands over.
 ghost use mathlib.Core.Path.{_≡_};
 ghost use Prim.Native.Nat.{_+_, _≤_, _<_, _^_, min};
-ghost use Rattle.evt.specs.Event.{Narrow};
+ghost use Rattle.evt_types.specs.Event.{Narrow};
 ghost use Rattle.sensor.specs.Inside.{isInside};
 ghost use Rattle.window.specs.Window.{isWithin, isSpanned, isStopped};
 ghost use Rattle.window.specs.Trim.{Pickable, Picked, isWhole, isSkipped};
 use crate::Window;
-use evt::vector::Vector;
+use evt_types::vector::Vector;
 
 // The bits of the events that are handed over, and how many events are numbered besides.
 pub struct Trimmed {

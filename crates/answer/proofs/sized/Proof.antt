@@ -2,7 +2,7 @@ use mathlib.Core.Path.{_≡_, refl, sym, ap, _∙_}
 use native.Mathlib.Omega.{arith}
 use lib.Seq.{length-take-le}
 use borrow.Author.Tests.{eq-eqb, ne-eqb}
-use Rattle.evt.specs.declared.SensorSize.{SensorSize}
+use Rattle.evt_types.specs.declared.SensorSize.{SensorSize}
 use Rattle.answer.specs.Laws.{sizedOf}
 use borrow.Author.Needs.{needs}
 use Rattle.answer.proofs.sized.Statement.{statement}

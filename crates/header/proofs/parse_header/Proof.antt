@@ -2,7 +2,7 @@
 use mathlib.Core.Path.{sym, _∙_}
 use borrow.Author.Needs.{needs}
 use lib.Seq.{length-take-le}
-use Rattle.evt.specs.declared.SensorSize.{SensorSize}
+use Rattle.evt_types.specs.declared.SensorSize.{SensorSize}
 use Rattle.header.proofs.AnswerLaws as laws
 use Rattle.header.proofs.parse_header.Statement.{statement}
 use Rattle.header.proofs.parse_header.Tie as tie

@@ -10,8 +10,8 @@ use denote.Ref.{now}
 use mir.ValLaws.{toZ-pos}
 use mir.Syntax.{w64}
 use Rattle.stream.specs.Slice.{onto}
-use Rattle.evt.specs.Event.{eventAt}
-use Rattle.evt.specs.Columns.{Going, going-start, going-one, going-end}
+use Rattle.evt_types.specs.Event.{eventAt}
+use Rattle.evt_types.specs.Columns.{Going, going-start, going-one, going-end}
 use Rattle.sensor.specs.Inside.{insideOf, insideAt, inside-none, inside-next}
 use Rattle.sensor.proofs.put.Statement.{statement}
 use Rattle.sensor.proofs.put.Tie as tie

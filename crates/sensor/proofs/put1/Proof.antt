@@ -6,7 +6,7 @@ use borrow.Author.Needs.{needs}
 use lib.ListN.{length}
 use mir.ValLaws.{toZ-pos}
 use mir.Syntax.{w64}
-use Rattle.evt.specs.Columns.{going-start, going-one, going-end}
+use Rattle.evt_types.specs.Columns.{going-start, going-one, going-end}
 use Rattle.sensor.specs.Inside.{firstOf, insideOf}
 use Rattle.sensor.proofs.put1.Statement.{statement}
 use Rattle.sensor.proofs.put1.Tie as tie

@@ -8,8 +8,8 @@ use denote.Ref.{now}
 use lib.Bits.{bitAnd, and-le-l, and-le-r}
 use lib.Count.{trailingZeros}
 use borrow.Author.Needs.{needs}
-use Rattle.evt.specs.Event.{eventAt, eventsOf}
-use Rattle.evt.specs.Columns.{Going, going-start, going-one, going-end}
+use Rattle.evt_types.specs.Event.{eventAt, eventsOf}
+use Rattle.evt_types.specs.Columns.{Going, going-start, going-one, going-end}
 use Rattle.sensor.specs.Inside.{eventsAt, events-next, events-none}
 use Rattle.sensor.proofs.put_all.Statement.{statement}
 use Rattle.sensor.proofs.put_all.Tie as tie

@@ -6,8 +6,8 @@ use denote.Ref.{now}
 use mathlib.Core.Path.{_≡_, sym, _∙_}
 use Prim.Native.Nat.{_+_, _-_}
 use lib.ListN.{length}
-use Rattle.evt.specs.Evt2.{reader2}
-use Rattle.evt.specs.Range.{Bounded2, bounded-step2, bounded-sane2}
+use Rattle.evt2_decoder.specs.Evt2.{reader2}
+use Rattle.evt2_decoder.specs.Range.{Bounded2, bounded-step2, bounded-sane2}
 use Rattle.count.specs.Counting.{Counting, counting-start, counting-end}
 use Rattle.words.specs.Ahead.{ahead}
 use Rattle.glance.specs.Quick.{limitOf}

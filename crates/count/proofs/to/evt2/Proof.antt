@@ -6,8 +6,8 @@ use native.Mathlib.Omega.{arith}
 use borrow.Author.Needs.{needs}
 use lib.ListN.{length}
 use denote.Ref.{now}
-use Rattle.evt.specs.Evt2.{reader2}
-use Rattle.evt.specs.Range.{Bounded2, bounded-step2, bounded-sane2}
+use Rattle.evt2_decoder.specs.Evt2.{reader2}
+use Rattle.evt2_decoder.specs.Range.{Bounded2, bounded-step2, bounded-sane2}
 use Rattle.count.specs.Passing.{Passing, passing-start, passing-end}
 use Rattle.words.specs.Ahead.{ahead}
 use Rattle.glance.specs.Quick.{limitOf}

@@ -6,8 +6,8 @@ use native.Mathlib.Omega.{arith}
 use borrow.Author.Needs.{needs}
 use lib.ListN.{length}
 use denote.Ref.{now}
-use Rattle.evt.specs.Evt3.{reader3, slimmed}
-use Rattle.evt.specs.Range.{Bounded3, bounded-step3, bounded-sane3, bounded-slim3}
+use Rattle.evt3_decoder.specs.Evt3.{reader3, slimmed}
+use Rattle.evt3_decoder.specs.Range.{Bounded3, bounded-step3, bounded-sane3, bounded-slim3}
 use Rattle.count.specs.Passing.{Passing, passing-start, passing-end}
 use Rattle.words.specs.Ahead.{ahead}
 use Rattle.glance.specs.Glance.{scanned}

@@ -4,9 +4,9 @@ use native.Mathlib.Omega.{arith}
 use borrow.Author.Needs.{needs}
 use lib.ListN.{length}
 use denote.Ref.{now}
-use Rattle.evt.specs.Event.{Narrow}
-use Rattle.evt.specs.Evt2.{reader2}
-use Rattle.evt.specs.Range.{Bounded2, bounded-step2, bounded-sane2}
+use Rattle.evt_types.specs.Event.{Narrow}
+use Rattle.evt2_decoder.specs.Evt2.{reader2}
+use Rattle.evt2_decoder.specs.Range.{Bounded2, bounded-step2, bounded-sane2}
 use Rattle.decode.specs.Turn.{Turn, Filling, filling-start, filling-room, filling-turn, filling-end}
 use Rattle.decode.specs.Loops.{start2, turn2, small2}
 use Rattle.decode.proofs.fill.evt2.Statement.{statement}

@@ -4,9 +4,9 @@ use native.Mathlib.Omega.{arith}
 use borrow.Author.Needs.{needs}
 use lib.ListN.{length}
 use denote.Ref.{now}
-use Rattle.evt.specs.Event.{Narrow}
-use Rattle.evt.specs.Evt3.{reader3, slimmed}
-use Rattle.evt.specs.Range.{Bounded3, bounded-step3, bounded-sane3, bounded-slim3}
+use Rattle.evt_types.specs.Event.{Narrow}
+use Rattle.evt3_decoder.specs.Evt3.{reader3, slimmed}
+use Rattle.evt3_decoder.specs.Range.{Bounded3, bounded-step3, bounded-sane3, bounded-slim3}
 use Rattle.decode.specs.Turn.{Fits, insideAll, Turn, Filling, filling-start, filling-room, filling-turn, filling-end}
 use Rattle.decode.specs.Loops.{start3, turn3, small3}
 use Rattle.decode.proofs.fill.evt3.Statement.{statement}

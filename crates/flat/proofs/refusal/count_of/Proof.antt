@@ -1,6 +1,6 @@
 use mathlib.Core.Path.{sym, ap}
-use Rattle.evt.specs.declared.Refusal.{Refusal}
-use Rattle.evt.specs.Told.{told}
+use Rattle.evt_types.specs.declared.Refusal.{Refusal}
+use Rattle.evt_types.specs.Told.{told}
 use Rattle.flat.specs.Reading.{countOf}
 use Prim.Native.Nat.{ℕ}
 use borrow.Author.Needs.{needs}

@@ -1,7 +1,7 @@
 -- `glance::Scan::glance` meets its contract.
 use mathlib.Core.Path.{refl, sym, _∙_}
 use mathlib.Core.Logic.{⊎-elim, inl, inr}
-use Rattle.evt.specs.Evt3.{slimmed}
+use Rattle.evt3_decoder.specs.Evt3.{slimmed}
 use Rattle.glance.specs.Glance.{scanned, glance-chosen, glance-quiet}
 use borrow.Author.Needs.{needs}
 use Rattle.glance.proofs.Scan.glance.Statement.{statement}

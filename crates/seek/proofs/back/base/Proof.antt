@@ -8,7 +8,7 @@ use Rattle.seek.proofs.back.base.Statement.{statement}
 use Rattle.seek.proofs.back.base.Tie as tie
 use Rattle.seek.proofs.back.base.Reads as reads
 use Rattle.seek.proofs.back.base.Lts as lts
-use Rattle.evt.proofs.fields.bits.Reads as bits-reads
+use Rattle.evt_types.proofs.fields.bits.Reads as bits-reads
 use Rattle.seek.proofs.back.held.Reads as held-reads
 use Rattle.seek.proofs.back.moves.Reads as moves-reads
 use Rattle.seek.proofs.back.word2.Reads as word2-reads

@@ -8,7 +8,7 @@ use Rattle.seek.proofs.back.row.Statement.{statement}
 use Rattle.seek.proofs.back.row.Tie as tie
 use Rattle.seek.proofs.back.row.Reads as reads
 use Rattle.seek.proofs.back.row.Lts as lts
-use Rattle.evt.proofs.fields.bits.Reads as bits-reads
+use Rattle.evt_types.proofs.fields.bits.Reads as bits-reads
 use Rattle.seek.proofs.back.word2.Reads as word2-reads
 
 abbrev Inv-loop : tie.InvT-loop

@@ -3,15 +3,15 @@ use native.Mathlib.Omega.{arith}
 use borrow.Author.Needs.{needs}
 use lib.ListN.{length}
 use denote.Ref.{now}
-use Rattle.evt.specs.Range.{bounded-sane2}
+use Rattle.evt2_decoder.specs.Range.{bounded-sane2}
 use Rattle.seek.specs.Loops.{start2}
 use Rattle.seek.specs.Skip.{Skipping2, midway2, skip-start2, skip-other2, skip-time2, skip-small2, skip-on2}
 use Rattle.seek.proofs.evt2.skip2.Statement.{statement}
 use Rattle.seek.proofs.evt2.skip2.Tie as tie
 use Rattle.seek.proofs.evt2.skip2.Reads as reads
 use Rattle.seek.proofs.evt2.skip2.Lts as lts
-use Rattle.evt.proofs.evt2.advance.Reads as advance-reads
-use Rattle.evt.proofs.fields.bits.Reads as bits-reads
+use Rattle.evt2_decoder.proofs.advance.Reads as advance-reads
+use Rattle.evt_types.proofs.fields.bits.Reads as bits-reads
 use Rattle.seek.proofs.evt2.word4.Reads as word4-reads
 
 abbrev Inv-loop : tie.InvT-loop

@@ -3,14 +3,14 @@ use native.Mathlib.Omega.{arith}
 use borrow.Author.Needs.{needs}
 use lib.ListN.{length}
 use denote.Ref.{now}
-use Rattle.evt.specs.Range.{bounded-sane2}
+use Rattle.evt2_decoder.specs.Range.{bounded-sane2}
 use Rattle.seek.specs.Loops.{Seeking2, start2, end2, stop2, turn2}
 use Rattle.seek.proofs.evt2.span2.Statement.{statement}
 use Rattle.seek.proofs.evt2.span2.Tie as tie
 use Rattle.seek.proofs.evt2.span2.Reads as reads
 use Rattle.seek.proofs.evt2.span2.Lts as lts
-use Rattle.evt.proofs.evt2.advance.Reads as advance-reads
-use Rattle.evt.proofs.fields.bits.Reads as bits-reads
+use Rattle.evt2_decoder.proofs.advance.Reads as advance-reads
+use Rattle.evt_types.proofs.fields.bits.Reads as bits-reads
 use Rattle.seek.proofs.evt2.word4.Reads as word4-reads
 use Rattle.seek.proofs.strays.Reads as strays-reads
 

@@ -5,15 +5,15 @@ use lib.ListN.{length}
 use denote.Ref.{now}
 use mathlib.Core.Path.{_≡_, _∙_}
 use mathlib.Core.Bool.{true}
-use Rattle.evt.specs.declared.evt3.Decoder.{Decoder}
-use Rattle.evt.specs.Range.{Bounded3}
+use Rattle.evt3_decoder.specs.declared.Decoder.{Decoder}
+use Rattle.evt3_decoder.specs.Range.{Bounded3}
 use Rattle.seek.specs.Times.{timesOf}
 use Rattle.seek.specs.Loops.{Passing, passing-start, passing-end, passing-slow, passing-stop, passing-turn}
 use Rattle.seek.proofs.evt3.pass.Statement.{statement}
 use Rattle.seek.proofs.evt3.pass.Tie as tie
 use Rattle.seek.proofs.evt3.pass.Reads as reads
 use Rattle.seek.proofs.evt3.pass.Lts as lts
-use Rattle.evt.proofs.fields.bits.Reads as bits-reads
+use Rattle.evt_types.proofs.fields.bits.Reads as bits-reads
 use Rattle.seek.proofs.back.word2.Reads as word2-reads
 use Rattle.seek.proofs.strays.Reads as strays-reads
 use Rattle.seek.proofs.times.carries.Reads as carries-reads

@@ -5,8 +5,8 @@ use lib.ListN.{length}
 use denote.Ref.{now}
 use mathlib.Core.Path.{_≡_, sym, ap, _∙_}
 use mathlib.Core.Bool.{true}
-use Rattle.evt.specs.declared.evt3.Decoder.{Decoder}
-use Rattle.evt.specs.Range.{Bounded3, bounded-sane3}
+use Rattle.evt3_decoder.specs.declared.Decoder.{Decoder}
+use Rattle.evt3_decoder.specs.Range.{Bounded3, bounded-sane3}
 use Rattle.seek.specs.declared.times.Times.{Times}
 use Rattle.seek.specs.Times.{timesOf}
 use Rattle.seek.specs.Loops.{passing-start, passing-slow}
@@ -15,7 +15,7 @@ use Rattle.seek.proofs.evt3.stride.Statement.{statement}
 use Rattle.seek.proofs.evt3.stride.Tie as tie
 use Rattle.seek.proofs.evt3.stride.Reads as reads
 use Rattle.seek.proofs.evt3.stride.Lts as lts
-use Rattle.evt.proofs.fields.bits.Reads as bits-reads
+use Rattle.evt_types.proofs.fields.bits.Reads as bits-reads
 use Rattle.seek.proofs.back.word2.Reads as word2-reads
 use Rattle.seek.proofs.times.of.Reads as of-reads
 use Rattle.seek.proofs.times.tick.Reads as tick-reads

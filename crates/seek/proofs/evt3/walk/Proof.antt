@@ -5,17 +5,17 @@ use lib.ListN.{length}
 use denote.Ref.{now}
 use mathlib.Core.Path.{_≡_, ap, _∙_}
 use mathlib.Core.Logic.{⊎-elim}
-use Rattle.evt.specs.Evt3.{slimmed}
-use Rattle.evt.specs.Range.{bounded-sane3, bounded-slim3}
+use Rattle.evt3_decoder.specs.Evt3.{slimmed}
+use Rattle.evt3_decoder.specs.Range.{bounded-sane3, bounded-slim3}
 use Rattle.seek.specs.Loops.{Seeking3, Ends3, start3, end3, stop3, turn3}
 use Rattle.seek.proofs.evt3.walk.Statement.{statement}
 use Rattle.seek.proofs.evt3.walk.Tie as tie
 use Rattle.seek.proofs.evt3.walk.Reads as reads
 use Rattle.seek.proofs.evt3.walk.Lts as lts
-use Rattle.evt.proofs.evt3.widen.Reads as widen-reads
-use Rattle.evt.proofs.evt3.WideDecoder.advance.Reads as advance-reads
-use Rattle.evt.proofs.evt3.WideDecoder.slim.Reads as slim-reads
-use Rattle.evt.proofs.fields.bits.Reads as bits-reads
+use Rattle.evt3_decoder.proofs.widen.Reads as widen-reads
+use Rattle.evt3_decoder.proofs.WideDecoder.advance.Reads as advance-reads
+use Rattle.evt3_decoder.proofs.WideDecoder.slim.Reads as slim-reads
+use Rattle.evt_types.proofs.fields.bits.Reads as bits-reads
 use Rattle.seek.proofs.back.word2.Reads as word2-reads
 use Rattle.seek.proofs.strays.Reads as strays-reads
 use Rattle.seek.proofs.times.carries.Reads as carries-reads

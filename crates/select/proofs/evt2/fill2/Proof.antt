@@ -6,7 +6,7 @@ use borrow.Author.Needs.{needs}
 use Prim.Native.Nat.{_-_}
 use denote.Ref.{now}
 use lib.ListN.{length}
-use Rattle.evt.specs.Range.{bounded-sane2}
+use Rattle.evt2_decoder.specs.Range.{bounded-sane2}
 use Rattle.select.specs.Pass.{Fits}
 use Rattle.select.specs.Turn.{Turned, all, narrow-here}
 use Rattle.select.specs.Fill.{Fills, Full, fills-start, fills-on, fills-stop, full, full-wrote, fills-end, fills-turn, room-here, number-fits}

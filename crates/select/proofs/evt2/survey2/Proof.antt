@@ -6,7 +6,7 @@ use borrow.Author.Needs.{needs}
 use Prim.Native.Nat.{_+_, _-_}
 use denote.Ref.{now}
 use lib.ListN.{length}
-use Rattle.evt.specs.Range.{bounded-sane2}
+use Rattle.evt2_decoder.specs.Range.{bounded-sane2}
 use Rattle.select.specs.Turn.{Turned, narrow-here}
 use Rattle.select.specs.Count.{Counts, CountsIf, Counted, counts-start, counts-on, counts-stop, counted, counts-end, notable-here, counts-turn}
 use Rattle.select.specs.Sources.{source2, laws2, inv2, turned2, mask-here}

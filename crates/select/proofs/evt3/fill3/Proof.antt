@@ -6,8 +6,8 @@ use borrow.Author.Needs.{needs}
 use Prim.Native.Nat.{_-_}
 use denote.Ref.{now}
 use lib.ListN.{length}
-use Rattle.evt.specs.Range.{bounded-sane3, bounded-slim3}
-use Rattle.evt.specs.Evt3.{slimmed}
+use Rattle.evt3_decoder.specs.Range.{bounded-sane3, bounded-slim3}
+use Rattle.evt3_decoder.specs.Evt3.{slimmed}
 use Rattle.select.specs.Pass.{Fits}
 use Rattle.select.specs.Turn.{Turned, all, narrow-here, number-here}
 use Rattle.select.specs.Fill.{Fills, Full, fills-start, fills-on, fills-stop, full, full-wrote, fills-end, fills-turn, room-here, number-fits}

@@ -6,8 +6,8 @@ use borrow.Author.Needs.{needs}
 use Prim.Native.Nat.{_+_, _-_}
 use denote.Ref.{now}
 use lib.ListN.{length}
-use Rattle.evt.specs.Range.{bounded-sane3, bounded-slim3}
-use Rattle.evt.specs.Evt3.{slimmed}
+use Rattle.evt3_decoder.specs.Range.{bounded-sane3, bounded-slim3}
+use Rattle.evt3_decoder.specs.Evt3.{slimmed}
 use Rattle.select.specs.Turn.{Turned, narrow-here, number-here}
 use Rattle.select.specs.Count.{Counts, CountsIf, Counted, counts-start, counts-on, counts-stop, counted, counts-end, notable-here, counts-turn}
 use Rattle.select.specs.Sources.{source3, laws3, inv3, turned3}

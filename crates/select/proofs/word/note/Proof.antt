@@ -3,7 +3,7 @@ use native.Mathlib.Omega.{arith}
 use Prim.Native.Nat.{_≤_}
 use lib.Count.{ones, ones-le}
 use borrow.Author.Needs.{needs}
-use Rattle.evt.specs.declared.vector.Vector.{Vector}
+use Rattle.evt_types.specs.declared.vector.Vector.{Vector}
 use Rattle.window.specs.declared.trim.Trimmed.{Trimmed}
 use Rattle.window.specs.Trim.{narrow-masked}
 use Rattle.select.specs.declared.word.Notes.{Notes}

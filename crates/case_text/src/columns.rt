@@ -37,15 +37,16 @@ pub fn at_most(n: usize, most: usize) -> usize
     if n < most { n } else { most }
 }
 
-// How many entries of column k are lent, by a text `R` for all columns or `X,Y,T,P`.
-pub fn lent(s: &[u8], k: usize) -> usize
-    ensures { λ r. ⌜ r ≤ 4096 ⌝ }
+// How many entries of column k, which has `most`, are lent, by a text `R` for all columns or
+// `X,Y,T,P`.
+pub fn lent(s: &[u8], k: usize, most: usize) -> usize
+    ensures { λ r. ⌜ r ≤ most ⌝ }
 {
     let mut n = text::number(s);
     if text::seek(s, 0, b',') < s.len() {
         n = text::number(text::field(s, b',', k));
     }
-    at_most(n as usize, 4096)
+    at_most(n as usize, most)
 }
 
 // Entry i of the columns; a marked one behind their end.

@@ -3,6 +3,7 @@ ghost use mathlib.Core.Path.{_≡_};
 ghost use Prim.Native.Nat.{_≤_};
 ghost use lib.ListN.{length};
 use crate::show;
+use crate::text;
 use evt_types::RawEvent;
 
 const SHORT: u16 = 43981;
@@ -30,95 +31,94 @@ pub fn bytes() -> [u8; 4096]
     [BYTE; 4096]
 }
 
-// How many entries of a column are lent, where a case says n.
 pub fn at_most(n: usize, most: usize) -> usize
     ensures { λ r. ⌜ r ≤ most ⌝ }
 {
     if n < most { n } else { most }
 }
 
-fn clean_shorts(s: &[u16], from: usize) -> bool {
-    let mut i = from;
-    while i < s.len() {
-        if s[i] != SHORT {
-            return false;
-        }
-        i += 1;
+// How many entries of column k, which has `most`, are lent, by a text `R` for all columns or
+// `X,Y,T,P`.
+pub fn lent(s: &[u8], k: usize, most: usize) -> usize
+    ensures { λ r. ⌜ r ≤ most ⌝ }
+{
+    let mut n = text::number(s);
+    if text::seek(s, 0, b',') < s.len() {
+        n = text::number(text::field(s, b',', k));
     }
-    true
+    at_most(n as usize, most)
 }
 
-fn clean_longs(s: &[i64], from: usize) -> bool {
-    let mut i = from;
-    while i < s.len() {
-        if s[i] != LONG {
-            return false;
-        }
-        i += 1;
-    }
-    true
-}
-
-fn clean_bytes(s: &[u8], from: usize) -> bool {
-    let mut i = from;
-    while i < s.len() {
-        if s[i] != BYTE {
-            return false;
-        }
-        i += 1;
-    }
-    true
-}
-
-// Whether every entry from `from` on still has its mark.
-fn clean(xs: &[u16], ys: &[u16], ts: &[i64], ps: &[u8], from: usize) -> bool {
-    if !clean_shorts(xs, from) {
-        return false;
-    }
-    if !clean_shorts(ys, from) {
-        return false;
-    }
-    if !clean_longs(ts, from) {
-        return false;
-    }
-    clean_bytes(ps, from)
-}
-
-pub fn show_dirty(xs: &[u16], ys: &[u16], ts: &[i64], ps: &[u8], from: usize) {
-    if !clean(xs, ys, ts, ps, from) {
-        show::text(b" dirty");
-    }
-}
-
-pub fn show_dirty_bytes(s: &[u8], from: usize) {
-    if !clean_bytes(s, from) {
-        show::text(b" dirty");
-    }
-}
-
-fn show_event(xs: &[u16], ys: &[u16], ts: &[i64], ps: &[u8], i: usize) {
+// Entry i of the columns; a marked one behind their end.
+fn entry(xs: &[u16], ys: &[u16], ts: &[i64], ps: &[u8], i: usize) -> RawEvent {
     if i < xs.len() {
         if i < ys.len() {
             if i < ts.len() {
                 if i < ps.len() {
-                    show::byte(b' ');
-                    show::event(RawEvent {
+                    return RawEvent {
                         x: xs[i],
                         y: ys[i],
                         t: ts[i],
                         p: ps[i],
-                    });
+                    };
                 }
             }
         }
     }
+    RawEvent {
+        x: SHORT,
+        y: SHORT,
+        t: LONG,
+        p: BYTE,
+    }
+}
+
+fn is_marked(e: RawEvent) -> bool {
+    if e.x == SHORT {
+        if e.y == SHORT {
+            if e.t == LONG {
+                return e.p == BYTE;
+            }
+        }
+    }
+    false
 }
 
 // The first n events.
 pub fn show_events(xs: &[u16], ys: &[u16], ts: &[i64], ps: &[u8], n: usize) {
     let mut i = 0;
     while i < n {
-        show_event(xs, ys, ts, ps, i);
+        show::byte(b' ');
+        show::event(entry(xs, ys, ts, ps, i));
+        i += 1;
+    }
+}
+
+// ` dirty` if an entry from `from` on hasn't its mark any more.
+fn show_dirty(xs: &[u16], ys: &[u16], ts: &[i64], ps: &[u8], from: usize) {
+    let mut i = from;
+    while i < xs.len() {
+        if is_marked(entry(xs, ys, ts, ps, i)) {
+            i += 1;
+        } else {
+            return show::text(b" dirty");
+        }
+    }
+}
+
+// The first n events, and whether an entry behind them has changed.
+pub fn show_all(xs: &[u16], ys: &[u16], ts: &[i64], ps: &[u8], n: usize) {
+    show_events(xs, ys, ts, ps, n);
+    show_dirty(xs, ys, ts, ps, n);
+}
+
+// The same for bytes alone.
+pub fn show_dirty_bytes(s: &[u8], from: usize) {
+    let mut i = from;
+    while i < s.len() {
+        if s[i] != BYTE {
+            return show::text(b" dirty");
+        }
         i += 1;
     }
 }

@@ -17,20 +17,14 @@ pub fn number(n: u64) {
     io::print_decimal(STDOUT_FILENO, n);
 }
 
+// For n below 0 the magnitude is !n + 1.
 pub fn signed(n: i64) {
     if n < 0 {
-        byte(b'-');
-    }
-    number(magnitude(n));
-}
-
-// For n below 0 this is !n + 1.
-fn magnitude(n: i64) -> u64 {
-    if n < 0 {
         let less = !n;
-        return less as u64 + 1;
+        byte(b'-');
+        return number(less as u64 + 1);
     }
-    n as u64
+    number(n as u64)
 }
 
 // A separator and a number.
@@ -47,14 +41,13 @@ pub fn event(e: RawEvent) {
     next(b',', e.p as u64);
 }
 
+// The last digit of n in hex.
 fn nibble(n: u8) -> u8 {
-    if n < 10 {
-        return n + b'0';
+    let d = n % 16;
+    if d < 10 {
+        return d + b'0';
     }
-    if n < 16 {
-        return n + 87;
-    }
-    b'?'
+    d + 87
 }
 
 // Two hex digits for each byte, `-` for none.
@@ -65,7 +58,7 @@ pub fn hex(s: &[u8]) {
     let mut i = 0;
     while i < s.len() {
         byte(nibble(s[i] / 16));
-        byte(nibble(s[i] % 16));
+        byte(nibble(s[i]));
         i += 1;
     }
 }
@@ -88,8 +81,10 @@ pub fn table(r: Refusal) -> u64 {
     }
 }
 
-// What a refusal tells besides its number.
-fn told(r: Refusal) {
+// `refused`, the table's number, and the count that the refusal tells.
+pub fn refusal(r: Refusal) {
+    text(b"refused");
+    next(b' ', table(r));
     match r {
         Refusal::ColumnsTooShort(n) => next(b' ', n as u64),
         Refusal::TooFewRecords(n) => next(b' ', n as u64),
@@ -98,16 +93,14 @@ fn told(r: Refusal) {
     }
 }
 
-// `refused`, the table's number, and the count that the refusal tells.
-pub fn refusal(r: Refusal) {
-    text(b"refused");
-    next(b' ', table(r));
-    told(r);
+pub fn version(e: Encoding) -> u64 {
+    match e {
+        Encoding::Evt2 => 2,
+        Encoding::Evt3 => 3,
+    }
 }
 
 pub fn encoding(e: Encoding) {
-    match e {
-        Encoding::Evt2 => text(b"EVT2"),
-        Encoding::Evt3 => text(b"EVT3"),
-    }
+    text(b"EVT");
+    number(version(e));
 }

@@ -1,34 +1,12 @@
 // Text: parts of a slice of bytes, fields between separators, numbers and bytes in hex.
-// Nothing here has a `requires`: a part that isn't there is empty.
-
-pub enum Number {
-    Value(u64),
-    Nan,
-}
-
-pub enum Signed {
-    Value(i64),
-    Nan,
-}
-
-// How many bytes a field of hex digits has.
-pub enum Bytes {
-    Count(usize),
-    Bad,
-}
+// Nothing here has a `requires` or says that a text can't be read: a part that isn't there is empty, a
+// number that isn't there is 0, and the answer then isn't the expected one.
 
 pub fn part(s: &[u8], from: usize, to: usize) -> &[u8] {
     if from <= to {
         if to <= s.len() {
             return &s[from..to];
         }
-    }
-    &s[..0]
-}
-
-pub fn tail(s: &[u8], from: usize) -> &[u8] {
-    if from <= s.len() {
-        return &s[from..];
     }
     &s[..0]
 }
@@ -61,27 +39,13 @@ pub fn from_field(s: &[u8], separator: u8, k: usize) -> &[u8] {
         at = past(s, seek(s, at, separator));
         left -= 1;
     }
-    tail(s, at)
+    part(s, at, s.len())
 }
 
 // Field k, counted from 0; empty if there are fewer.
 pub fn field(s: &[u8], separator: u8, k: usize) -> &[u8] {
     let rest = from_field(s, separator, k);
     part(rest, 0, seek(rest, 0, separator))
-}
-
-pub fn is(s: &[u8], word: &[u8]) -> bool {
-    if s.len() != word.len() {
-        return false;
-    }
-    let mut i = 0;
-    while i < s.len() {
-        if at(s, i) != at(word, i) {
-            return false;
-        }
-        i += 1;
-    }
-    true
 }
 
 // The byte at i, or 0 behind the end.
@@ -92,126 +56,92 @@ pub fn at(s: &[u8], i: usize) -> u8 {
     0
 }
 
-// n with one decimal digit more.
-fn more(n: Number, b: u8) -> Number {
-    let Number::Value(v) = n else {
-        return Number::Nan;
-    };
+// A decimal digit is added to number k, a minus counts as nothing, and behind any other byte the next
+// number starts. Answers the number that is on.
+fn digit(b: u8, k: usize, into: &mut [u64]) -> usize {
+    if b == b'-' {
+        return k;
+    }
     if b < b'0' {
-        return Number::Nan;
+        return std::num::wrapping_add_usize(k, 1);
     }
     if b > b'9' {
-        return Number::Nan;
+        return std::num::wrapping_add_usize(k, 1);
     }
-    let d = (b - b'0') as u64;
-    if (18446744073709551615 - d) / 10 < v {
-        return Number::Nan;
+    if k < into.len() {
+        let n = into[k];
+        if n <= 1844674407370955161 {
+            into[k] = std::num::wrapping_add_u64(n * 10, (b - b'0') as u64);
+        }
     }
-    Number::Value(v * 10 + d)
+    k
 }
 
-// One or more decimal digits, below 2^64.
-pub fn read_number(s: &[u8]) -> Number {
-    if s.len() == 0 {
-        return Number::Nan;
-    }
-    let mut n = Number::Value(0);
+// The numbers of a text, as many as `into` has places, which are 0 beforehand.
+pub fn numbers(s: &[u8], into: &mut [u64]) {
+    let mut k = 0;
     let mut i = 0;
     while i < s.len() {
-        n = more(n, at(s, i));
+        k = digit(s[i], k, into);
         i += 1;
     }
-    n
 }
 
-// A number of 64 bits with its sign, a minus or none.
-pub fn read_signed(s: &[u8]) -> Signed {
+// The first number of a text, 0 if there is none.
+pub fn number(s: &[u8]) -> u64 {
+    let mut n = [0u64; 1];
+    numbers(s, &mut n);
+    n[0]
+}
+
+// A number of 64 bits with its sign, a minus or none. Below 0 it is !(2^64 - 1 - n).
+pub fn signed(s: &[u8]) -> i64 {
+    let mut n = number(s);
     if at(s, 0) == b'-' {
-        return negative(read_number(tail(s, 1)));
+        n = std::num::wrapping_sub_u64(0, n);
     }
-    positive(read_number(s))
+    if n <= 9223372036854775807 {
+        return n as i64;
+    }
+    let less = (18446744073709551615 - n) as i64;
+    !less
 }
 
-fn positive(n: Number) -> Signed {
-    let Number::Value(v) = n else {
-        return Signed::Nan;
-    };
-    if v <= 9223372036854775807 {
-        return Signed::Value(v as i64);
+// At most 65,535.
+pub fn short(n: u64) -> u16 {
+    if n <= 65535 {
+        return n as u16;
     }
-    Signed::Nan
+    65535
 }
 
-// -v is !(v - 1).
-fn negative(n: Number) -> Signed {
-    let Number::Value(v) = n else {
-        return Signed::Nan;
-    };
-    if v == 0 {
-        return Signed::Value(0);
-    }
-    if v <= 9223372036854775808 {
-        let less = (v - 1) as i64;
-        return Signed::Value(!less);
-    }
-    Signed::Nan
-}
-
-// The value of a hex digit, or 16.
+// The value of a hex digit.
 fn nibble(b: u8) -> u8 {
-    if b < b'0' {
-        return 16;
-    }
     if b <= b'9' {
-        return b - b'0';
+        return b % 16;
     }
-    if b < b'a' {
-        return 16;
-    }
-    if b <= b'f' {
-        return b - 87;
-    }
-    16
+    b % 16 + 9
 }
 
-// Byte i of the hex digits, stored at i; whether there is one and room for it.
-fn pair(s: &[u8], i: usize, into: &mut [u8]) -> bool {
-    if i >= s.len() / 2 {
-        return false;
-    }
-    let high = nibble(at(s, i * 2));
-    let low = nibble(at(s, i * 2 + 1));
-    if high > 15 {
-        return false;
-    }
-    if low > 15 {
-        return false;
-    }
-    if i < into.len() {
-        into[i] = high * 16 + low;
-        return true;
-    }
-    false
-}
-
-fn pairs(s: &[u8], n: usize, into: &mut [u8]) -> Bytes {
-    let mut i = 0;
-    while i < n {
-        if !pair(s, i, into) {
-            return Bytes::Bad;
+// Byte i of the hex digits, stored at i, if there is one and room for it.
+fn pair(s: &[u8], i: usize, into: &mut [u8]) {
+    if i < s.len() / 2 {
+        if i < into.len() {
+            let high = nibble(s[i * 2]);
+            let low = nibble(s[i * 2 + 1]);
+            into[i] = high % 16 * 16 + low % 16;
         }
-        i += 1;
     }
-    Bytes::Count(n)
 }
 
 // Two lower case hex digits for each byte, and `-` for none; the bytes go to the start of `into`.
-pub fn read_hex(s: &[u8], into: &mut [u8]) -> Bytes {
-    if is(s, b"-") {
-        return Bytes::Count(0);
+// Answers how many there are.
+pub fn read_hex(s: &[u8], into: &mut [u8]) -> usize {
+    let n = s.len() / 2;
+    let mut i = 0;
+    while i < n {
+        pair(s, i, into);
+        i += 1;
     }
-    if s.len() % 2 != 0 {
-        return Bytes::Bad;
-    }
-    pairs(s, s.len() / 2, into)
+    n
 }

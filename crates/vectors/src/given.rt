@@ -1,94 +1,44 @@
 // Columns that a case gives: numbers with commas between them, none for an empty column. They go to
-// the front of the lent array.
+// the front of the lent array. Each function answers how many there are.
 use case_text::text;
-use case_text::text::Bytes;
-use case_text::text::Number;
-use case_text::text::Signed;
 
-// A number at place k; whether it is one and finds room.
-fn put_short(s: &[u8], k: usize, into: &mut [u16]) -> bool {
-    let Number::Value(n) = text::read_number(s) else {
-        return false;
-    };
-    if n > 65535 {
-        return false;
-    }
-    if k < into.len() {
-        into[k] = n as u16;
-        return true;
-    }
-    false
-}
-
-fn put_long(s: &[u8], k: usize, into: &mut [i64]) -> bool {
-    let Signed::Value(n) = text::read_signed(s) else {
-        return false;
-    };
-    if k < into.len() {
-        into[k] = n;
-        return true;
-    }
-    false
-}
-
-fn put_byte(s: &[u8], k: usize, into: &mut [u8]) -> bool {
-    let Number::Value(n) = text::read_number(s) else {
-        return false;
-    };
-    if n > 255 {
-        return false;
-    }
-    if k < into.len() {
-        into[k] = n as u8;
-        return true;
-    }
-    false
-}
-
-// How many numbers there are.
-pub fn shorts(s: &[u8], into: &mut [u16]) -> Bytes {
+pub fn shorts(s: &[u8], into: &mut [u16]) -> usize {
     let mut k = 0;
     while k < into.len() {
         let one = text::field(s, b',', k);
         if one.len() == 0 {
-            return Bytes::Count(k);
+            return k;
         }
-        if put_short(one, k, into) {} else {
-            return Bytes::Bad;
-        }
+        into[k] = text::short(text::number(one));
         k += 1;
     }
-    Bytes::Bad
+    k
 }
 
-pub fn longs(s: &[u8], into: &mut [i64]) -> Bytes {
+pub fn longs(s: &[u8], into: &mut [i64]) -> usize {
     let mut k = 0;
     while k < into.len() {
         let one = text::field(s, b',', k);
         if one.len() == 0 {
-            return Bytes::Count(k);
+            return k;
         }
-        if put_long(one, k, into) {} else {
-            return Bytes::Bad;
-        }
+        into[k] = text::signed(one);
         k += 1;
     }
-    Bytes::Bad
+    k
 }
 
-pub fn bytes(s: &[u8], into: &mut [u8]) -> Bytes {
+pub fn bytes(s: &[u8], into: &mut [u8]) -> usize {
     let mut k = 0;
     while k < into.len() {
         let one = text::field(s, b',', k);
         if one.len() == 0 {
-            return Bytes::Count(k);
+            return k;
         }
-        if put_byte(one, k, into) {} else {
-            return Bytes::Bad;
-        }
+        into[k] = (text::number(one) % 256) as u8;
         k += 1;
     }
-    Bytes::Bad
+    k
 }
 
 // The first n entries, or none where there are fewer.

@@ -13,72 +13,35 @@ use case_text::show;
 use case_text::text;
 use libc::STDIN_FILENO;
 
-enum Asked {
-    Step,
-    Word,
-    Hdr,
-    Read,
-    Words,
-    Write,
-    Unknown,
-}
-
-fn command(word: &[u8]) -> Asked {
-    if text::is(word, b"step") {
-        return Asked::Step;
-    }
-    if text::is(word, b"word") {
-        return Asked::Word;
-    }
-    if text::is(word, b"hdr") {
-        return Asked::Hdr;
-    }
-    library_command(word)
-}
-
-fn library_command(word: &[u8]) -> Asked {
-    if text::is(word, b"read") {
-        return Asked::Read;
-    }
-    if text::is(word, b"words") {
-        return Asked::Words;
-    }
-    if text::is(word, b"write") {
-        return Asked::Write;
-    }
-    Asked::Unknown
-}
-
-fn answer(case: &[u8]) {
-    match command(text::field(case, b' ', 1)) {
-        Asked::Step => step::answer(case, true),
-        Asked::Word => step::answer(case, false),
-        Asked::Hdr => hdr::answer(case),
-        Asked::Read => reading::raw(case),
-        Asked::Words => reading::words(case),
-        Asked::Write => write::answer(case),
-        Asked::Unknown => show::text(b"badcase command"),
+// `word`, `words` and `write` differ in their fifth byte.
+fn run(case: &[u8], command: &[u8]) {
+    match text::at(command, 0) {
+        b's' => step::answer(case, true),
+        b'h' => hdr::answer(case),
+        b'r' => reading::answer(case, false),
+        _ => {
+            match text::at(command, 4) {
+                b's' => reading::answer(case, true),
+                b'e' => write::answer(case),
+                _ => step::answer(case, false),
+            }
+        }
     }
 }
 
 fn replay(case: &[u8]) {
     show::text(text::field(case, b' ', 0));
     show::byte(b' ');
-    answer(case);
+    run(case, text::field(case, b' ', 1));
     show::byte(b'\n');
-}
-
-// The case of the line that starts at `at`; answers where the next line starts.
-fn line(cases: &[u8], at: usize) -> usize {
-    let end = text::seek(cases, at, b'\n');
-    replay(text::part(cases, at, end));
-    text::past(cases, end)
 }
 
 fn lines(cases: &[u8]) {
     let mut at = 0;
     while at < cases.len() {
-        let next = line(cases, at);
+        let end = text::seek(cases, at, b'\n');
+        replay(text::part(cases, at, end));
+        let next = text::past(cases, end);
         if next <= at {
             return;
         }

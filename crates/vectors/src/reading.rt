@@ -4,30 +4,16 @@
 // behind it if an entry behind the events changed, or any one by a refused call.
 use case_text::columns;
 use case_text::options;
-use case_text::options::Most;
-use case_text::options::Room;
-use case_text::options::Rooms;
-use case_text::options::Size;
-use case_text::options::Version;
 use case_text::show;
 use case_text::text;
-use case_text::text::Bytes;
 use evt_types::Encoding;
 use read::LoadOptions;
 use read::ReadAnswer;
-use read::Reading;
 
 // Which of the two is called.
 enum Entry {
     Raw,
     Words(Encoding),
-}
-
-// A case but for its bytes.
-struct Call {
-    entry: Entry,
-    options: LoadOptions,
-    room: Room,
 }
 
 fn dispatch(
@@ -58,22 +44,41 @@ fn dispatch(
     }
 }
 
+// How many events there are.
+fn show_reading(answer: ReadAnswer) -> usize {
+    match answer {
+        ReadAnswer::Read(r) => {
+            let encoding = r.encoding;
+            show::text(b"ok ");
+            show::encoding(encoding);
+            show::next(b' ', r.width as u64);
+            show::next(b' ', r.height as u64);
+            show::next(b' ', r.count as u64);
+            show::text(b" :");
+            r.count
+        }
+        ReadAnswer::Refused(why) => {
+            show::refusal(why);
+            0
+        }
+    }
+}
+
 // Lends the first entries of the columns, as many as the case says.
 fn lend(
-    c: Call,
+    entry: Entry,
+    options: LoadOptions,
+    room: &[u8],
     bytes: &[u8],
     xs: &mut [u16],
     ys: &mut [u16],
     ts: &mut [i64],
     ps: &mut [u8],
 ) -> ReadAnswer {
-    let entry = c.entry;
-    let options = c.options;
-    let room = c.room;
-    let x = columns::at_most(room.x, xs.len());
-    let y = columns::at_most(room.y, ys.len());
-    let t = columns::at_most(room.t, ts.len());
-    let p = columns::at_most(room.p, ps.len());
+    let x = columns::lent(room, 0, xs.len());
+    let y = columns::lent(room, 1, ys.len());
+    let t = columns::lent(room, 2, ts.len());
+    let p = columns::lent(room, 3, ps.len());
     dispatch(
         entry,
         options,
@@ -85,78 +90,45 @@ fn lend(
     )
 }
 
-fn show_reading(r: Reading) {
-    let encoding = r.encoding;
-    show::text(b"ok ");
-    show::encoding(encoding);
-    show::next(b' ', r.width as u64);
-    show::next(b' ', r.height as u64);
-    show::next(b' ', r.count as u64);
-    show::text(b" :");
-}
-
-fn show_answer(answer: ReadAnswer, xs: &[u16], ys: &[u16], ts: &[i64], ps: &[u8]) {
-    match answer {
-        ReadAnswer::Read(r) => {
-            let n = r.count;
-            show_reading(r);
-            columns::show_events(xs, ys, ts, ps, n);
-            columns::show_dirty(xs, ys, ts, ps, n);
-        }
-        ReadAnswer::Refused(why) => {
-            show::refusal(why);
-            columns::show_dirty(xs, ys, ts, ps, 0);
-        }
-    }
-}
-
-fn run(c: Call, bytes: &[u8]) {
+fn run(entry: Entry, options: LoadOptions, room: &[u8], bytes: &[u8]) {
     let mut xs = columns::shorts();
     let mut ys = columns::shorts();
     let mut ts = columns::longs();
     let mut ps = columns::bytes();
-    let answer = lend(c, bytes, &mut xs, &mut ys, &mut ts, &mut ps);
-    show_answer(answer, &xs, &ys, &ts, &ps);
-}
-
-fn with_bytes(c: Call, hex: &[u8]) {
-    let mut buffer = io::buffer();
-    match text::read_hex(hex, &mut buffer) {
-        Bytes::Count(n) => run(c, text::part(&buffer, 0, n)),
-        Bytes::Bad => show::text(b"badcase bytes"),
-    }
-}
-
-// The fields from number `at` on: size, limit, room, bytes.
-fn with_entry(case: &[u8], entry: Entry, at: usize) {
-    let rest = text::from_field(case, b' ', at);
-    let Size::Of(sensor_size) = options::read_size(text::field(rest, b' ', 0)) else {
-        return show::text(b"badcase size");
-    };
-    let Most::Of(max_events) = options::read_limit(text::field(rest, b' ', 1)) else {
-        return show::text(b"badcase limit");
-    };
-    let Rooms::Of(room) = options::read_room(text::field(rest, b' ', 2)) else {
-        return show::text(b"badcase room");
-    };
-    let c = Call {
+    let answer = lend(
         entry,
-        options: LoadOptions {
-            sensor_size,
-            max_events,
-        },
+        options,
         room,
+        bytes,
+        &mut xs,
+        &mut ys,
+        &mut ts,
+        &mut ps,
+    );
+    let n = show_reading(answer);
+    columns::show_all(&xs, &ys, &ts, &ps, n);
+}
+
+// With the fields behind: size, limit, room, bytes.
+fn with_entry(entry: Entry, rest: &[u8]) {
+    let options = LoadOptions {
+        sensor_size: options::read_size(text::field(rest, b' ', 0)),
+        max_events: options::read_limit(text::field(rest, b' ', 1)),
     };
-    with_bytes(c, text::field(rest, b' ', 3));
+    let mut buffer = io::buffer();
+    let n = text::read_hex(text::field(rest, b' ', 3), &mut buffer);
+    run(
+        entry,
+        options,
+        text::field(rest, b' ', 2),
+        text::part(&buffer, 0, n),
+    );
 }
 
-pub fn raw(case: &[u8]) {
-    with_entry(case, Entry::Raw, 2);
-}
-
-pub fn words(case: &[u8]) {
-    match options::read_encoding(text::field(case, b' ', 2)) {
-        Version::Of(encoding) => with_entry(case, Entry::Words(encoding), 3),
-        Version::Bad => show::text(b"badcase encoding"),
+pub fn answer(case: &[u8], words: bool) {
+    if words {
+        let encoding = options::read_encoding(text::field(case, b' ', 2));
+        return with_entry(Entry::Words(encoding), text::from_field(case, b' ', 3));
     }
+    with_entry(Entry::Raw, text::from_field(case, b' ', 2));
 }

@@ -3,9 +3,7 @@
 // Both answer `ok STATE N : events`, or `refused 10` as soon as a step is refused.
 use case_text::show;
 use case_text::state;
-use case_text::state::State;
 use case_text::text;
-use case_text::text::Bytes;
 use evt::Codec;
 use evt_types::DecodeAnswer;
 use evt_types::EventVector;
@@ -19,37 +17,24 @@ struct Run {
     count: u64,
 }
 
-// What is left of a vector, and the number of the events so far.
-struct Walk {
-    rest: EventVector,
-    count: u64,
-}
-
-// The vector's first event is counted and, if asked for, shown.
-fn walk_one(w: Walk, shown: bool) -> Walk {
-    let v = w.rest;
-    let NextEvent::Event(e, rest) = v.next() else {
-        return w;
-    };
-    if shown {
-        show::byte(b' ');
-        show::event(e);
-    }
-    Walk {
-        rest,
-        count: std::num::wrapping_add_u64(w.count, 1),
-    }
-}
-
-// A mask has 32 bits. Answers the number of the events so far.
-fn walk_all(v: EventVector, count: u64, shown: bool) -> u64 {
-    let mut w = Walk { rest: v, count };
+// The events of a vector are counted and, if asked for, shown. A mask has 32 bits.
+fn walk(v: EventVector, before: u64, shown: bool) -> u64 {
+    let mut rest = v;
+    let mut count = before;
     let mut turns: u32 = 32;
     while turns > 0 {
-        w = walk_one(w, shown);
+        let NextEvent::Event(e, others) = rest.next() else {
+            return count;
+        };
+        if shown {
+            show::byte(b' ');
+            show::event(e);
+        }
+        rest = others;
+        count = std::num::wrapping_add_u64(count, 1);
         turns -= 1;
     }
-    w.count
+    count
 }
 
 // One step over `bytes`, unless an earlier one was refused.
@@ -65,7 +50,7 @@ fn turn(r: Run, bytes: &[u8], shown: bool) -> Run {
         DecodeAnswer::Events(v) => Run {
             codec: next,
             refused: 0,
-            count: walk_all(v, r.count, shown),
+            count: walk(v, r.count, shown),
         },
         DecodeAnswer::Refused(why) => Run {
             codec: next,
@@ -75,75 +60,51 @@ fn turn(r: Run, bytes: &[u8], shown: bool) -> Run {
     }
 }
 
-fn whole_words(len: usize, size: usize) -> usize {
-    if size == 0 {
-        return 0;
-    }
-    len / size
-}
-
-// The place behind the word at `at`, within the slice.
-fn past_word(bytes: &[u8], at: usize, size: usize) -> usize {
-    if at <= bytes.len() {
-        if size <= bytes.len() - at {
-            return at + size;
+// How many steps there are: one for every whole word, or for the first alone.
+fn steps(len: usize, size: usize, every: bool) -> usize {
+    if every {
+        if size > 0 {
+            return len / size;
         }
     }
-    bytes.len()
+    1
 }
 
-fn turns(start: Run, bytes: &[u8], size: usize, shown: bool) -> Run {
-    let mut r = start;
-    let mut i = 0;
-    let mut left = whole_words(bytes.len(), size);
+fn over(codec: Codec, bytes: &[u8], every: bool, shown: bool) -> Run {
+    let mut r = Run {
+        codec,
+        refused: 0,
+        count: 0,
+    };
+    let size = codec.word_size();
+    let mut at = 0;
+    let mut left = steps(bytes.len(), size, every);
     while left > 0 {
-        r = turn(r, text::tail(bytes, i), shown);
-        i = past_word(bytes, i, size);
+        r = turn(r, text::part(bytes, at, bytes.len()), shown);
+        at = std::num::wrapping_add_usize(at, size);
         left -= 1;
     }
     r
 }
 
-// Every whole word, or the first alone.
-fn run_over(codec: Codec, bytes: &[u8], every: bool, shown: bool) -> Run {
-    let start = Run {
-        codec,
-        refused: 0,
-        count: 0,
-    };
-    if every {
-        return turns(start, bytes, codec.word_size(), shown);
-    }
-    turn(start, bytes, shown)
-}
-
 // State and count stand before the events, so a first run tells them and a second shows the events.
 fn show_run(codec: Codec, bytes: &[u8], every: bool) {
-    let r = run_over(codec, bytes, every, false);
+    let r = over(codec, bytes, every, false);
     if r.refused != 0 {
         show::text(b"refused");
-        show::next(b' ', r.refused);
-        return;
+        return show::next(b' ', r.refused);
     }
     show::text(b"ok ");
     let last = r.codec;
     state::show(last);
     show::next(b' ', r.count);
     show::text(b" :");
-    run_over(codec, bytes, every, true);
-}
-
-fn with_bytes(case: &[u8], codec: Codec, every: bool) {
-    let mut buffer = io::buffer();
-    match text::read_hex(text::field(case, b' ', 3), &mut buffer) {
-        Bytes::Count(n) => show_run(codec, text::part(&buffer, 0, n), every),
-        Bytes::Bad => show::text(b"badcase bytes"),
-    }
+    over(codec, bytes, every, true);
 }
 
 pub fn answer(case: &[u8], every: bool) {
-    match state::read(text::field(case, b' ', 2)) {
-        State::Of(codec) => with_bytes(case, codec, every),
-        State::Bad => show::text(b"badcase state"),
-    }
+    let codec = state::read(text::field(case, b' ', 2));
+    let mut buffer = io::buffer();
+    let n = text::read_hex(text::field(case, b' ', 3), &mut buffer);
+    show_run(codec, text::part(&buffer, 0, n), every);
 }

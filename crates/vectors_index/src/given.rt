@@ -1,10 +1,7 @@
 // A case's bytes: `HEX`, or `HEX*K*N`, where the last K bytes come again and again until there are N.
 ghost use mathlib.Core.Path.{_≡_};
 ghost use lib.ListN.{length};
-use case_text::columns;
 use case_text::text;
-use case_text::text::Bytes;
-use case_text::text::Number;
 
 // Room for them. The `ensures` keeps the array itself out of its callers' proofs.
 pub fn buffer() -> [u8; 131072]
@@ -23,33 +20,14 @@ fn copy(into: &mut [u8], i: usize, k: usize) {
     }
 }
 
-fn again(into: &mut [u8], n: usize, k: usize, end: usize) {
-    let mut i = n;
-    while i < end {
-        copy(into, i, k);
-        i += 1;
+// The bytes go to the start of `into`. Answers how many there are.
+pub fn read(s: &[u8], into: &mut [u8]) -> usize {
+    let mut n = text::read_hex(text::field(s, b'*', 0), into);
+    let k = text::number(text::field(s, b'*', 1)) as usize;
+    let end = text::number(text::field(s, b'*', 2)) as usize;
+    while n < end {
+        copy(into, n, k);
+        n += 1;
     }
-}
-
-fn lengthened(s: &[u8], n: usize, into: &mut [u8]) -> Bytes {
-    let Number::Value(k) = text::read_number(text::field(s, b'*', 1)) else {
-        return Bytes::Bad;
-    };
-    let Number::Value(end) = text::read_number(text::field(s, b'*', 2)) else {
-        return Bytes::Bad;
-    };
-    let most = columns::at_most(end as usize, into.len());
-    again(into, n, k as usize, most);
-    Bytes::Count(most)
-}
-
-// The bytes go to the start of `into`.
-pub fn read(s: &[u8], into: &mut [u8]) -> Bytes {
-    let Bytes::Count(n) = text::read_hex(text::field(s, b'*', 0), into) else {
-        return Bytes::Bad;
-    };
-    if text::seek(s, 0, b'*') < s.len() {
-        return lengthened(s, n, into);
-    }
-    Bytes::Count(n)
+    n
 }

@@ -13,53 +13,26 @@ use case_text::show;
 use case_text::text;
 use libc::STDIN_FILENO;
 
-enum Asked {
-    Open,
-    OpenWords,
-    Slice,
-    Unknown,
-}
-
-fn command(word: &[u8]) -> Asked {
-    if text::is(word, b"open") {
-        return Asked::Open;
+fn run(case: &[u8], command: &[u8]) {
+    if text::at(command, 0) == b's' {
+        return slicing::answer(case);
     }
-    if text::is(word, b"openw") {
-        return Asked::OpenWords;
-    }
-    if text::is(word, b"slice") {
-        return Asked::Slice;
-    }
-    Asked::Unknown
-}
-
-fn answer(case: &[u8]) {
-    match command(text::field(case, b' ', 1)) {
-        Asked::Open => opening::raw(case),
-        Asked::OpenWords => opening::words(case),
-        Asked::Slice => slicing::answer(case),
-        Asked::Unknown => show::text(b"badcase command"),
-    }
+    opening::answer(case, text::at(command, 4) == b'w');
 }
 
 fn replay(case: &[u8]) {
     show::text(text::field(case, b' ', 0));
     show::byte(b' ');
-    answer(case);
+    run(case, text::field(case, b' ', 1));
     show::byte(b'\n');
-}
-
-// The case of the line that starts at `at`; answers where the next line starts.
-fn line(cases: &[u8], at: usize) -> usize {
-    let end = text::seek(cases, at, b'\n');
-    replay(text::part(cases, at, end));
-    text::past(cases, end)
 }
 
 fn lines(cases: &[u8]) {
     let mut at = 0;
     while at < cases.len() {
-        let next = line(cases, at);
+        let end = text::seek(cases, at, b'\n');
+        replay(text::part(cases, at, end));
+        let next = text::past(cases, end);
         if next <= at {
             return;
         }

@@ -2,10 +2,7 @@
 // to any record shows.
 use case_text::show;
 use case_text::state;
-use case_text::state::State;
 use case_text::text;
-use case_text::text::Number;
-use case_text::text::Signed;
 use evt::Codec;
 use evt3_decoder::Decoder;
 use index::Checkpoint;
@@ -14,20 +11,14 @@ const ROW: u16 = 43981;
 
 const TIME: i64 = 7777777777777777;
 
-enum Parsed {
-    Of(Checkpoint),
-    Bad,
-}
-
-// The first `n` are those of a list; `ok` tells whether all of it could be read.
+// The first `n` are those of a list.
 pub struct Records {
     pub all: [Checkpoint; 64],
     pub n: usize,
-    pub ok: bool,
 }
 
-fn mark() -> Checkpoint {
-    Checkpoint {
+pub fn marks() -> [Checkpoint; 64] {
+    let m = Checkpoint {
         byte_offset: 0,
         event_index: 0,
         time: TIME,
@@ -40,11 +31,7 @@ fn mark() -> Checkpoint {
             polarity: true,
             high_loops: 0,
         }),
-    }
-}
-
-pub fn marks() -> [Checkpoint; 64] {
-    let m = mark();
+    };
     [m; 64]
 }
 
@@ -62,32 +49,35 @@ fn is_marked(c: Checkpoint) -> bool {
     if c.time == TIME {
         if c.byte_offset == 0 {
             if c.event_index == 0 {
-                return is_marked_codec(codec);
+                if let Codec::Evt3(d) = codec {
+                    return is_marked_decoder(d);
+                }
             }
         }
     }
     false
 }
 
-fn is_marked_codec(codec: Codec) -> bool {
-    match codec {
-        Codec::Evt2(_) => false,
-        Codec::Evt3(d) => is_marked_decoder(d),
+// Whether all is well: a record is shown, or else still has its mark.
+fn show_or_test(c: Checkpoint, shown: bool) -> bool {
+    if shown {
+        let codec = c.codec;
+        show::next(b' ', c.byte_offset as u64);
+        show::next(b'/', c.event_index as u64);
+        show::byte(b'/');
+        show::signed(c.time);
+        show::byte(b'/');
+        state::show(codec);
+        return true;
     }
+    is_marked(c)
 }
 
-fn is_marked_at(all: [Checkpoint; 64], i: usize) -> bool {
-    if i < 64 {
-        return is_marked(all[i]);
-    }
-    true
-}
-
-// ` dirty` if a record from `from` on hasn't its mark any more.
-pub fn show_dirty(all: [Checkpoint; 64], from: usize) {
-    let mut i = from;
+// The first n, and ` dirty` if one behind them hasn't its mark any more.
+pub fn show_all(all: [Checkpoint; 64], n: usize) {
+    let mut i = 0;
     while i < 64 {
-        if is_marked_at(all, i) {
+        if show_or_test(all[i], i < n) {
             i += 1;
         } else {
             return show::text(b" dirty");
@@ -95,115 +85,30 @@ pub fn show_dirty(all: [Checkpoint; 64], from: usize) {
     }
 }
 
-fn show_record(c: Checkpoint) {
-    let codec = c.codec;
-    show::byte(b' ');
-    show::number(c.byte_offset as u64);
-    show::next(b'/', c.event_index as u64);
-    show::byte(b'/');
-    show::signed(c.time);
-    show::byte(b'/');
-    state::show(codec);
-}
-
-fn show_at(all: [Checkpoint; 64], i: usize) {
-    if i < 64 {
-        show_record(all[i]);
+fn read(s: &[u8]) -> Checkpoint {
+    let mut n = [0u64; 2];
+    text::numbers(s, &mut n);
+    let time = text::signed(text::field(s, b'/', 2));
+    let codec = state::read(text::field(s, b'/', 3));
+    Checkpoint {
+        byte_offset: n[0] as usize,
+        event_index: n[1] as usize,
+        time,
+        codec,
     }
 }
 
-// The first n.
-pub fn show_all(all: [Checkpoint; 64], n: usize) {
-    let mut i = 0;
-    while i < n {
-        show_at(all, i);
-        i += 1;
-    }
-}
-
-fn read(s: &[u8]) -> Parsed {
-    let Number::Value(offset) = text::read_number(text::field(s, b'/', 0)) else {
-        return Parsed::Bad;
-    };
-    let Number::Value(events) = text::read_number(text::field(s, b'/', 1)) else {
-        return Parsed::Bad;
-    };
-    let Signed::Value(time) = text::read_signed(text::field(s, b'/', 2)) else {
-        return Parsed::Bad;
-    };
-    match state::read(text::field(s, b'/', 3)) {
-        State::Of(codec) => {
-            Parsed::Of(Checkpoint {
-                byte_offset: offset as usize,
-                event_index: events as usize,
-                time,
-                codec,
-            })
-        }
-        State::Bad => Parsed::Bad,
-    }
-}
-
-fn put(records: Records, c: Checkpoint) -> Records {
-    let mut all = records.all;
-    let i = records.n;
-    if i < 64 {
-        all[i] = c;
-        return Records {
-            all,
-            n: i + 1,
-            ok: records.ok,
-        };
-    }
-    Records {
-        all,
-        n: i,
-        ok: false,
-    }
-}
-
-fn add(records: Records, s: &[u8]) -> Records {
-    match read(s) {
-        Parsed::Of(c) => put(records, c),
-        Parsed::Bad => {
-            let all = records.all;
-            Records {
-                all,
-                n: records.n,
-                ok: false,
-            }
-        }
-    }
-}
-
-// Those that `+` parts.
-fn read_list(s: &[u8]) -> Records {
-    let mut records = Records {
-        all: marks(),
-        n: 0,
-        ok: true,
-    };
-    let mut at = 0;
-    while at < s.len() {
-        let end = text::seek(s, at, b'+');
-        records = add(records, text::part(s, at, end));
-        let next = text::past(s, end);
-        if next <= at {
-            return records;
-        }
-        at = next;
-    }
-    records
-}
-
-// At most 64, `-` for none.
+// Those that `+` parts, at most 64, `-` for none.
 pub fn read_all(s: &[u8]) -> Records {
-    if text::is(s, b"-") {
-        return Records {
-            all: marks(),
-            n: 0,
-            ok: true,
-        };
+    let mut all = marks();
+    let mut n = 0;
+    while n < 64 {
+        let one = text::field(s, b'+', n);
+        if text::at(one, 0) < b'0' {
+            return Records { all, n };
+        }
+        all[n] = read(one);
+        n += 1;
     }
-    read_list(s)
+    Records { all, n }
 }

@@ -13,8 +13,14 @@ abbrev μ-loop : tie.MeasureT-loop
 loop-holds : tie.Need-loop-holds Inv-loop μ-loop
 loop-holds c = search needs
 
-show-event-requires : tie.Need-show-event-requires Inv-loop μ-loop
-show-event-requires c κs = search needs
+byte-requires : tie.Need-byte-requires Inv-loop μ-loop
+byte-requires c κs = search needs
+
+entry-requires : tie.Need-entry-requires Inv-loop μ-loop
+entry-requires c κs = search needs
+
+event-requires : tie.Need-event-requires Inv-loop μ-loop
+event-requires c κs = search needs
 
 add-i : tie.Need-add-i Inv-loop μ-loop
 add-i c = search needs
@@ -31,4 +37,14 @@ returns c = search needs
 pub show-events-spec : {M : Type 1} → statement M
 show-events-spec =
     tie.close
-    (tie.spec Inv-loop μ-loop loop-holds show-event-requires add-i loop-less loop-again returns)
+    (tie.spec
+    Inv-loop
+    μ-loop
+    loop-holds
+    byte-requires
+    entry-requires
+    event-requires
+    add-i
+    loop-less
+    loop-again
+    returns)

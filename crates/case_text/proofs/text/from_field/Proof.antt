@@ -27,8 +27,8 @@ loop-less c = search needs
 loop-again : tie.Need-loop-again Inv-loop μ-loop
 loop-again c = search needs
 
-tail-requires : tie.Need-tail-requires Inv-loop μ-loop
-tail-requires c κs = search needs
+part-requires : tie.Need-part-requires Inv-loop μ-loop
+part-requires c κs = search needs
 
 returns : tie.Need-returns Inv-loop μ-loop
 returns c = search needs
@@ -45,5 +45,5 @@ from-field-spec =
     sub-left
     loop-less
     loop-again
-    tail-requires
+    part-requires
     returns)

@@ -24,14 +24,14 @@ same-length c = search needs
 returns : tie.Need-returns Inv-loop μ-loop
 returns c = search needs
 
-put-long-requires : tie.Need-put-long-requires Inv-loop μ-loop
-put-long-requires c κs = search needs
+signed-requires : tie.Need-signed-requires Inv-loop μ-loop
+signed-requires c κs = search needs
 
-same-length-2 : tie.Need-same-length-2 Inv-loop μ-loop
-same-length-2 c = search needs
+mul-t5 : tie.Need-mul-t5 Inv-loop μ-loop
+mul-t5 c = search needs
 
-returns-2 : tie.Need-returns-2 Inv-loop μ-loop
-returns-2 c = search needs
+slice-set-from-into : tie.Need-slice-set-from-into Inv-loop μ-loop
+slice-set-from-into c = search needs
 
 add-k : tie.Need-add-k Inv-loop μ-loop
 add-k c = search needs
@@ -42,11 +42,11 @@ loop-less c = search needs
 loop-again : tie.Need-loop-again Inv-loop μ-loop
 loop-again c = search needs
 
-same-length-3 : tie.Need-same-length-3 Inv-loop μ-loop
-same-length-3 c = search needs
+same-length-2 : tie.Need-same-length-2 Inv-loop μ-loop
+same-length-2 c = search needs
 
-returns-3 : tie.Need-returns-3 Inv-loop μ-loop
-returns-3 c = search needs
+returns-2 : tie.Need-returns-2 Inv-loop μ-loop
+returns-2 c = search needs
 
 pub longs-spec : {M : Type 1} → statement M
 longs-spec =
@@ -58,11 +58,11 @@ longs-spec =
     field-requires
     same-length
     returns
-    put-long-requires
-    same-length-2
-    returns-2
+    signed-requires
+    mul-t5
+    slice-set-from-into
     add-k
     loop-less
     loop-again
-    same-length-3
-    returns-3)
+    same-length-2
+    returns-2)

@@ -5,14 +5,32 @@ use borrow.Author.Needs.{needs}
 use Rattle.vectors.proofs.write.lend.Statement.{statement}
 use Rattle.vectors.proofs.write.lend.Tie as tie
 
-at-most-requires : tie.Need-at-most-requires
-at-most-requires c κs = search needs
+field-requires : tie.Need-field-requires
+field-requires c κs = search needs
+
+slice-aggregate-numbers : tie.Need-slice-aggregate-numbers
+slice-aggregate-numbers c = search needs
+
+numbers-requires : tie.Need-numbers-requires
+numbers-requires c κs = search needs
+
+array-read-width : tie.Need-array-read-width
+array-read-width c = search needs
+
+array-read-height : tie.Need-array-read-height
+array-read-height c = search needs
+
+field-requires-2 : tie.Need-field-requires-2
+field-requires-2 c κs = search needs
+
+lent-requires : tie.Need-lent-requires
+lent-requires c κs = search needs
 
 slice-relend-prefix-append : tie.Need-slice-relend-prefix-append
 slice-relend-prefix-append c = search needs
 
 slice-aggregate-append : tie.Need-slice-aggregate-append
-slice-aggregate-append c = sym (length-take-le _ _ (c .before .at-most .ensures))
+slice-aggregate-append c = sym (length-take-le _ _ (c .before .lent .ensures))
 
 append-requires : tie.Need-append-requires
 append-requires c κs = search needs
@@ -27,7 +45,13 @@ pub lend-spec : {M : Type 1} → statement M
 lend-spec =
     tie.close
     (tie.spec
-    at-most-requires
+    field-requires
+    slice-aggregate-numbers
+    numbers-requires
+    array-read-width
+    array-read-height
+    field-requires-2
+    lent-requires
     slice-relend-prefix-append
     slice-aggregate-append
     append-requires

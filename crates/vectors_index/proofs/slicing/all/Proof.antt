@@ -6,28 +6,25 @@ use Rattle.vectors_index.proofs.slicing.all.Statement.{statement}
 use Rattle.vectors_index.proofs.slicing.all.Tie as tie
 
 abbrev Inv-loop : tie.InvT-loop
-Inv-loop c queries bytes at₀ at = Unit {0}
+Inv-loop queries source given room bytes k₀ k = Unit {0}
 
 abbrev μ-loop : tie.MeasureT-loop
-μ-loop c queries bytes at₀ at = length queries - at
+μ-loop queries source given room bytes k₀ k = length queries - k
 
 loop-holds : tie.Need-loop-holds Inv-loop μ-loop
 loop-holds c = search needs
 
-seek-requires : tie.Need-seek-requires Inv-loop μ-loop
-seek-requires c κs = search needs
-
-part-requires : tie.Need-part-requires Inv-loop μ-loop
-part-requires c κs = search needs
-
-one-requires : tie.Need-one-requires Inv-loop μ-loop
-one-requires c κs = search needs
-
-past-requires : tie.Need-past-requires Inv-loop μ-loop
-past-requires c κs = search needs
+field-requires : tie.Need-field-requires Inv-loop μ-loop
+field-requires c κs = search needs
 
 returns : tie.Need-returns Inv-loop μ-loop
 returns c = search needs
+
+run-requires : tie.Need-run-requires Inv-loop μ-loop
+run-requires c κs = search needs
+
+add-k : tie.Need-add-k Inv-loop μ-loop
+add-k c = search needs
 
 loop-less : tie.Need-loop-less Inv-loop μ-loop
 loop-less c = search needs
@@ -45,11 +42,10 @@ all-spec =
     Inv-loop
     μ-loop
     loop-holds
-    seek-requires
-    part-requires
-    one-requires
-    past-requires
+    field-requires
     returns
+    run-requires
+    add-k
     loop-less
     loop-again
     returns-2)

@@ -5,41 +5,41 @@ use borrow.Author.Needs.{needs}
 use Rattle.vectors_index.proofs.slicing.lend.Statement.{statement}
 use Rattle.vectors_index.proofs.slicing.lend.Tie as tie
 
-at-most-requires : tie.Need-at-most-requires
-at-most-requires c κs = search needs
+lent-requires : tie.Need-lent-requires
+lent-requires c κs = search needs
 
-at-most-requires-2 : tie.Need-at-most-requires-2
-at-most-requires-2 c κs = search needs
+lent-requires-2 : tie.Need-lent-requires-2
+lent-requires-2 c κs = search needs
 
-at-most-requires-3 : tie.Need-at-most-requires-3
-at-most-requires-3 c κs = search needs
+lent-requires-3 : tie.Need-lent-requires-3
+lent-requires-3 c κs = search needs
 
-at-most-requires-4 : tie.Need-at-most-requires-4
-at-most-requires-4 c κs = search needs
+lent-requires-4 : tie.Need-lent-requires-4
+lent-requires-4 c κs = search needs
 
 slice-relend-prefix-dispatch : tie.Need-slice-relend-prefix-dispatch
 slice-relend-prefix-dispatch c = search needs
 
 slice-aggregate-dispatch : tie.Need-slice-aggregate-dispatch
-slice-aggregate-dispatch c = sym (length-take-le _ _ (c .before .before .before .before .at-most .ensures))
+slice-aggregate-dispatch c = sym (length-take-le _ _ (c .before .before .before .before .lent .ensures))
 
 slice-relend-prefix-dispatch-2 : tie.Need-slice-relend-prefix-dispatch-2
 slice-relend-prefix-dispatch-2 c = search needs
 
 slice-aggregate-dispatch-2 : tie.Need-slice-aggregate-dispatch-2
-slice-aggregate-dispatch-2 c = sym (length-take-le _ _ (c .before .before .before .before .at-most2 .ensures))
+slice-aggregate-dispatch-2 c = sym (length-take-le _ _ (c .before .before .before .before .lent2 .ensures))
 
 slice-relend-prefix-dispatch-3 : tie.Need-slice-relend-prefix-dispatch-3
 slice-relend-prefix-dispatch-3 c = search needs
 
 slice-aggregate-dispatch-3 : tie.Need-slice-aggregate-dispatch-3
-slice-aggregate-dispatch-3 c = sym (length-take-le _ _ (c .before .before .before .before .at-most3 .ensures))
+slice-aggregate-dispatch-3 c = sym (length-take-le _ _ (c .before .before .before .before .lent3 .ensures))
 
 slice-relend-prefix-dispatch-4 : tie.Need-slice-relend-prefix-dispatch-4
 slice-relend-prefix-dispatch-4 c = search needs
 
 slice-aggregate-dispatch-4 : tie.Need-slice-aggregate-dispatch-4
-slice-aggregate-dispatch-4 c = sym (length-take-le _ _ (c .before .before .before .before .at-most4 .ensures))
+slice-aggregate-dispatch-4 c = sym (length-take-le _ _ (c .before .before .before .before .lent4 .ensures))
 
 dispatch-requires : tie.Need-dispatch-requires
 dispatch-requires c κs = search needs
@@ -63,10 +63,10 @@ pub lend-spec : {M : Type 1} → statement M
 lend-spec =
     tie.close
     (tie.spec
-    at-most-requires
-    at-most-requires-2
-    at-most-requires-3
-    at-most-requires-4
+    lent-requires
+    lent-requires-2
+    lent-requires-3
+    lent-requires-4
     slice-relend-prefix-dispatch
     slice-aggregate-dispatch
     slice-relend-prefix-dispatch-2

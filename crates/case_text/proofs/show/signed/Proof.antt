@@ -1,9 +1,8 @@
--- `case_text::show::magnitude` is safe and ends: the bits of a number below 0, turned over, are below 2^63. Assumes nothing.
+-- `case_text::show::signed` is safe and ends: the bits of a number below 0, turned over, are below 2^63. Assumes nothing.
 use mathlib.Core.Path.{_≡_}
 use mathlib.Core.Bool.{true, false, true≢false}
 use Prim.Native.Nat.{ℕ, _+_, _-_, _^_, _<_}
 use native.Mathlib.Omega.{arith}
-use borrow.Author.Needs.{needs}
 use borrow.Author.Tests.{ltb-true}
 use lib.Dec.{T}
 use lib.IntN.{ℤ, pos, negsuc, natAbs}
@@ -11,8 +10,9 @@ use lib.Signed.{ltZ, nonNeg, mag}
 use mir.Syntax.{w64}
 use mir.Val.{Fits, toZ, ofZ}
 use mir.ValLaws.{toZ-ofZ, toZ-pos}
-use Rattle.case_text.proofs.show.magnitude.Statement.{statement}
-use Rattle.case_text.proofs.show.magnitude.Tie as tie
+use borrow.Author.Needs.{needs}
+use Rattle.case_text.proofs.show.signed.Statement.{statement}
+use Rattle.case_text.proofs.show.signed.Tie as tie
 
 turned : (z : ℤ) → mag z < 2 ^ 63 → ltZ z (pos 0) ≡ true → 18446744073709551615 - ofZ w64 z < 2 ^ 63
 turned (pos n) h e = absurd (omega (arith, ltb-true n 0 e))
@@ -28,29 +28,48 @@ cast-not-below : (z : ℤ) → mag z < 2 ^ 63 → ltZ z (pos 0) ≡ false → T 
 cast-not-below (pos n) h e = (tt, record { fits = omega arith })
 cast-not-below (negsuc n) h e = absurd (true≢false e)
 
-cast-result : tie.Need-cast-result
-cast-result c =
-    let z = c .before .args .n in
-    let f = c .before .fits .n in
-    cast-low _ (turned z (f .sfits) (rw (toZ-ofZ w64 z f) at (c .if1 .taken)))
+byte-requires : tie.Need-byte-requires
+byte-requires c κs = search needs
 
-add-result : tie.Need-add-result
-add-result c =
-    let z = c .before .args .n in
-    let f = c .before .fits .n in
-    add-low _ (turned z (f .sfits) (rw (toZ-ofZ w64 z f) at (c .if1 .taken)))
+cast-number : tie.Need-cast-number
+cast-number c =
+    let z = c .before .before .args .n in
+    let f = c .before .before .fits .n in
+    cast-low _ (turned z (f .sfits) (rw (toZ-ofZ w64 z f) at (c .before .if1 .taken)))
+
+add-number : tie.Need-add-number
+add-number c =
+    let z = c .before .before .args .n in
+    let f = c .before .before .fits .n in
+    add-low _ (turned z (f .sfits) (rw (toZ-ofZ w64 z f) at (c .before .if1 .taken)))
+
+number-requires : tie.Need-number-requires
+number-requires c κs = search needs
 
 returns : tie.Need-returns
 returns c = search needs
 
-cast-result-2 : tie.Need-cast-result-2
-cast-result-2 c =
+cast-number-2 : tie.Need-cast-number-2
+cast-number-2 c =
     let z = c .before .args .n in
     let f = c .before .fits .n in
     rw (toZ-ofZ w64 z f) (cast-not-below z (f .sfits) (rw (toZ-ofZ w64 z f) at (c .if1 .left)))
 
+number-requires-2 : tie.Need-number-requires-2
+number-requires-2 c κs = search needs
+
 returns-2 : tie.Need-returns-2
 returns-2 c = search needs
 
-pub magnitude-spec : {M : Type 1} → statement M
-magnitude-spec = tie.close (tie.spec cast-result add-result returns cast-result-2 returns-2)
+pub signed-spec : {M : Type 1} → statement M
+signed-spec =
+    tie.close
+    (tie.spec
+    byte-requires
+    cast-number
+    add-number
+    number-requires
+    returns
+    cast-number-2
+    number-requires-2
+    returns-2)

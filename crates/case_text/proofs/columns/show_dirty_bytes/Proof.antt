@@ -1,24 +1,27 @@
--- `case_text::columns::clean_shorts` is safe and ends. Nothing has to hold from turn to turn. Assumes nothing.
+-- `case_text::columns::show_dirty_bytes` is safe and ends. Nothing has to hold from turn to turn. Assumes nothing.
 use Prim.Native.Nat.{_-_}
 use lib.ListN.{length}
 use borrow.Author.Needs.{needs}
-use Rattle.case_text.proofs.columns.clean_shorts.Statement.{statement}
-use Rattle.case_text.proofs.columns.clean_shorts.Tie as tie
+use Rattle.case_text.proofs.columns.show_dirty_bytes.Statement.{statement}
+use Rattle.case_text.proofs.columns.show_dirty_bytes.Tie as tie
 
 abbrev Inv-loop : tie.InvT-loop
-Inv-loop s from i₀ i = Unit {0}
+Inv-loop s from i₀ t4 i = Unit {0}
 
 abbrev μ-loop : tie.MeasureT-loop
-μ-loop s from i₀ i = length s - i
+μ-loop s from i₀ t4 i = length s - i
 
 loop-holds : tie.Need-loop-holds Inv-loop μ-loop
 loop-holds c = search needs
 
-mul-if1 : tie.Need-mul-if1 Inv-loop μ-loop
-mul-if1 c = search needs
-
 shared-slice-read-if1 : tie.Need-shared-slice-read-if1 Inv-loop μ-loop
 shared-slice-read-if1 c = search needs
+
+slice-aggregate-text : tie.Need-slice-aggregate-text Inv-loop μ-loop
+slice-aggregate-text c = search needs
+
+text-requires : tie.Need-text-requires Inv-loop μ-loop
+text-requires c κs = search needs
 
 returns : tie.Need-returns Inv-loop μ-loop
 returns c = search needs
@@ -35,15 +38,16 @@ loop-again c = search needs
 returns-2 : tie.Need-returns-2 Inv-loop μ-loop
 returns-2 c = search needs
 
-pub clean-shorts-spec : {M : Type 1} → statement M
-clean-shorts-spec =
+pub show-dirty-bytes-spec : {M : Type 1} → statement M
+show-dirty-bytes-spec =
     tie.close
     (tie.spec
     Inv-loop
     μ-loop
     loop-holds
-    mul-if1
     shared-slice-read-if1
+    slice-aggregate-text
+    text-requires
     returns
     add-i
     loop-less

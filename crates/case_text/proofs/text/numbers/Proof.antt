@@ -1,22 +1,25 @@
--- `vectors_index::given::again` is safe and ends. The lent slice keeps its length. Assumes nothing.
+-- `case_text::text::numbers` is safe and ends. The lent slice keeps its length. Assumes nothing.
 use Prim.Native.Nat.{_-_}
 use mathlib.Core.Path.{_≡_}
 use lib.ListN.{length}
 use borrow.Author.Needs.{needs}
-use Rattle.vectors_index.proofs.given.again.Statement.{statement}
-use Rattle.vectors_index.proofs.given.again.Tie as tie
+use Rattle.case_text.proofs.text.numbers.Statement.{statement}
+use Rattle.case_text.proofs.text.numbers.Tie as tie
 
 abbrev Inv-loop : tie.InvT-loop
-Inv-loop into₀ n k end i₀ into i = length into ≡ length into₀
+Inv-loop s into₀ k₀ i₀ into k i = length into ≡ length into₀
 
 abbrev μ-loop : tie.MeasureT-loop
-μ-loop into₀ n k end i₀ into i = end - i
+μ-loop s into₀ k₀ i₀ into k i = length s - i
 
 loop-holds : tie.Need-loop-holds Inv-loop μ-loop
 loop-holds c = search needs
 
-copy-requires : tie.Need-copy-requires Inv-loop μ-loop
-copy-requires c κs = search needs
+shared-slice-read-digit : tie.Need-shared-slice-read-digit Inv-loop μ-loop
+shared-slice-read-digit c = search needs
+
+digit-requires : tie.Need-digit-requires Inv-loop μ-loop
+digit-requires c κs = search needs
 
 add-i : tie.Need-add-i Inv-loop μ-loop
 add-i c = search needs
@@ -33,14 +36,15 @@ same-length c = search needs
 returns : tie.Need-returns Inv-loop μ-loop
 returns c = search needs
 
-pub again-spec : {M : Type 1} → statement M
-again-spec =
+pub numbers-spec : {M : Type 1} → statement M
+numbers-spec =
     tie.close
     (tie.spec
     Inv-loop
     μ-loop
     loop-holds
-    copy-requires
+    shared-slice-read-digit
+    digit-requires
     add-i
     loop-less
     loop-again

@@ -1,20 +1,24 @@
--- `vectors_index::record::show_dirty` is safe and ends. Nothing has to hold from turn to turn. Assumes nothing.
+-- `case_text::columns::show_dirty` is safe and ends. Nothing has to hold from turn to turn. Assumes nothing.
 use Prim.Native.Nat.{_-_}
+use lib.ListN.{length}
 use borrow.Author.Needs.{needs}
-use Rattle.vectors_index.proofs.record.show_dirty.Statement.{statement}
-use Rattle.vectors_index.proofs.record.show_dirty.Tie as tie
+use Rattle.case_text.proofs.columns.show_dirty.Statement.{statement}
+use Rattle.case_text.proofs.columns.show_dirty.Tie as tie
 
 abbrev Inv-loop : tie.InvT-loop
-Inv-loop all from i₀ t4 i = Unit {0}
+Inv-loop xs ys ts ps from i₀ t7 i = Unit {0}
 
 abbrev μ-loop : tie.MeasureT-loop
-μ-loop all from i₀ t4 i = 64 - i
+μ-loop xs ys ts ps from i₀ t7 i = length xs - i
 
 loop-holds : tie.Need-loop-holds Inv-loop μ-loop
 loop-holds c = search needs
 
-is-marked-at-requires : tie.Need-is-marked-at-requires Inv-loop μ-loop
-is-marked-at-requires c κs = search needs
+entry-requires : tie.Need-entry-requires Inv-loop μ-loop
+entry-requires c κs = search needs
+
+is-marked-requires : tie.Need-is-marked-requires Inv-loop μ-loop
+is-marked-requires c κs = search needs
 
 add-i : tie.Need-add-i Inv-loop μ-loop
 add-i c = search needs
@@ -44,7 +48,8 @@ show-dirty-spec =
     Inv-loop
     μ-loop
     loop-holds
-    is-marked-at-requires
+    entry-requires
+    is-marked-requires
     add-i
     loop-less
     loop-again

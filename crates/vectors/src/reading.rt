@@ -16,34 +16,6 @@ enum Entry {
     Words(Encoding),
 }
 
-fn dispatch(
-    entry: Entry,
-    options: LoadOptions,
-    bytes: &[u8],
-    xs: &mut [u16],
-    ys: &mut [u16],
-    ts: &mut [i64],
-    ps: &mut [u8],
-) -> ReadAnswer {
-    let size = options.sensor_size;
-    let limit = options.max_events;
-    match entry {
-        Entry::Raw => read::read_raw(bytes, options, &mut *xs, &mut *ys, &mut *ts, &mut *ps),
-        Entry::Words(encoding) => {
-            read::decode_words(
-                bytes,
-                encoding,
-                size,
-                limit,
-                &mut *xs,
-                &mut *ys,
-                &mut *ts,
-                &mut *ps,
-            )
-        }
-    }
-}
-
 // How many events there are.
 fn show_reading(answer: ReadAnswer) -> usize {
     match answer {
@@ -75,19 +47,36 @@ fn lend(
     ts: &mut [i64],
     ps: &mut [u8],
 ) -> ReadAnswer {
+    let size = options.sensor_size;
+    let limit = options.max_events;
     let x = columns::lent(room, 0, xs.len());
     let y = columns::lent(room, 1, ys.len());
     let t = columns::lent(room, 2, ts.len());
     let p = columns::lent(room, 3, ps.len());
-    dispatch(
-        entry,
-        options,
-        bytes,
-        &mut xs[..x],
-        &mut ys[..y],
-        &mut ts[..t],
-        &mut ps[..p],
-    )
+    match entry {
+        Entry::Raw => {
+            read::read_raw(
+                bytes,
+                options,
+                &mut xs[..x],
+                &mut ys[..y],
+                &mut ts[..t],
+                &mut ps[..p],
+            )
+        }
+        Entry::Words(encoding) => {
+            read::decode_words(
+                bytes,
+                encoding,
+                size,
+                limit,
+                &mut xs[..x],
+                &mut ys[..y],
+                &mut ts[..t],
+                &mut ps[..p],
+            )
+        }
+    }
 }
 
 fn run(entry: Entry, options: LoadOptions, room: &[u8], bytes: &[u8]) {

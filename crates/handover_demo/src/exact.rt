@@ -15,21 +15,15 @@ const MIDDLE: i64 = 4100;
 
 const LATE: i64 = 16777216;
 
-fn both(a: bool, b: bool) -> bool {
+pub fn both(a: bool, b: bool) -> bool {
     if a { b } else { false }
 }
 
 fn what(d: Difference) {
     match d {
         Difference::Nothing => {}
-        Difference::Refusal(n) => {
-            print::text(b" refused ");
-            print::number(n);
-        }
-        Difference::Count(n) => {
-            print::text(b" count ");
-            print::number(n as u64);
-        }
+        Difference::Refusal(n) => print::told(b" refused ", n),
+        Difference::Count(n) => print::told(b" count ", n as u64),
         Difference::Column(b) => {
             print::text(b" column ");
             print::byte(b);

@@ -69,9 +69,37 @@ fn append(w: Progress, xs: &[u16], ys: &[u16], ts: &[i64], ps: &[u8], out: &mut 
     }
 }
 
+// Parts of columns; one that isn't there is empty.
+fn shorts(s: &[u16], from: usize, to: usize) -> &[u16] {
+    if from <= to {
+        if to <= s.len() {
+            return &s[from..to];
+        }
+    }
+    &s[..0]
+}
+
+fn longs(s: &[i64], from: usize, to: usize) -> &[i64] {
+    if from <= to {
+        if to <= s.len() {
+            return &s[from..to];
+        }
+    }
+    &s[..0]
+}
+
+fn bytes(s: &[u8], from: usize, to: usize) -> &[u8] {
+    if from <= to {
+        if to <= s.len() {
+            return &s[from..to];
+        }
+    }
+    &s[..0]
+}
+
 // Appends the given events from number `from` on, up to `to`.
 fn append_given(w: Progress, from: usize, to: usize, out: &mut [u8]) -> Progress
-    requires { ⌜ (w .at ≤ length (now out)) × ((from ≤ to) × (to ≤ 16)) ⌝ }
+    requires { ⌜ w .at ≤ length (now out) ⌝ }
     ensures { λ r. ⌜ r .at ≤ length (now (out .entry)) ⌝ }
 {
     let xs = given::columns();
@@ -80,10 +108,10 @@ fn append_given(w: Progress, from: usize, to: usize, out: &mut [u8]) -> Progress
     let ps = given::polarities();
     append(
         w,
-        &xs[from..to],
-        &ys[from..to],
-        &ts[from..to],
-        &ps[from..to],
+        shorts(&xs, from, to),
+        shorts(&ys, from, to),
+        longs(&ts, from, to),
+        bytes(&ps, from, to),
         &mut *out,
     )
 }

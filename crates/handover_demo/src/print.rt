@@ -97,11 +97,13 @@ fn answer(a: AppendAnswer) {
     }
 }
 
-// How an append of n events was answered.
-pub fn append(n: u64, a: AppendAnswer) {
-    told(b"append of ", n);
-    text(b" events: ");
-    answer(a);
+// How an append of n events was answered, if that is to be told.
+pub fn append(tell: bool, n: u64, a: AppendAnswer) {
+    if tell {
+        told(b"append of ", n);
+        text(b" events: ");
+        answer(a);
+    }
 }
 
 pub fn cut(cut: usize, whole: usize, end: usize) {

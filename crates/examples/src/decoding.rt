@@ -1,6 +1,5 @@
 // Single words, as they come in.
 use crate::print;
-use case_text::show;
 use prophesee_raw::Decoder;
 
 // A step answers the decoder to go on with, and the word's events. The words 8001 300A 4003 have two,
@@ -8,11 +7,8 @@ use prophesee_raw::Decoder;
 pub fn decode_singly() {
     let decoder = Decoder::new();
     let first = decoder.step(0x8001);
-    let timed = first.next;
-    let second = timed.step(0x300A);
-    let placed = second.next;
-    let third = placed.step(0x4003);
+    let second = first.next.step(0x300A);
+    let third = second.next.step(0x4003);
     let answer = third.answer;
-    show::text(b"decode_singly: ");
-    print::first(answer);
+    print::first(b"decode_singly: ", answer);
 }

@@ -5,20 +5,17 @@ use crate::print;
 use crate::reading;
 use crate::slicing;
 use crate::writing;
-use case_text::show;
 use prophesee_raw::Encoding;
 use prophesee_raw::RawEventSink;
 
 // No header that names an encoding: 2.
 pub fn no_encoding() {
-    show::text(b"no_encoding: ");
-    reading::read(b"", reading::whole());
+    reading::read(b"no_encoding: ", b"", reading::whole());
 }
 
 // Columns of 4 for the 12 events of 8001 4FFF: 5 tells the 12.
 pub fn columns_too_short() {
-    show::text(b"columns_too_short: ");
-    reading::decode(b"\x01\x80\xff\x4f", Encoding::Evt3);
+    reading::decode(b"columns_too_short: ", b"\x01\x80\xff\x4f", Encoding::Evt3);
 }
 
 // Room for 3 records, where 16 bytes of body at spacing 4 want 4: 9 tells the 4.
@@ -26,8 +23,7 @@ pub fn records_too_few() {
     let recording = given::recording();
     let index = slicing::open(&recording, 3);
     let answer = index.answer;
-    show::text(b"records_too_few: ");
-    print::opening(answer);
+    print::opening(b"records_too_few: ", answer);
 }
 
 // Times that fall: 6. The writer that comes back is the one that was given, and goes on.
@@ -35,22 +31,13 @@ pub fn times_fall() {
     let mut output = [0; 32];
     let writer = RawEventSink::to_writer(Encoding::Evt3, false);
     let first = writing::append(writer, 5000, &mut output);
-    let second = writing::append(first.sink, 4097, &mut output);
-    let answer = second.answer;
-    show::text(b"times_fall: ");
-    print::append(answer, &output);
-    let third = writing::append(second.sink, 5000, &mut output);
-    let answer = third.answer;
-    show::text(b"times_fall, in order: ");
-    print::append(answer, &output);
+    let next = writing::append_told(b"times_fall: ", first.sink, 4097, &mut output);
+    writing::append_told(b"times_fall, in order: ", next, 5000, &mut output);
 }
 
 // 3 bytes for an append that needs 10: 11 tells the 10.
 pub fn output_too_short() {
     let mut output = [0; 3];
     let writer = RawEventSink::to_writer(Encoding::Evt3, false);
-    let appended = writing::append(writer, 4097, &mut output);
-    let answer = appended.answer;
-    show::text(b"output_too_short: ");
-    print::append(answer, &output);
+    writing::append_told(b"output_too_short: ", writer, 4097, &mut output);
 }

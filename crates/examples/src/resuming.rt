@@ -3,7 +3,6 @@
 use crate::reading;
 use crate::slicing;
 use case_text::columns::at_most;
-use case_text::show;
 use case_text::text;
 use prophesee_raw::AppendAnswer;
 use prophesee_raw::Decoder;
@@ -11,15 +10,20 @@ use prophesee_raw::Encoding;
 use prophesee_raw::OpenAnswer;
 use prophesee_raw::RawEventSink;
 
-// A fresh writer appends the events from number `from` on, from byte `at` of the stream. Answers how
-// many bytes it wrote.
-fn write(from: usize, stream: &mut [u8], at: usize) -> usize {
+fn written(answer: AppendAnswer) -> usize {
+    match answer {
+        AppendAnswer::Written(n) => n,
+        AppendAnswer::Refused(_) => 0,
+    }
+}
+
+// A fresh writer appends the events from number `from` on. Answers how many bytes it wrote.
+fn write(from: usize, output: &mut [u8]) -> usize {
     let xs = [10, 11, 13, 20];
     let ys = [7, 7, 7, 9];
     let ts = [4097, 4097, 4097, 5000];
     let ps = [0, 0, 0, 1];
     let k = at_most(from, 4);
-    let start = at_most(at, stream.len());
     let writer = RawEventSink::to_writer(Encoding::Evt3, false);
     let appended = prophesee_raw::append(
         writer,
@@ -29,13 +33,16 @@ fn write(from: usize, stream: &mut [u8], at: usize) -> usize {
         &ys[k..],
         &ts[k..],
         &ps[k..],
-        &mut stream[start..],
+        &mut *output,
     );
     let answer = appended.answer;
-    match answer {
-        AppendAnswer::Written(n) => n,
-        AppendAnswer::Refused(_) => 0,
-    }
+    written(answer)
+}
+
+// The same, behind the bytes of a stream that are kept.
+fn go_on(from: usize, stream: &mut [u8], kept: usize) -> usize {
+    let at = at_most(kept, stream.len());
+    write(from, &mut stream[at..])
 }
 
 // An index of just these bytes: event 2, by number.
@@ -44,8 +51,14 @@ fn slice_arrived(arrived: &[u8]) {
     let answer = index.answer;
     let records = index.records;
     if let OpenAnswer::Opened(opened) = answer {
-        show::text(b"cut_and_resume, number 2: ");
-        slicing::by_number(arrived, opened, records, 2, 3);
+        slicing::by_number(
+            b"cut_and_resume, number 2: ",
+            arrived,
+            opened,
+            records,
+            2,
+            3,
+        );
     }
 }
 
@@ -54,13 +67,12 @@ fn slice_arrived(arrived: &[u8]) {
 // has all of them.
 pub fn cut_and_resume() {
     let mut stream = [0; 32];
-    write(0, &mut stream, 0);
+    write(0, &mut stream);
     let arrived = text::part(&stream, 0, 13);
-    show::text(b"cut_and_resume, arrived: ");
-    let n = reading::decode(arrived, Encoding::Evt3);
+    let n = reading::decode(b"cut_and_resume, arrived: ", arrived, Encoding::Evt3);
     slice_arrived(arrived);
     let kept = 13 - 13 % Decoder::WORD_SIZE;
-    let m = at_most(write(n, &mut stream, kept), 20);
-    show::text(b"cut_and_resume, joined: ");
-    reading::decode(text::part(&stream, 0, kept + m), Encoding::Evt3);
+    let m = at_most(go_on(n, &mut stream, kept), 20);
+    let joined = text::part(&stream, 0, kept + m);
+    reading::decode(b"cut_and_resume, joined: ", joined, Encoding::Evt3);
 }

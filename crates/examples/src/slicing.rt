@@ -2,7 +2,6 @@
 // lends records is proved by hand, as crates/fixed_index is.
 use crate::given;
 use crate::print;
-use case_text::show;
 use prophesee_raw::Checkpoint;
 use prophesee_raw::Encoding;
 use prophesee_raw::OpenAnswer;
@@ -34,6 +33,7 @@ pub fn open_words(words: &[u8], encoding: Encoding) -> FixedIndex {
 
 // The events from number i0 to before i1.
 pub fn by_number(
+    name: &[u8],
     recording: &[u8],
     opened: Opening,
     records: [Checkpoint; 64],
@@ -58,11 +58,19 @@ pub fn by_number(
         &mut ts,
         &mut ps,
     );
-    print::slice(answer, &xs, &ys, &ts, &ps);
+    let count = print::slice(name, answer);
+    print::events(count, xs, ys, ts, ps);
 }
 
 // The events with t0 <= t < t1.
-fn by_time(recording: &[u8], opened: Opening, records: [Checkpoint; 64], t0: i64, t1: i64) {
+fn by_time(
+    name: &[u8],
+    recording: &[u8],
+    opened: Opening,
+    records: [Checkpoint; 64],
+    t0: i64,
+    t1: i64,
+) {
     let source = opened.source;
     let n = opened.records;
     let mut xs = [0; 4];
@@ -81,21 +89,37 @@ fn by_time(recording: &[u8], opened: Opening, records: [Checkpoint; 64], t0: i64
         &mut ts,
         &mut ps,
     );
-    print::slice(answer, &xs, &ys, &ts, &ps);
+    let count = print::slice(name, answer);
+    print::events(count, xs, ys, ts, ps);
 }
 
 // The last two events, by number, an end past the total being the total; and the first three, by time.
+fn slices(recording: &[u8], opened: Opening, records: [Checkpoint; 64]) {
+    by_number(
+        b"slice_recording, by number: ",
+        recording,
+        opened,
+        records,
+        2,
+        9,
+    );
+    by_time(
+        b"slice_recording, by time: ",
+        recording,
+        opened,
+        records,
+        4097,
+        5000,
+    );
+}
+
 pub fn slice_recording() {
     let recording = given::recording();
     let index = open(&recording, 8);
     let answer = index.answer;
     let records = index.records;
-    show::text(b"slice_recording: ");
-    print::opening(answer);
+    print::opening(b"slice_recording: ", answer);
     if let OpenAnswer::Opened(opened) = answer {
-        show::text(b"slice_recording, by number: ");
-        by_number(&recording, opened, records, 2, 9);
-        show::text(b"slice_recording, by time: ");
-        by_time(&recording, opened, records, 4097, 5000);
+        slices(&recording, opened, records);
     }
 }

@@ -1,7 +1,6 @@
 // Writing into an output that the caller lends.
 use crate::print;
 use crate::reading;
-use case_text::show;
 use case_text::text;
 use prophesee_raw::AppendAnswer;
 use prophesee_raw::Appended;
@@ -17,20 +16,19 @@ pub fn append(writer: RawEventSink, t: i64, output: &mut [u8]) -> Appended {
     prophesee_raw::append(writer, 64, 48, &xs, &ys, &ts, &ps, &mut *output)
 }
 
+// The same, and what it answered. The writer to go on with is answered.
+pub fn append_told(name: &[u8], writer: RawEventSink, t: i64, output: &mut [u8]) -> RawEventSink {
+    let appended = append(writer, t, &mut *output);
+    print::append(name, appended, output)
+}
+
 // Words without a header. An append answers the writer to go on with, which knows the time and the
 // row that were sent: the second one sends less.
 pub fn write_words() {
     let mut output = [0; 32];
     let writer = RawEventSink::to_writer(Encoding::Evt3, false);
-    let first = append(writer, 4097, &mut output);
-    let answer = first.answer;
-    let next = first.sink;
-    show::text(b"write_words: ");
-    print::append(answer, &output);
-    let second = append(next, 5000, &mut output);
-    let answer = second.answer;
-    show::text(b"write_words, next: ");
-    print::append(answer, &output);
+    let next = append_told(b"write_words: ", writer, 4097, &mut output);
+    append_told(b"write_words, next: ", next, 5000, &mut output);
 }
 
 // A recording: the first append sends the header too. It is read back.
@@ -40,7 +38,7 @@ pub fn write_recording() {
     let appended = append(writer, 4097, &mut output);
     let answer = appended.answer;
     if let AppendAnswer::Written(n) = answer {
-        show::text(b"write_recording: ");
-        reading::read(text::part(&output, 0, n), reading::whole());
+        let recording = text::part(&output, 0, n);
+        reading::read(b"write_recording: ", recording, reading::whole());
     }
 }

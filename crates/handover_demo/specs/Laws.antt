@@ -2,14 +2,14 @@
 use mathlib.Core.Path.{_≡_, refl, sym, ap, subst, _∙_}
 use mathlib.Core.Bool.{Bool, true, false}
 use mathlib.Core.List.{List, [], _∷_, _++_}
-use Prim.Native.Nat.{ℕ, suc, _+_, _≤_, _<_}
+use Prim.Native.Nat.{ℕ, suc, _+_, _-_, _≤_, _<_}
 use native.Mathlib.Nat.{zero-add}
 use native.Mathlib.Numerals.{add-one}
 use native.Mathlib.Omega.{arith}
 use borrow.Author.Count.{below-none, below-more}
 use lib.Dec.{T}
-use lib.ListN.{length, take, drop, getD, set, length-set, drop-of-length-le}
-use lib.Seq.{drop-cons, ext-getD, sets, sets-eq}
+use lib.ListN.{length, take, drop, getD, set, length-set, length-drop, drop-of-length-le}
+use lib.Seq.{drop-cons, ext-getD, getD-take, getD-drop, length-take-le, sets, sets-eq}
 use Rattle.stream.specs.Slice.{onto, sift}
 use Rattle.handover_demo.specs.Compare.{Same, Agree, Matches, Judges}
 use Rattle.handover_demo.specs.declared.compare.Got.{Got}
@@ -51,28 +51,34 @@ module _ {E : Type 0} (keep : E → Bool) (l : List E) where
 never : {X : Type 0} → false ≡ true → X
 never e = absurd (subst T (sym e) tt)
 
-module _ {A : Type 0} (d : A) (a b : List A) where
+module _ {A : Type 0} (d : A) (got given : List A) (from n : ℕ) where
   pub record Agreeing (i : ℕ) : Type 0 where
-    pub long : length a ≡ length b
-    pub within : i ≤ length a
-    pub alike : (k : ℕ) → k < i → getD a k d ≡ getD b k d
+    pub within : i ≤ n
+    pub alike : (k : ℕ) → k < i → getD got k d ≡ getD given (from + k) d
 
-  pub agreeing-start : length a ≡ length b → Agreeing 0
-  agreeing-start e = record { long = e; within = omega arith; alike = below-none (λ k. getD a k d ≡ getD b k d) }
+  pub agreeing-start : Agreeing 0
+  agreeing-start = record { within = omega arith; alike = below-none (λ k. getD got k d ≡ getD given (from + k) d) }
 
-  pub agreeing-turn : {i : ℕ} → Agreeing i → i < length a → getD a i d ≡ getD b i d → Agreeing (i + 1)
-  agreeing-turn {i} s h e = record { long = s .long; within = omega arith; alike = below-more (λ k. getD a k d ≡ getD b k d) i (s .alike) e }
+  pub agreeing-turn : {i : ℕ} → Agreeing i → i < n → getD got i d ≡ getD given (from + i) d → Agreeing (i + 1)
+  agreeing-turn {i} s h e = record { within = omega arith; alike = below-more (λ k. getD got k d ≡ getD given (from + k) d) i (s .alike) e }
 
-  pub agreeing-end : {i : ℕ} → Agreeing i → length a ≤ i → Same true a b
-  agreeing-end {i} s h =
-      let end : i ≡ length a = omega (arith, s .within) in
-      ((λ _. ext-getD d a b (s .long) (subst (λ (n : ℕ). (k : ℕ) → k < n → getD a k d ≡ getD b k d) end (s .alike))), λ _. refl)
+  pub agreeing-end : {i : ℕ} → Agreeing i → n ≤ i → n ≤ length got → from + n ≤ length given → Same true (take n got) (take n (drop from given))
+  agreeing-end {i} s h fits fits' =
+      let end : i ≡ n = omega (arith, s .within) in
+      let long : length (take n got) ≡ n = length-take-le n got fits in
+      let long' : length (take n (drop from given)) ≡ n = length-take-le n (drop from given) (omega (arith, length-drop from given)) in
+      let alike : (k : ℕ) → k < n → getD got k d ≡ getD given (from + k) d = subst (λ (m : ℕ). (k : ℕ) → k < m → getD got k d ≡ getD given (from + k) d) end (s .alike) in (
+        (λ _. ext-getD d (take n got) (take n (drop from given)) (long ∙ sym long') (λ k h.
+            let below : k < n = omega arith in
+            getD-take n got k d below ∙ alike k below ∙ sym (getD-drop from given k d) ∙ sym (getD-take n (drop from given) k d below))),
+        λ _. refl,
+      )
 
-  pub differ-long : (length a ≡ length b → ⊥) → Same false a b
-  differ-long h = ((λ e. never e), λ e. absurd (h (ap (λ (l : List A). length l) e)))
+  pub differ-at : {i : ℕ} → Agreeing i → i < n → (getD got i d ≡ getD given (from + i) d → ⊥) → Same false (take n got) (take n (drop from given))
+  differ-at {i} s h ne = ((λ e. never e), λ e. absurd (ne (sym (getD-take n got i d h) ∙ ap (λ (l : List A). getD l i d) e ∙ getD-take n (drop from given) i d h ∙ getD-drop from given i d)))
 
-  pub differ-at : (i : ℕ) → (getD a i d ≡ getD b i d → ⊥) → Same false a b
-  differ-at i h = ((λ e. never e), λ e. absurd (h (ap (λ (l : List A). getD l i d) e)))
+pub fits-rest : {from to : ℕ} → from ≤ to → to ≤ 16 → from + (to - from) ≤ 16
+fits-rest h fits = omega arith
 
 -- a column as it was given, compared with one that was got
 module _ {A : Type 0} (from n : ℕ) (got : List A) {g given : List A} (as-given : g ≡ given) {r : Bool} (same : Same r (take n got) (take n (drop from g))) where

@@ -1,5 +1,6 @@
 // Comparing what was read with the given events.
-ghost use Prim.Native.Nat.{_≤_};
+ghost use Prim.Native.Nat.{_≤_, _+_};
+ghost use lib.ListN.{take, drop};
 ghost use Rattle.handover_demo.specs.Compare.{Same, Judges};
 use crate::given;
 
@@ -13,15 +14,14 @@ pub struct Got {
     pub ps: [u8; 16],
 }
 
-fn same_shorts(a: &[u16], b: &[u16]) -> bool
-    ensures { λ r. ⌜ Same r (now (a .entry)) (now (b .entry)) ⌝ }
+// Whether the first n of one column are those of another from number `from` on.
+fn same_shorts(got: [u16; 16], given: [u16; 16], from: usize, n: usize) -> bool
+    requires { ⌜ from + n ≤ 16 ⌝ }
+    ensures { λ r. ⌜ Same r (take n got) (take n (drop from given)) ⌝ }
 {
-    if a.len() != b.len() {
-        return false;
-    }
     let mut i = 0;
-    while i < a.len() {
-        if a[i] != b[i] {
+    while i < n {
+        if got[i] != given[from + i] {
             return false;
         }
         i += 1;
@@ -29,15 +29,27 @@ fn same_shorts(a: &[u16], b: &[u16]) -> bool
     true
 }
 
-fn same_longs(a: &[i64], b: &[i64]) -> bool
-    ensures { λ r. ⌜ Same r (now (a .entry)) (now (b .entry)) ⌝ }
+fn same_longs(got: [i64; 16], given: [i64; 16], from: usize, n: usize) -> bool
+    requires { ⌜ from + n ≤ 16 ⌝ }
+    ensures { λ r. ⌜ Same r (take n got) (take n (drop from given)) ⌝ }
 {
-    if a.len() != b.len() {
-        return false;
-    }
     let mut i = 0;
-    while i < a.len() {
-        if a[i] != b[i] {
+    while i < n {
+        if got[i] != given[from + i] {
+            return false;
+        }
+        i += 1;
+    }
+    true
+}
+
+fn same_bytes(got: [u8; 16], given: [u8; 16], from: usize, n: usize) -> bool
+    requires { ⌜ from + n ≤ 16 ⌝ }
+    ensures { λ r. ⌜ Same r (take n got) (take n (drop from given)) ⌝ }
+{
+    let mut i = 0;
+    while i < n {
+        if got[i] != given[from + i] {
             return false;
         }
         i += 1;
@@ -65,23 +77,19 @@ pub fn judge(got: Got, from: usize, to: usize) -> Difference
         return Difference::Count(got.count);
     }
     let xs = got.xs;
-    let given_xs = given::columns();
-    if same_shorts(&xs[..n], &given_xs[from..to]) {} else {
+    if same_shorts(xs, given::columns(), from, n) {} else {
         return Difference::Column(b'x');
     }
     let ys = got.ys;
-    let given_ys = given::rows();
-    if same_shorts(&ys[..n], &given_ys[from..to]) {} else {
+    if same_shorts(ys, given::rows(), from, n) {} else {
         return Difference::Column(b'y');
     }
     let ts = got.ts;
-    let given_ts = given::times();
-    if same_longs(&ts[..n], &given_ts[from..to]) {} else {
+    if same_longs(ts, given::times(), from, n) {} else {
         return Difference::Column(b't');
     }
     let ps = got.ps;
-    let given_ps = given::polarities();
-    if check::same(&ps[..n], &given_ps[from..to]) {} else {
+    if same_bytes(ps, given::polarities(), from, n) {} else {
         return Difference::Column(b'p');
     }
     Difference::Nothing

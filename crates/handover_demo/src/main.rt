@@ -17,10 +17,6 @@ mod print;
 mod reading;
 mod write;
 
-fn both(a: bool, b: bool) -> bool {
-    if a { b } else { false }
-}
-
 fn word_size(encoding: Encoding) -> usize
     ensures { λ r. ⌜ 0 < r ⌝ }
 {
@@ -42,11 +38,8 @@ fn check_cut(encoding: Encoding, stream: &[u8], cut: usize) -> bool
     print::cut(cut, whole, end);
     let first = exact::reads(encoding, &stream[..cut], whole, b" before the cut");
     let second = exact::reads(encoding, &joined[..end], 16, b" joined");
-    let exact = both(first, second);
-    if exact {
-        print::text(b" exact");
-    }
-    print::text(b"\n");
+    let exact = exact::both(first, second);
+    print::end(exact);
     exact
 }
 
@@ -57,7 +50,7 @@ fn check_cuts(encoding: Encoding, stream: &[u8]) -> bool
     let mut cut = 0;
     while cut <= stream.len() {
         let exact = check_cut(encoding, stream, cut);
-        all = both(all, exact);
+        all = exact::both(all, exact);
         cut += 1;
     }
     all
@@ -69,16 +62,9 @@ fn show(encoding: Encoding) {
     let mut out = write::room();
     let n = write::appends(encoding, &mut out);
     let stream = &out[..n];
-    print::number(n as u64);
-    print::text(b" bytes:");
-    print::words(stream, word_size(encoding));
+    print::stream(stream, word_size(encoding));
     let exact = check_cuts(encoding, stream);
-    print::encoding(encoding);
-    if exact {
-        print::text(b": exact at every cut\n");
-    } else {
-        print::text(b": differs\n");
-    }
+    print::all(encoding, exact);
 }
 
 fn main() {

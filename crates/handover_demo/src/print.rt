@@ -25,6 +25,12 @@ pub fn encoding(e: Encoding) {
     }
 }
 
+// A text and a number.
+pub fn told(s: &[u8], n: u64) {
+    text(s);
+    number(n);
+}
+
 fn wide(b: u8) -> u64 {
     b as u64
 }
@@ -39,7 +45,7 @@ fn word(s: &[u8]) {
     }
 }
 
-pub fn words(s: &[u8], size: usize)
+fn words(s: &[u8], size: usize)
     requires { ⌜ 0 < size ⌝ }
 {
     let mut at = 0;
@@ -49,6 +55,15 @@ pub fn words(s: &[u8], size: usize)
         at = end;
     }
     text(b"\n");
+}
+
+// How many bytes, and their words.
+pub fn stream(s: &[u8], size: usize)
+    requires { ⌜ 0 < size ⌝ }
+{
+    number(s.len() as u64);
+    text(b" bytes:");
+    words(s, size);
 }
 
 // The table's number.
@@ -76,27 +91,41 @@ fn answer(a: AppendAnswer) {
             text(b" bytes\n");
         }
         AppendAnswer::Refused(why) => {
-            text(b"refused ");
-            number(table(why));
+            told(b"refused ", table(why));
             text(b"\n");
         }
     }
 }
 
-// How an append of n events was answered.
-pub fn append(n: u64, a: AppendAnswer) {
-    text(b"append of ");
-    number(n);
-    text(b" events: ");
-    answer(a);
+// How an append of n events was answered, if that is to be told.
+pub fn append(tell: bool, n: u64, a: AppendAnswer) {
+    if tell {
+        told(b"append of ", n);
+        text(b" events: ");
+        answer(a);
+    }
 }
 
 pub fn cut(cut: usize, whole: usize, end: usize) {
-    text(b"cut ");
-    number(cut as u64);
-    text(b": ");
-    number(whole as u64);
-    text(b" whole, joined ");
-    number(end as u64);
+    told(b"cut ", cut as u64);
+    told(b": ", whole as u64);
+    told(b" whole, joined ", end as u64);
     text(b" bytes,");
+}
+
+// The end of a cut's line, where what differs has been said.
+pub fn end(exact: bool) {
+    if exact {
+        text(b" exact");
+    }
+    text(b"\n");
+}
+
+pub fn all(e: Encoding, exact: bool) {
+    encoding(e);
+    if exact {
+        text(b": exact at every cut\n");
+    } else {
+        text(b": differs\n");
+    }
 }

@@ -1,4 +1,8 @@
-// Bytes read back, into columns of 16: decoded whole, or a slice by an index of them.
+// Bytes read back, into columns of 16: decoded whole, or a slice by an index of them. What is read is
+// held to the given events from number `from` on, up to `to`.
+ghost use Prim.Native.Nat.{_≤_};
+use crate::compare;
+use crate::compare::Difference;
 use crate::compare::Got;
 use crate::print;
 use evt_types::Encoding;
@@ -6,7 +10,7 @@ use evt_types::Limit;
 use evt_types::SensorSize;
 use fixed_index::FixedIndex;
 use index::Checkpoint;
-use index::RawSliceSource;
+use index::Opening;
 use index::WordsOptions;
 use read::ReadAnswer;
 use slice::SliceAnswer;
@@ -43,7 +47,9 @@ fn slice_outcome(answer: SliceAnswer) -> Outcome {
     }
 }
 
-pub fn decode(encoding: Encoding, bytes: &[u8]) -> Got {
+pub fn decode(encoding: Encoding, bytes: &[u8], to: usize) -> Difference
+    requires { ⌜ to ≤ 16 ⌝ }
+{
     let mut xs = [0; 16];
     let mut ys = [0; 16];
     let mut ts = [0; 16];
@@ -59,14 +65,15 @@ pub fn decode(encoding: Encoding, bytes: &[u8]) -> Got {
         &mut ps,
     );
     let o = read_outcome(answer);
-    Got {
+    let got = Got {
         refused: o.refused,
         count: o.count,
         xs,
         ys,
         ts,
         ps,
-    }
+    };
+    compare::judge(got, 0, to)
 }
 
 pub fn open(encoding: Encoding, bytes: &[u8], spacing: usize) -> FixedIndex {
@@ -80,12 +87,16 @@ pub fn open(encoding: Encoding, bytes: &[u8], spacing: usize) -> FixedIndex {
 
 pub fn by_number(
     bytes: &[u8],
-    source: RawSliceSource,
+    opened: Opening,
     records: [Checkpoint; 64],
-    n: usize,
     i0: usize,
     i1: usize,
-) -> Got {
+    to: usize,
+) -> Difference
+    requires { ⌜ (i0 ≤ to) × (to ≤ 16) ⌝ }
+{
+    let source = opened.source;
+    let n = opened.records;
     let mut xs = [0; 16];
     let mut ys = [0; 16];
     let mut ts = [0; 16];
@@ -103,24 +114,30 @@ pub fn by_number(
         &mut ps,
     );
     let o = slice_outcome(answer);
-    Got {
+    let got = Got {
         refused: o.refused,
         count: o.count,
         xs,
         ys,
         ts,
         ps,
-    }
+    };
+    compare::judge(got, i0, to)
 }
 
 pub fn by_time(
     bytes: &[u8],
-    source: RawSliceSource,
+    opened: Opening,
     records: [Checkpoint; 64],
-    n: usize,
     t0: i64,
     t1: i64,
-) -> Got {
+    from: usize,
+    to: usize,
+) -> Difference
+    requires { ⌜ (from ≤ to) × (to ≤ 16) ⌝ }
+{
+    let source = opened.source;
+    let n = opened.records;
     let mut xs = [0; 16];
     let mut ys = [0; 16];
     let mut ts = [0; 16];
@@ -138,12 +155,13 @@ pub fn by_time(
         &mut ps,
     );
     let o = slice_outcome(answer);
-    Got {
+    let got = Got {
         refused: o.refused,
         count: o.count,
         xs,
         ys,
         ts,
         ps,
-    }
+    };
+    compare::judge(got, from, to)
 }

@@ -9,11 +9,11 @@ use evt_types::Encoding;
 use sink::AppendAnswer;
 use sink::RawEventSink;
 
-// A writer, how many bytes of the output are written, and how the last append was answered.
+// A writer, how many bytes of the output are written, and whether the answers are told.
 struct Progress {
     sink: RawEventSink,
     at: usize,
-    answer: AppendAnswer,
+    told: bool,
 }
 
 // Room for a stream. The `ensures` keeps the array itself out of its callers' proofs.
@@ -24,28 +24,29 @@ pub fn room() -> [u8; 256]
 }
 
 // A fresh writer that sends no header, and `at` bytes that stand already.
-fn fresh(encoding: Encoding, at: usize) -> Progress
+fn fresh(encoding: Encoding, at: usize, told: bool) -> Progress
     ensures { λ r. ⌜ r .at ≡ at ⌝ }
 {
     Progress {
         sink: RawEventSink::to_writer(encoding, false),
         at,
-        answer: AppendAnswer::Written(0),
+        told,
     }
 }
 
-fn bytes_told(answer: AppendAnswer) -> usize {
+fn written(answer: AppendAnswer) -> usize {
     match answer {
         AppendAnswer::Written(n) => n,
         AppendAnswer::Refused(_) => 0,
     }
 }
 
-// n more than `at`, within the output.
-fn forward(at: usize, n: usize, len: usize) -> usize
+// Behind what was written at `at`, within the output.
+fn behind(at: usize, answer: AppendAnswer, len: usize) -> usize
     requires { ⌜ at ≤ len ⌝ }
     ensures { λ r. ⌜ r ≤ len ⌝ }
 {
+    let n = written(answer);
     if n <= len - at { at + n } else { len }
 }
 
@@ -60,18 +61,46 @@ fn append(w: Progress, xs: &[u16], ys: &[u16], ts: &[i64], ps: &[u8], out: &mut 
     let appended = sink::append(sink, 2048, 2048, xs, ys, ts, ps, &mut out[at..]);
     let next = appended.sink;
     let answer = appended.answer;
-    let told = bytes_told(answer);
-    let end = forward(at, told, len);
+    print::append(w.told, xs.len() as u64, answer);
+    let end = behind(at, answer, len);
     Progress {
         sink: next,
         at: end,
-        answer,
+        told: w.told,
     }
+}
+
+// Parts of columns; one that isn't there is empty.
+fn shorts(s: &[u16], from: usize, to: usize) -> &[u16] {
+    if from <= to {
+        if to <= s.len() {
+            return &s[from..to];
+        }
+    }
+    &s[..0]
+}
+
+fn longs(s: &[i64], from: usize, to: usize) -> &[i64] {
+    if from <= to {
+        if to <= s.len() {
+            return &s[from..to];
+        }
+    }
+    &s[..0]
+}
+
+fn bytes(s: &[u8], from: usize, to: usize) -> &[u8] {
+    if from <= to {
+        if to <= s.len() {
+            return &s[from..to];
+        }
+    }
+    &s[..0]
 }
 
 // Appends the given events from number `from` on, up to `to`.
 fn append_given(w: Progress, from: usize, to: usize, out: &mut [u8]) -> Progress
-    requires { ⌜ (w .at ≤ length (now out)) × ((from ≤ to) × (to ≤ 16)) ⌝ }
+    requires { ⌜ w .at ≤ length (now out) ⌝ }
     ensures { λ r. ⌜ r .at ≤ length (now (out .entry)) ⌝ }
 {
     let xs = given::columns();
@@ -80,10 +109,10 @@ fn append_given(w: Progress, from: usize, to: usize, out: &mut [u8]) -> Progress
     let ps = given::polarities();
     append(
         w,
-        &xs[from..to],
-        &ys[from..to],
-        &ts[from..to],
-        &ps[from..to],
+        shorts(&xs, from, to),
+        shorts(&ys, from, to),
+        longs(&ts, from, to),
+        bytes(&ps, from, to),
         &mut *out,
     )
 }
@@ -104,15 +133,9 @@ fn append_falling(w: Progress, out: &mut [u8]) -> Progress
 pub fn appends(encoding: Encoding, out: &mut [u8]) -> usize
     ensures { λ r. ⌜ r ≤ length (now (out .entry)) ⌝ }
 {
-    let first = append_given(fresh(encoding, 0), 0, 7, &mut *out);
-    let a = first.answer;
-    print::append(7, a);
+    let first = append_given(fresh(encoding, 0, true), 0, 7, &mut *out);
     let second = append_falling(first, &mut *out);
-    let b = second.answer;
-    print::append(2, b);
     let third = append_given(second, 7, 16, &mut *out);
-    let c = third.answer;
-    print::append(9, c);
     third.at
 }
 
@@ -121,7 +144,7 @@ pub fn resume(encoding: Encoding, from: usize, out: &mut [u8], at: usize) -> usi
     requires { ⌜ (from ≤ 16) × (at ≤ length (now out)) ⌝ }
     ensures { λ r. ⌜ r ≤ length (now (out .entry)) ⌝ }
 {
-    let w = append_given(fresh(encoding, at), from, 16, &mut *out);
+    let w = append_given(fresh(encoding, at, false), from, 16, &mut *out);
     w.at
 }
 

@@ -30,9 +30,9 @@ use Rattle.slice.specs.Slice.{toldSlice}
 use Rattle.slice.specs.From.{askedByNumber, askedByTime, passedFrom, SlicesFrom, Startable}
 use Rattle.slice.specs.Laws.{startable, began-index, slices-index, began-time, slices-time}
 use Rattle.sink.specs.declared.Appended.{Appended}
-use Rattle.sink.specs.declared.LastTime.{LastTime}
-use Rattle.sink.specs.declared.LastTime.the-variants.{Never, At}
-use Rattle.sink.specs.declared.RawEventSink.{RawEventSink}
+use Rattle.append_rules.specs.declared.LastTime.{LastTime}
+use Rattle.append_rules.specs.declared.LastTime.the-variants.{Never, At}
+use Rattle.append_rules.specs.declared.RawEventSink.{RawEventSink}
 use Rattle.sink.specs.Append.{toldAppend, appendVerdict, nextSink, sinkAfter, AppendOwed}
 use Rattle.flat.specs.declared.opening.PropheseeSource.{PropheseeSource}
 use Rattle.flat.specs.declared.options.PropheseeOptions.{PropheseeOptions}

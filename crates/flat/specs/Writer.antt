@@ -12,9 +12,9 @@ use Rattle.evt_types.specs.declared.Sent.{Sent}
 use Rattle.evt_types.specs.declared.Sent.the-variants.{Nothing, Value}
 use Rattle.evt_types.specs.Told.{Told}
 use Rattle.store.specs.declared.EncoderState.{EncoderState}
-use Rattle.sink.specs.declared.LastTime.{LastTime}
-use Rattle.sink.specs.declared.LastTime.the-variants.{Never, At}
-use Rattle.sink.specs.declared.RawEventSink.{RawEventSink}
+use Rattle.append_rules.specs.declared.LastTime.{LastTime}
+use Rattle.append_rules.specs.declared.LastTime.the-variants.{Never, At}
+use Rattle.append_rules.specs.declared.RawEventSink.{RawEventSink}
 use Rattle.sink.specs.Append.{appendVerdict, handedOver, sinkAfter}
 use Rattle.flat.specs.declared.writer.PropheseeSink.{PropheseeSink}
 use Rattle.flat.specs.declared.writer.PropheseeAppended.{PropheseeAppended}

@@ -21,13 +21,13 @@ use Rattle.encode.specs.Encode.{encodeNotes, encodeBytes}
 use Rattle.formats.specs.Ready.{limit, sayable}
 use Rattle.formats.specs.Either.{freshOf}
 use Rattle.formats.specs.Appends.{flat, appendNotes, noteBytes, appendBytes, bytes-next, notes-all, Understood, fresh-understood}
-use Rattle.sink.specs.declared.LastTime.{LastTime}
-use Rattle.sink.specs.declared.LastTime.the-variants.{Never, At}
-use Rattle.sink.specs.declared.RawEventSink.{RawEventSink}
-use Rattle.sink.specs.Range.{timeBound, timeInRange, every, atMost, falls, fallsAfter, lastInRange, sinkInRange}
+use Rattle.append_rules.specs.declared.LastTime.{LastTime}
+use Rattle.append_rules.specs.declared.LastTime.the-variants.{Never, At}
+use Rattle.append_rules.specs.declared.RawEventSink.{RawEventSink}
+use Rattle.append_rules.specs.Range.{timeBound, timeInRange, every, atMost, falls, fallsAfter, lastInRange, sinkInRange}
 use Rattle.sink.specs.Append.{lastAfter, sends, nextSink}
 use Rattle.sink.specs.Ends.{accepts-checked}
-use Rattle.sink.specs.Checks.{Checked, checked-of, or-neither}
+use Rattle.append_rules.specs.Checks.{Checked, checked-of, or-neither}
 use Rattle.handover.specs.Handover.{Call, isAccepted, next, bytesOf, eventsOf, wordsOf, acceptedEvents, streamOf, streamWords, fresh, Typed}
 use Rattle.handover.specs.EventWords.{append-typed}
 

@@ -19,8 +19,9 @@ use Rattle.evt_types.specs.declared.SensorSize.{SensorSize}
 use Rattle.evt_types.specs.declared.SensorSize.the-variants.{Known}
 use Rattle.store.specs.Columns.{eventsIn}
 use Rattle.encode.specs.Encode.{encodeNotes, encodeSize}
-use Rattle.sink.specs.declared.RawEventSink.{RawEventSink}
-use Rattle.sink.specs.Append.{freshSink, accepts, handedOver, sinkAfter}
+use Rattle.append_rules.specs.declared.RawEventSink.{RawEventSink}
+use Rattle.append_rules.specs.Rules.{freshSink}
+use Rattle.sink.specs.Append.{accepts, handedOver, sinkAfter}
 use Rattle.answer.specs.declared.ReadAnswer.{ReadAnswer}
 use Rattle.answer.specs.declared.ReadAnswer.the-variants.{Read}
 use Rattle.header.specs.Header.{hasZero}

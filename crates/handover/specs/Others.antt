@@ -18,8 +18,8 @@ use Rattle.store.specs.Sent.{freshState}
 use Rattle.encode.specs.Encode.{encodeBytes}
 use Rattle.encode.specs.Laws.{encode-few}
 use Rattle.formats.specs.Ready.{limit, sayable, Sayable, sayable-true}
-use Rattle.sink.specs.declared.LastTime.the-variants.{Never}
-use Rattle.sink.specs.Range.{timeInRange, every, atMost, eventsInRange, falls, fallsAfter, sameLengths}
+use Rattle.append_rules.specs.declared.LastTime.the-variants.{Never}
+use Rattle.append_rules.specs.Range.{timeInRange, every, atMost, eventsInRange, falls, fallsAfter, sameLengths}
 use Rattle.handover.specs.Handover.{Call, isAccepted, acceptedEvents, streamOf, streamWords, fresh, whole, others, joined, Exact}
 use Rattle.handover.specs.Calls.{bound-is}
 use Rattle.handover.specs.Proof.{fresh-sent, claim}

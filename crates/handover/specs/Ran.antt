@@ -8,11 +8,11 @@ use lib.ListN.{length, take}
 use lib.Seq.{take-at}
 use Rattle.evt_types.specs.declared.Refusal.the-variants.{TooLong, TimeOrder, EventOutOfRange, StateOutOfRange, OutputTooShort, ColumnLengths}
 use Rattle.evt_types.specs.Told.{accepted, refused, short}
-use Rattle.sink.specs.declared.RawEventSink.{RawEventSink}
+use Rattle.append_rules.specs.declared.RawEventSink.{RawEventSink}
 use Rattle.sink.specs.declared.AppendAnswer.{AppendAnswer}
 use Rattle.sink.specs.declared.AppendAnswer.the-variants.{Written, Refused}
 use Rattle.sink.specs.declared.Appended.{Appended}
-use Rattle.sink.specs.Range.{eventsInRange, fallsAfter, sameLengths, sinkInRange}
+use Rattle.append_rules.specs.Range.{eventsInRange, fallsAfter, sameLengths, sinkInRange}
 use Rattle.sink.specs.Append.{appendAnswer, sends, AppendOwed}
 use Rattle.handover.specs.Handover.{Call, isAccepted, next, bytesOf, streamOf}
 

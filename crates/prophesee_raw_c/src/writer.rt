@@ -1,7 +1,7 @@
 // The writer: fresh ones, and appending.
 ghost use mathlib.Core.Path.{_≡_};
 ghost use Rattle.evt_types.specs.declared.Encoding.the-variants.{Evt2, Evt3};
-ghost use Rattle.sink.specs.Append.{freshSink};
+ghost use Rattle.append_rules.specs.Rules.{freshSink};
 ghost use Rattle.flat.specs.Options.{flag};
 ghost use Rattle.flat.specs.Writer.{flatSink, Appends};
 use evt_types::Encoding;

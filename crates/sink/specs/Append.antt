@@ -2,29 +2,24 @@
 use mathlib.Core.Path.{_≡_}
 use mathlib.Core.Bool.{Bool, true, false, cond, not, _&&_, _||_}
 use mathlib.Core.List.{List, [], _∷_, _++_}
-use Prim.Native.Nat.{ℕ, _+_, _^_}
+use Prim.Native.Nat.{ℕ, _+_}
 use lib.Dec.{eqb, leb}
 use lib.ListN.{length, drop}
 use lib.IntN.{ℤ}
 use Rattle.evt_types.specs.Event.{Event}
 use Rattle.evt_types.specs.Told.{Told, told, accepted, refused, short}
-use Rattle.evt_types.specs.declared.Encoding.{Encoding}
 use Rattle.evt_types.specs.declared.Refusal.{Refusal}
 use Rattle.evt_types.specs.declared.Refusal.the-variants.{TooLong, TimeOrder, EventOutOfRange, StateOutOfRange, OutputTooShort, ColumnLengths}
 use Rattle.store.specs.Columns.{eventsIn}
 use Rattle.encode.specs.Encode.{encodeState, encodeBytes}
-use Rattle.store.specs.Sent.{freshState}
-use Rattle.sink.specs.declared.LastTime.{LastTime}
-use Rattle.sink.specs.declared.LastTime.the-variants.{Never, At}
-use Rattle.sink.specs.declared.RawEventSink.{RawEventSink}
+use Rattle.append_rules.specs.declared.LastTime.{LastTime}
+use Rattle.append_rules.specs.declared.LastTime.the-variants.{At}
+use Rattle.append_rules.specs.declared.RawEventSink.{RawEventSink}
 use Rattle.sink.specs.declared.AppendAnswer.{AppendAnswer}
 use Rattle.sink.specs.declared.AppendAnswer.the-variants.{Written, Refused}
 use Rattle.sink.specs.declared.Appended.{Appended}
-use Rattle.sink.specs.Header.{headerText}
-use Rattle.sink.specs.Range.{eventsInRange, fallsAfter, sameLengths, sinkInRange}
-
-abbrev pub freshSink : Encoding → (header : Bool) → RawEventSink
-freshSink e header = record { version = e; «header_written» = not header; «n_events» = 0; «last_t» = Never; state = freshState }
+use Rattle.header_lines.specs.Header.{headerText}
+use Rattle.append_rules.specs.Rules.{byRules}
 
 -- an acceptance tells the bytes that are written
 abbrev pub toldAppend : AppendAnswer → Told
@@ -43,18 +38,6 @@ lastAfter l [] = l
 lastAfter l (t ∷ ts) = lastAfter (At t) ts
 
 module _ (s : RawEventSink) (xs ys : List ℕ) (ts : List ℤ) (ps : List ℕ) where
-  -- the first of the rules 10, 12, 4, 6 and 7 that applies, or none
-  abbrev pub byRules : {A : Type 0} → (is10 is12 is4 is6 is7 passed : A) → A
-  byRules is10 is12 is4 is6 is7 passed =
-      cond (sinkInRange s)
-      (cond (sameLengths (length xs) (length ys) (length ts) (length ps))
-      (cond (leb (length xs) (2 ^ 28))
-      (cond (fallsAfter (s .«last_t») ts) is6
-      (cond (eventsInRange (s .version) xs ys ts ps) passed is7))
-      is4)
-      is12)
-      is10
-
   abbrev pub wordBytes : List ℕ
   wordBytes = encodeBytes (s .version) (s .state) (eventsIn xs ys ts ps)
 

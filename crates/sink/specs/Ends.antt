@@ -19,17 +19,18 @@ use Rattle.encode.specs.Laws.{encode-few}
 use Rattle.store.specs.Storing.{Roomy, roomy-rest, stored-both}
 use Rattle.encode.specs.Encode.{encodeState, passed}
 use Rattle.evt_types.specs.declared.Encoding.{Encoding}
-use Rattle.sink.specs.Header.{headerText, header-few}
-use Rattle.sink.specs.declared.Check.{Check}
-use Rattle.sink.specs.declared.Check.the-variants.{Passed, Failed}
-use Rattle.sink.specs.declared.LastTime.{LastTime}
-use Rattle.sink.specs.declared.LastTime.the-variants.{At}
-use Rattle.sink.specs.declared.RawEventSink.{RawEventSink}
+use Rattle.header_lines.specs.Header.{headerText, header-few}
+use Rattle.append_rules.specs.declared.Check.{Check}
+use Rattle.append_rules.specs.declared.Check.the-variants.{Passed, Failed}
+use Rattle.append_rules.specs.declared.LastTime.{LastTime}
+use Rattle.append_rules.specs.declared.LastTime.the-variants.{At}
+use Rattle.append_rules.specs.declared.RawEventSink.{RawEventSink}
 use Rattle.sink.specs.declared.AppendAnswer.{AppendAnswer}
 use Rattle.sink.specs.declared.AppendAnswer.the-variants.{Written, Refused}
 use Rattle.sink.specs.declared.Appended.{Appended}
-use Rattle.sink.specs.Range.{eventsInRange, fallsAfter, sameLengths, sinkInRange}
-use Rattle.sink.specs.Append.{toldAppend, some, headerDue, headerBytes, wordBytes, lastAfter, sends, byRules, appendVerdict, appendAnswer, accepts, handedOver, nextSink, sinkAfter, AppendOwed}
+use Rattle.append_rules.specs.Range.{eventsInRange, fallsAfter, sameLengths, sinkInRange}
+use Rattle.append_rules.specs.Rules.{byRules, checkOf}
+use Rattle.sink.specs.Append.{toldAppend, some, headerDue, headerBytes, wordBytes, lastAfter, sends, appendVerdict, appendAnswer, accepts, handedOver, nextSink, sinkAfter, AppendOwed}
 
 -- ---- the last time
 
@@ -78,9 +79,6 @@ told-cond true n = refl
 told-cond false n = refl
 
 module _ (s : RawEventSink) (xs ys : List ℕ) (ts : List ℤ) (ps : List ℕ) where
-  abbrev pub checkOf : Check
-  checkOf = byRules s xs ys ts ps (Failed StateOutOfRange) (Failed ColumnLengths) (Failed TooLong) (Failed TimeOrder) (Failed EventOutOfRange) Passed
-
   rules-map : {A B : Type 0} (f : A → B) (is10 is12 is4 is6 is7 fine : A)
       → f (byRules s xs ys ts ps is10 is12 is4 is6 is7 fine) ≡ byRules s xs ys ts ps (f is10) (f is12) (f is4) (f is6) (f is7) (f fine)
   rules-map f =

@@ -22,15 +22,16 @@ use Rattle.encode.specs.Encode.{encodeState, encodeBytes}
 use Rattle.encode2.specs.Evt2.{writer2}
 use Rattle.runs.specs.Runs.{Run, goes, goes-true, firstOf, single, before, glue, runs, runAt, runs-at, follow}
 use Rattle.lead_words.specs.Evt3.{writer3}
-use Rattle.sink.specs.declared.Check.{Check}
-use Rattle.sink.specs.declared.Check.the-variants.{Passed, Failed}
-use Rattle.sink.specs.declared.LastTime.{LastTime}
-use Rattle.sink.specs.declared.LastTime.the-variants.{Never, At}
-use Rattle.sink.specs.declared.RawEventSink.{RawEventSink}
-use Rattle.sink.specs.Range.{timeInRange, every, atMost, eventsInRange, falls, fallsAfter, isNothing, belongs, sentAtMost, sentInRange, lastInRange, sinkInRange}
+use Rattle.append_rules.specs.declared.Check.{Check}
+use Rattle.append_rules.specs.declared.Check.the-variants.{Passed, Failed}
+use Rattle.append_rules.specs.declared.LastTime.{LastTime}
+use Rattle.append_rules.specs.declared.LastTime.the-variants.{Never, At}
+use Rattle.append_rules.specs.declared.RawEventSink.{RawEventSink}
+use Rattle.append_rules.specs.Range.{timeInRange, every, atMost, eventsInRange, falls, fallsAfter, isNothing, belongs, sentAtMost, sentInRange, lastInRange, sinkInRange}
 use Rattle.sink.specs.Append.{lastAfter, nextSink, sends, appendVerdict, accepts, handedOver, sinkAfter}
-use Rattle.sink.specs.Ends.{checkOf, accepts-checked}
-use Rattle.sink.specs.Checks.{Checked, checked-of}
+use Rattle.append_rules.specs.Rules.{checkOf}
+use Rattle.sink.specs.Ends.{accepts-checked}
+use Rattle.append_rules.specs.Checks.{Checked, checked-of}
 
 -- ---- AN EMPTY APPEND is accepted by a writer in range, hands nothing over, and changes nothing: a header stays due
 

@@ -1,8 +1,4 @@
 -- The root of the writer's definitions and laws: what each file is stands at its head.
-pub mod Range
-pub mod Header
-pub mod Texts
 pub mod Append
 pub mod Ends
-pub mod Checks
 pub mod Laws

@@ -1,6 +1,6 @@
 // The writer: events in four columns, written as words into a buffer that the caller lends, or
-// refused by number. specs/Append.antt says what an append answers and leaves, specs/Range.antt
-// what it is judged by, specs/Header.antt the header.
+// refused by number. `append` is proved to answer and to leave what specs/Append.antt says. What it
+// is judged by stands in `append_rules`, the header in `header_lines`, the words in `encode`.
 ghost use mathlib.Core.Path.{_≡_};
 ghost use mathlib.Core.Bool.{cond, _||_};
 ghost use lib.Dec.{leb};
@@ -8,31 +8,13 @@ ghost use lib.ListN.{length};
 ghost use lib.Seq.{sets};
 ghost use Rattle.store.specs.Columns.{Sized, Whole};
 ghost use Rattle.store.specs.Storing.{Roomy};
-ghost use Rattle.sink.specs.Range.{sinkInRange};
-ghost use Rattle.sink.specs.Append.{freshSink, headerDue, some, lastAfter, sends, AppendOwed};
-ghost use Rattle.sink.specs.Ends.{checkOf, wrote};
-use evt_types::Encoding;
+ghost use Rattle.sink.specs.Append.{headerDue, some, lastAfter, sends, AppendOwed};
+ghost use Rattle.sink.specs.Ends.{wrote};
+use append_rules::Check;
+pub use append_rules::LastTime;
+pub use append_rules::RawEventSink;
 use evt_types::Refusal;
-use evt_types::Sent;
-use store::EncoderState;
 use store::Put;
-
-mod columns;
-mod header;
-mod range;
-
-pub enum LastTime {
-    Never,
-    At(i64),
-}
-
-pub struct RawEventSink {
-    pub version: Encoding,
-    pub header_written: bool,
-    pub n_events: usize,
-    pub last_t: LastTime,
-    pub state: EncoderState,
-}
 
 // How many bytes were written, or why none.
 pub enum AppendAnswer {
@@ -43,66 +25,6 @@ pub enum AppendAnswer {
 pub struct Appended {
     pub sink: RawEventSink,
     pub answer: AppendAnswer,
-}
-
-// What the sink and the columns ask for, the output aside.
-pub enum Check {
-    Passed,
-    Failed(Refusal),
-}
-
-impl RawEventSink {
-    // A fresh writer, which sends a header before its first words or not.
-    pub fn to_writer(version: Encoding, header: bool) -> Self
-        ensures { λ r. ⌜ r ≡ freshSink version header ⌝ }
-    {
-        let state = EncoderState {
-            time_high: Sent::Nothing,
-            time_low: Sent::Nothing,
-            y: Sent::Nothing,
-        };
-        Self {
-            version,
-            header_written: !header,
-            n_events: 0,
-            last_t: LastTime::Never,
-            state,
-        }
-    }
-}
-
-fn in_range(sink: RawEventSink) -> bool
-    ensures { λ r. ⌜ r ≡ sinkInRange sink ⌝ }
-{
-    let version = sink.version;
-    let state = sink.state;
-    let last = sink.last_t;
-    range::last(version, state, sink.n_events, last)
-}
-
-// Rules 10, 12, 4, 6 and 7.
-fn check_append(sink: RawEventSink, xs: &[u16], ys: &[u16], ts: &[i64], ps: &[u8]) -> Check
-    ensures { λ r. ⌜ r ≡ checkOf sink (now (xs .entry)) (now (ys .entry)) (now (ts .entry)) (now (ps .entry)) ⌝ }
-{
-    if in_range(sink) {} else {
-        return Check::Failed(Refusal::StateOutOfRange);
-    }
-    if columns::same_lengths(xs.len(), ys.len(), ts.len(), ps.len()) {} else {
-        return Check::Failed(Refusal::ColumnLengths);
-    }
-    if 268435456 < xs.len() {
-        return Check::Failed(Refusal::TooLong);
-    }
-    let last = sink.last_t;
-    if columns::times_fall_after(last, ts) {
-        return Check::Failed(Refusal::TimeOrder);
-    }
-    let version = sink.version;
-    if columns::events_in_range(version, xs, ys, ts, ps) {
-        Check::Passed
-    } else {
-        Check::Failed(Refusal::EventOutOfRange)
-    }
 }
 
 // A header is due before the first events.
@@ -151,7 +73,7 @@ fn write(
     let version = sink.version;
     let state = sink.state;
     let due = header_due(sink, xs);
-    let at = header::put_due(due, version, width, height, &mut *out);
+    let at = header_lines::put_due(due, version, width, height, &mut *out);
     encode::pass(version, state, xs, ys, ts, ps, &mut *out, at)
 }
 
@@ -192,7 +114,7 @@ pub fn append(
 ) -> Appended
     ensures { λ r. ⌜ AppendOwed sink width height (now (xs .entry)) (now (ys .entry)) (now (ts .entry)) (now (ps .entry)) (now (output .entry)) r (now (output .exit)) ⌝ }
 {
-    let verdict = check_append(sink, xs, ys, ts, ps);
+    let verdict = append_rules::check_append(sink, xs, ys, ts, ps);
     match verdict {
         Check::Failed(refusal) => Appended {
             sink,

@@ -5,35 +5,35 @@ use lib.ListN.{length}
 use Rattle.store.specs.declared.Put.{Put}
 use Rattle.sink.specs.Append.{sends}
 use Rattle.sink.specs.Ends.{ends-failed, ends-short, ends-written, short-cases}
-use Rattle.sink.specs.Checks.{checked-of}
+use Rattle.append_rules.specs.Checks.{checked-of}
 use borrow.Author.Needs.{needs}
 use Rattle.sink.proofs.append.Statement.{statement}
 use Rattle.sink.proofs.append.Tie as tie
 use Rattle.sink.proofs.append.Reads as reads
 use Rattle.sink.proofs.append.Lts as lts
-use Rattle.sink.proofs.check_append.Reads as check-append-reads
+use Rattle.append_rules.proofs.check_append.Reads as check-append-reads
 use Rattle.sink.proofs.header_after.Reads as header-after-reads
 use Rattle.sink.proofs.last_after.Reads as last-after-reads
 use Rattle.sink.proofs.shortfall.Reads as shortfall-reads
 use Rattle.sink.proofs.write.Reads as write-reads
 
--- src/lib.rt:172:9
+-- src/lib.rt:117:9
 check-append-requires : tie.Need-check-append-requires
 check-append-requires c κs = search needs
 
--- src/lib.rt:174:23
+-- src/lib.rt:119:23
 enum-known-verdict : tie.Need-enum-known-verdict
 enum-known-verdict c = search needs
 
--- src/lib.rt:179:71
+-- src/lib.rt:124:71
 enum-told : tie.Need-enum-told
 enum-told c = search needs
 
--- src/lib.rt:179:17
+-- src/lib.rt:124:17
 shortfall-requires : tie.Need-shortfall-requires
 shortfall-requires c κs = let r = checked-of (c .before .before .before .before .before .before .before .args .sink) (now (c .before .before .before .before .before .before .before .args .xs)) (now (c .before .before .before .before .before .before .before .args .ys)) (now (c .before .before .before .before .before .before .before .args .ts)) (now (c .before .before .before .before .before .before .before .args .ps)) (sym (c .before .before .check-append .ensures) ∙ c .enum-told .given .1) in (r .sized, r .whole)
 
--- src/lib.rt:181:21
+-- src/lib.rt:126:21
 write-requires : tie.Need-write-requires
 write-requires c κs =
     let a = c .before .before .before .before .before .before .before .before .before .before .args in
@@ -42,27 +42,27 @@ write-requires c κs =
     let fits = short-cases (length all) (length (now (a .output))) (c .before .before .shortfall .result) (c .before .before .shortfall .ensures) .0 (c .before .if1 .taken) in
     (r .sized, r .whole, λ h. omega (arith, fits))
 
--- src/lib.rt:183:21
+-- src/lib.rt:128:21
 header-after-requires : tie.Need-header-after-requires
 header-after-requires c κs = search needs
 
--- src/lib.rt:184:32
+-- src/lib.rt:129:32
 add-n-events : tie.Need-add-n-events
 add-n-events c = let r = checked-of (c .before .before .before .before .before .before .before .before .before .before .before .before .before .before .before .args .sink) (now (c .before .before .before .before .before .before .before .before .before .before .before .before .before .before .before .args .xs)) (now (c .before .before .before .before .before .before .before .before .before .before .before .before .before .before .before .args .ys)) (now (c .before .before .before .before .before .before .before .before .before .before .before .before .before .before .before .args .ts)) (now (c .before .before .before .before .before .before .before .before .before .before .before .before .before .before .before .args .ps)) (sym (c .before .before .before .before .before .before .before .before .before .before .check-append .ensures) ∙ c .before .before .before .before .before .before .before .before .enum-told .given .1) in omega (arith, r .count, r .sized .few)
 
--- src/lib.rt:186:21
+-- src/lib.rt:131:21
 last-after-requires : tie.Need-last-after-requires
 last-after-requires c κs = search needs
 
--- src/lib.rt:169:1
+-- src/lib.rt:105:1
 returns : tie.Need-returns
 returns c = ends-failed (c .before .before .before .before .before .before .before .before .args .sink) (c .before .before .before .before .before .before .before .before .args .width) (c .before .before .before .before .before .before .before .before .args .height) (now (c .before .before .before .before .before .before .before .before .args .xs)) (now (c .before .before .before .before .before .before .before .before .args .ys)) (now (c .before .before .before .before .before .before .before .before .args .ts)) (now (c .before .before .before .before .before .before .before .before .args .ps)) (now (c .before .before .before .before .before .before .before .before .args .output)) _ (sym (c .before .before .before .check-append .ensures) ∙ c .before .verdict .given .1)
 
--- src/lib.rt:169:1
+-- src/lib.rt:105:1
 same-length : tie.Need-same-length
 same-length c = search needs
 
--- src/lib.rt:169:1
+-- src/lib.rt:105:1
 returns-2 : tie.Need-returns-2
 returns-2 c =
     let all = sends (c .before .before .before .before .before .before .before .before .before .before .before .before .before .before .before .before .before .args .sink) (c .before .before .before .before .before .before .before .before .before .before .before .before .before .before .before .before .before .args .width) (c .before .before .before .before .before .before .before .before .before .before .before .before .before .before .before .before .before .args .height) (now (c .before .before .before .before .before .before .before .before .before .before .before .before .before .before .before .before .before .args .xs)) (now (c .before .before .before .before .before .before .before .before .before .before .before .before .before .before .before .before .before .args .ys)) (now (c .before .before .before .before .before .before .before .before .before .before .before .before .before .before .before .before .before .args .ts)) (now (c .before .before .before .before .before .before .before .before .before .before .before .before .before .before .before .before .before .args .ps)) in
@@ -71,7 +71,7 @@ returns-2 c =
     ends-written (c .before .before .before .before .before .before .before .before .before .before .before .before .before .before .before .before .before .args .sink) (c .before .before .before .before .before .before .before .before .before .before .before .before .before .before .before .before .before .args .width) (c .before .before .before .before .before .before .before .before .before .before .before .before .before .before .before .before .before .args .height) (now (c .before .before .before .before .before .before .before .before .before .before .before .before .before .before .before .before .before .args .xs)) (now (c .before .before .before .before .before .before .before .before .before .before .before .before .before .before .before .before .before .args .ys)) (now (c .before .before .before .before .before .before .before .before .before .before .before .before .before .before .before .before .before .args .ts)) (now (c .before .before .before .before .before .before .before .before .before .before .before .before .before .before .before .before .before .args .ps)) (now (c .before .before .before .before .before .before .before .before .before .before .before .before .before .before .before .before .before .args .output)) _ _ (sym (c .before .before .before .before .before .before .before .before .before .before .before .before .check-append .ensures) ∙ c .before .before .before .before .before .before .before .before .before .before .enum-told .given .1) fits
     (rw (c .before .before .before .header-after .ensures, c .before .last-after .ensures, ap (λ (p : Put). p .state) (c .before .before .before .before .before .before .write .ensures .0))) (c .before .before .before .before .before .before .write .ensures .1) (put .at) (ap (λ (p : Put). p .at) (c .before .before .before .before .before .before .write .ensures .0))
 
--- src/lib.rt:169:1
+-- src/lib.rt:105:1
 returns-3 : tie.Need-returns-3
 returns-3 c =
     let all = sends (c .before .before .before .before .before .before .before .before .before .args .sink) (c .before .before .before .before .before .before .before .before .before .args .width) (c .before .before .before .before .before .before .before .before .before .args .height) (now (c .before .before .before .before .before .before .before .before .before .args .xs)) (now (c .before .before .before .before .before .before .before .before .before .args .ys)) (now (c .before .before .before .before .before .before .before .before .before .args .ts)) (now (c .before .before .before .before .before .before .before .before .before .args .ps)) in

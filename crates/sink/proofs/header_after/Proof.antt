@@ -6,11 +6,11 @@ use Rattle.sink.proofs.header_after.Tie as tie
 use Rattle.sink.proofs.header_after.Reads as reads
 use Rattle.sink.proofs.header_after.Lts as lts
 
--- src/lib.rt:120:1
+-- src/lib.rt:41:1
 returns : tie.Need-returns
 returns c = search needs
 
--- src/lib.rt:120:1
+-- src/lib.rt:41:1
 returns-2 : tie.Need-returns-2
 returns-2 c = rw (c .if1 .left) (some-is (now (c .before .args .xs)))
 

@@ -6,11 +6,11 @@ use Rattle.sink.proofs.header_due.Tie as tie
 use Rattle.sink.proofs.header_due.Reads as reads
 use Rattle.sink.proofs.header_due.Lts as lts
 
--- src/lib.rt:110:1
+-- src/lib.rt:31:1
 returns : tie.Need-returns
 returns c = search needs
 
--- src/lib.rt:110:1
+-- src/lib.rt:31:1
 returns-2 : tie.Need-returns-2
 returns-2 c = rw (c .if1 .left) (some-is (now (c .before .args .xs)))
 

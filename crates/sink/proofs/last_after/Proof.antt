@@ -5,7 +5,7 @@ use lib.ListN.{length, getD}
 use lib.IntN.{pos}
 use mir.Syntax.{w64}
 use mir.ValLaws.{toZ-ofZ}
-use Rattle.sink.specs.declared.LastTime.the-variants.{At}
+use Rattle.append_rules.specs.declared.LastTime.the-variants.{At}
 use Rattle.sink.specs.Ends.{last-some, last-none}
 use borrow.Author.Needs.{needs}
 use Rattle.sink.proofs.last_after.Statement.{statement}
@@ -13,26 +13,26 @@ use Rattle.sink.proofs.last_after.Tie as tie
 use Rattle.sink.proofs.last_after.Reads as reads
 use Rattle.sink.proofs.last_after.Lts as lts
 
--- src/lib.rt:135:25
+-- src/lib.rt:55:25
 sub-t6 : tie.Need-sub-t6
 sub-t6 c = search needs
 
--- src/lib.rt:135:22
+-- src/lib.rt:55:22
 mul-t7 : tie.Need-mul-t7
 mul-t7 c = search needs
 
--- src/lib.rt:135:22
+-- src/lib.rt:55:22
 shared-slice-copy-out-t9 : tie.Need-shared-slice-copy-out-t9
 shared-slice-copy-out-t9 c = search needs
 
--- src/lib.rt:130:1
+-- src/lib.rt:51:1
 returns : tie.Need-returns
 returns c =
     let a = c .before .before .args in
     let ts = now (a .ts) in
     ap At (toZ-ofZ w64 (getD ts (length ts - 1) (pos 0)) (record { sfits = c .t9 .given })) ∙ sym (last-some (a .last) ts (c .before .if1 .taken))
 
--- src/lib.rt:130:1
+-- src/lib.rt:51:1
 returns-2 : tie.Need-returns-2
 returns-2 c = sym (last-none (c .before .args .last) (now (c .before .args .ts)) (c .if1 .left))
 

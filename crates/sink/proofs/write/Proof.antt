@@ -8,18 +8,18 @@ use Rattle.sink.proofs.write.Tie as tie
 use Rattle.sink.proofs.write.Reads as reads
 use Rattle.sink.proofs.write.Lts as lts
 use Rattle.encode.proofs.pass.Reads as pass-reads
-use Rattle.sink.proofs.header.put_due.Reads as put-due-reads
+use Rattle.header_lines.proofs.put_due.Reads as put-due-reads
 use Rattle.sink.proofs.header_due.Reads as header-due-reads
 
--- src/lib.rt:148:9
+-- src/lib.rt:75:9
 header-due-requires : tie.Need-header-due-requires
 header-due-requires c κs = search needs
 
--- src/lib.rt:149:9
+-- src/lib.rt:76:9
 put-due-requires : tie.Need-put-due-requires
 put-due-requires c κs = search needs
 
--- src/lib.rt:150:5
+-- src/lib.rt:77:5
 pass-requires : tie.Need-pass-requires
 pass-requires c κs =
     let s = c .before .before .before .before .before .before .before .before .before .before .before in
@@ -27,11 +27,11 @@ pass-requires c κs =
     let a = s .args in
     (s .pre .0, omega (arith, few, c .before .before .before .put-due .ensures .0), s .pre .1, room-words (a .sink) (a .width) (a .height) (now (a .xs)) (now (a .ys)) (now (a .ts)) (now (a .ps)) (now (a .out)) (c .before .before .before .put-due .last .1 .1 .1 .1 .0) (c .before .before .before .before .before .header-due .ensures) (c .before .before .before .put-due .ensures .0) (c .before .before .out .given) (s .pre .2))
 
--- src/lib.rt:142:1
+-- src/lib.rt:60:1
 same-length : tie.Need-same-length
 same-length c = search needs
 
--- src/lib.rt:142:1
+-- src/lib.rt:60:1
 returns : tie.Need-returns
 returns c =
     let a = c .before .before .before .before .before .before .before .before .before .before .before .before .before .before .args in

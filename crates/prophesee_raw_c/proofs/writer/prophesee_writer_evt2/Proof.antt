@@ -7,7 +7,7 @@ use Rattle.prophesee_raw_c.proofs.writer.prophesee_writer_evt2.Reads as
 use Rattle.prophesee_raw_c.proofs.writer.prophesee_writer_evt2.Lts as lts
 use Rattle.flat.proofs.options.is_set.Reads as is-set-reads
 use Rattle.flat.proofs.writer.flat_of.Reads as flat-of-reads
-use Rattle.sink.proofs.RawEventSink.to_writer.Reads as to-writer-reads
+use Rattle.append_rules.proofs.RawEventSink.to_writer.Reads as to-writer-reads
 
 -- src/writer.rt:183:53
 is-set-requires : tie.Need-is-set-requires

@@ -1,0 +1,111 @@
+// Whether columns can be appended: rules 12, 6 and 7.
+ghost use mathlib.Core.Path.{_≡_};
+ghost use mathlib.Core.Bool.{false};
+ghost use Prim.Native.Nat.{_^_, _≤_};
+ghost use lib.ListN.{length};
+ghost use lib.Signed.{ltZ};
+ghost use Rattle.store.specs.Columns.{Sized};
+ghost use Rattle.append_rules.specs.declared.LastTime.the-variants.{Never};
+ghost use Rattle.append_rules.specs.Range.{timeInRange, every, atMost, eventsInRange, falls, fallsAfter, sameLengths};
+use crate::LastTime;
+use crate::range;
+use evt_types::Encoding;
+
+pub fn same_lengths(a: usize, b: usize, c: usize, d: usize) -> bool
+    ensures { λ r. ⌜ r ≡ sameLengths a b c d ⌝ }
+{
+    range::and3(b == a, c == a, d == a)
+}
+
+fn earlier(a: i64, b: i64) -> bool
+    ensures { λ r. ⌜ r ≡ ltZ a b ⌝ }
+{
+    a < b
+}
+
+// Whether a time is before the one before it, the first before `from`.
+fn times_fall(from: i64, ts: &[i64]) -> bool
+    requires { ⌜ length (now ts) ≤ 2 ^ 28 ⌝ }
+    ensures { λ r. ⌜ r ≡ falls from (now (ts .entry)) ⌝ }
+{
+    let mut last = from;
+    let mut i = 0;
+    while i < ts.len() {
+        let t = ts[i];
+        if earlier(t, last) {
+            return true;
+        }
+        last = t;
+        i += 1;
+    }
+    false
+}
+
+pub fn times_fall_after(last: LastTime, ts: &[i64]) -> bool
+    requires { ⌜ length (now ts) ≤ 2 ^ 28 ⌝ }
+    ensures { λ r. ⌜ r ≡ fallsAfter last (now (ts .entry)) ⌝ }
+{
+    match last {
+        LastTime::Never => {
+            if 0 < ts.len() {
+                times_fall(ts[0], ts)
+            } else {
+                false
+            }
+        }
+        LastTime::At(t) => times_fall(t, ts),
+    }
+}
+
+// Whether all are at most 2047: gathered by `|`, since that needs no branch.
+fn all_at_most_2047(xs: &[u16]) -> bool
+    requires { ⌜ length (now xs) ≤ 2 ^ 28 ⌝ }
+    ensures { λ r. ⌜ r ≡ every (atMost 2047) (now (xs .entry)) ⌝ }
+{
+    let mut all: u16 = 0;
+    let mut i: usize = 0;
+    while i < xs.len() {
+        all = all | xs[i];
+        i += 1;
+    }
+    all <= 2047
+}
+
+fn all_at_most_1(ps: &[u8]) -> bool
+    requires { ⌜ length (now ps) ≤ 2 ^ 28 ⌝ }
+    ensures { λ r. ⌜ r ≡ every (atMost 1) (now (ps .entry)) ⌝ }
+{
+    let mut all: u8 = 0;
+    let mut i: usize = 0;
+    while i < ps.len() {
+        all = all | ps[i];
+        i += 1;
+    }
+    all <= 1
+}
+
+// Of times in order the first and the last tell.
+fn times_in_range(version: Encoding, ts: &[i64]) -> bool
+    requires { ⌜ fallsAfter Never (now ts) ≡ false ⌝ }
+    ensures { λ r. ⌜ r ≡ every (timeInRange version) (now (ts .entry)) ⌝ }
+{
+    let n = ts.len();
+    if 0 < n {
+        let first = range::time(version, ts[0]);
+        let last = range::time(version, ts[n - 1]);
+        range::and2(first, last)
+    } else {
+        true
+    }
+}
+
+pub fn events_in_range(version: Encoding, xs: &[u16], ys: &[u16], ts: &[i64], ps: &[u8]) -> bool
+    requires { ⌜ Sized (now xs) (now ys) (now ts) (now ps) × (fallsAfter Never (now ts) ≡ false) ⌝ }
+    ensures { λ r. ⌜ r ≡ eventsInRange version (now (xs .entry)) (now (ys .entry)) (now (ts .entry)) (now (ps .entry)) ⌝ }
+{
+    let x = all_at_most_2047(xs);
+    let y = all_at_most_2047(ys);
+    let p = all_at_most_1(ps);
+    let t = times_in_range(version, ts);
+    range::and3(x, y, range::and2(p, t))
+}

@@ -1,0 +1,3 @@
+-- The root of the header that a writer sends: what each file is stands at its head.
+pub mod Header
+pub mod Texts

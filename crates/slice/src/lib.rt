@@ -5,7 +5,7 @@ ghost use mathlib.Core.Path.{_≡_};
 ghost use Prim.Native.Nat.{max};
 ghost use Rattle.checkpoints.specs.Judge.{firstJudging};
 ghost use Rattle.slice.specs.Slice.{SlicesIndex, SlicesTime};
-ghost use Rattle.slice.specs.From.{askedByNumber, askedByTime, passedFrom, answerOf, SlicesFrom, Startable};
+ghost use Rattle.slice.specs.From.{askedByNumber, askedByTime, passedFrom, answerOf, startOf, SlicesFrom, Startable};
 use checkpoints::Choice;
 use checkpoints::Judging;
 use evt_types::Refusal;
@@ -18,6 +18,12 @@ use select::Window;
 pub enum SliceAnswer {
     Sliced(usize),
     Refused(Refusal),
+}
+
+// The byte to start at, or why not to.
+pub enum Start {
+    At(usize),
+    Not(Refusal),
 }
 
 // What a slice asks for: how the records are judged, which of them it starts at, and which events
@@ -112,6 +118,27 @@ fn answer_of(delivered: Delivered) -> SliceAnswer
     }
 }
 
+// Where a recording of `len` bytes is started at for a record's `offset`, by the rules 4, 1, 8 and
+// 10; `ok` tells whether the records are in range.
+fn start_of(len: usize, source: RawSliceSource, ok: bool, offset: usize) -> Start
+    ensures { λ r. ⌜ r ≡ startOf len source ok offset ⌝ }
+{
+    if 1073741824 < len {
+        return Start::Not(Refusal::TooLong);
+    }
+    if header::has_zero(SensorSize::Known(source.width, source.height)) {
+        return Start::Not(Refusal::InvalidSensorSize);
+    }
+    let encoding = source.encoding;
+    if index::spacing_ok(encoding, source.spacing) {
+        if ok {
+            return Start::At(room::less(offset, len));
+        }
+        return Start::Not(Refusal::StateOutOfRange);
+    }
+    Start::Not(Refusal::InvalidSpacing)
+}
+
 // The slice from the record `start` on; `ok` tells whether the records are in range. `requires`:
 // that one of theirs can be started at.
 pub fn slice_from(
@@ -128,16 +155,9 @@ pub fn slice_from(
     requires { ⌜ Startable source ok start ⌝ }
     ensures { λ r. ⌜ SlicesFrom (now (recording .entry)) source ok (passedFrom (now (recording .entry)) window start) r (now (xs .entry)) (now (ys .entry)) (now (ts .entry)) (now (ps .entry)) (now (xs .exit)) (now (ys .exit)) (now (ts .exit)) (now (ps .exit)) ⌝ }
 {
-    if 1073741824 < recording.len() {
-        return SliceAnswer::Refused(Refusal::TooLong);
-    }
-    if header::has_zero(SensorSize::Known(source.width, source.height)) {
-        return SliceAnswer::Refused(Refusal::InvalidSensorSize);
-    }
-    let encoding = source.encoding;
-    if index::spacing_ok(encoding, source.spacing) {
-        if ok {
-            let at = room::less(start.byte_offset, recording.len());
+    match start_of(recording.len(), source, ok, start.byte_offset) {
+        Start::Not(why) => SliceAnswer::Refused(why),
+        Start::At(at) => {
             let codec = start.codec;
             let number = start.event_index as u64;
             let delivered = deliver::deliver(
@@ -150,11 +170,9 @@ pub fn slice_from(
                 &mut *ts,
                 &mut *ps,
             );
-            return answer_of(delivered);
+            answer_of(delivered)
         }
-        return SliceAnswer::Refused(Refusal::StateOutOfRange);
     }
-    SliceAnswer::Refused(Refusal::InvalidSpacing)
 }
 
 // The events from number i0 to before i1, the ends clamped to the total. The records are read singly

@@ -18,7 +18,7 @@ use case_text::text::Number;
 use case_text::text::Signed;
 use index::Checkpoint;
 use index::RawSliceSource;
-use slice::SliceAnswer;
+use slice_rules::SliceAnswer;
 
 // What all queries of a case are about, but for the bytes.
 struct Call {

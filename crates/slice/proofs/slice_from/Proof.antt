@@ -1,16 +1,16 @@
 use mathlib.Core.Path.{sym, _∙_}
 use native.Mathlib.Omega.{arith}
 use lib.ListN.{length}
-use Rattle.slice.specs.From.{passedFrom}
-use Rattle.slice.specs.Laws.{rest-from, ready-from, starts, from-not, from-at}
+use Rattle.slice_rules.specs.From.{passedFrom}
+use Rattle.slice_rules.specs.Laws.{rest-from, ready-from, starts, from-not, from-at}
 use borrow.Author.Needs.{needs}
 use Rattle.slice.proofs.slice_from.Statement.{statement}
 use Rattle.slice.proofs.slice_from.Tie as tie
 use Rattle.slice.proofs.slice_from.Reads as reads
 use Rattle.slice.proofs.slice_from.Lts as lts
 use Rattle.deliver.proofs.deliver.Reads as deliver-reads
-use Rattle.slice.proofs.answer_of.Reads as answer-of-reads
-use Rattle.slice.proofs.start_of.Reads as start-of-reads
+use Rattle.slice_rules.proofs.answer_of.Reads as answer-of-reads
+use Rattle.slice_rules.proofs.start_of.Reads as start-of-reads
 
 -- src/lib.rt:158:11
 start-of-requires : tie.Need-start-of-requires

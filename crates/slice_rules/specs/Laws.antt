@@ -45,14 +45,14 @@ use Rattle.checkpoints.specs.JudgeLaws.{judged-in-range, Good, parted-passes, l
 use Rattle.index.specs.Open.{spaced}
 use Rattle.checkpoints.specs.Start.{lastPassing}
 use Rattle.evt_types.specs.declared.Refusal.{Refusal}
-use Rattle.slice.specs.declared.Start.{Start}
-use Rattle.slice.specs.declared.Start.the-variants.{At, Not}
-use Rattle.slice.specs.declared.SliceAnswer.{SliceAnswer}
-use Rattle.slice.specs.declared.SliceAnswer.the-variants.{Sliced, Refused}
-use Rattle.slice.specs.declared.Asked.{Asked}
-use Rattle.slice.specs.Slice.{startingAt, sizeOf, firstOf, endOf, indexEvents, isDuring, eventsUntil, timeEvents, toldSlice, byRules, sliceVerdict, sliceHanded, sliceAnswer, Slices, SlicesIndex, SlicesTime}
-use Rattle.slice.specs.Times.{timeWindow, time-over}
-use Rattle.slice.specs.From.{numberWindow, askedByNumber, askedByTime, passedFrom, answerTo, handedTo, answerOf, rulesOf, startOf, SlicesFrom, Startable}
+use Rattle.slice_rules.specs.declared.Start.{Start}
+use Rattle.slice_rules.specs.declared.Start.the-variants.{At, Not}
+use Rattle.slice_rules.specs.declared.SliceAnswer.{SliceAnswer}
+use Rattle.slice_rules.specs.declared.SliceAnswer.the-variants.{Sliced, Refused}
+use Rattle.slice_rules.specs.declared.Asked.{Asked}
+use Rattle.slice_rules.specs.Slice.{startingAt, sizeOf, firstOf, endOf, indexEvents, isDuring, eventsUntil, timeEvents, toldSlice, byRules, sliceVerdict, sliceHanded, sliceAnswer, Slices, SlicesIndex, SlicesTime}
+use Rattle.slice_rules.specs.Times.{timeWindow, time-over}
+use Rattle.slice_rules.specs.From.{numberWindow, askedByNumber, askedByTime, passedFrom, answerTo, handedTo, answerOf, rulesOf, startOf, SlicesFrom, Startable}
 
 most-small : (c : Codec) (n : ℕ) → mostFrom c n ≤ 6 * n
 most-small (Evt2 d) n = omega arith
@@ -122,6 +122,7 @@ starts n s ok offset at e = go (ltb (2 ^ 30) n) refl (hasZero (sizeOf s)) refl (
   where
     not : {why : Refusal} → At at ≡ Not why → Starts n s ok offset at
     not e = absurd (true≢false (ap isAtOf e))
+
     go : (a : Bool) → ltb (2 ^ 30) n ≡ a → (b : Bool) → hasZero (sizeOf s) ≡ b → (c : Bool) → spacingOk (s .encoding) (s .spacing) ≡ c → (d : Bool) → ok ≡ d
         → At at ≡ cond a (Not TooLong) (cond b (Not InvalidSensorSize) (cond c (cond d (At (min offset n)) (Not StateOutOfRange)) (Not InvalidSpacing))) → Starts n s ok offset at
     go true p b q c r d t e = not e

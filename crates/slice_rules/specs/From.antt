@@ -19,13 +19,13 @@ use Rattle.index.specs.declared.Checkpoint.{Checkpoint}
 use Rattle.index.specs.declared.RawSliceSource.{RawSliceSource}
 use Rattle.index.specs.Index.{spacingOk}
 use Rattle.checkpoints.specs.Judge.{firstJudging}
-use Rattle.slice.specs.declared.Asked.{Asked}
-use Rattle.slice.specs.declared.Start.{Start}
-use Rattle.slice.specs.declared.Start.the-variants.{At, Not}
-use Rattle.slice.specs.declared.SliceAnswer.{SliceAnswer}
-use Rattle.slice.specs.declared.SliceAnswer.the-variants.{Sliced, Refused}
-use Rattle.slice.specs.Slice.{sizeOf, firstOf, endOf}
-use Rattle.slice.specs.Times.{timeWindow}
+use Rattle.slice_rules.specs.declared.Asked.{Asked}
+use Rattle.slice_rules.specs.declared.Start.{Start}
+use Rattle.slice_rules.specs.declared.Start.the-variants.{At, Not}
+use Rattle.slice_rules.specs.declared.SliceAnswer.{SliceAnswer}
+use Rattle.slice_rules.specs.declared.SliceAnswer.the-variants.{Sliced, Refused}
+use Rattle.slice_rules.specs.Slice.{sizeOf, firstOf, endOf}
+use Rattle.slice_rules.specs.Times.{timeWindow}
 
 -- ---- what is asked for
 

@@ -2,10 +2,10 @@ use mathlib.Core.Path.{sym, _∙_}
 use Prim.Native.Nat.{_^_}
 use borrow.Author.Tests.{lt-ltb, le-ltb}
 use borrow.Author.Needs.{needs}
-use Rattle.slice.proofs.start_of.Statement.{statement}
-use Rattle.slice.proofs.start_of.Tie as tie
-use Rattle.slice.proofs.start_of.Reads as reads
-use Rattle.slice.proofs.start_of.Lts as lts
+use Rattle.slice_rules.proofs.start_of.Statement.{statement}
+use Rattle.slice_rules.proofs.start_of.Tie as tie
+use Rattle.slice_rules.proofs.start_of.Reads as reads
+use Rattle.slice_rules.proofs.start_of.Lts as lts
 use Rattle.header.proofs.has_zero.Reads as has-zero-reads
 use Rattle.index.proofs.spacing_ok.Reads as spacing-ok-reads
 use Rattle.room.proofs.less.Reads as less-reads

@@ -15,8 +15,8 @@ use Rattle.index.specs.declared.Checkpoint.{Checkpoint}
 use Rattle.index.specs.declared.OpenAnswer.{OpenAnswer}
 use Rattle.index.specs.Index.{Opens}
 use Rattle.index.specs.declared.RawSliceSource.{RawSliceSource}
-use Rattle.slice.specs.declared.SliceAnswer.{SliceAnswer}
-use Rattle.slice.specs.Slice.{SlicesIndex, SlicesTime}
+use Rattle.slice_rules.specs.declared.SliceAnswer.{SliceAnswer}
+use Rattle.slice_rules.specs.Slice.{SlicesIndex, SlicesTime}
 
 fewer : (a b n k : ℕ) → n ≡ a + b → n ≡ k → a ≤ k
 fewer a b n k e l = omega arith

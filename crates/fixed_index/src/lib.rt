@@ -7,7 +7,7 @@ ghost use Prim.Native.Nat.{_≤_, min};
 ghost use lib.ListN.{replicate, take};
 ghost use Rattle.index.specs.Index.{Opens, rawVerdict, rawAnswer, rawMade, wordsVerdict, wordsAnswer, wordsMade};
 ghost use Rattle.index.specs.Nth.{blank as blankRecord};
-ghost use Rattle.slice.specs.Slice.{SlicesIndex, SlicesTime};
+ghost use Rattle.slice_rules.specs.Slice.{SlicesIndex, SlicesTime};
 use evt::Codec;
 use evt_types::Encoding;
 use index::Checkpoint;
@@ -15,7 +15,7 @@ use index::OpenAnswer;
 use index::OpenOptions;
 use index::RawSliceSource;
 use index::WordsOptions;
-use slice::SliceAnswer;
+use slice_rules::SliceAnswer;
 
 // How an opening was answered, and the records.
 pub struct FixedIndex {

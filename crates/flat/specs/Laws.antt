@@ -23,12 +23,12 @@ use Rattle.checkpoints.specs.declared.Judging.{Judging}
 use Rattle.index.specs.declared.RawSliceSource.{RawSliceSource}
 use Rattle.checkpoints.specs.Choose.{Chose}
 use Rattle.checkpoints.specs.Judge.{judgedAll}
-use Rattle.slice.specs.declared.Asked.{Asked}
-use Rattle.slice.specs.declared.SliceAnswer.{SliceAnswer}
-use Rattle.slice.specs.Slice as Slice
-use Rattle.slice.specs.Slice.{toldSlice}
-use Rattle.slice.specs.From.{askedByNumber, askedByTime, passedFrom, SlicesFrom, Startable}
-use Rattle.slice.specs.Laws.{startable, began-index, slices-index, began-time, slices-time}
+use Rattle.slice_rules.specs.declared.Asked.{Asked}
+use Rattle.slice_rules.specs.declared.SliceAnswer.{SliceAnswer}
+use Rattle.slice_rules.specs.Slice as Slice
+use Rattle.slice_rules.specs.Slice.{toldSlice}
+use Rattle.slice_rules.specs.From.{askedByNumber, askedByTime, passedFrom, SlicesFrom, Startable}
+use Rattle.slice_rules.specs.Laws.{startable, began-index, slices-index, began-time, slices-time}
 use Rattle.sink.specs.declared.Appended.{Appended}
 use Rattle.append_rules.specs.declared.LastTime.{LastTime}
 use Rattle.append_rules.specs.declared.LastTime.the-variants.{Never, At}

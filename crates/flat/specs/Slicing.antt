@@ -9,7 +9,7 @@ use Rattle.evt_types.specs.Told.{Told}
 use Rattle.answer.specs.Read.{shortest, Handed}
 use Rattle.index.specs.declared.Checkpoint.{Checkpoint}
 use Rattle.index.specs.declared.RawSliceSource.{RawSliceSource}
-use Rattle.slice.specs.Slice.{indexEvents, timeEvents, sliceVerdict, sliceHanded}
+use Rattle.slice_rules.specs.Slice.{indexEvents, timeEvents, sliceVerdict, sliceHanded}
 use Rattle.flat.specs.declared.opening.PropheseeSource.{PropheseeSource}
 use Rattle.flat.specs.declared.slices.PropheseeSlice.{PropheseeSlice}
 use Rattle.flat.specs.Opening.{sourceOf}

@@ -2,7 +2,7 @@
 ghost use mathlib.Core.Path.{_≡_};
 ghost use Rattle.checkpoints.specs.Choose.{Chose};
 ghost use Rattle.checkpoints.specs.Judge.{judgedAll};
-ghost use Rattle.slice.specs.Slice.{toldSlice};
+ghost use Rattle.slice_rules.specs.Slice.{toldSlice};
 ghost use Rattle.flat.specs.Opening.{sourceOf};
 ghost use Rattle.flat.specs.Records.{recordsIn};
 ghost use Rattle.flat.specs.Slicing.{slicedOf};
@@ -16,7 +16,7 @@ use evt_types::Encoding;
 use evt_types::Refusal;
 use index::Checkpoint;
 use index::RawSliceSource;
-use slice::SliceAnswer;
+use slice_rules::SliceAnswer;
 
 // `refusal` 0: `count` events stand at the front of the columns. Else document 01's number, `told`
 // being the count that a 5 tells.

@@ -31,9 +31,9 @@ use Rattle.index.specs.declared.RawSliceSource.{RawSliceSource}
 use Rattle.index.specs.declared.OpenAnswer.{OpenAnswer}
 use Rattle.index.specs.declared.OpenAnswer.the-variants.{Opened}
 use Rattle.index.specs.Index.{OpensWords, recordCount, sourceOf, spacingOk}
-use Rattle.slice.specs.declared.SliceAnswer.{SliceAnswer}
-use Rattle.slice.specs.declared.SliceAnswer.the-variants.{Sliced}
-use Rattle.slice.specs.Slice.{SlicesIndex, SlicesTime, isDuring}
+use Rattle.slice_rules.specs.declared.SliceAnswer.{SliceAnswer}
+use Rattle.slice_rules.specs.declared.SliceAnswer.the-variants.{Sliced}
+use Rattle.slice_rules.specs.Slice.{SlicesIndex, SlicesTime, isDuring}
 
 -- ---- lists of appends
 

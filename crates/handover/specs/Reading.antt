@@ -22,9 +22,9 @@ use Rattle.index.specs.declared.OpenAnswer.the-variants.{Opened}
 use Rattle.index.specs.declared.RawSliceSource.{RawSliceSource}
 use Rattle.index.specs.declared.WordsOptions.{WordsOptions}
 use Rattle.index.specs.Index.{keptEvents, recordCount}
-use Rattle.slice.specs.declared.SliceAnswer.{SliceAnswer}
-use Rattle.slice.specs.declared.SliceAnswer.the-variants.{Sliced}
-use Rattle.slice.specs.Slice.{Slices, byRules, sliceAnswer, sliceHanded}
+use Rattle.slice_rules.specs.declared.SliceAnswer.{SliceAnswer}
+use Rattle.slice_rules.specs.declared.SliceAnswer.the-variants.{Sliced}
+use Rattle.slice_rules.specs.Slice.{Slices, byRules, sliceAnswer, sliceHanded}
 use Rattle.slice.specs.Own.{ownSource}
 use Rattle.slice.specs.Opened.{OpenedAs, opened-words, words-opened, opened-rules, opened-number, opened-time}
 use Rattle.handover.specs.Handover.{Gives, Decodes, Indexes, Reads, Exact}

@@ -13,7 +13,7 @@ use index::Checkpoint;
 use index::Opening;
 use index::WordsOptions;
 use read::ReadAnswer;
-use slice::SliceAnswer;
+use slice_rules::SliceAnswer;
 
 // A refusal's number, or 0, and a count.
 struct Outcome {

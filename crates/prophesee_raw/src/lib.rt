@@ -85,9 +85,9 @@ pub use sink::Appended;
 pub use sink::LastTime;
 pub use sink::RawEventSink;
 pub use sink::append;
-pub use slice::SliceAnswer;
 pub use slice::slice_index;
 pub use slice::slice_time;
+pub use slice_rules::SliceAnswer;
 pub use store::EncoderState;
 
 pub mod fixed;

@@ -24,7 +24,7 @@ fn slice_index(
     ensures { λ r. ⌜ SlicesIndex (now (recording .entry)) encoding source (now (records .entry)) i0 i1 r (now (xs .entry)) (now (ys .entry)) (now (ts .entry)) (now (ps .entry)) (now (xs .exit)) (now (ys .exit)) (now (ts .exit)) (now (ps .exit)) ⌝ }
 {
     let s = source_of(encoding, source);
-    let asked = slice::by_number(s, records.len() / 10, i0, i1);
+    let asked = slice_rules::by_number(s, records.len() / 10, i0, i1);
     let judging = asked.judging;
     let choice = asked.choice;
     let window = asked.window;
@@ -59,7 +59,7 @@ fn slice_time(
     ensures { λ r. ⌜ SlicesTime (now (recording .entry)) encoding source (now (records .entry)) t0 t1 r (now (xs .entry)) (now (ys .entry)) (now (ts .entry)) (now (ps .entry)) (now (xs .exit)) (now (ys .exit)) (now (ts .exit)) (now (ps .exit)) ⌝ }
 {
     let s = source_of(encoding, source);
-    let asked = slice::by_time(s, records.len() / 10, t0, t1);
+    let asked = slice_rules::by_time(s, records.len() / 10, t0, t1);
     let judging = asked.judging;
     let choice = asked.choice;
     let window = asked.window;

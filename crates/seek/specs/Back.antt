@@ -5,10 +5,11 @@ use mathlib.Core.List.{List, [], _∷_, _++_}
 use Prim.Native.Nat.{ℕ, _+_, _*_, _/_, _≤_, _<_, _^_, min}
 use native.Mathlib.Omega.{arith}
 use lib.Dec.{eqb}
-use lib.ListN.{length, take, drop, getD}
+use lib.ListN.{length, take, drop}
 use borrow.Author.Tests.{eq-eqb, ne-eqb}
 use Rattle.stream.specs.Machine.{run}
-use Rattle.stream.specs.Words.{wordsOf, value-two, words-next, words-end}
+use Rattle.stream.specs.Words.{wordsOf, words-next, words-end}
+use Rattle.words.specs.Ahead.{ahead, ahead-some}
 use Rattle.stream.specs.Stream.{split-words}
 use Rattle.evt3_decoder.specs.declared.Decoder.{Decoder}
 use Rattle.evt_types.specs.Layout.{type3, y3, x3, polarity3}
@@ -120,12 +121,12 @@ module _ (front : List ℕ) where
   none-behind = words-end 2 (omega arith) front (length front / 2 * 2) (omega arith)
 
   -- at word j, before word k
-  module _ (k j : ℕ) (next : k ≡ j + 1) (within : k * 2 ≤ length front) (w : ℕ) (is-word : w ≡ getD front (j * 2) 0 + getD front (j * 2 + 1) 0 * 256) where
+  module _ (k j : ℕ) (next : k ≡ j + 1) (within : k * 2 ≤ length front) (w : ℕ) (is-word : w ≡ ahead 2 front (j * 2)) where
     word-here : behind j ≡ w ∷ behind k
     word-here =
         let e : j * 2 + 2 ≡ k * 2 = omega arith in
         words-next 2 (omega arith) front (j * 2) (omega arith)
-        ∙ rw (value-two front (j * 2) (omega arith), ← is-word, e)
+        ∙ rw (← (is-word ∙ ahead-some 2 front (j * 2) (omega arith)), e)
 
     -- in all
     parted : wordsOf 2 front ≡ wordsOf 2 (take (j * 2) front) ++ (w ∷ behind k)
@@ -160,7 +161,7 @@ module _ (front : List ℕ) where
   pub base-none : (c : Column) (by : ℕ) → c .x ≤ 65535 → Baseless by 0 → record { x = min (c .x + by) 65535; p = c .p } ≡ baseAfter c (wordsOf 2 front)
   base-none c by h u = sym (u .same c h)
 
-  module _ (k j : ℕ) (next : k ≡ j + 1) (w : ℕ) (is-word : w ≡ getD front (j * 2) 0 + getD front (j * 2 + 1) 0 * 256) (t : ℕ) (is-type : t ≡ type3 w) where
+  module _ (k j : ℕ) (next : k ≡ j + 1) (w : ℕ) (is-word : w ≡ ahead 2 front (j * 2)) (t : ℕ) (is-type : t ≡ type3 w) where
     pub rowless-turn : Rowless k → (t ≡ 0 → ⊥) → Rowless j
     rowless-turn u other = record {
       within = omega (arith, u .within);

@@ -5,8 +5,9 @@ use mathlib.Core.List.{List}
 use Prim.Native.Nat.{ℕ, _+_, _*_, _/_, _≤_, _<_}
 use native.Mathlib.Omega.{arith}
 use lib.Dec.{ltb}
-use lib.ListN.{length, drop, getD}
-use Rattle.stream.specs.Words.{value-two, value-four, length-words}
+use lib.ListN.{length, drop}
+use Rattle.stream.specs.Words.{length-words}
+use Rattle.words.specs.Ahead.{ahead, ahead-some}
 use Rattle.stream.specs.Seek.{Reach}
 use Rattle.evt2_decoder.specs.declared.Evt2Decoder.{Evt2Decoder}
 use Rattle.evt2_decoder.specs.declared.Evt2Step.{Evt2Step}
@@ -40,14 +41,14 @@ module _ (t₀ t₁ : ℕ) (d : Evt2Decoder) (bytes : List ℕ) where
     pub end2 : length bytes ≤ i + 3 → Ends2 s f i
     end2 h = found-is (omega arith) bounded-step2 Evt2 (seeking-end (omega arith) bounded-step2 u (omega arith))
 
-    module _ (h : i + 3 < length bytes) (w : ℕ) (is-word : w ≡ getD bytes i 0 + getD bytes (i + 1) 0 * 256 + getD bytes (i + 2) 0 * 65536 + getD bytes (i + 3) 0 * 16777216)
+    module _ (h : i + 3 < length bytes) (w : ℕ) (is-word : w ≡ ahead 4 bytes i)
         (s′ : Evt2Decoder) (is-next : s′ ≡ step2 s w) where
       pub stop2 : t₁ ≤ s′ .time → Ends2 s f i
-      stop2 l = found-is (omega arith) bounded-step2 Evt2 (seeking-stop (omega arith) bounded-step2 u (omega arith) w (is-word ∙ sym (value-four bytes i (omega arith))) s′ is-next l)
+      stop2 l = found-is (omega arith) bounded-step2 Evt2 (seeking-stop (omega arith) bounded-step2 u (omega arith) w (is-word ∙ ahead-some 4 bytes i (omega arith)) s′ is-next l)
 
       pub turn2 : s′ .time < t₁ → (k : ℕ) → k ≡ type2 w → (g : Bool) → g ≡ (f || (ltb (s′ .time) t₀ && ltb k 2)) → Seeking2 s′ g (i + 4)
       turn2 l k is-type g is-stray =
-          seeking-turn (omega arith) bounded-step2 u (omega arith) w (is-word ∙ sym (value-four bytes i (omega arith))) s′ is-next l g
+          seeking-turn (omega arith) bounded-step2 u (omega arith) w (is-word ∙ ahead-some 4 bytes i (omega arith)) s′ is-next l g
           (is-stray ∙ ap (λ (k : ℕ). f || (ltb (s′ .time) t₀ && ltb k 2)) is-type)
 
 -- ---- EVT3
@@ -92,17 +93,17 @@ module _ (t₀ t₁ : ℕ) (d : Decoder) (bytes : List ℕ) where
     pub passing-slow : {c : Times} → Passing c f i → Slow c
     passing-slow u = let a = bounded-sane3 (u .seeking .inv) in rw (u .is) (record { loops = a .loops; base = a .base })
 
-    module _ (h : i + 1 < length bytes) (w : ℕ) (is-word : w ≡ getD bytes i 0 + getD bytes (i + 1) 0 * 256) where
+    module _ (h : i + 1 < length bytes) (w : ℕ) (is-word : w ≡ ahead 2 bytes i) where
       module _ {s : Decoder} (u : Seeking3 s f i) (s′ : Decoder) (is-next : s′ ≡ step3 s w) where
         found-stop : t₁ ≤ s′ .time → Found 2 reader3 (λ d. d .time) carries3 Bounded3 t₀ t₁ d bytes s f i
-        found-stop l = seeking-stop (omega arith) bounded-step3 u (omega arith) w (is-word ∙ sym (value-two bytes i (omega arith))) s′ is-next l
+        found-stop l = seeking-stop (omega arith) bounded-step3 u (omega arith) w (is-word ∙ ahead-some 2 bytes i (omega arith)) s′ is-next l
 
         pub stop3 : t₁ ≤ s′ .time → Ends3 s f i
         stop3 l = found-is (omega arith) bounded-step3 Evt3 (found-stop l)
 
         pub turn3 : s′ .time < t₁ → (k : ℕ) → k ≡ type3 w → (g : Bool) → g ≡ (f || (ltb (s′ .time) t₀ && carriesAs k)) → Seeking3 s′ g (i + 2)
         turn3 l k is-type g is-stray =
-            seeking-turn (omega arith) bounded-step3 u (omega arith) w (is-word ∙ sym (value-two bytes i (omega arith))) s′ is-next l g
+            seeking-turn (omega arith) bounded-step3 u (omega arith) w (is-word ∙ ahead-some 2 bytes i (omega arith)) s′ is-next l g
             (is-stray ∙ ap (λ (k : ℕ). f || (ltb (s′ .time) t₀ && carriesAs k)) is-type)
 
       module _ {c : Times} (u : Passing c f i) (c′ : Times) (is-next : c′ ≡ ticked c w) where

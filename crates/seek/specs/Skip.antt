@@ -5,10 +5,11 @@ use mathlib.Core.List.{List}
 use Prim.Native.Nat.{ℕ, _+_, _*_, _/_, _≤_, _<_, _^_}
 use native.Mathlib.Omega.{arith}
 use lib.Dec.{eqb, ltb}
-use lib.ListN.{length, take, drop, getD}
+use lib.ListN.{length, take, drop}
 use borrow.Author.Tests.{eq-eqb, ne-eqb, le-ltb}
 use Rattle.stream.specs.Machine.{run}
 use Rattle.stream.specs.Words.{wordsOf, length-words}
+use Rattle.words.specs.Ahead.{ahead}
 use Rattle.evt2_decoder.specs.declared.Evt2Decoder.{Evt2Decoder}
 use Rattle.evt3_decoder.specs.declared.Decoder.{Decoder}
 use Rattle.evt.specs.declared.codec.Codec.the-variants.{Evt2, Evt3}
@@ -76,7 +77,7 @@ module _ (t : ℕ) (d : Evt2Decoder) (bytes : List ℕ) where
   skip-start2 b room = record { marked = start2 0 t d bytes b; u = d; here = start2 0 t d bytes b; like = record { high = refl; loops = refl }; room = room }
 
   module _ {s : Evt2Decoder} {at i : ℕ} (p : Skipping2 s at i) (h : i + 3 < length bytes) (w : ℕ)
-      (is-word : w ≡ getD bytes i 0 + getD bytes (i + 1) 0 * 256 + getD bytes (i + 2) 0 * 65536 + getD bytes (i + 3) 0 * 16777216) (k : ℕ) (is-type : k ≡ type2 w) where
+      (is-word : w ≡ ahead 4 bytes i) (k : ℕ) (is-type : k ≡ type2 w) where
     on2 : step2 (p .u) w .time < t → Seeking2 0 t d bytes (step2 (p .u) w) false (i + 4)
     on2 l = turn2 0 t d bytes (p .here) h w is-word (step2 (p .u) w) refl l k is-type false (sym (none-early (step2 (p .u) w .time) (ltb k 2)))
 
@@ -138,7 +139,7 @@ module _ (t : ℕ) (d : Decoder) (bytes : List ℕ) where
       let p = passing-start 0 t d bytes on b in
       record { marked = p; e = timesOf d; here = p; like = record { base = refl; loops = refl }; room = room }
 
-  module _ {c : Times} {at i : ℕ} (p : Skipping3 c at i) (h : i + 1 < length bytes) (w : ℕ) (is-word : w ≡ getD bytes i 0 + getD bytes (i + 1) 0 * 256) (k : ℕ) (is-type : k ≡ type3 w) where
+  module _ {c : Times} {at i : ℕ} (p : Skipping3 c at i) (h : i + 1 < length bytes) (w : ℕ) (is-word : w ≡ ahead 2 bytes i) (k : ℕ) (is-type : k ≡ type3 w) where
     on3 : ticked (p .e) w .time < t → Passing 0 t d bytes (ticked (p .e) w) false (i + 2)
     on3 l = passing-turn 0 t d bytes h w is-word (p .here) (ticked (p .e) w) refl l k is-type false (sym (none-early (ticked (p .e) w .time) (carriesAs k)))
 

@@ -1,7 +1,7 @@
 // The row, the base column and the polarity of a started EVT3 decoder behind some words, looked for
 // from their end back: the last words that set them are near.
 ghost use mathlib.Core.Path.{_≡_};
-ghost use Prim.Native.Nat.{_+_, _*_, _≤_, min};
+ghost use Prim.Native.Nat.{_+_, _≤_, min};
 ghost use Rattle.stream.specs.Words.{wordsOf};
 ghost use Rattle.seek.specs.Back.{rowAfter, baseAfter, width};
 use evt_types::fields::bits;
@@ -9,12 +9,6 @@ use evt_types::fields::bits;
 pub struct Column {
     pub x: u16,
     pub p: bool,
-}
-
-pub fn word2(lo: u8, hi: u8) -> u64
-    ensures { λ r. ⌜ r ≡ lo + hi * 256 ⌝ }
-{
-    lo as u64 + hi as u64 * 256
 }
 
 // The last row word's, or y.
@@ -25,7 +19,7 @@ pub fn row(front: &[u8], y: u16) -> u16
     while 0 < k {
         k -= 1;
         let at = k * 2;
-        let w = word2(front[at], front[at + 1]);
+        let w = words::two_at(front, at);
         let kind = bits(w, 12, 4);
         if kind == 0 {
             return bits(w, 0, 11) as u16;
@@ -62,7 +56,7 @@ pub fn base(front: &[u8], x: u16, p: bool) -> Column
     while 0 < k {
         k -= 1;
         let at = k * 2;
-        let w = word2(front[at], front[at + 1]);
+        let w = words::two_at(front, at);
         let kind = bits(w, 12, 4);
         if kind == 3 {
             let sign = bits(w, 11, 1);

@@ -1,6 +1,6 @@
 // The loops over EVT2 words.
 ghost use mathlib.Core.Path.{_≡_};
-ghost use Prim.Native.Nat.{_+_, _*_, _/_, _≤_, _^_};
+ghost use Prim.Native.Nat.{_/_, _≤_, _^_};
 ghost use lib.ListN.{length, drop};
 ghost use Rattle.evt.specs.declared.codec.Codec.the-variants.{Evt2};
 ghost use Rattle.evt2_decoder.specs.Range.{Bounded2};
@@ -14,12 +14,6 @@ use evt_types::fields::bits;
 use evt2_decoder::Evt2Decoder;
 use evt2_decoder::advance;
 
-fn word4(a: u8, b: u8, c: u8, d: u8) -> u64
-    ensures { λ r. ⌜ r ≡ a + b * 256 + c * 65536 + d * 16777216 ⌝ }
-{
-    a as u64 + b as u64 * 256 + c as u64 * 65536 + d as u64 * 16777216
-}
-
 pub fn span2(bytes: &[u8], d: Evt2Decoder, t0: u64, t1: u64) -> Sought
     requires { ⌜ Bounded2 (length (now bytes) / 4) d ⌝ ∗ ⌜ length (now bytes) ≤ 2 ^ 30 ⌝ }
     ensures { λ r. ⌜ (r ≡ soughtOf t0 t1 (Evt2 d) (now (bytes .entry))) × Bounded (length (drop (r .at) (now (bytes .entry)))) (r .codec) ⌝ }
@@ -28,7 +22,7 @@ pub fn span2(bytes: &[u8], d: Evt2Decoder, t0: u64, t1: u64) -> Sought
     let mut stray = false;
     let mut i: usize = 0;
     while i + 3 < bytes.len() {
-        let w = word4(bytes[i], bytes[i + 1], bytes[i + 2], bytes[i + 3]);
+        let w = words::four_at(bytes, i);
         let step = advance(s, w);
         let next = step.next;
         if t1 <= next.time {
@@ -62,7 +56,7 @@ pub fn skip2(bytes: &[u8], d: Evt2Decoder, t: u64) -> Marked
         };
     }
     while i + 3 < bytes.len() {
-        let w = word4(bytes[i], bytes[i + 1], bytes[i + 2], bytes[i + 3]);
+        let w = words::four_at(bytes, i);
         i += 4;
         let kind = bits(w, 28, 4);
         if kind == 8 {

@@ -14,7 +14,6 @@ ghost use Rattle.seek.specs.Loops.{Passing};
 use crate::Marked;
 use crate::Sought;
 use crate::back;
-use crate::back::word2;
 use crate::strays;
 use crate::times;
 use crate::times::Times;
@@ -39,7 +38,7 @@ fn pass(bytes: &[u8], d: Decoder, t0: u64, t1: u64) -> Passed
     let mut stray = false;
     let mut i: usize = 0;
     while i + 1 < bytes.len() {
-        let w = word2(bytes[i], bytes[i + 1]);
+        let w = words::two_at(bytes, i);
         let next = times::tick(c, w);
         if t1 <= next.time {
             break;
@@ -66,7 +65,7 @@ fn walk(bytes: &[u8], d: Decoder, t0: u64, t1: u64) -> Sought
     let mut stray = false;
     let mut i: usize = 0;
     while i + 1 < bytes.len() {
-        let w = word2(bytes[i], bytes[i + 1]);
+        let w = words::two_at(bytes, i);
         let step = s.advance(w);
         let next = step.next;
         if t1 <= next.time {
@@ -139,7 +138,7 @@ fn stride(bytes: &[u8], d: Decoder, t: u64) -> Stood
         return Stood { at, times: c };
     }
     while i + 1 < bytes.len() {
-        let w = word2(bytes[i], bytes[i + 1]);
+        let w = words::two_at(bytes, i);
         i += 2;
         let kind = bits(w, 12, 4);
         if kind == 8 {

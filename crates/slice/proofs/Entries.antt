@@ -44,9 +44,9 @@ use Rattle.checkpoints.specs.declared.Judging.{Judging}
 use Rattle.index.specs.declared.RawSliceSource.{RawSliceSource}
 use Rattle.checkpoints.specs.Choose.{Chose}
 use Rattle.checkpoints.specs.Judge.{judgedAll}
-use Rattle.slice.specs.declared.Asked.{Asked}
-use Rattle.slice.specs.declared.SliceAnswer.{SliceAnswer}
-use Rattle.slice.specs.From.{passedFrom, SlicesFrom, Startable}
+use Rattle.slice_rules.specs.declared.Asked.{Asked}
+use Rattle.slice_rules.specs.declared.SliceAnswer.{SliceAnswer}
+use Rattle.slice_rules.specs.From.{passedFrom, SlicesFrom, Startable}
 use Rattle.index.proofs.RawSliceSource as R
 use Rattle.index.proofs.RawSliceSource.Laws as R′
 use Rattle.index.proofs.Checkpoint as T
@@ -57,10 +57,10 @@ use Rattle.checkpoints.proofs.Choice as C
 use Rattle.checkpoints.proofs.Choice.Laws as C′
 use Rattle.window.proofs.Window as O
 use Rattle.window.proofs.Window.Laws as O′
-use Rattle.slice.proofs.Asked as K
-use Rattle.slice.proofs.Asked.Laws as K′
-use Rattle.slice.proofs.SliceAnswer as E
-use Rattle.slice.proofs.SliceAnswer.Laws as E′
+use Rattle.slice_rules.proofs.Asked as K
+use Rattle.slice_rules.proofs.Asked.Laws as K′
+use Rattle.slice_rules.proofs.SliceAnswer as E
+use Rattle.slice_rules.proofs.SliceAnswer.Laws as E′
 use Rattle.checkpoints.proofs.judge_all as judge
 use Rattle.checkpoints.proofs.judge_all.Symbol.{name as #checkpoints·judges}
 use Rattle.checkpoints.proofs.choose as choose

@@ -11,7 +11,7 @@ use Rattle.evt_types.specs.declared.SensorSize.the-variants.{Known}
 use Rattle.evt_types.specs.Event.{Event}
 use Rattle.evt3_decoder.specs.Evt3.{step3, vector3}
 use Rattle.index.specs.Index.{recordAt, recordsOf}
-use Rattle.slice.specs.Slice.{timeEvents}
+use Rattle.slice_rules.specs.Slice.{timeEvents}
 use Rattle.slice.specs.Own.{ownSource, ownRecords}
 
 -- 8001 6064 6005 2001

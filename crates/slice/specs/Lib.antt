@@ -1,8 +1,4 @@
 -- What each file is stands at its head.
-pub mod Slice
-pub mod Times
-pub mod From
-pub mod Laws
 pub mod Own
 pub mod Opened
 pub mod Example

@@ -33,7 +33,7 @@ use Rattle.index.specs.declared.WordsOptions.{WordsOptions}
 use Rattle.index.specs.Index.{keptEvents, recordCount, recordsOf, spacingOk, bodyAnswer, bodyMade, answerAfter, madeAfter, rawAnswer, rawMade, wordsAnswer, wordsMade, OpensRaw, OpensWords}
 use Rattle.checkpoints.specs.InRange.{indexInRange}
 use Rattle.index.specs.Laws.{length-firsts}
-use Rattle.slice.specs.Slice.{sizeOf, firstOf, endOf, indexEvents, isDuring, timeEvents, byRules}
+use Rattle.slice_rules.specs.Slice.{sizeOf, firstOf, endOf, indexEvents, isDuring, timeEvents, byRules}
 use Rattle.slice.specs.Own.{ownEvents, ownSource, ownRecords, OwnPast, own-in-range, own-number, own-time, own-rules}
 
 -- ---- what an acceptance says

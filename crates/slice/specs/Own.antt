@@ -36,8 +36,8 @@ use Rattle.checkpoints.specs.InRange.{recordInRange, recordsInRange, indexInRan
 use Rattle.checkpoints.specs.Judge.{isOther}
 use Rattle.index.specs.Open.{spaced, count-within, kept-inside}
 use Rattle.checkpoints.specs.JudgeLaws.{last-passes}
-use Rattle.slice.specs.Slice.{startingAt, sizeOf, firstOf, endOf, indexEvents, isDuring, eventsUntil, timeEvents, byRules}
-use Rattle.slice.specs.Times.{natural, before-natural, during-natural, timeWindow, time-over}
+use Rattle.slice_rules.specs.Slice.{startingAt, sizeOf, firstOf, endOf, indexEvents, isDuring, eventsUntil, timeEvents, byRules}
+use Rattle.slice_rules.specs.Times.{natural, before-natural, during-natural, timeWindow, time-over}
 
 -- ---- lists of records
 

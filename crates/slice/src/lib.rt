@@ -1,116 +1,14 @@
-// Slices of a recording by number and by time, over an index whose records are lent.
-// specs/Slice.antt has what they answer and hand over, by document 01's table; specs/From.antt what
-// the parts say.
+// Slices of a recording by number and by time, over an index whose records are lent: each meets what
+// specs/Slice.antt of the crate `slice_rules` defines. specs/Own.antt and specs/Opened.antt say what
+// that is over an index that opening made.
 ghost use mathlib.Core.Path.{_≡_};
-ghost use Prim.Native.Nat.{max};
-ghost use Rattle.checkpoints.specs.Judge.{firstJudging};
-ghost use Rattle.slice.specs.Slice.{SlicesIndex, SlicesTime};
-ghost use Rattle.slice.specs.From.{askedByNumber, askedByTime, passedFrom, answerOf, SlicesFrom, Startable};
-use checkpoints::Choice;
-use checkpoints::Judging;
-use evt_types::Refusal;
-use evt_types::SensorSize;
+ghost use Rattle.slice_rules.specs.Slice.{SlicesIndex, SlicesTime};
+ghost use Rattle.slice_rules.specs.From.{passedFrom, SlicesFrom, Startable};
 use index::Checkpoint;
 use index::RawSliceSource;
-use room::Delivered;
 use select::Window;
-
-pub enum SliceAnswer {
-    Sliced(usize),
-    Refused(Refusal),
-}
-
-// What a slice asks for: how the records are judged, which of them it starts at, and which events
-// it hands over.
-pub struct Asked {
-    pub judging: Judging,
-    pub choice: Choice,
-    pub window: Window,
-}
-
-fn greater(a: usize, b: usize) -> usize
-    ensures { λ r. ⌜ r ≡ max a b ⌝ }
-{
-    if a < b { b } else { a }
-}
-
-// Before the first of n records.
-fn first_judging(source: RawSliceSource, n: usize) -> Judging
-    ensures { λ r. ⌜ r ≡ firstJudging source n ⌝ }
-{
-    let encoding = source.encoding;
-    Judging {
-        ok: 0 < n,
-        past: false,
-        offset: source.data_offset,
-        spacing: source.spacing,
-        encoding,
-        total: source.n_events,
-        count: 0,
-        time: 0,
-    }
-}
-
-// By number, the ends clamped to the total; n is how many records there are.
-pub fn by_number(source: RawSliceSource, n: usize, i0: usize, i1: usize) -> Asked
-    ensures { λ r. ⌜ r ≡ askedByNumber source n i0 i1 ⌝ }
-{
-    let first = room::less(i0, source.n_events);
-    let end = greater(first, room::less(i1, source.n_events));
-    let judging = first_judging(source, n);
-    let choice = Choice {
-        by_time: false,
-        index: first,
-        time: 0,
-    };
-    let window = Window {
-        width: source.width as u64,
-        height: source.height as u64,
-        n0: first as u64,
-        n1: end as u64,
-        t0: 0,
-        t1: 18446744073709551615,
-    };
-    Asked {
-        judging,
-        choice,
-        window,
-    }
-}
-
-// By time: a negative bound acts as 0.
-pub fn by_time(source: RawSliceSource, n: usize, t0: i64, t1: i64) -> Asked
-    ensures { λ r. ⌜ r ≡ askedByTime source n t0 t1 ⌝ }
-{
-    let judging = first_judging(source, n);
-    let choice = Choice {
-        by_time: true,
-        index: 0,
-        time: t0,
-    };
-    let window = Window {
-        width: source.width as u64,
-        height: source.height as u64,
-        n0: 0,
-        n1: 18446744073709551615,
-        t0: store::time_of(t0),
-        t1: store::time_of(t1),
-    };
-    Asked {
-        judging,
-        choice,
-        window,
-    }
-}
-
-fn answer_of(delivered: Delivered) -> SliceAnswer
-    ensures { λ r. ⌜ r ≡ answerOf delivered ⌝ }
-{
-    match delivered {
-        Delivered::Written(n) => SliceAnswer::Sliced(n),
-        Delivered::Needed(n) => SliceAnswer::Refused(Refusal::ColumnsTooShort(n)),
-    }
-}
+use slice_rules::SliceAnswer;
+use slice_rules::Start;
 
 // The slice from the record `start` on; `ok` tells whether the records are in range. `requires`:
 // that one of theirs can be started at.
@@ -128,16 +26,9 @@ pub fn slice_from(
     requires { ⌜ Startable source ok start ⌝ }
     ensures { λ r. ⌜ SlicesFrom (now (recording .entry)) source ok (passedFrom (now (recording .entry)) window start) r (now (xs .entry)) (now (ys .entry)) (now (ts .entry)) (now (ps .entry)) (now (xs .exit)) (now (ys .exit)) (now (ts .exit)) (now (ps .exit)) ⌝ }
 {
-    if 1073741824 < recording.len() {
-        return SliceAnswer::Refused(Refusal::TooLong);
-    }
-    if header::has_zero(SensorSize::Known(source.width, source.height)) {
-        return SliceAnswer::Refused(Refusal::InvalidSensorSize);
-    }
-    let encoding = source.encoding;
-    if index::spacing_ok(encoding, source.spacing) {
-        if ok {
-            let at = room::less(start.byte_offset, recording.len());
+    match slice_rules::start_of(recording.len(), source, ok, start.byte_offset) {
+        Start::Not(why) => SliceAnswer::Refused(why),
+        Start::At(at) => {
             let codec = start.codec;
             let number = start.event_index as u64;
             let delivered = deliver::deliver(
@@ -150,11 +41,9 @@ pub fn slice_from(
                 &mut *ts,
                 &mut *ps,
             );
-            return answer_of(delivered);
+            slice_rules::answer_of(delivered)
         }
-        return SliceAnswer::Refused(Refusal::StateOutOfRange);
     }
-    SliceAnswer::Refused(Refusal::InvalidSpacing)
 }
 
 // The events from number i0 to before i1, the ends clamped to the total. The records are read singly
@@ -172,7 +61,7 @@ pub fn slice_index(
 ) -> SliceAnswer
     ensures { λ r. ⌜ SlicesIndex (now (recording .entry)) source (now (records .entry)) i0 i1 r (now (xs .entry)) (now (ys .entry)) (now (ts .entry)) (now (ps .entry)) (now (xs .exit)) (now (ys .exit)) (now (ts .exit)) (now (ps .exit)) ⌝ }
 {
-    let asked = by_number(source, records.len(), i0, i1);
+    let asked = slice_rules::by_number(source, records.len(), i0, i1);
     let judged = checkpoints::judge_all(records, asked.judging);
     let start = checkpoints::choose(records, asked.choice);
     slice_from(
@@ -202,7 +91,7 @@ pub fn slice_time(
 ) -> SliceAnswer
     ensures { λ r. ⌜ SlicesTime (now (recording .entry)) source (now (records .entry)) t0 t1 r (now (xs .entry)) (now (ys .entry)) (now (ts .entry)) (now (ps .entry)) (now (xs .exit)) (now (ys .exit)) (now (ts .exit)) (now (ps .exit)) ⌝ }
 {
-    let asked = by_time(source, records.len(), t0, t1);
+    let asked = slice_rules::by_time(source, records.len(), t0, t1);
     let judged = checkpoints::judge_all(records, asked.judging);
     let start = checkpoints::choose(records, asked.choice);
     slice_from(

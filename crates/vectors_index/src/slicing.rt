@@ -10,7 +10,7 @@ use case_text::columns;
 use case_text::show;
 use case_text::text;
 use index::RawSliceSource;
-use slice::SliceAnswer;
+use slice_rules::SliceAnswer;
 
 fn dispatch(
     query: &[u8],

@@ -48,10 +48,10 @@ use Rattle.index.proofs.Checkpoint as T
 use Rattle.index.proofs.Checkpoint.Laws as T′
 use Rattle.index.proofs.RawSliceSource as P
 use Rattle.index.proofs.RawSliceSource.Laws as P′
-use Rattle.slice.specs.declared.SliceAnswer.{SliceAnswer}
-use Rattle.slice.specs.Slice.{SlicesTime}
-use Rattle.slice.proofs.SliceAnswer as E
-use Rattle.slice.proofs.SliceAnswer.Laws as E′
+use Rattle.slice_rules.specs.declared.SliceAnswer.{SliceAnswer}
+use Rattle.slice_rules.specs.Slice.{SlicesTime}
+use Rattle.slice_rules.proofs.SliceAnswer as E
+use Rattle.slice_rules.proofs.SliceAnswer.Laws as E′
 use Rattle.slice.proofs.slice_time as callee
 use Rattle.slice.proofs.slice_time.Symbol as callee-def
 use Rattle.slice.proofs.slice_time.Symbol.{name as #callee}

@@ -44,10 +44,10 @@ use Rattle.checkpoints.specs.declared.Judging.{Judging}
 use Rattle.index.specs.declared.RawSliceSource.{RawSliceSource}
 use Rattle.checkpoints.specs.Choose.{Chose}
 use Rattle.checkpoints.specs.Judge.{judgedAll}
-use Rattle.slice.specs.declared.Asked.{Asked}
-use Rattle.slice.specs.declared.SliceAnswer.{SliceAnswer}
-use Rattle.slice.specs.From.{askedByTime, Startable}
-use Rattle.slice.specs.Laws.{startable, began-time, slices-time}
+use Rattle.slice_rules.specs.declared.Asked.{Asked}
+use Rattle.slice_rules.specs.declared.SliceAnswer.{SliceAnswer}
+use Rattle.slice_rules.specs.From.{askedByTime, Startable}
+use Rattle.slice_rules.specs.Laws.{startable, began-time, slices-time}
 use Rattle.index.proofs.RawSliceSource as R
 use Rattle.index.proofs.RawSliceSource.Laws as R′
 use Rattle.index.proofs.Checkpoint as T
@@ -57,15 +57,15 @@ use Rattle.checkpoints.proofs.judge_all.Met as judge-thm
 use Rattle.checkpoints.proofs.choose.Symbol as choose-def
 use Rattle.checkpoints.proofs.choose.Symbol.{name as #checkpoints·choose}
 use Rattle.checkpoints.proofs.choose.Met as choose-thm
-use Rattle.slice.proofs.Asked as K
-use Rattle.slice.proofs.Asked.Laws as K′
-use Rattle.slice.proofs.SliceAnswer as E
-use Rattle.slice.proofs.SliceAnswer.Laws as E′
+use Rattle.slice_rules.proofs.Asked as K
+use Rattle.slice_rules.proofs.Asked.Laws as K′
+use Rattle.slice_rules.proofs.SliceAnswer as E
+use Rattle.slice_rules.proofs.SliceAnswer.Laws as E′
 use Rattle.slice.proofs.Entries.{machR, machE, Judges, Chooses, Slicing, Had, Sliced-from, onward}
-use Rattle.slice.proofs.by_time as ask
-use Rattle.slice.proofs.by_time.Symbol as ask-def
-use Rattle.slice.proofs.by_time.Symbol.{name as #slice·asks}
-use Rattle.slice.proofs.by_time.Met as ask-thm
+use Rattle.slice_rules.proofs.by_time as ask
+use Rattle.slice_rules.proofs.by_time.Symbol as ask-def
+use Rattle.slice_rules.proofs.by_time.Symbol.{name as #slice·asks}
+use Rattle.slice_rules.proofs.by_time.Met as ask-thm
 use Rattle.slice.proofs.slice_from.Symbol as from-def
 use Rattle.slice.proofs.slice_from.Symbol.{name as #slice·from}
 use Rattle.slice.proofs.slice_from.Met as from-thm
@@ -247,7 +247,7 @@ slice-time-spec 𝓤 H 𝓜 𝓖 𝓡 =
     entered 𝓤 H (tripleOf 𝓤 H (𝓖 .A) f.signature (f.spec 𝓤 H (𝓖 .A) (𝓜 .mem) (𝓡 .run)))
     (tables 𝓤 H 𝓜 𝓡 code.env .C) (tables 𝓤 H 𝓜 𝓡 code.env .Λ) #slice·entry code.function (code.unfolded 𝓤 H 𝓜 𝓡)
     (f-meets 𝓤 H (𝓖 .A) (givenOf 𝓤 H 𝓜 𝓖) (𝓜 .mem) (𝓡 .run) (tablesOf 𝓤 H 𝓜 (tables 𝓤 H 𝓜 𝓡 code.env)) (
-      cited 𝓤 H (Asks 𝓤 H (𝓖 .A) (𝓜 .mem) (𝓡 .run)) 𝓜 𝓡 code.env #slice·asks ask-def.routine code.calls-slice·by-time (ask-thm.met 𝓤 H 𝓜 𝓖 𝓡),
+      cited 𝓤 H (Asks 𝓤 H (𝓖 .A) (𝓜 .mem) (𝓡 .run)) 𝓜 𝓡 code.env #slice·asks ask-def.routine code.calls-slice-rules·by-time (ask-thm.met 𝓤 H 𝓜 𝓖 𝓡),
       (
         cited 𝓤 H (Judges 𝓤 H (𝓖 .A) (𝓜 .mem) (𝓡 .run)) 𝓜 𝓡 code.env #checkpoints·judges judge-def.routine code.calls-checkpoints·judge-all (judge-thm.met 𝓤 H 𝓜 𝓖 𝓡),
         (

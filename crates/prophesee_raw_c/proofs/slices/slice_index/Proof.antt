@@ -8,7 +8,7 @@ use Rattle.flat.proofs.slices.choose_entries.Reads as choose-entries-reads
 use Rattle.flat.proofs.slices.judge_entries.Reads as judge-entries-reads
 use Rattle.flat.proofs.slices.slice_of.Reads as slice-of-reads
 use Rattle.flat.proofs.slices.source_of.Reads as source-of-reads
-use Rattle.slice.proofs.by_number.Reads as by-number-reads
+use Rattle.slice_rules.proofs.by_number.Reads as by-number-reads
 use Rattle.slice.proofs.slice_from.Reads as slice-from-reads
 
 -- src/slices.rt:111:9

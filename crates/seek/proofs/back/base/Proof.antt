@@ -11,7 +11,7 @@ use Rattle.seek.proofs.back.base.Lts as lts
 use Rattle.evt_types.proofs.fields.bits.Reads as bits-reads
 use Rattle.seek.proofs.back.held.Reads as held-reads
 use Rattle.seek.proofs.back.moves.Reads as moves-reads
-use Rattle.seek.proofs.back.word2.Reads as word2-reads
+use Rattle.words.proofs.two_at.Reads as two-at-reads
 
 abbrev Inv-loop : tie.InvT-loop
 Inv-loop front x p by₀ k₀ by k = Baseless front by k
@@ -31,21 +31,9 @@ sub-k c = omega arith
 mul-at : tie.Need-mul-at Inv-loop μ-loop
 mul-at c = omega (arith, c .before .loop .inv .within)
 
--- src/back.rt:65:23
-shared-slice-read-word2 : tie.Need-shared-slice-read-word2 Inv-loop μ-loop
-shared-slice-read-word2 c = omega (arith, c .before .before .loop .inv .within)
-
--- src/back.rt:65:40
-add-word2 : tie.Need-add-word2 Inv-loop μ-loop
-add-word2 c = omega (arith, c .before .before .loop .inv .within)
-
--- src/back.rt:65:34
-shared-slice-read-word2-2 : tie.Need-shared-slice-read-word2-2 Inv-loop μ-loop
-shared-slice-read-word2-2 c = omega (arith, c .before .before .before .loop .inv .within)
-
 -- src/back.rt:65:13
-word2-requires : tie.Need-word2-requires Inv-loop μ-loop
-word2-requires c κs = search needs
+two-at-requires : tie.Need-two-at-requires Inv-loop μ-loop
+two-at-requires c κs = omega (arith, c .before .loop .inv .within)
 
 -- src/back.rt:66:13
 bits-requires : tie.Need-bits-requires Inv-loop μ-loop
@@ -61,15 +49,15 @@ bits-requires-3 c κs = search needs
 
 -- src/back.rt:70:20
 held-requires : tie.Need-held-requires Inv-loop μ-loop
-held-requires c κs = omega (arith, c .before .before .before .before .before .before .before .before .loop .inv .few)
+held-requires c κs = omega (arith, c .before .before .before .before .before .before .loop .inv .few)
 
 -- src/back.rt:70:20
-cast-t19 : tie.Need-cast-t19 Inv-loop μ-loop
-cast-t19 c = omega (arith, c .held .ensures)
+cast-t14 : tie.Need-cast-t14 Inv-loop μ-loop
+cast-t14 c = omega (arith, c .held .ensures)
 
 -- src/back.rt:69:13
 returns : tie.Need-returns Inv-loop μ-loop
-returns c = rw (c .held .ensures, c .before .bits3 .ensures, c .before .before .bits2 .ensures) (base-found (now (c .before .before .before .before .before .before .before .before .before .before .before .args .front)) (c .before .before .before .before .before .before .before .before .before .loop .k) (c .before .before .before .before .before .before .before .before .before .loop .k - 1) (omega (arith, c .before .before .before .before .before .before .before .before .loop-test .taken)) (c .before .before .before .before .before .word2 .result) (c .before .before .before .before .before .word2 .ensures) (c .before .before .before .before .bits .result) (c .before .before .before .before .bits .ensures) (record { x = c .before .before .before .before .before .before .before .before .before .before .before .args .x; p = c .before .before .before .before .before .before .before .before .before .before .before .args .p }) (c .before .before .before .before .before .before .before .before .before .loop .inv) (c .before .before .before .if1 .taken))
+returns c = rw (c .held .ensures, c .before .bits3 .ensures, c .before .before .bits2 .ensures) (base-found (now (c .before .before .before .before .before .before .before .before .before .args .front)) (c .before .before .before .before .before .before .before .loop .k) (c .before .before .before .before .before .before .before .loop .k - 1) (omega (arith, c .before .before .before .before .before .before .loop-test .taken)) (c .before .before .before .before .before .two-at .result) (c .before .before .before .before .before .two-at .ensures) (c .before .before .before .before .bits .result) (c .before .before .before .before .bits .ensures) (record { x = c .before .before .before .before .before .before .before .before .before .args .x; p = c .before .before .before .before .before .before .before .before .before .args .p }) (c .before .before .before .before .before .before .before .loop .inv) (c .before .before .before .if1 .taken))
 
 -- src/back.rt:74:23
 moves-requires : tie.Need-moves-requires Inv-loop μ-loop
@@ -85,15 +73,15 @@ loop-less c = omega arith
 
 -- src/back.rt:62:5
 loop-again : tie.Need-loop-again Inv-loop μ-loop
-loop-again c = baseless-turn (now (c .before .before .before .before .before .before .before .before .before .before .args .front)) (c .before .before .before .before .before .before .before .before .loop .k) (c .before .before .before .before .before .before .before .before .loop .k - 1) (omega (arith, c .before .before .before .before .before .before .before .loop-test .taken)) (c .before .before .before .before .word2 .result) (c .before .before .before .before .word2 .ensures) (c .before .before .before .bits .result) (c .before .before .before .bits .ensures) (c .before .before .before .before .before .before .before .before .loop .inv) (c .before .before .if1 .left) (c .held2 .result) (c .held2 .ensures ∙ rw (c .before .moves .ensures))
+loop-again c = baseless-turn (now (c .before .before .before .before .before .before .before .before .args .front)) (c .before .before .before .before .before .before .loop .k) (c .before .before .before .before .before .before .loop .k - 1) (omega (arith, c .before .before .before .before .before .loop-test .taken)) (c .before .before .before .before .two-at .result) (c .before .before .before .before .two-at .ensures) (c .before .before .before .bits .result) (c .before .before .before .bits .ensures) (c .before .before .before .before .before .before .loop .inv) (c .before .before .if1 .left) (c .held2 .result) (c .held2 .ensures ∙ rw (c .before .moves .ensures))
 
 -- src/back.rt:77:12
 held-requires-3 : tie.Need-held-requires-3 Inv-loop μ-loop
 held-requires-3 c κs = omega (arith, c .before .loop .inv .few)
 
 -- src/back.rt:77:12
-cast-t24 : tie.Need-cast-t24 Inv-loop μ-loop
-cast-t24 c = omega (arith, c .held3 .ensures)
+cast-t19 : tie.Need-cast-t19 Inv-loop μ-loop
+cast-t19 c = omega (arith, c .held3 .ensures)
 
 -- src/back.rt:57:1
 returns-2 : tie.Need-returns-2 Inv-loop μ-loop
@@ -108,20 +96,17 @@ base-spec =
     loop-holds
     sub-k
     mul-at
-    shared-slice-read-word2
-    add-word2
-    shared-slice-read-word2-2
-    word2-requires
+    two-at-requires
     bits-requires
     bits-requires-2
     bits-requires-3
     held-requires
-    cast-t19
+    cast-t14
     returns
     moves-requires
     held-requires-2
     loop-less
     loop-again
     held-requires-3
-    cast-t24
+    cast-t19
     returns-2)

@@ -9,7 +9,7 @@ use Rattle.seek.proofs.back.row.Tie as tie
 use Rattle.seek.proofs.back.row.Reads as reads
 use Rattle.seek.proofs.back.row.Lts as lts
 use Rattle.evt_types.proofs.fields.bits.Reads as bits-reads
-use Rattle.seek.proofs.back.word2.Reads as word2-reads
+use Rattle.words.proofs.two_at.Reads as two-at-reads
 
 abbrev Inv-loop : tie.InvT-loop
 Inv-loop front y k₀ k = Rowless front k
@@ -29,21 +29,9 @@ sub-k c = omega arith
 mul-at : tie.Need-mul-at Inv-loop μ-loop
 mul-at c = omega (arith, c .before .loop .inv .within)
 
--- src/back.rt:28:23
-shared-slice-read-word2 : tie.Need-shared-slice-read-word2 Inv-loop μ-loop
-shared-slice-read-word2 c = omega (arith, c .before .before .loop .inv .within)
-
--- src/back.rt:28:40
-add-word2 : tie.Need-add-word2 Inv-loop μ-loop
-add-word2 c = omega (arith, c .before .before .loop .inv .within)
-
--- src/back.rt:28:34
-shared-slice-read-word2-2 : tie.Need-shared-slice-read-word2-2 Inv-loop μ-loop
-shared-slice-read-word2-2 c = omega (arith, c .before .before .before .loop .inv .within)
-
 -- src/back.rt:28:13
-word2-requires : tie.Need-word2-requires Inv-loop μ-loop
-word2-requires c κs = search needs
+two-at-requires : tie.Need-two-at-requires Inv-loop μ-loop
+two-at-requires c κs = omega (arith, c .before .loop .inv .within)
 
 -- src/back.rt:29:13
 bits-requires : tie.Need-bits-requires Inv-loop μ-loop
@@ -59,7 +47,7 @@ cast-result c = omega (arith, c .bits2 .ensures)
 
 -- src/back.rt:31:13
 returns : tie.Need-returns Inv-loop μ-loop
-returns c = c .bits2 .ensures ∙ row-found (now (c .before .before .before .before .before .before .before .before .before .args .front)) (c .before .before .before .before .before .before .before .loop .k) (c .before .before .before .before .before .before .before .loop .k - 1) (omega (arith, c .before .before .before .before .before .before .loop-test .taken)) (c .before .before .before .word2 .result) (c .before .before .before .word2 .ensures) (c .before .before .bits .result) (c .before .before .bits .ensures) (c .before .before .before .before .before .before .before .before .before .args .y) (c .before .before .before .before .before .before .before .loop .inv) (c .before .if1 .taken)
+returns c = c .bits2 .ensures ∙ row-found (now (c .before .before .before .before .before .before .before .args .front)) (c .before .before .before .before .before .loop .k) (c .before .before .before .before .before .loop .k - 1) (omega (arith, c .before .before .before .before .loop-test .taken)) (c .before .before .before .two-at .result) (c .before .before .before .two-at .ensures) (c .before .before .bits .result) (c .before .before .bits .ensures) (c .before .before .before .before .before .before .before .args .y) (c .before .before .before .before .before .loop .inv) (c .before .if1 .taken)
 
 -- src/back.rt:25:5
 loop-less : tie.Need-loop-less Inv-loop μ-loop
@@ -67,7 +55,7 @@ loop-less c = omega arith
 
 -- src/back.rt:25:5
 loop-again : tie.Need-loop-again Inv-loop μ-loop
-loop-again c = rowless-turn (now (c .before .before .before .before .before .before .before .before .args .front)) (c .before .before .before .before .before .before .loop .k) (c .before .before .before .before .before .before .loop .k - 1) (omega (arith, c .before .before .before .before .before .loop-test .taken)) (c .before .before .word2 .result) (c .before .before .word2 .ensures) (c .before .bits .result) (c .before .bits .ensures) (c .before .before .before .before .before .before .loop .inv) (c .if1 .left)
+loop-again c = rowless-turn (now (c .before .before .before .before .before .before .args .front)) (c .before .before .before .before .loop .k) (c .before .before .before .before .loop .k - 1) (omega (arith, c .before .before .before .loop-test .taken)) (c .before .before .two-at .result) (c .before .before .two-at .ensures) (c .before .bits .result) (c .before .bits .ensures) (c .before .before .before .before .loop .inv) (c .if1 .left)
 
 -- src/back.rt:21:1
 returns-2 : tie.Need-returns-2 Inv-loop μ-loop
@@ -82,10 +70,7 @@ row-spec =
     loop-holds
     sub-k
     mul-at
-    shared-slice-read-word2
-    add-word2
-    shared-slice-read-word2-2
-    word2-requires
+    two-at-requires
     bits-requires
     bits-requires-2
     cast-result

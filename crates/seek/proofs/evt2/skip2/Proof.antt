@@ -12,7 +12,7 @@ use Rattle.seek.proofs.evt2.skip2.Reads as reads
 use Rattle.seek.proofs.evt2.skip2.Lts as lts
 use Rattle.evt2_decoder.proofs.advance.Reads as advance-reads
 use Rattle.evt_types.proofs.fields.bits.Reads as bits-reads
-use Rattle.seek.proofs.evt2.word4.Reads as word4-reads
+use Rattle.words.proofs.four_at.Reads as four-at-reads
 
 abbrev Inv-loop : tie.InvT-loop
 Inv-loop bytes t s₀ at₀ i₀ s at i = Skipping2 t s₀ bytes s at i
@@ -36,41 +36,13 @@ loop-holds c = skip-start2 (c .before .before .before .args .t) (c .before .befo
 add-loop : tie.Need-add-loop Inv-loop μ-loop
 add-loop c = omega (arith, c .loop .inv .here .within, c .before .before .before .before .pre .1)
 
--- src/evt2.rt:64:23
-shared-slice-read-word4 : tie.Need-shared-slice-read-word4 Inv-loop μ-loop
-shared-slice-read-word4 c = omega arith
-
--- src/evt2.rt:64:39
-add-word4 : tie.Need-add-word4 Inv-loop μ-loop
-add-word4 c = omega arith
-
--- src/evt2.rt:64:33
-shared-slice-read-word4-2 : tie.Need-shared-slice-read-word4-2 Inv-loop μ-loop
-shared-slice-read-word4-2 c = omega arith
-
--- src/evt2.rt:64:53
-add-word4-2 : tie.Need-add-word4-2 Inv-loop μ-loop
-add-word4-2 c = omega arith
-
--- src/evt2.rt:64:47
-shared-slice-read-word4-3 : tie.Need-shared-slice-read-word4-3 Inv-loop μ-loop
-shared-slice-read-word4-3 c = omega arith
-
--- src/evt2.rt:64:67
-add-word4-3 : tie.Need-add-word4-3 Inv-loop μ-loop
-add-word4-3 c = omega arith
-
--- src/evt2.rt:64:61
-shared-slice-read-word4-4 : tie.Need-shared-slice-read-word4-4 Inv-loop μ-loop
-shared-slice-read-word4-4 c = omega arith
-
 -- src/evt2.rt:64:13
-word4-requires : tie.Need-word4-requires Inv-loop μ-loop
-word4-requires c κs = search needs
+four-at-requires : tie.Need-four-at-requires Inv-loop μ-loop
+four-at-requires c κs = omega (arith, c .loop-test .taken, c .before .before .before .before .before .pre .1)
 
 -- src/evt2.rt:65:9
 add-i : tie.Need-add-i Inv-loop μ-loop
-add-i c = omega (arith, c .before .before .before .before .before .loop-test .taken, c .before .before .before .before .before .before .before .before .before .before .pre .1)
+add-i c = omega (arith, c .before .loop-test .taken, c .before .before .before .before .before .before .pre .1)
 
 -- src/evt2.rt:66:13
 bits-requires : tie.Need-bits-requires Inv-loop μ-loop
@@ -78,27 +50,27 @@ bits-requires c κs = search needs
 
 -- src/evt2.rt:68:17
 advance-requires : tie.Need-advance-requires Inv-loop μ-loop
-advance-requires c κs = bounded-sane2 (c .before .before .before .before .before .before .before .before .loop .inv .marked .inv)
+advance-requires c κs = bounded-sane2 (c .before .before .before .before .loop .inv .marked .inv)
 
 -- src/evt2.rt:75:20
 add-if4 : tie.Need-add-if4 Inv-loop μ-loop
-add-if4 c = omega (arith, skip-small2 (c .before .before .before .before .before .before .before .before .before .before .before .before .before .before .before .before .before .args .t) (c .before .before .before .before .before .before .before .before .before .before .before .before .before .before .before .before .before .args .d) (now (c .before .before .before .before .before .before .before .before .before .before .before .before .before .before .before .before .before .args .bytes)) (c .before .before .before .before .before .before .before .before .before .before .before .before .before .loop .inv) (c .before .before .before .before .before .before .before .before .before .before .before .before .loop-test .taken) (c .before .before .before .before .before .before .before .word4 .result) (c .before .before .before .before .before .before .before .word4 .ensures) (c .before .before .before .before .before .before .bits .result) (c .before .before .before .before .before .before .bits .ensures) (c .before .before .before .before .before .if2 .taken) (c .before .before .before .before .advance .result .next) (c .before .before .before .before .advance .ensures .0) (c .before .if3 .left))
+add-if4 c = omega (arith, skip-small2 (c .before .before .before .before .before .before .before .before .before .before .before .before .before .args .t) (c .before .before .before .before .before .before .before .before .before .before .before .before .before .args .d) (now (c .before .before .before .before .before .before .before .before .before .before .before .before .before .args .bytes)) (c .before .before .before .before .before .before .before .before .before .loop .inv) (c .before .before .before .before .before .before .before .before .loop-test .taken) (c .before .before .before .before .before .before .before .four-at .result) (c .before .before .before .before .before .before .before .four-at .ensures) (c .before .before .before .before .before .before .bits .result) (c .before .before .before .before .before .before .bits .ensures) (c .before .before .before .before .before .if2 .taken) (c .before .before .before .before .advance .result .next) (c .before .before .before .before .advance .ensures .0) (c .before .if3 .left))
 
 -- src/evt2.rt:63:5
 loop-less : tie.Need-loop-less Inv-loop μ-loop
-loop-less c = omega (arith, c .before .before .before .before .before .before .before .before .before .before .before .before .before .loop-test .taken)
+loop-less c = omega (arith, c .before .before .before .before .before .before .before .before .before .loop-test .taken)
 
 -- src/evt2.rt:63:5
 loop-again : tie.Need-loop-again Inv-loop μ-loop
-loop-again c = skip-on2 (c .before .before .before .before .before .before .before .before .before .before .before .before .before .before .before .before .before .before .args .t) (c .before .before .before .before .before .before .before .before .before .before .before .before .before .before .before .before .before .before .args .d) (now (c .before .before .before .before .before .before .before .before .before .before .before .before .before .before .before .before .before .before .args .bytes)) (c .before .before .before .before .before .before .before .before .before .before .before .before .before .before .loop .inv) (c .before .before .before .before .before .before .before .before .before .before .before .before .before .loop-test .taken) (c .before .before .before .before .before .before .before .before .word4 .result) (c .before .before .before .before .before .before .before .before .word4 .ensures) (c .before .before .before .before .before .before .before .bits .result) (c .before .before .before .before .before .before .before .bits .ensures) (c .before .before .before .before .before .before .if2 .taken) (c .before .before .before .before .before .advance .result .next) (c .before .before .before .before .before .advance .ensures .0) (c .before .before .if3 .left) (c .if4 .left)
+loop-again c = skip-on2 (c .before .before .before .before .before .before .before .before .before .before .before .before .before .before .args .t) (c .before .before .before .before .before .before .before .before .before .before .before .before .before .before .args .d) (now (c .before .before .before .before .before .before .before .before .before .before .before .before .before .before .args .bytes)) (c .before .before .before .before .before .before .before .before .before .before .loop .inv) (c .before .before .before .before .before .before .before .before .before .loop-test .taken) (c .before .before .before .before .before .before .before .before .four-at .result) (c .before .before .before .before .before .before .before .before .four-at .ensures) (c .before .before .before .before .before .before .before .bits .result) (c .before .before .before .before .before .before .before .bits .ensures) (c .before .before .before .before .before .before .if2 .taken) (c .before .before .before .before .before .advance .result .next) (c .before .before .before .before .before .advance .ensures .0) (c .before .before .if3 .left) (c .if4 .left)
 
 -- src/evt2.rt:63:5
 loop-less-2 : tie.Need-loop-less-2 Inv-loop μ-loop
-loop-less-2 c = omega (arith, c .before .before .before .before .before .before .before .loop-test .taken)
+loop-less-2 c = omega (arith, c .before .before .before .loop-test .taken)
 
 -- src/evt2.rt:63:5
 loop-again-2 : tie.Need-loop-again-2 Inv-loop μ-loop
-loop-again-2 c = skip-other2 (c .before .before .before .before .before .before .before .before .before .before .before .before .args .t) (c .before .before .before .before .before .before .before .before .before .before .before .before .args .d) (now (c .before .before .before .before .before .before .before .before .before .before .before .before .args .bytes)) (c .before .before .before .before .before .before .before .before .loop .inv) (c .before .before .before .before .before .before .before .loop-test .taken) (c .before .before .word4 .result) (c .before .before .word4 .ensures) (c .before .bits .result) (c .before .bits .ensures) (c .if2 .left)
+loop-again-2 c = skip-other2 (c .before .before .before .before .before .before .before .before .args .t) (c .before .before .before .before .before .before .before .before .args .d) (now (c .before .before .before .before .before .before .before .before .args .bytes)) (c .before .before .before .before .loop .inv) (c .before .before .before .loop-test .taken) (c .before .before .four-at .result) (c .before .before .four-at .ensures) (c .before .bits .result) (c .before .bits .ensures) (c .if2 .left)
 
 -- src/evt2.rt:50:1
 returns-2 : tie.Need-returns-2 Inv-loop μ-loop
@@ -106,11 +78,11 @@ returns-2 c = midway2 (c .before .before .before .before .before .args .t) (c .b
 
 -- src/evt2.rt:50:1
 returns-3 : tie.Need-returns-3 Inv-loop μ-loop
-returns-3 c = midway2 (c .before .before .before .before .before .before .before .before .before .before .before .before .before .before .before .before .args .t) (c .before .before .before .before .before .before .before .before .before .before .before .before .before .before .before .before .args .d) (now (c .before .before .before .before .before .before .before .before .before .before .before .before .before .before .before .before .args .bytes)) (c .before .before .before .before .before .before .before .before .before .before .before .before .loop .inv .marked)
+returns-3 c = midway2 (c .before .before .before .before .before .before .before .before .before .before .before .before .args .t) (c .before .before .before .before .before .before .before .before .before .before .before .before .args .d) (now (c .before .before .before .before .before .before .before .before .before .before .before .before .args .bytes)) (c .before .before .before .before .before .before .before .before .loop .inv .marked)
 
 -- src/evt2.rt:50:1
 returns-4 : tie.Need-returns-4 Inv-loop μ-loop
-returns-4 c = midway2 (c .before .before .before .before .before .before .before .before .before .before .before .before .before .before .before .before .before .before .args .t) (c .before .before .before .before .before .before .before .before .before .before .before .before .before .before .before .before .before .before .args .d) (now (c .before .before .before .before .before .before .before .before .before .before .before .before .before .before .before .before .before .before .args .bytes)) (skip-time2 (c .before .before .before .before .before .before .before .before .before .before .before .before .before .before .before .before .before .before .args .t) (c .before .before .before .before .before .before .before .before .before .before .before .before .before .before .before .before .before .before .args .d) (now (c .before .before .before .before .before .before .before .before .before .before .before .before .before .before .before .before .before .before .args .bytes)) (c .before .before .before .before .before .before .before .before .before .before .before .before .before .before .loop .inv) (c .before .before .before .before .before .before .before .before .before .before .before .before .before .loop-test .taken) (c .before .before .before .before .before .before .before .before .word4 .result) (c .before .before .before .before .before .before .before .before .word4 .ensures) (c .before .before .before .before .before .before .before .bits .result) (c .before .before .before .before .before .before .before .bits .ensures) (c .before .before .before .before .before .before .if2 .taken) (c .before .before .before .before .before .advance .result .next) (c .before .before .before .before .before .advance .ensures .0) (c .before .before .if3 .left))
+returns-4 c = midway2 (c .before .before .before .before .before .before .before .before .before .before .before .before .before .before .args .t) (c .before .before .before .before .before .before .before .before .before .before .before .before .before .before .args .d) (now (c .before .before .before .before .before .before .before .before .before .before .before .before .before .before .args .bytes)) (skip-time2 (c .before .before .before .before .before .before .before .before .before .before .before .before .before .before .args .t) (c .before .before .before .before .before .before .before .before .before .before .before .before .before .before .args .d) (now (c .before .before .before .before .before .before .before .before .before .before .before .before .before .before .args .bytes)) (c .before .before .before .before .before .before .before .before .before .before .loop .inv) (c .before .before .before .before .before .before .before .before .before .loop-test .taken) (c .before .before .before .before .before .before .before .before .four-at .result) (c .before .before .before .before .before .before .before .before .four-at .ensures) (c .before .before .before .before .before .before .before .bits .result) (c .before .before .before .before .before .before .before .bits .ensures) (c .before .before .before .before .before .before .if2 .taken) (c .before .before .before .before .before .advance .result .next) (c .before .before .before .before .before .advance .ensures .0) (c .before .before .if3 .left))
 
 pub skip2-spec : {M : Type 1} → statement M
 skip2-spec =
@@ -122,14 +94,7 @@ skip2-spec =
     returns
     loop-holds
     add-loop
-    shared-slice-read-word4
-    add-word4
-    shared-slice-read-word4-2
-    add-word4-2
-    shared-slice-read-word4-3
-    add-word4-3
-    shared-slice-read-word4-4
-    word4-requires
+    four-at-requires
     add-i
     bits-requires
     advance-requires

@@ -11,7 +11,7 @@ use Rattle.seek.proofs.evt2.span2.Reads as reads
 use Rattle.seek.proofs.evt2.span2.Lts as lts
 use Rattle.evt2_decoder.proofs.advance.Reads as advance-reads
 use Rattle.evt_types.proofs.fields.bits.Reads as bits-reads
-use Rattle.seek.proofs.evt2.word4.Reads as word4-reads
+use Rattle.words.proofs.four_at.Reads as four-at-reads
 use Rattle.seek.proofs.strays.Reads as strays-reads
 
 abbrev Inv-loop : tie.InvT-loop
@@ -28,41 +28,13 @@ loop-holds c = start2 (c .before .args .t0) (c .before .args .t1) (c .before .ar
 add-loop : tie.Need-add-loop Inv-loop μ-loop
 add-loop c = omega (arith, c .loop .inv .within, c .before .before .pre .1)
 
--- src/evt2.rt:29:23
-shared-slice-read-word4 : tie.Need-shared-slice-read-word4 Inv-loop μ-loop
-shared-slice-read-word4 c = omega arith
-
--- src/evt2.rt:29:39
-add-word4 : tie.Need-add-word4 Inv-loop μ-loop
-add-word4 c = omega arith
-
--- src/evt2.rt:29:33
-shared-slice-read-word4-2 : tie.Need-shared-slice-read-word4-2 Inv-loop μ-loop
-shared-slice-read-word4-2 c = omega arith
-
--- src/evt2.rt:29:53
-add-word4-2 : tie.Need-add-word4-2 Inv-loop μ-loop
-add-word4-2 c = omega arith
-
--- src/evt2.rt:29:47
-shared-slice-read-word4-3 : tie.Need-shared-slice-read-word4-3 Inv-loop μ-loop
-shared-slice-read-word4-3 c = omega arith
-
--- src/evt2.rt:29:67
-add-word4-3 : tie.Need-add-word4-3 Inv-loop μ-loop
-add-word4-3 c = omega arith
-
--- src/evt2.rt:29:61
-shared-slice-read-word4-4 : tie.Need-shared-slice-read-word4-4 Inv-loop μ-loop
-shared-slice-read-word4-4 c = omega arith
-
 -- src/evt2.rt:29:13
-word4-requires : tie.Need-word4-requires Inv-loop μ-loop
-word4-requires c κs = search needs
+four-at-requires : tie.Need-four-at-requires Inv-loop μ-loop
+four-at-requires c κs = omega (arith, c .loop-test .taken, c .before .before .before .pre .1)
 
 -- src/evt2.rt:30:13
 advance-requires : tie.Need-advance-requires Inv-loop μ-loop
-advance-requires c κs = bounded-sane2 (c .before .before .before .before .before .before .loop .inv .inv)
+advance-requires c κs = bounded-sane2 (c .before .before .loop .inv .inv)
 
 -- src/evt2.rt:35:13
 bits-requires : tie.Need-bits-requires Inv-loop μ-loop
@@ -74,15 +46,15 @@ strays-requires c κs = search needs
 
 -- src/evt2.rt:38:9
 add-i : tie.Need-add-i Inv-loop μ-loop
-add-i c = omega (arith, c .before .before .before .before .before .before .before .before .before .before .before .loop-test .taken, c .before .before .before .before .before .before .before .before .before .before .before .before .before .before .pre .1)
+add-i c = omega (arith, c .before .before .before .before .before .before .before .loop-test .taken, c .before .before .before .before .before .before .before .before .before .before .pre .1)
 
 -- src/evt2.rt:28:5
 loop-less : tie.Need-loop-less Inv-loop μ-loop
-loop-less c = omega (arith, c .before .before .before .before .before .before .before .before .before .before .before .loop-test .taken)
+loop-less c = omega (arith, c .before .before .before .before .before .before .before .loop-test .taken)
 
 -- src/evt2.rt:28:5
 loop-again : tie.Need-loop-again Inv-loop μ-loop
-loop-again c = turn2 (c .before .before .before .before .before .before .before .before .before .before .before .before .before .before .args .t0) (c .before .before .before .before .before .before .before .before .before .before .before .before .before .before .args .t1) (c .before .before .before .before .before .before .before .before .before .before .before .before .before .before .args .d) (now (c .before .before .before .before .before .before .before .before .before .before .before .before .before .before .args .bytes)) (c .before .before .before .before .before .before .before .before .before .before .before .before .loop .inv) (c .before .before .before .before .before .before .before .before .before .before .before .loop-test .taken) (c .before .before .before .before .before .before .word4 .result) (c .before .before .before .before .before .before .word4 .ensures) (c .before .before .before .before .before .advance .result .next) (c .before .before .before .before .before .advance .ensures .0) (c .before .before .if1 .left) (c .before .bits .result) (c .before .bits .ensures) (c .strays .result) (c .strays .ensures)
+loop-again c = turn2 (c .before .before .before .before .before .before .before .before .before .before .args .t0) (c .before .before .before .before .before .before .before .before .before .before .args .t1) (c .before .before .before .before .before .before .before .before .before .before .args .d) (now (c .before .before .before .before .before .before .before .before .before .before .args .bytes)) (c .before .before .before .before .before .before .before .before .loop .inv) (c .before .before .before .before .before .before .before .loop-test .taken) (c .before .before .before .before .before .before .four-at .result) (c .before .before .before .before .before .before .four-at .ensures) (c .before .before .before .before .before .advance .result .next) (c .before .before .before .before .before .advance .ensures .0) (c .before .before .if1 .left) (c .before .bits .result) (c .before .bits .ensures) (c .strays .result) (c .strays .ensures)
 
 -- src/evt2.rt:21:1
 returns : tie.Need-returns Inv-loop μ-loop
@@ -90,7 +62,7 @@ returns c = end2 (c .before .before .before .args .t0) (c .before .before .befor
 
 -- src/evt2.rt:21:1
 returns-2 : tie.Need-returns-2 Inv-loop μ-loop
-returns-2 c = stop2 (c .before .before .before .before .before .before .before .before .before .before .before .before .args .t0) (c .before .before .before .before .before .before .before .before .before .before .before .before .args .t1) (c .before .before .before .before .before .before .before .before .before .before .before .before .args .d) (now (c .before .before .before .before .before .before .before .before .before .before .before .before .args .bytes)) (c .before .before .before .before .before .before .before .before .before .before .loop .inv) (c .before .before .before .before .before .before .before .before .before .loop-test .taken) (c .before .before .before .before .word4 .result) (c .before .before .before .before .word4 .ensures) (c .before .before .before .advance .result .next) (c .before .before .before .advance .ensures .0) (c .if1 .taken)
+returns-2 c = stop2 (c .before .before .before .before .before .before .before .before .args .t0) (c .before .before .before .before .before .before .before .before .args .t1) (c .before .before .before .before .before .before .before .before .args .d) (now (c .before .before .before .before .before .before .before .before .args .bytes)) (c .before .before .before .before .before .before .loop .inv) (c .before .before .before .before .before .loop-test .taken) (c .before .before .before .before .four-at .result) (c .before .before .before .before .four-at .ensures) (c .before .before .before .advance .result .next) (c .before .before .before .advance .ensures .0) (c .if1 .taken)
 
 pub span2-spec : {M : Type 1} → statement M
 span2-spec =
@@ -100,14 +72,7 @@ span2-spec =
     μ-loop
     loop-holds
     add-loop
-    shared-slice-read-word4
-    add-word4
-    shared-slice-read-word4-2
-    add-word4-2
-    shared-slice-read-word4-3
-    add-word4-3
-    shared-slice-read-word4-4
-    word4-requires
+    four-at-requires
     advance-requires
     bits-requires
     strays-requires

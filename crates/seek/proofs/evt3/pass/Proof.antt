@@ -14,7 +14,7 @@ use Rattle.seek.proofs.evt3.pass.Tie as tie
 use Rattle.seek.proofs.evt3.pass.Reads as reads
 use Rattle.seek.proofs.evt3.pass.Lts as lts
 use Rattle.evt_types.proofs.fields.bits.Reads as bits-reads
-use Rattle.seek.proofs.back.word2.Reads as word2-reads
+use Rattle.words.proofs.two_at.Reads as two-at-reads
 use Rattle.seek.proofs.strays.Reads as strays-reads
 use Rattle.seek.proofs.times.carries.Reads as carries-reads
 use Rattle.seek.proofs.times.of.Reads as of-reads
@@ -38,25 +38,13 @@ loop-holds c = λ d on is b. rw is (passing-start (c .before .before .args .t0) 
 add-loop : tie.Need-add-loop Inv-loop μ-loop
 add-loop c = omega (arith, (c .loop .inv (c .before .before .before .args .d) (c .before .before .before .pre .0) (c .before .of .ensures) (c .before .before .before .pre .1 .0)) .seeking .within, c .before .before .before .pre .1 .1)
 
--- src/evt3.rt:38:23
-shared-slice-read-word2 : tie.Need-shared-slice-read-word2 Inv-loop μ-loop
-shared-slice-read-word2 c = omega arith
-
--- src/evt3.rt:38:39
-add-word2 : tie.Need-add-word2 Inv-loop μ-loop
-add-word2 c = omega arith
-
--- src/evt3.rt:38:33
-shared-slice-read-word2-2 : tie.Need-shared-slice-read-word2-2 Inv-loop μ-loop
-shared-slice-read-word2-2 c = omega arith
-
 -- src/evt3.rt:38:13
-word2-requires : tie.Need-word2-requires Inv-loop μ-loop
-word2-requires c κs = search needs
+two-at-requires : tie.Need-two-at-requires Inv-loop μ-loop
+two-at-requires c κs = omega (arith, c .loop-test .taken, c .before .before .before .before .pre .1 .1)
 
 -- src/evt3.rt:39:13
 tick-requires : tie.Need-tick-requires Inv-loop μ-loop
-tick-requires c κs = passing-slow (c .before .before .before .before .before .before .before .args .t0) (c .before .before .before .before .before .before .before .args .t1) (c .before .before .before .before .before .before .before .args .d) (now (c .before .before .before .before .before .before .before .args .bytes)) (c .before .before .before .before .loop .inv (c .before .before .before .before .before .before .before .args .d) (c .before .before .before .before .before .before .before .pre .0) (c .before .before .before .before .before .of .ensures) (c .before .before .before .before .before .before .before .pre .1 .0))
+tick-requires c κs = passing-slow (c .before .before .before .before .before .args .t0) (c .before .before .before .before .before .args .t1) (c .before .before .before .before .before .args .d) (now (c .before .before .before .before .before .args .bytes)) (c .before .before .loop .inv (c .before .before .before .before .before .args .d) (c .before .before .before .before .before .pre .0) (c .before .before .before .of .ensures) (c .before .before .before .before .before .pre .1 .0))
 
 -- src/evt3.rt:43:13
 bits-requires : tie.Need-bits-requires Inv-loop μ-loop
@@ -72,15 +60,15 @@ strays-requires c κs = search needs
 
 -- src/evt3.rt:46:9
 add-i : tie.Need-add-i Inv-loop μ-loop
-add-i c = omega (arith, c .before .before .before .before .before .before .before .before .before .loop-test .taken, c .before .before .before .before .before .before .before .before .before .before .before .before .before .pre .1 .1)
+add-i c = omega (arith, c .before .before .before .before .before .before .before .loop-test .taken, c .before .before .before .before .before .before .before .before .before .before .before .pre .1 .1)
 
 -- src/evt3.rt:37:5
 loop-less : tie.Need-loop-less Inv-loop μ-loop
-loop-less c = omega (arith, c .before .before .before .before .before .before .before .before .before .loop-test .taken)
+loop-less c = omega (arith, c .before .before .before .before .before .before .before .loop-test .taken)
 
 -- src/evt3.rt:37:5
 loop-again : tie.Need-loop-again Inv-loop μ-loop
-loop-again c = λ d on is b. passing-turn (c .before .before .before .before .before .before .before .before .before .before .before .before .before .args .t0) (c .before .before .before .before .before .before .before .before .before .before .before .before .before .args .t1) d (now (c .before .before .before .before .before .before .before .before .before .before .before .before .before .args .bytes)) (c .before .before .before .before .before .before .before .before .before .loop-test .taken) (c .before .before .before .before .before .before .word2 .result) (c .before .before .before .before .before .before .word2 .ensures) (c .before .before .before .before .before .before .before .before .before .before .loop .inv d on is b) (c .before .before .before .before .before .tick .result) (c .before .before .before .before .before .tick .ensures) (c .before .before .before .if1 .left) (c .before .before .bits .result) (c .before .before .bits .ensures) (c .strays .result) (c .strays .ensures ∙ rw (c .before .carries .ensures))
+loop-again c = λ d on is b. passing-turn (c .before .before .before .before .before .before .before .before .before .before .before .args .t0) (c .before .before .before .before .before .before .before .before .before .before .before .args .t1) d (now (c .before .before .before .before .before .before .before .before .before .before .before .args .bytes)) (c .before .before .before .before .before .before .before .loop-test .taken) (c .before .before .before .before .before .before .two-at .result) (c .before .before .before .before .before .before .two-at .ensures) (c .before .before .before .before .before .before .before .before .loop .inv d on is b) (c .before .before .before .before .before .tick .result) (c .before .before .before .before .before .tick .ensures) (c .before .before .before .if1 .left) (c .before .before .bits .result) (c .before .before .bits .ensures) (c .strays .result) (c .strays .ensures ∙ rw (c .before .carries .ensures))
 
 -- src/evt3.rt:30:1
 returns : tie.Need-returns Inv-loop μ-loop
@@ -88,7 +76,7 @@ returns c = passing-end (c .before .before .before .before .args .t0) (c .before
 
 -- src/evt3.rt:30:1
 returns-2 : tie.Need-returns-2 Inv-loop μ-loop
-returns-2 c = passing-stop (c .before .before .before .before .before .before .before .before .before .before .args .t0) (c .before .before .before .before .before .before .before .before .before .before .args .t1) (c .before .before .before .before .before .before .before .before .before .before .args .d) (now (c .before .before .before .before .before .before .before .before .before .before .args .bytes)) (c .before .before .before .before .before .before .loop-test .taken) (c .before .before .before .word2 .result) (c .before .before .before .word2 .ensures) (c .before .before .before .before .before .before .before .loop .inv (c .before .before .before .before .before .before .before .before .before .before .args .d) (c .before .before .before .before .before .before .before .before .before .before .pre .0) (c .before .before .before .before .before .before .before .before .of .ensures) (c .before .before .before .before .before .before .before .before .before .before .pre .1 .0)) (c .before .before .tick .result) (c .before .before .tick .ensures) (c .if1 .taken)
+returns-2 c = passing-stop (c .before .before .before .before .before .before .before .before .args .t0) (c .before .before .before .before .before .before .before .before .args .t1) (c .before .before .before .before .before .before .before .before .args .d) (now (c .before .before .before .before .before .before .before .before .args .bytes)) (c .before .before .before .before .loop-test .taken) (c .before .before .before .two-at .result) (c .before .before .before .two-at .ensures) (c .before .before .before .before .before .loop .inv (c .before .before .before .before .before .before .before .before .args .d) (c .before .before .before .before .before .before .before .before .pre .0) (c .before .before .before .before .before .before .of .ensures) (c .before .before .before .before .before .before .before .before .pre .1 .0)) (c .before .before .tick .result) (c .before .before .tick .ensures) (c .if1 .taken)
 
 pub pass-spec : {M : Type 1} → statement M
 pass-spec =
@@ -99,10 +87,7 @@ pass-spec =
     of-requires
     loop-holds
     add-loop
-    shared-slice-read-word2
-    add-word2
-    shared-slice-read-word2-2
-    word2-requires
+    two-at-requires
     tick-requires
     bits-requires
     carries-requires

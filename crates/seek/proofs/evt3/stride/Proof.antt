@@ -16,7 +16,7 @@ use Rattle.seek.proofs.evt3.stride.Tie as tie
 use Rattle.seek.proofs.evt3.stride.Reads as reads
 use Rattle.seek.proofs.evt3.stride.Lts as lts
 use Rattle.evt_types.proofs.fields.bits.Reads as bits-reads
-use Rattle.seek.proofs.back.word2.Reads as word2-reads
+use Rattle.words.proofs.two_at.Reads as two-at-reads
 use Rattle.seek.proofs.times.of.Reads as of-reads
 use Rattle.seek.proofs.times.tick.Reads as tick-reads
 
@@ -46,25 +46,13 @@ loop-holds c = λ d on is b. let e : d .«time_base» ≡ c .before .before .bef
 add-loop : tie.Need-add-loop Inv-loop μ-loop
 add-loop c = omega (arith, (c .loop .inv (c .before .before .before .before .before .args .d) (c .before .before .before .before .before .pre .0) (c .before .before .before .of .ensures) (c .before .before .before .before .before .pre .1 .0)) .here .seeking .within, c .before .before .before .before .before .pre .1 .1)
 
--- src/evt3.rt:141:23
-shared-slice-read-word2 : tie.Need-shared-slice-read-word2 Inv-loop μ-loop
-shared-slice-read-word2 c = omega arith
-
--- src/evt3.rt:141:39
-add-word2 : tie.Need-add-word2 Inv-loop μ-loop
-add-word2 c = omega arith
-
--- src/evt3.rt:141:33
-shared-slice-read-word2-2 : tie.Need-shared-slice-read-word2-2 Inv-loop μ-loop
-shared-slice-read-word2-2 c = omega arith
-
 -- src/evt3.rt:141:13
-word2-requires : tie.Need-word2-requires Inv-loop μ-loop
-word2-requires c κs = search needs
+two-at-requires : tie.Need-two-at-requires Inv-loop μ-loop
+two-at-requires c κs = omega (arith, c .loop-test .taken, c .before .before .before .before .before .before .pre .1 .1)
 
 -- src/evt3.rt:142:9
 add-i : tie.Need-add-i Inv-loop μ-loop
-add-i c = omega (arith, c .before .before .before .loop-test .taken, c .before .before .before .before .before .before .before .before .before .pre .1 .1)
+add-i c = omega (arith, c .before .loop-test .taken, c .before .before .before .before .before .before .before .pre .1 .1)
 
 -- src/evt3.rt:143:13
 bits-requires : tie.Need-bits-requires Inv-loop μ-loop
@@ -72,27 +60,27 @@ bits-requires c κs = search needs
 
 -- src/evt3.rt:145:17
 tick-requires : tie.Need-tick-requires Inv-loop μ-loop
-tick-requires c κs = passing-slow 0 (c .before .before .before .before .before .before .before .before .before .before .before .args .t) (c .before .before .before .before .before .before .before .before .before .before .before .args .d) (now (c .before .before .before .before .before .before .before .before .before .before .before .args .bytes)) ((c .before .before .before .before .before .before .loop .inv (c .before .before .before .before .before .before .before .before .before .before .before .args .d) (c .before .before .before .before .before .before .before .before .before .before .before .pre .0) (c .before .before .before .before .before .before .before .before .before .of .ensures) (c .before .before .before .before .before .before .before .before .before .before .before .pre .1 .0)) .marked)
+tick-requires c κs = passing-slow 0 (c .before .before .before .before .before .before .before .before .before .args .t) (c .before .before .before .before .before .before .before .before .before .args .d) (now (c .before .before .before .before .before .before .before .before .before .args .bytes)) ((c .before .before .before .before .loop .inv (c .before .before .before .before .before .before .before .before .before .args .d) (c .before .before .before .before .before .before .before .before .before .pre .0) (c .before .before .before .before .before .before .before .of .ensures) (c .before .before .before .before .before .before .before .before .before .pre .1 .0)) .marked)
 
 -- src/evt3.rt:151:20
 add-if4 : tie.Need-add-if4 Inv-loop μ-loop
-add-if4 c = omega (arith, skip-small3 (c .before .before .before .before .before .before .before .before .before .before .before .before .before .before .before .args .t) (c .before .before .before .before .before .before .before .before .before .before .before .before .before .before .before .args .d) (now (c .before .before .before .before .before .before .before .before .before .before .before .before .before .before .before .args .bytes)) (c .before .before .before .before .before .before .before .before .before .before .loop .inv (c .before .before .before .before .before .before .before .before .before .before .before .before .before .before .before .args .d) (c .before .before .before .before .before .before .before .before .before .before .before .before .before .before .before .pre .0) (c .before .before .before .before .before .before .before .before .before .before .before .before .before .of .ensures) (c .before .before .before .before .before .before .before .before .before .before .before .before .before .before .before .pre .1 .0)) (c .before .before .before .before .before .before .before .before .before .loop-test .taken) (c .before .before .before .before .before .before .word2 .result) (c .before .before .before .before .before .before .word2 .ensures) (c .before .before .before .before .before .bits .result) (c .before .before .before .before .before .bits .ensures) (c .before .before .before .before .if2 .taken) (c .before .before .before .tick .result) (c .before .before .before .tick .ensures) (c .before .if3 .left))
+add-if4 c = omega (arith, skip-small3 (c .before .before .before .before .before .before .before .before .before .before .before .before .before .args .t) (c .before .before .before .before .before .before .before .before .before .before .before .before .before .args .d) (now (c .before .before .before .before .before .before .before .before .before .before .before .before .before .args .bytes)) (c .before .before .before .before .before .before .before .before .loop .inv (c .before .before .before .before .before .before .before .before .before .before .before .before .before .args .d) (c .before .before .before .before .before .before .before .before .before .before .before .before .before .pre .0) (c .before .before .before .before .before .before .before .before .before .before .before .of .ensures) (c .before .before .before .before .before .before .before .before .before .before .before .before .before .pre .1 .0)) (c .before .before .before .before .before .before .before .loop-test .taken) (c .before .before .before .before .before .before .two-at .result) (c .before .before .before .before .before .before .two-at .ensures) (c .before .before .before .before .before .bits .result) (c .before .before .before .before .before .bits .ensures) (c .before .before .before .before .if2 .taken) (c .before .before .before .tick .result) (c .before .before .before .tick .ensures) (c .before .if3 .left))
 
 -- src/evt3.rt:140:5
 loop-less : tie.Need-loop-less Inv-loop μ-loop
-loop-less c = omega (arith, c .before .before .before .before .before .before .before .before .before .before .loop-test .taken)
+loop-less c = omega (arith, c .before .before .before .before .before .before .before .before .loop-test .taken)
 
 -- src/evt3.rt:140:5
 loop-again : tie.Need-loop-again Inv-loop μ-loop
-loop-again c = λ d on is b. skip-on3 (c .before .before .before .before .before .before .before .before .before .before .before .before .before .before .before .before .args .t) d (now (c .before .before .before .before .before .before .before .before .before .before .before .before .before .before .before .before .args .bytes)) (c .before .before .before .before .before .before .before .before .before .before .before .loop .inv d on is b) (c .before .before .before .before .before .before .before .before .before .before .loop-test .taken) (c .before .before .before .before .before .before .before .word2 .result) (c .before .before .before .before .before .before .before .word2 .ensures) (c .before .before .before .before .before .before .bits .result) (c .before .before .before .before .before .before .bits .ensures) (c .before .before .before .before .before .if2 .taken) (c .before .before .before .before .tick .result) (c .before .before .before .before .tick .ensures) (c .before .before .if3 .left) (c .if4 .left)
+loop-again c = λ d on is b. skip-on3 (c .before .before .before .before .before .before .before .before .before .before .before .before .before .before .args .t) d (now (c .before .before .before .before .before .before .before .before .before .before .before .before .before .before .args .bytes)) (c .before .before .before .before .before .before .before .before .before .loop .inv d on is b) (c .before .before .before .before .before .before .before .before .loop-test .taken) (c .before .before .before .before .before .before .before .two-at .result) (c .before .before .before .before .before .before .before .two-at .ensures) (c .before .before .before .before .before .before .bits .result) (c .before .before .before .before .before .before .bits .ensures) (c .before .before .before .before .before .if2 .taken) (c .before .before .before .before .tick .result) (c .before .before .before .before .tick .ensures) (c .before .before .if3 .left) (c .if4 .left)
 
 -- src/evt3.rt:140:5
 loop-less-2 : tie.Need-loop-less-2 Inv-loop μ-loop
-loop-less-2 c = omega (arith, c .before .before .before .before .before .loop-test .taken)
+loop-less-2 c = omega (arith, c .before .before .before .loop-test .taken)
 
 -- src/evt3.rt:140:5
 loop-again-2 : tie.Need-loop-again-2 Inv-loop μ-loop
-loop-again-2 c = λ d on is b. skip-other3 (c .before .before .before .before .before .before .before .before .before .before .before .args .t) d (now (c .before .before .before .before .before .before .before .before .before .before .before .args .bytes)) (c .before .before .before .before .before .before .loop .inv d on is b) (c .before .before .before .before .before .loop-test .taken) (c .before .before .word2 .result) (c .before .before .word2 .ensures) (c .before .bits .result) (c .before .bits .ensures) (c .if2 .left)
+loop-again-2 c = λ d on is b. skip-other3 (c .before .before .before .before .before .before .before .before .before .args .t) d (now (c .before .before .before .before .before .before .before .before .before .args .bytes)) (c .before .before .before .before .loop .inv d on is b) (c .before .before .before .loop-test .taken) (c .before .before .two-at .result) (c .before .before .two-at .ensures) (c .before .bits .result) (c .before .bits .ensures) (c .if2 .left)
 
 -- src/evt3.rt:130:1
 returns-2 : tie.Need-returns-2 Inv-loop μ-loop
@@ -100,11 +88,11 @@ returns-2 c = (c .before .loop .inv (c .before .before .before .before .before .
 
 -- src/evt3.rt:130:1
 returns-3 : tie.Need-returns-3 Inv-loop μ-loop
-returns-3 c = (c .before .before .before .before .before .before .before .before .before .loop .inv (c .before .before .before .before .before .before .before .before .before .before .before .before .before .before .args .d) (c .before .before .before .before .before .before .before .before .before .before .before .before .before .before .pre .0) (c .before .before .before .before .before .before .before .before .before .before .before .before .of .ensures) (c .before .before .before .before .before .before .before .before .before .before .before .before .before .before .pre .1 .0)) .marked
+returns-3 c = (c .before .before .before .before .before .before .before .loop .inv (c .before .before .before .before .before .before .before .before .before .before .before .before .args .d) (c .before .before .before .before .before .before .before .before .before .before .before .before .pre .0) (c .before .before .before .before .before .before .before .before .before .before .of .ensures) (c .before .before .before .before .before .before .before .before .before .before .before .before .pre .1 .0)) .marked
 
 -- src/evt3.rt:130:1
 returns-4 : tie.Need-returns-4 Inv-loop μ-loop
-returns-4 c = skip-time3 (c .before .before .before .before .before .before .before .before .before .before .before .before .before .before .before .before .args .t) (c .before .before .before .before .before .before .before .before .before .before .before .before .before .before .before .before .args .d) (now (c .before .before .before .before .before .before .before .before .before .before .before .before .before .before .before .before .args .bytes)) (c .before .before .before .before .before .before .before .before .before .before .before .loop .inv (c .before .before .before .before .before .before .before .before .before .before .before .before .before .before .before .before .args .d) (c .before .before .before .before .before .before .before .before .before .before .before .before .before .before .before .before .pre .0) (c .before .before .before .before .before .before .before .before .before .before .before .before .before .before .of .ensures) (c .before .before .before .before .before .before .before .before .before .before .before .before .before .before .before .before .pre .1 .0)) (c .before .before .before .before .before .before .before .before .before .before .loop-test .taken) (c .before .before .before .before .before .before .before .word2 .result) (c .before .before .before .before .before .before .before .word2 .ensures) (c .before .before .before .before .before .before .bits .result) (c .before .before .before .before .before .before .bits .ensures) (c .before .before .before .before .before .if2 .taken) (c .before .before .before .before .tick .result) (c .before .before .before .before .tick .ensures) (c .before .before .if3 .left)
+returns-4 c = skip-time3 (c .before .before .before .before .before .before .before .before .before .before .before .before .before .before .args .t) (c .before .before .before .before .before .before .before .before .before .before .before .before .before .before .args .d) (now (c .before .before .before .before .before .before .before .before .before .before .before .before .before .before .args .bytes)) (c .before .before .before .before .before .before .before .before .before .loop .inv (c .before .before .before .before .before .before .before .before .before .before .before .before .before .before .args .d) (c .before .before .before .before .before .before .before .before .before .before .before .before .before .before .pre .0) (c .before .before .before .before .before .before .before .before .before .before .before .before .of .ensures) (c .before .before .before .before .before .before .before .before .before .before .before .before .before .before .pre .1 .0)) (c .before .before .before .before .before .before .before .before .loop-test .taken) (c .before .before .before .before .before .before .before .two-at .result) (c .before .before .before .before .before .before .before .two-at .ensures) (c .before .before .before .before .before .before .bits .result) (c .before .before .before .before .before .before .bits .ensures) (c .before .before .before .before .before .if2 .taken) (c .before .before .before .before .tick .result) (c .before .before .before .before .tick .ensures) (c .before .before .if3 .left)
 
 pub stride-spec : {M : Type 1} → statement M
 stride-spec =
@@ -117,10 +105,7 @@ stride-spec =
     returns
     loop-holds
     add-loop
-    shared-slice-read-word2
-    add-word2
-    shared-slice-read-word2-2
-    word2-requires
+    two-at-requires
     add-i
     bits-requires
     tick-requires

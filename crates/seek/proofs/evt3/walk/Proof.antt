@@ -16,7 +16,7 @@ use Rattle.evt3_decoder.proofs.widen.Reads as widen-reads
 use Rattle.evt3_decoder.proofs.WideDecoder.advance.Reads as advance-reads
 use Rattle.evt3_decoder.proofs.WideDecoder.slim.Reads as slim-reads
 use Rattle.evt_types.proofs.fields.bits.Reads as bits-reads
-use Rattle.seek.proofs.back.word2.Reads as word2-reads
+use Rattle.words.proofs.two_at.Reads as two-at-reads
 use Rattle.seek.proofs.strays.Reads as strays-reads
 use Rattle.seek.proofs.times.carries.Reads as carries-reads
 
@@ -38,25 +38,13 @@ loop-holds c = rw (c .widen .ensures .0) (start3 (c .before .before .args .t0) (
 add-loop : tie.Need-add-loop Inv-loop μ-loop
 add-loop c = omega (arith, c .loop .inv .within, c .before .before .before .pre .1)
 
--- src/evt3.rt:64:23
-shared-slice-read-word2 : tie.Need-shared-slice-read-word2 Inv-loop μ-loop
-shared-slice-read-word2 c = omega arith
-
--- src/evt3.rt:64:39
-add-word2 : tie.Need-add-word2 Inv-loop μ-loop
-add-word2 c = omega arith
-
--- src/evt3.rt:64:33
-shared-slice-read-word2-2 : tie.Need-shared-slice-read-word2-2 Inv-loop μ-loop
-shared-slice-read-word2-2 c = omega arith
-
 -- src/evt3.rt:64:13
-word2-requires : tie.Need-word2-requires Inv-loop μ-loop
-word2-requires c κs = search needs
+two-at-requires : tie.Need-two-at-requires Inv-loop μ-loop
+two-at-requires c κs = omega (arith, c .loop-test .taken, c .before .before .before .before .pre .1)
 
 -- src/evt3.rt:65:13
 advance-requires : tie.Need-advance-requires Inv-loop μ-loop
-advance-requires c κs = bounded-sane3 (c .before .before .before .before .loop .inv .inv)
+advance-requires c κs = bounded-sane3 (c .before .before .loop .inv .inv)
 
 -- src/evt3.rt:70:13
 bits-requires : tie.Need-bits-requires Inv-loop μ-loop
@@ -72,22 +60,22 @@ strays-requires c κs = search needs
 
 -- src/evt3.rt:73:9
 add-i : tie.Need-add-i Inv-loop μ-loop
-add-i c = omega (arith, c .before .before .before .before .before .before .before .before .before .before .loop-test .taken, c .before .before .before .before .before .before .before .before .before .before .before .before .before .before .pre .1)
+add-i c = omega (arith, c .before .before .before .before .before .before .before .before .loop-test .taken, c .before .before .before .before .before .before .before .before .before .before .before .before .pre .1)
 
 -- src/evt3.rt:63:5
 loop-less : tie.Need-loop-less Inv-loop μ-loop
-loop-less c = omega (arith, c .before .before .before .before .before .before .before .before .before .before .loop-test .taken)
+loop-less c = omega (arith, c .before .before .before .before .before .before .before .before .loop-test .taken)
 
 -- src/evt3.rt:63:5
 loop-again : tie.Need-loop-again Inv-loop μ-loop
-loop-again c = turn3 (c .before .before .before .before .before .before .before .before .before .before .before .before .before .before .args .t0) (c .before .before .before .before .before .before .before .before .before .before .before .before .before .before .args .t1) (slimmed (c .before .before .before .before .before .before .before .before .before .before .before .before .widen .result)) (now (c .before .before .before .before .before .before .before .before .before .before .before .before .before .before .args .bytes)) (c .before .before .before .before .before .before .before .before .before .before .loop-test .taken) (c .before .before .before .before .before .before .before .word2 .result) (c .before .before .before .before .before .before .before .word2 .ensures) (c .before .before .before .before .before .before .before .before .before .before .before .loop .inv) (slimmed (c .before .before .before .before .before .before .advance .result .next)) (ap slimmed (c .before .before .before .before .before .before .advance .ensures .0)) (c .before .before .before .if1 .left) (c .before .before .bits .result) (c .before .before .bits .ensures) (c .strays .result) (c .strays .ensures ∙ rw (c .before .carries .ensures))
+loop-again c = turn3 (c .before .before .before .before .before .before .before .before .before .before .before .before .args .t0) (c .before .before .before .before .before .before .before .before .before .before .before .before .args .t1) (slimmed (c .before .before .before .before .before .before .before .before .before .before .widen .result)) (now (c .before .before .before .before .before .before .before .before .before .before .before .before .args .bytes)) (c .before .before .before .before .before .before .before .before .loop-test .taken) (c .before .before .before .before .before .before .before .two-at .result) (c .before .before .before .before .before .before .before .two-at .ensures) (c .before .before .before .before .before .before .before .before .before .loop .inv) (slimmed (c .before .before .before .before .before .before .advance .result .next)) (ap slimmed (c .before .before .before .before .before .before .advance .ensures .0)) (c .before .before .before .if1 .left) (c .before .before .bits .result) (c .before .before .bits .ensures) (c .strays .result) (c .strays .ensures ∙ rw (c .before .carries .ensures))
 
 -- where the loop is left
 done : (c : tie.Left-loop Inv-loop μ-loop) → Ends3 (c .before .before .before .before .args .t0) (c .before .before .before .before .args .t1) (slimmed (c .before .before .widen .result)) (now (c .before .before .before .before .args .bytes)) (slimmed (c .before .loop .s)) (c .before .loop .stray) (c .before .loop .i)
 done c =
     ⊎-elim
     (λ w. end3 (c .before .before .before .before .args .t0) (c .before .before .before .before .args .t1) (slimmed (c .before .before .widen .result)) (now (c .before .before .before .before .args .bytes)) (c .before .loop .inv) (w .left))
-    (λ w. stop3 (c .before .before .before .before .args .t0) (c .before .before .before .before .args .t1) (slimmed (c .before .before .widen .result)) (now (c .before .before .before .before .args .bytes)) (w .0 .taken) (w .3 .result) (w .3 .ensures) (c .before .loop .inv) (slimmed (w .4 .result .next)) (ap slimmed (w .4 .ensures .0)) (w .7 .taken))
+    (λ w. stop3 (c .before .before .before .before .args .t0) (c .before .before .before .before .args .t1) (slimmed (c .before .before .widen .result)) (now (c .before .before .before .before .args .bytes)) (w .0 .taken) (w .1 .result) (w .1 .ensures) (c .before .loop .inv) (slimmed (w .2 .result .next)) (ap slimmed (w .2 .ensures .0)) (w .5 .taken))
     (c .loop-test .came)
 
 -- src/evt3.rt:75:9
@@ -107,10 +95,7 @@ walk-spec =
     widen-requires
     loop-holds
     add-loop
-    shared-slice-read-word2
-    add-word2
-    shared-slice-read-word2-2
-    word2-requires
+    two-at-requires
     advance-requires
     bits-requires
     carries-requires

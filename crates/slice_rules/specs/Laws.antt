@@ -44,12 +44,15 @@ use Rattle.checkpoints.specs.Judge.{firstJudging, judgedAll}
 use Rattle.checkpoints.specs.JudgeLaws.{judged-in-range, Good, parted-passes, last-good}
 use Rattle.index.specs.Open.{spaced}
 use Rattle.checkpoints.specs.Start.{lastPassing}
-use Rattle.slice.specs.declared.SliceAnswer.{SliceAnswer}
-use Rattle.slice.specs.declared.SliceAnswer.the-variants.{Sliced, Refused}
-use Rattle.slice.specs.declared.Asked.{Asked}
-use Rattle.slice.specs.Slice.{startingAt, sizeOf, firstOf, endOf, indexEvents, isDuring, eventsUntil, timeEvents, toldSlice, byRules, sliceVerdict, sliceHanded, sliceAnswer, Slices, SlicesIndex, SlicesTime}
-use Rattle.slice.specs.Times.{timeWindow, time-over}
-use Rattle.slice.specs.From.{numberWindow, askedByNumber, askedByTime, passedFrom, answerTo, handedTo, answerOf, rulesOf, SlicesFrom, Startable}
+use Rattle.evt_types.specs.declared.Refusal.{Refusal}
+use Rattle.slice_rules.specs.declared.Start.{Start}
+use Rattle.slice_rules.specs.declared.Start.the-variants.{At, Not}
+use Rattle.slice_rules.specs.declared.SliceAnswer.{SliceAnswer}
+use Rattle.slice_rules.specs.declared.SliceAnswer.the-variants.{Sliced, Refused}
+use Rattle.slice_rules.specs.declared.Asked.{Asked}
+use Rattle.slice_rules.specs.Slice.{startingAt, sizeOf, firstOf, endOf, indexEvents, isDuring, eventsUntil, timeEvents, toldSlice, byRules, sliceVerdict, sliceHanded, sliceAnswer, Slices, SlicesIndex, SlicesTime}
+use Rattle.slice_rules.specs.Times.{timeWindow, time-over}
+use Rattle.slice_rules.specs.From.{numberWindow, askedByNumber, askedByTime, passedFrom, answerTo, handedTo, answerOf, rulesOf, startOf, SlicesFrom, Startable}
 
 most-small : (c : Codec) (n : ℕ) → mostFrom c n ≤ 6 * n
 most-small (Evt2 d) n = omega arith
@@ -95,27 +98,61 @@ ready-from recording s ok c h p q able =
     let l : length (drop (c .«byte_offset») recording) ≤ 2 ^ 30 = omega (arith, length-drop (c .«byte_offset») recording) in
     record { able = able-range (c .codec) (length (drop (c .«byte_offset») recording)) (a .0) l; long = l; low = omega (arith, a .1) }
 
-module _ (recording : List ℕ) (s : RawSliceSource) (ok : Bool) (es : List Event) {xs₀ ys₀ : List ℕ} {ts₀ : List ℤ} {ps₀ : List ℕ} where
-  pub from-long : 2 ^ 30 < length recording → SlicesFrom recording s ok es (Refused TooLong) xs₀ ys₀ ts₀ ps₀ xs₀ ys₀ ts₀ ps₀
-  from-long h = record { answer = rw (lt-ltb (2 ^ 30) (length recording) h); columns = rw (lt-ltb (2 ^ 30) (length recording) h) handed-none }
+abbrev refusalOf : Start → SliceAnswer
+refusalOf (At n) = Sliced n
+refusalOf (Not why) = Refused why
 
-  module _ (fits : length recording ≤ 2 ^ 30) where
-    pub from-zero : hasZero (sizeOf s) ≡ true → SlicesFrom recording s ok es (Refused InvalidSensorSize) xs₀ ys₀ ts₀ ps₀ xs₀ ys₀ ts₀ ps₀
-    from-zero z = record { answer = rw (le-ltb (2 ^ 30) (length recording) fits, z); columns = rw (le-ltb (2 ^ 30) (length recording) fits, z) handed-none }
+abbrev atOf : Start → ℕ
+atOf (At n) = n
+atOf (Not why) = 0
 
-    module _ (sized : hasZero (sizeOf s) ≡ false) where
-      pub from-spacing : spacingOk (s .encoding) (s .spacing) ≡ false → SlicesFrom recording s ok es (Refused InvalidSpacing) xs₀ ys₀ ts₀ ps₀ xs₀ ys₀ ts₀ ps₀
-      from-spacing p = record { answer = rw (le-ltb (2 ^ 30) (length recording) fits, sized, p); columns = rw (le-ltb (2 ^ 30) (length recording) fits, sized, p) handed-none }
+abbrev isAtOf : Start → Bool
+isAtOf (At n) = true
+isAtOf (Not why) = false
 
-      module _ (spaced : spacingOk (s .encoding) (s .spacing) ≡ true) where
-        pub from-range : ok ≡ false → SlicesFrom recording s ok es (Refused StateOutOfRange) xs₀ ys₀ ts₀ ps₀ xs₀ ys₀ ts₀ ps₀
-        from-range p = record { answer = rw (le-ltb (2 ^ 30) (length recording) fits, sized, spaced, p); columns = rw (le-ltb (2 ^ 30) (length recording) fits, sized, spaced, p) handed-none }
+pub record Starts (n : ℕ) (s : RawSliceSource) (ok : Bool) (offset at : ℕ) : Type 0 where
+  pub place : at ≡ min offset n
+  pub fits : n ≤ 2 ^ 30
+  pub sized : hasZero (sizeOf s) ≡ false
+  pub spaced : spacingOk (s .encoding) (s .spacing) ≡ true
+  pub ranged : ok ≡ true
 
-        pub from-all : (d : Delivered) (r : SliceAnswer) {xs ys : List ℕ} {ts : List ℤ} {ps : List ℕ} → ok ≡ true → Delivers es d xs₀ ys₀ ts₀ ps₀ xs ys ts ps → r ≡ answerOf d → SlicesFrom recording s ok es r xs₀ ys₀ ts₀ ps₀ xs ys ts ps
-        from-all d r p h e = record {
-          answer = rw (le-ltb (2 ^ 30) (length recording) fits, sized, spaced, p) (e ∙ delivered-answer h);
-          columns = rw (le-ltb (2 ^ 30) (length recording) fits, sized, spaced, p) (delivered-columns h);
-        }
+pub starts : (n : ℕ) (s : RawSliceSource) (ok : Bool) (offset at : ℕ) → At at ≡ startOf n s ok offset → Starts n s ok offset at
+starts n s ok offset at e = go (ltb (2 ^ 30) n) refl (hasZero (sizeOf s)) refl (spacingOk (s .encoding) (s .spacing)) refl ok refl e
+  where
+    not : {why : Refusal} → At at ≡ Not why → Starts n s ok offset at
+    not e = absurd (true≢false (ap isAtOf e))
+
+    go : (a : Bool) → ltb (2 ^ 30) n ≡ a → (b : Bool) → hasZero (sizeOf s) ≡ b → (c : Bool) → spacingOk (s .encoding) (s .spacing) ≡ c → (d : Bool) → ok ≡ d
+        → At at ≡ cond a (Not TooLong) (cond b (Not InvalidSensorSize) (cond c (cond d (At (min offset n)) (Not StateOutOfRange)) (Not InvalidSpacing))) → Starts n s ok offset at
+    go true p b q c r d t e = not e
+    go false p true q c r d t e = not e
+    go false p false q false r d t e = not e
+    go false p false q true r false t e = not e
+    go false p false q true r true t e = record { place = ap atOf e; fits = ltb-false (2 ^ 30) n p; sized = q; spaced = r; ranged = t }
+
+module _ (recording : List ℕ) (s : RawSliceSource) (ok : Bool) (es : List Event) (offset : ℕ) {xs₀ ys₀ : List ℕ} {ts₀ : List ℤ} {ps₀ : List ℕ} where
+  pub from-not : (why : Refusal) → Not why ≡ startOf (length recording) s ok offset → SlicesFrom recording s ok es (Refused why) xs₀ ys₀ ts₀ ps₀ xs₀ ys₀ ts₀ ps₀
+  from-not why e =
+      let room = shortest xs₀ ys₀ ts₀ ps₀ in
+      let g = go (answerTo es room) (handedTo es room) (ltb (2 ^ 30) (length recording)) (hasZero (sizeOf s)) (spacingOk (s .encoding) (s .spacing)) ok e in
+      record { answer = g .0; columns = rw (g .1) handed-none }
+    where
+      go : (x : SliceAnswer) (l : List Event) (a b c d : Bool) → Not why ≡ cond a (Not TooLong) (cond b (Not InvalidSensorSize) (cond c (cond d (At (min offset (length recording))) (Not StateOutOfRange)) (Not InvalidSpacing)))
+          → (Refused why ≡ cond a (Refused TooLong) (cond b (Refused InvalidSensorSize) (cond c (cond d x (Refused StateOutOfRange)) (Refused InvalidSpacing)))) × (cond a [] (cond b [] (cond c (cond d l []) [])) ≡ [])
+      go x l true b c d e = (ap refusalOf e, refl)
+      go x l false true c d e = (ap refusalOf e, refl)
+      go x l false false false d e = (ap refusalOf e, refl)
+      go x l false false true false e = (ap refusalOf e, refl)
+      go x l false false true true e = absurd (true≢false (sym (ap isAtOf e)))
+
+  pub from-at : (at : ℕ) → At at ≡ startOf (length recording) s ok offset → (d : Delivered) (r : SliceAnswer) {xs ys : List ℕ} {ts : List ℤ} {ps : List ℕ} → Delivers es d xs₀ ys₀ ts₀ ps₀ xs ys ts ps → r ≡ answerOf d → SlicesFrom recording s ok es r xs₀ ys₀ ts₀ ps₀ xs ys ts ps
+  from-at at e d r h f =
+      let p = starts (length recording) s ok offset at e in
+      record {
+        answer = rw (le-ltb (2 ^ 30) (length recording) (p .fits), p .sized, p .spaced, p .ranged) (f ∙ delivered-answer h);
+        columns = rw (le-ltb (2 ^ 30) (length recording) (p .fits), p .sized, p .spaced, p .ranged) (delivered-columns h);
+      }
 
 -- ---- what an answer tells is the verdict, and with the records judged all is as specs/Slice.antt has it
 

@@ -2,7 +2,7 @@
 use mathlib.Core.Path.{_≡_}
 use mathlib.Core.Bool.{Bool, true, false, cond}
 use mathlib.Core.List.{List, []}
-use Prim.Native.Nat.{ℕ, _≤_, _^_}
+use Prim.Native.Nat.{ℕ, _≤_, _^_, min}
 use lib.Dec.{ltb}
 use lib.IntN.{ℤ, pos}
 use lib.ListN.{length, drop}
@@ -19,11 +19,13 @@ use Rattle.index.specs.declared.Checkpoint.{Checkpoint}
 use Rattle.index.specs.declared.RawSliceSource.{RawSliceSource}
 use Rattle.index.specs.Index.{spacingOk}
 use Rattle.checkpoints.specs.Judge.{firstJudging}
-use Rattle.slice.specs.declared.Asked.{Asked}
-use Rattle.slice.specs.declared.SliceAnswer.{SliceAnswer}
-use Rattle.slice.specs.declared.SliceAnswer.the-variants.{Sliced, Refused}
-use Rattle.slice.specs.Slice.{sizeOf, firstOf, endOf}
-use Rattle.slice.specs.Times.{timeWindow}
+use Rattle.slice_rules.specs.declared.Asked.{Asked}
+use Rattle.slice_rules.specs.declared.Start.{Start}
+use Rattle.slice_rules.specs.declared.Start.the-variants.{At, Not}
+use Rattle.slice_rules.specs.declared.SliceAnswer.{SliceAnswer}
+use Rattle.slice_rules.specs.declared.SliceAnswer.the-variants.{Sliced, Refused}
+use Rattle.slice_rules.specs.Slice.{sizeOf, firstOf, endOf}
+use Rattle.slice_rules.specs.Times.{timeWindow}
 
 -- ---- what is asked for
 
@@ -58,13 +60,21 @@ answerOf (Needed n) = Refused (ColumnsTooShort n)
 
 -- ---- 4, 1, 8, 10 where the records are in range or not, and so on
 
-abbrev pub rulesOf : List ℕ → RawSliceSource → (ok : Bool) → {A : Type 0} → (is4 is1 is8 is10 passed : A) → A
-rulesOf recording s ok is4 is1 is8 is10 passed =
-    cond (ltb (2 ^ 30) (length recording)) is4
+-- for a recording of n bytes
+abbrev pub rulesFor : (n : ℕ) → RawSliceSource → (ok : Bool) → {A : Type 0} → (is4 is1 is8 is10 passed : A) → A
+rulesFor n s ok is4 is1 is8 is10 passed =
+    cond (ltb (2 ^ 30) n) is4
     (cond (hasZero (sizeOf s)) is1
     (cond (spacingOk (s .encoding) (s .spacing))
     (cond ok passed is10)
     is8))
+
+abbrev pub rulesOf : List ℕ → RawSliceSource → (ok : Bool) → {A : Type 0} → (is4 is1 is8 is10 passed : A) → A
+rulesOf recording s ok is4 is1 is8 is10 passed = rulesFor (length recording) s ok is4 is1 is8 is10 passed
+
+-- the byte that a record's offset leads to, or the refusal
+abbrev pub startOf : (n : ℕ) → RawSliceSource → (ok : Bool) → (offset : ℕ) → Start
+startOf n s ok offset = rulesFor n s ok (Not TooLong) (Not InvalidSensorSize) (Not InvalidSpacing) (Not StateOutOfRange) (At (min offset n))
 
 pub record SlicesFrom (recording : List ℕ) (s : RawSliceSource) (ok : Bool) (es : List Event) (r : SliceAnswer)
     (xs₀ ys₀ : List ℕ) (ts₀ : List ℤ) (ps₀ xs ys : List ℕ) (ts : List ℤ) (ps : List ℕ) : Type 0 where

@@ -21,7 +21,7 @@ pub use Rattle.store.specs.Columns.{natural}
 use Rattle.window.specs.declared.Window.{Window}
 use Rattle.select.specs.Uses.{isTimely, untilOver}
 use Rattle.answer.specs.Read.{kept}
-use Rattle.slice.specs.Slice.{isDuring, isAt, eventsUntil}
+use Rattle.slice_rules.specs.Slice.{isDuring, isAt, eventsUntil}
 
 from-natural : (z : ℤ) (t : ℕ) → leZ z (pos t) ≡ leb (natural z) t
 from-natural (pos n) t = refl

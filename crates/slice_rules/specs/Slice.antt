@@ -28,8 +28,8 @@ use Rattle.index.specs.declared.RawSliceSource.{RawSliceSource}
 use Rattle.index.specs.Index.{spacingOk}
 use Rattle.checkpoints.specs.InRange.{indexInRange}
 use Rattle.checkpoints.specs.Start.{lastPassing}
-use Rattle.slice.specs.declared.SliceAnswer.{SliceAnswer}
-use Rattle.slice.specs.declared.SliceAnswer.the-variants.{Sliced, Refused}
+use Rattle.slice_rules.specs.declared.SliceAnswer.{SliceAnswer}
+use Rattle.slice_rules.specs.declared.SliceAnswer.the-variants.{Sliced, Refused}
 
 -- ---- the record to start at
 

@@ -155,6 +155,10 @@ module _ (p : ℕ) (xs : List ℕ) (i e k : ℕ) (h : i < e) (f : e ≤ length x
   unfolding bodyWords
   body-singles v = ap (stream 2) (ap (λ (b : Bool). cond b (vectorWords p (between xs i e)) (map (singleWord3 p) (between xs i e))) (vectored-is ∙ v))
 
+  -- one or two are single events
+  pub body-pair : e ≤ i + 2 → stream 2 (bodyWords p (between xs i e)) ≡ stream 2 (map (singleWord3 p) (between xs i e))
+  body-pair g = body-singles (le-ltb (1 + k) (e - i) (omega (arith, is-k)))
+
   pub body-length : length (stream 2 (bodyWords p (between xs i e))) ≡ 2 * cond (ltb (1 + k) (e - i)) (1 + k) (e - i)
   body-length = go (ltb (1 + k) (e - i)) refl
     where

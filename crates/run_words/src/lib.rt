@@ -158,25 +158,25 @@ fn put_pair(p: u8, xs: &[u16], i: usize, end: usize, out: &mut [u8], at: usize) 
     last + 2
 }
 
-// The words of the columns from i up to end, a run.
+// The words of the columns from i up to end, a run. One or two, which most runs have, are tested first:
+// no vector pays for them.
 fn put_body(p: u8, xs: &[u16], i: usize, end: usize, out: &mut [u8], at: usize) -> usize
     requires { ⌜ Part (now xs) i end (at + 2) × (i < end) × Rising (between (now xs) i end) × Roomy (now out) at (length (stream 2 (bodyWords p (between (now xs) i end)))) ⌝ }
     ensures { λ r. ⌜ r ≡ at + length (stream 2 (bodyWords p (between (now (xs .entry)) i end))) ⌝ ∗ ⌜ now (out .exit) ≡ sets (now (out .entry)) at (stream 2 (bodyWords p (between (now (xs .entry)) i end))) ⌝ }
 {
+    let n = end - i;
+    if n <= 2 {
+        return put_pair(p, xs, i, end, &mut *out, at);
+    }
     let x = xs[i];
     let first = x as u64;
     let last = xs[end - 1] as u64;
-    let n = end - i;
     if vector_pays(n as u64, first, last) {
         let k = windows_to(first, last);
         store::put16(&mut *out, at, base_word(p, x));
         return put_masks(xs, i, end, first, k, &mut *out, at + 2);
     }
-    if n <= 2 {
-        put_pair(p, xs, i, end, &mut *out, at)
-    } else {
-        put_singles(p, xs, i, end, &mut *out, at)
-    }
+    put_singles(p, xs, i, end, &mut *out, at)
 }
 
 // How many bytes the words of n columns have, a run.

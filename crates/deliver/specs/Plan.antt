@@ -100,18 +100,13 @@ module _ (win : Window) (k : ℕ) (c : Codec) (l : List ℕ) (ready : Ready c k 
   planned-all = to-the-end win k c l 0 k c (omega arith) refl ready
 
   -- everything
-  pub planned-whole : Whole win → Fitting c → (plain : Bool) → Planned win k c l (record { plain = plain; from = 0; to = length l; codec = c; number = k })
-  planned-whole whole fit plain = record {
-    order = omega arith;
-    within = omega arith;
-    plainly = λ z. rw (rest-of l 0) (record {
-      same =
-          over-all win c l (ready .able) (whole .no-start) (whole .no-end) k (omega (arith, whole .timed .first)) (rw (numbered-inside win c l) (omega (arith, inside-bytes (win .width) (win .height) c l, ready .long, ready .low, whole .timed .last)))
-          ∙ numbered-inside win c l;
-      long = ready .long;
-      able = able-fitting c (length l) (ready .able) fit;
-    });
-    under = λ z. rw (rest-of l 0) (record { same = refl; ready = ready });
+  pub plainly-whole : Whole win → Fitting c → Plainly (handedOver win k c l) (win .width) (win .height) c l
+  plainly-whole whole fit = record {
+    same =
+        over-all win c l (ready .able) (whole .no-start) (whole .no-end) k (omega (arith, whole .timed .first)) (rw (numbered-inside win c l) (omega (arith, inside-bytes (win .width) (win .height) c l, ready .long, ready .low, whole .timed .last)))
+        ∙ numbered-inside win c l;
+    long = ready .long;
+    able = able-fitting c (length l) (ready .able) fit;
   }
 
   -- by time

@@ -82,8 +82,9 @@ fn deliver_window(
     Delivered::Written(t.count)
 }
 
-// Writes what a pass hands over, if the columns hold it. `requires`: every caller has refused longer
-// recordings (4) and a decoder out of range (10).
+// Writes what a pass hands over, if the columns hold it. Everything goes by a call of its own: with two
+// callers the plain loops stay a function of their own, with registers enough. `requires`: every caller
+// has refused longer recordings (4) and a decoder out of range (10).
 pub fn deliver(
     bytes: &[u8],
     codec: Codec,
@@ -97,6 +98,18 @@ pub fn deliver(
     requires { ⌜ Ready codec number (length (now bytes)) ⌝ }
     ensures { λ r. ⌜ Delivers (handedOver window number codec (now (bytes .entry))) r (now (xs .entry)) (now (ys .entry)) (now (ts .entry)) (now (ps .entry)) (now (xs .exit)) (now (ys .exit)) (now (ts .exit)) (now (ps .exit)) ⌝ }
 {
+    if plan::is_everything(window, codec) {
+        return deliver_all(
+            bytes,
+            codec,
+            window.width,
+            window.height,
+            &mut *xs,
+            &mut *ys,
+            &mut *ts,
+            &mut *ps,
+        );
+    }
     let p = plan::plan_window(bytes, codec, window, number);
     let from = p.from;
     let to = p.to;

@@ -1,10 +1,12 @@
 // What is decoded for a window, settled by value before a column is lent. A window of everything goes
-// to the plain loops; of another, the words before its first time or number are passed over, and one
-// of times alone goes to the plain loops too, up to its last, unless a time steps back among them.
+// to the plain loops as it is; of another, the words before its first time or number are passed over,
+// and one of times alone goes to the plain loops too, up to its last, unless a time steps back among
+// them.
 // specs/Plan.antt says why nothing is lost.
 ghost use mathlib.Core.Path.{_≡_};
 ghost use mathlib.Core.Bool.{true};
 ghost use lib.ListN.{length};
+ghost use Rattle.decode.specs.Decode.{Fitting};
 ghost use Rattle.select.specs.Pass.{Ready};
 ghost use Rattle.deliver.specs.Plan.{Timed, Whole, Numbered, Planned};
 use evt::Codec;
@@ -25,9 +27,6 @@ pub fn plan_window(bytes: &[u8], codec: Codec, window: Window, number: u64) -> P
     requires { ⌜ Ready codec number (length (now bytes)) ⌝ }
     ensures { λ r. ⌜ Planned window number codec (now (bytes .entry)) r ⌝ }
 {
-    if is_whole(window) {
-        return plan_whole(bytes, codec, window, number);
-    }
     if is_timed(window) {
         return plan_time(bytes, codec, window, number);
     }
@@ -36,21 +35,6 @@ pub fn plan_window(bytes: &[u8], codec: Codec, window: Window, number: u64) -> P
     }
     Plan {
         plain: false,
-        from: 0,
-        to: bytes.len(),
-        codec: codec,
-        number: number,
-    }
-}
-
-// Everything. A decoder out of range, which the callers refuse, would stay under the window.
-fn plan_whole(bytes: &[u8], codec: Codec, window: Window, number: u64) -> Plan
-    requires { ⌜ Ready codec number (length (now bytes)) ⌝ ∗ ⌜ Whole window ⌝ }
-    ensures { λ r. ⌜ Planned window number codec (now (bytes .entry)) r ⌝ }
-{
-    let plain = decode::in_range(codec);
-    Plan {
-        plain: plain,
         from: 0,
         to: bytes.len(),
         codec: codec,
@@ -113,6 +97,15 @@ fn is_timed(window: Window) -> bool
         }
     }
     false
+}
+
+// Whether a window has everything. A decoder out of range, which the callers refuse, goes under the
+// window like any other.
+pub fn is_everything(window: Window, codec: Codec) -> bool
+    ensures { λ r. ⌜ (r ≡ true → Whole window × Fitting codec) ⌝ }
+{
+    let fits = decode::in_range(codec);
+    if is_whole(window) { fits } else { false }
 }
 
 // Whether a window has every number and every time.

@@ -106,7 +106,7 @@ onward-ok j c ok = go (ltb (18446744073709551615 - j .spacing) (j .offset))
     go false = refl
 
 -- what failed once stays so
-judged-failed : (j : Judging) (cs : List Checkpoint) → j .ok ≡ false → judgedAll j cs .ok ≡ false
+pub judged-failed : (j : Judging) (cs : List Checkpoint) → j .ok ≡ false → judgedAll j cs .ok ≡ false
 judged-failed j [] h = h
 judged-failed j (c ∷ cs) h = judged-failed (judgedOf j c) cs (onward-ok j c (admitsOf j c) ∙ rw h (go (isOther (c .codec) (j .encoding)) (standsOf j c)))
   where

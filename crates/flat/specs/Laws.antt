@@ -171,33 +171,36 @@ module _ (e : Encoding) (recording entries : List ℕ) (given : PropheseeSource)
       (record { is-answer = is-r ∙ ap slicedOf (h .is-told); columns = h .columns })
 
 -- the records are judged, and one of them is chosen to start at
-module _ (e : Encoding) (recording entries : List ℕ) (s : RawSliceSource) (asked : Asked) (judged : Judging) (start : Checkpoint)
-    (all : judged ≡ judgedAll (asked .judging) (recordsIn e entries)) (chose : Chose (asked .choice) (recordsIn e entries) start) where
+module _ (e : Encoding) (recording entries : List ℕ) (s : RawSliceSource) (asked : Asked) (fine : Bool) (start : Checkpoint)
+    (all : fine ≡ judgedAll (asked .judging) (recordsIn e entries) .ok) (chose : Chose (asked .choice) (recordsIn e entries) start) where
   abbrev records : List Checkpoint
   records = recordsIn e entries
+
+  abbrev judged : Judging
+  judged = judgedAll (asked .judging) records
 
   module _ (i0 i1 : ℕ) (is : asked ≡ askedByNumber s (roomOf entries) i0 i1) where
     by-number : asked ≡ askedByNumber s (length records) i0 i1
     by-number = is ∙ ap (λ (n : ℕ). askedByNumber s n i0 i1) (sym (length-records e entries))
 
-    pub start-number : Startable s (judged .ok) start
-    start-number = startable s records asked judged start (began-index recording s records asked judged start i0 i1 by-number all chose)
+    pub start-number : Startable s fine start
+    start-number = rw all (startable s records asked judged start (began-index recording s records asked judged start i0 i1 by-number refl chose))
 
     pub slices-number : (given : PropheseeSource) → s ≡ sourceOf e given → (a : SliceAnswer) (r : PropheseeSlice) → r ≡ slicedOf (toldSlice a)
         → {xs₀ ys₀ : List ℕ} {ts₀ : List ℤ} {ps₀ xs ys : List ℕ} {ts : List ℤ} {ps : List ℕ}
-        → SlicesFrom recording s (judged .ok) (passedFrom recording (asked .window) start) a xs₀ ys₀ ts₀ ps₀ xs ys ts ps → SlicesIndex recording e given entries i0 i1 r xs₀ ys₀ ts₀ ps₀ xs ys ts ps
+        → SlicesFrom recording s fine (passedFrom recording (asked .window) start) a xs₀ ys₀ ts₀ ps₀ xs ys ts ps → SlicesIndex recording e given entries i0 i1 r xs₀ ys₀ ts₀ ps₀ xs ys ts ps
     slices-number given is-s a r is-r h =
-        sliced e recording entries given s is-s a r is-r (λ (k : RawSliceSource). Slice.indexEvents recording k records i0 i1) (slices-index recording s records asked judged start i0 i1 by-number all chose h)
+        sliced e recording entries given s is-s a r is-r (λ (k : RawSliceSource). Slice.indexEvents recording k records i0 i1) (slices-index recording s records asked judged start i0 i1 by-number refl chose (rw all at h))
 
   module _ (t0 t1 : ℤ) (is : asked ≡ askedByTime s (roomOf entries) t0 t1) where
     by-time : asked ≡ askedByTime s (length records) t0 t1
     by-time = is ∙ ap (λ (n : ℕ). askedByTime s n t0 t1) (sym (length-records e entries))
 
-    pub start-during : Startable s (judged .ok) start
-    start-during = startable s records asked judged start (began-time recording s records asked judged start t0 t1 by-time all chose)
+    pub start-during : Startable s fine start
+    start-during = rw all (startable s records asked judged start (began-time recording s records asked judged start t0 t1 by-time refl chose))
 
     pub slices-during : (given : PropheseeSource) → s ≡ sourceOf e given → (a : SliceAnswer) (r : PropheseeSlice) → r ≡ slicedOf (toldSlice a)
         → {xs₀ ys₀ : List ℕ} {ts₀ : List ℤ} {ps₀ xs ys : List ℕ} {ts : List ℤ} {ps : List ℕ}
-        → SlicesFrom recording s (judged .ok) (passedFrom recording (asked .window) start) a xs₀ ys₀ ts₀ ps₀ xs ys ts ps → SlicesTime recording e given entries t0 t1 r xs₀ ys₀ ts₀ ps₀ xs ys ts ps
+        → SlicesFrom recording s fine (passedFrom recording (asked .window) start) a xs₀ ys₀ ts₀ ps₀ xs ys ts ps → SlicesTime recording e given entries t0 t1 r xs₀ ys₀ ts₀ ps₀ xs ys ts ps
     slices-during given is-s a r is-r h =
-        sliced e recording entries given s is-s a r is-r (λ (k : RawSliceSource). Slice.timeEvents recording k records t0 t1) (slices-time recording s records asked judged start t0 t1 by-time all chose h)
+        sliced e recording entries given s is-s a r is-r (λ (k : RawSliceSource). Slice.timeEvents recording k records t0 t1) (slices-time recording s records asked judged start t0 t1 by-time refl chose (rw all at h))

@@ -19,6 +19,7 @@ use Rattle.checkpoints.specs.Choose.{Chose}
 use Rattle.index.specs.Index.{firsts}
 use Rattle.checkpoints.specs.Halves.{bracketOf, narrowed}
 use Rattle.checkpoints.specs.Judge.{judgedOf, judgedAll}
+use Rattle.checkpoints.specs.JudgeLaws.{judged-failed}
 use Rattle.index.specs.Laws.{length-firsts}
 use Rattle.index.specs.Nth.{nth, blank}
 use Rattle.checkpoints.specs.Search.{Searching, search-start, search-place, search-turn}
@@ -27,6 +28,13 @@ use Rattle.flat.specs.Records.{roomOf, recordAt, recordsIn}
 judged-more : (s : Judging) (l : List Checkpoint) (c : Checkpoint) → judgedAll s (l ++ (c ∷ [])) ≡ judgedOf (judgedAll s l) c
 judged-more s [] c = refl
 judged-more s (d ∷ l) c = judged-more (judgedOf s d) l c
+
+-- what the first i fail, more fail too
+failed-more : (s : Judging) (f : ℕ → Checkpoint) (i k : ℕ) → judgedAll s (firsts f i) .ok ≡ false → judgedAll s (firsts f (k + i)) .ok ≡ false
+failed-more s f i zero h = let n : 0 + i ≡ i = omega arith in rw n h
+failed-more s f i (suc k) h =
+    let n : suc k + i ≡ suc (k + i) = omega arith in
+    rw n (ap (λ (j : Judging). j .ok) (judged-more s (firsts f (k + i)) (f (k + i))) ∙ judged-failed (judgedAll s (firsts f (k + i))) (f (k + i) ∷ []) (failed-more s f i k h))
 
 nth-firsts : (f : ℕ → Checkpoint) (n i : ℕ) → i < n → nth (firsts f n) i ≡ f i
 nth-firsts f zero i h = absurd (omega arith)
@@ -64,6 +72,12 @@ module _ (e : Encoding) (l : List ℕ) where
   pub judged-end : (s : Judging) (i : ℕ) (t : Judging) → i ≡ roomOf l → Judged s i t → t ≡ judgedAll s (recordsIn e l)
   unfolding recordsIn
   judged-end s i t is h = h ∙ ap (λ (n : ℕ). judgedAll s (firsts (recordAt e l) n)) is
+
+  pub judged-stop : (s : Judging) (i : ℕ) (t : Judging) → i ≤ roomOf l → Judged s i t → t .ok ≡ false → judgedAll s (recordsIn e l) .ok ≡ false
+  unfolding recordsIn
+  judged-stop s i t within h failed =
+      let n : roomOf l - i + i ≡ roomOf l = omega arith in
+      ap (λ (n : ℕ). judgedAll s (firsts (recordAt e l) n) .ok) (sym n) ∙ failed-more s (recordAt e l) i (roomOf l - i) (sym (ap (λ (j : Judging). j .ok) h) ∙ failed)
 
   -- ---- the search
 

@@ -41,9 +41,9 @@ pub fn source_of(encoding: Encoding, s: PropheseeSource) -> RawSliceSource
     }
 }
 
-// All whole records, one after another.
-pub fn judge_entries(encoding: Encoding, records: &[u64], s: Judging) -> Judging
-    ensures { λ r. ⌜ r ≡ judgedAll s (recordsIn encoding (now (records .entry))) ⌝ }
+// Whether all whole records are in range, one after another, up to the first that isn't.
+pub fn judge_entries(encoding: Encoding, records: &[u64], s: Judging) -> bool
+    ensures { λ r. ⌜ r ≡ judgedAll s (recordsIn encoding (now (records .entry))) .ok ⌝ }
 {
     let n = records.len() / 10;
     let mut t = s;
@@ -51,9 +51,12 @@ pub fn judge_entries(encoding: Encoding, records: &[u64], s: Judging) -> Judging
     while i < n {
         let c = record_at(encoding, records, i * 10);
         t = checkpoints::judge(t, c);
+        if t.ok {} else {
+            return false;
+        }
         i += 1;
     }
-    t
+    t.ok
 }
 
 // The record that a slice starts at, by halves.

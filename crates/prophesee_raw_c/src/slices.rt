@@ -28,13 +28,13 @@ fn slice_index(
     let judging = asked.judging;
     let choice = asked.choice;
     let window = asked.window;
-    let judged = judge_entries(encoding, records, judging);
+    let in_range = judge_entries(encoding, records, judging);
     let start = choose_entries(encoding, records, choice);
     let answer = slice::slice_from(
         recording,
         s,
         window,
-        judged.ok,
+        in_range,
         start,
         &mut *xs,
         &mut *ys,
@@ -63,13 +63,13 @@ fn slice_time(
     let judging = asked.judging;
     let choice = asked.choice;
     let window = asked.window;
-    let judged = judge_entries(encoding, records, judging);
+    let in_range = judge_entries(encoding, records, judging);
     let start = choose_entries(encoding, records, choice);
     let answer = slice::slice_from(
         recording,
         s,
         window,
-        judged.ok,
+        in_range,
         start,
         &mut *xs,
         &mut *ys,

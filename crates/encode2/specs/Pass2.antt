@@ -21,6 +21,17 @@ use Rattle.store.specs.Sent.{carries, due, held, held-is}
 use Rattle.encode2.specs.Evt2.{highWord2, wordOf2, highSent2, encode2, encoded2, writer2}
 use Rattle.store.specs.Storing.{Roomy, sets-over, piece, bytesFrom, Going, going-start, going-turn, going-room, going-end}
 
+-- an event whose words cut nothing off: rule 7 refuses every other
+pub record Fit2 (e : Event) : Type 0 where
+  pub fit-x : e .x ≤ 2047
+  pub fit-y : e .y ≤ 2047
+  pub fit-t : e .t < 2 ^ 34
+  pub fit-p : e .p ≤ 1
+
+-- columns of such events
+abbrev pub Fitting2 : List ℕ → List ℕ → List ℤ → List ℕ → Type 0
+Fitting2 xs ys ts ps = (i : ℕ) → Fit2 (eventOf xs ys ts ps i)
+
 abbrev pub bytes2 : EncoderState → Event → List ℕ
 bytes2 = piece 4 writer2
 

@@ -9,32 +9,33 @@ ghost use lib.Seq.{sets};
 ghost use Rattle.store.specs.Columns.{Sized, Whole, event, eventsIn};
 ghost use Rattle.encode2.specs.Evt2.{highWord2, wordOf2};
 ghost use Rattle.store.specs.Storing.{Roomy};
-ghost use Rattle.encode2.specs.Pass2.{eventBytes2, stateAt2, stream2, passed2};
+ghost use Rattle.encode2.specs.Pass2.{Fit2, Fitting2, eventBytes2, stateAt2, stream2, passed2};
 use evt_types::Sent;
 use store::EncoderState;
 use store::Put;
 use store::held_of;
 use store::time_at;
 
+// Nothing is cut off of what rule 7 lets pass, so these two need none of the remainders of the
+// definitions.
 fn high_word(t: u64) -> u32
+    requires { ⌜ t < 2 ^ 34 ⌝ }
     ensures { λ r. ⌜ r ≡ highWord2 t ⌝ }
 {
-    2147483648 + (t / 64 % 268435456) as u32
+    2147483648 + (t / 64) as u32
 }
 
 fn event_word(x: u16, y: u16, t: u64, p: u8) -> u32
+    requires { ⌜ Fit2 (event x y t p) ⌝ }
     ensures { λ r. ⌜ r ≡ wordOf2 (event x y t p) ⌝ }
 {
-    (p % 2) as u32 * 268435456
-        + (t % 64) as u32 * 4194304
-        + (x % 2048) as u32 * 2048
-        + (y % 2048) as u32
+    ((p as u32 * 64 + (t % 64) as u32) * 2048 + x as u32) * 2048 + y as u32
 }
 
 // The words of one event, at `at`, where `high` was sent last. The word of the high half is stored
 // always: where it isn't due the event's word takes its place, which is faster than a branch.
 fn put_event(high: u64, x: u16, y: u16, t: u64, p: u8, out: &mut [u8], at: usize) -> usize
-    requires { ⌜ (at < 2 ^ 60) × Roomy (now out) at (length (eventBytes2 (eqb high (t / 64)) (event x y t p))) ⌝ }
+    requires { ⌜ (at < 2 ^ 60) × Roomy (now out) at (length (eventBytes2 (eqb high (t / 64)) (event x y t p))) × Fit2 (event x y t p) ⌝ }
     ensures { λ r. ⌜ r ≡ at + length (eventBytes2 (eqb high (t / 64)) (event x y t p)) ⌝ ∗ ⌜ now (out .exit) ≡ sets (now (out .entry)) at (eventBytes2 (eqb high (t / 64)) (event x y t p)) ⌝ }
 {
     let w = event_word(x, y, t, p);
@@ -71,7 +72,7 @@ pub fn pass(
     out: &mut [u8],
     start: usize,
 ) -> Put
-    requires { ⌜ Sized (now xs) (now ys) (now ts) (now ps) × (start ≤ 2 ^ 32) × Whole (now ts) × Roomy (now out) start (length (stream2 state (eventsIn (now xs) (now ys) (now ts) (now ps)))) ⌝ }
+    requires { ⌜ Sized (now xs) (now ys) (now ts) (now ps) × (start ≤ 2 ^ 32) × Whole (now ts) × Roomy (now out) start (length (stream2 state (eventsIn (now xs) (now ys) (now ts) (now ps)))) × Fitting2 (now xs) (now ys) (now ts) (now ps) ⌝ }
     ensures { λ r. ⌜ r ≡ passed2 state (eventsIn (now (xs .entry)) (now (ys .entry)) (now (ts .entry)) (now (ps .entry))) start ⌝ ∗ ⌜ now (out .exit) ≡ sets (now (out .entry)) start (stream2 state (eventsIn (now (xs .entry)) (now (ys .entry)) (now (ts .entry)) (now (ps .entry)))) ⌝ }
 {
     let sent = state.time_high;

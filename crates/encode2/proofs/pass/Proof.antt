@@ -61,7 +61,7 @@ put-event-requires c κs =
     let l = c .before .before .before .before .before .before .loop in
     let t = c .before .before .before .before .time-at in
     let e = event (getD (s .args .xs .now) (l .i) 0) (getD (s .args .ys .now) (l .i) 0) (t .result) (getD (s .args .ps .now) (l .i) 0) in
-    (omega (arith, s .pre .0 .few, s .pre .1, l .inv .within, l .inv .small), under-room2 (s .pre .0) (l .inv) (c .before .before .before .before .before .loop-test .taken) e (rw (t .ensures)) (omega (arith, t .ok)) (s .pre .3))
+    (omega (arith, s .pre .0 .few, s .pre .1, l .inv .within, l .inv .small), under-room2 (s .pre .0) (l .inv) (c .before .before .before .before .before .loop-test .taken) e (rw (t .ensures)) (omega (arith, t .ok)) (s .pre .3), rw (t .ensures) (s .pre .4 (l .i)))
 
 -- src/evt2.rt:84:9
 add-i : tie.Need-add-i Inv-loop μ-loop

@@ -9,7 +9,7 @@ ghost use lib.Seq.{sets};
 ghost use Rattle.store.specs.Columns.{Sized, Whole, event, eventsIn};
 ghost use Rattle.encode2.specs.Evt2.{highWord2, wordOf2};
 ghost use Rattle.store.specs.Storing.{Roomy};
-ghost use Rattle.encode2.specs.Pass2.{Fit2, Fitting2, eventBytes2, stateAt2, stream2, passed2};
+ghost use Rattle.encode2.specs.Pass2.{Fit2, Fitting2, Within2, eventAt2, eventBytes2, stateAt2, stream2, passed2};
 use evt_types::Sent;
 use store::EncoderState;
 use store::Put;
@@ -45,6 +45,23 @@ fn put_event(high: u64, x: u16, y: u16, t: u64, p: u8, out: &mut [u8], at: usize
     a + 4
 }
 
+// The words of the event at index i, whose time is t.
+fn put_at(
+    high: u64,
+    t: u64,
+    xs: &[u16],
+    ys: &[u16],
+    ps: &[u8],
+    i: usize,
+    out: &mut [u8],
+    at: usize,
+) -> usize
+    requires { ⌜ Within2 (now xs) (now ys) (now ps) i × (at < 2 ^ 60) × Roomy (now out) at (length (eventBytes2 (eqb high (t / 64)) (eventAt2 (now xs) (now ys) (now ps) i t))) × Fit2 (eventAt2 (now xs) (now ys) (now ps) i t) ⌝ }
+    ensures { λ r. ⌜ r ≡ at + length (eventBytes2 (eqb high (t / 64)) (eventAt2 (now (xs .entry)) (now (ys .entry)) (now (ps .entry)) i t)) ⌝ ∗ ⌜ now (out .exit) ≡ sets (now (out .entry)) at (eventBytes2 (eqb high (t / 64)) (eventAt2 (now (xs .entry)) (now (ys .entry)) (now (ps .entry)) i t)) ⌝ }
+{
+    put_event(high, xs[i], ys[i], t, ps[i], &mut *out, at)
+}
+
 // What has been sent after n events, where `high` was sent last.
 fn sent_after(state: EncoderState, n: usize, high: u64) -> EncoderState
     ensures { λ r. ⌜ r ≡ stateAt2 state n high ⌝ }
@@ -62,7 +79,8 @@ fn sent_after(state: EncoderState, n: usize, high: u64) -> EncoderState
     }
 }
 
-// The words of all events, from `start` on. The bounds keep `at` from wrapping.
+// The words of all events, from `start` on, two events a turn, which is faster, and then the odd
+// one. The bounds keep `at` from wrapping.
 pub fn pass(
     state: EncoderState,
     xs: &[u16],
@@ -79,11 +97,18 @@ pub fn pass(
     let mut high = held_of(sent);
     let mut at = start;
     let mut i: usize = 0;
-    while i < xs.len() {
+    while i + 1 < xs.len() {
         let t = time_at(ts, i);
-        at = put_event(high, xs[i], ys[i], t, ps[i], &mut *out, at);
+        let next = time_at(ts, i + 1);
+        at = put_at(high, t, xs, ys, ps, i, &mut *out, at);
+        at = put_at(t / 64, next, xs, ys, ps, i + 1, &mut *out, at);
+        high = next / 64;
+        i += 2;
+    }
+    if i < xs.len() {
+        let t = time_at(ts, i);
+        at = put_at(high, t, xs, ys, ps, i, &mut *out, at);
         high = t / 64;
-        i += 1;
     }
     let after = sent_after(state, xs.len(), high);
     Put { state: after, at }

@@ -160,14 +160,28 @@ zero-in-range : (e : Encoding) → timeInRange e (pos 0) ≡ true
 zero-in-range Evt2 = refl
 zero-in-range Evt3 = refl
 
--- no time in range is negative
-pub whole-of : (e : Encoding) (xs ys : List ℕ) (ts : List ℤ) (ps : List ℕ) → eventsInRange e xs ys ts ps ≡ true → Whole ts
-whole-of e xs ys ts ps h i =
+-- rule 7 for one event
+pub record EventFine (e : Encoding) (x y : ℕ) (t : ℤ) (p : ℕ) : Type 0 where
+  pub fine-x : x ≤ 2047
+  pub fine-y : y ≤ 2047
+  pub fine-p : p ≤ 1
+  pub whole : nonNeg t ≡ true
+  pub fine-t : natural t < timeBound e
+
+pub event-fine : (e : Encoding) (xs ys : List ℕ) (ts : List ℤ) (ps : List ℕ) → eventsInRange e xs ys ts ps ≡ true → (i : ℕ) → EventFine e (getD xs i 0) (getD ys i 0) (getD ts i (pos 0)) (getD ps i 0)
+event-fine e xs ys ts ps h i =
     let a = and-both (every (atMost 2047) xs) _ h in
     let b = and-both (every (atMost 2047) ys) _ (a .1) in
     let c = and-both (every (atMost 1) ps) _ (b .1) in
     let t = getD ts i (pos 0) in
-    and-both (nonNeg t) (ltb (natural t) (timeBound e)) (every-at (timeInRange e) (pos 0) ts (zero-in-range e) (c .1) i) .0
+    let d = and-both (nonNeg t) (ltb (natural t) (timeBound e)) (every-at (timeInRange e) (pos 0) ts (zero-in-range e) (c .1) i) in
+    record {
+      fine-x = leb-true (getD xs i 0) 2047 (every-at (atMost 2047) 0 xs refl (a .0) i);
+      fine-y = leb-true (getD ys i 0) 2047 (every-at (atMost 2047) 0 ys refl (b .0) i);
+      fine-p = leb-true (getD ps i 0) 1 (every-at (atMost 1) 0 ps refl (c .0) i);
+      whole = d .0;
+      fine-t = ltb-true (natural t) (timeBound e) (d .1);
+    }
 
 -- ---- what a check that is passed says
 
@@ -204,7 +218,7 @@ checked-as true true true false true s xs ys ts ps ha hb hc hd he q = record {
   in-range = ha;
   count = count-as (s .version) (s .state) (s .«n_events») (s .«last_t») ha;
   sized = sized-of xs ys ts ps hb (leb-true (length xs) (2 ^ 28) hc);
-  whole = whole-of (s .version) xs ys ts ps he;
+  whole = λ i. event-fine (s .version) xs ys ts ps he i .whole;
   rising = hd;
   events = he;
 }

@@ -1,6 +1,7 @@
 -- The words of events in either encoding: what the writer's contracts cite.
 use mathlib.Core.List.{List}
 use Prim.Native.Nat.{ℕ, _+_}
+use lib.IntN.{ℤ}
 use lib.ListN.{length}
 use Rattle.stream.specs.Machine.{Note, run, emits, words}
 use Rattle.stream.specs.Words.{stream}
@@ -10,6 +11,7 @@ use Rattle.evt_types.specs.declared.Encoding.the-variants.{Evt2, Evt3}
 use Rattle.store.specs.declared.EncoderState.{EncoderState}
 use Rattle.store.specs.declared.Put.{Put}
 use Rattle.encode2.specs.Evt2.{writer2}
+use Rattle.encode2.specs.Pass2.{Fitting2}
 use Rattle.runs.specs.Runs.{runs}
 use Rattle.lead_words.specs.Evt3.{writer3}
 
@@ -34,3 +36,8 @@ encodeBytes e v es = stream (encodeSize e) (words (encodeNotes e v es))
 -- after a pass whose words go from `at` on
 abbrev pub passed : Encoding → EncoderState → List Event → (at : ℕ) → Put
 passed e v es at = record { state = encodeState e v es; at = at + length (encodeBytes e v es) }
+
+-- columns whose events a pass can be given: EVT2's cuts none off
+abbrev pub Fitting : Encoding → List ℕ → List ℕ → List ℤ → List ℕ → Type 0
+Fitting Evt2 xs ys ts ps = Fitting2 xs ys ts ps
+Fitting Evt3 xs ys ts ps = Unit

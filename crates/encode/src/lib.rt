@@ -8,7 +8,7 @@ ghost use lib.ListN.{length};
 ghost use lib.Seq.{sets};
 ghost use Rattle.store.specs.Columns.{Sized, Whole, eventsIn};
 ghost use Rattle.store.specs.Storing.{Roomy};
-ghost use Rattle.encode.specs.Encode.{encodeBytes, passed};
+ghost use Rattle.encode.specs.Encode.{encodeBytes, passed, Fitting};
 use evt_types::Encoding;
 use store::EncoderState;
 use store::Put;
@@ -27,7 +27,7 @@ pub fn pass(
     out: &mut [u8],
     start: usize,
 ) -> Put
-    requires { ⌜ Sized (now xs) (now ys) (now ts) (now ps) × (start ≤ 2 ^ 32) × Whole (now ts) × Roomy (now out) start (length (encodeBytes version state (eventsIn (now xs) (now ys) (now ts) (now ps)))) ⌝ }
+    requires { ⌜ Sized (now xs) (now ys) (now ts) (now ps) × (start ≤ 2 ^ 32) × Whole (now ts) × Roomy (now out) start (length (encodeBytes version state (eventsIn (now xs) (now ys) (now ts) (now ps)))) × Fitting version (now xs) (now ys) (now ts) (now ps) ⌝ }
     ensures { λ r. ⌜ r ≡ passed version state (eventsIn (now (xs .entry)) (now (ys .entry)) (now (ts .entry)) (now (ps .entry))) start ⌝ ∗ ⌜ now (out .exit) ≡ sets (now (out .entry)) start (encodeBytes version state (eventsIn (now (xs .entry)) (now (ys .entry)) (now (ts .entry)) (now (ps .entry)))) ⌝ }
 {
     match version {

@@ -6,8 +6,8 @@ use Prim.Native.Nat.{ℕ, zero, suc, _+_, _*_, _/_, _^_, _≤_, _<_}
 use native.Mathlib.Omega.{arith}
 use native.Mathlib.Numerals.{add-one}
 use lib.Dec.{eqb}
-use lib.IntN.{ℤ}
-use lib.ListN.{length}
+use lib.IntN.{ℤ, pos}
+use lib.ListN.{length, getD}
 use lib.Seq.{sets}
 use Rattle.stream.specs.Machine.{run, words}
 use Rattle.stream.specs.Columns.{sets-append}
@@ -16,10 +16,32 @@ use Rattle.evt_types.specs.Event.{Event}
 use Rattle.evt_types.specs.declared.Sent.the-variants.{Value}
 use Rattle.store.specs.declared.EncoderState.{EncoderState}
 use Rattle.store.specs.declared.Put.{Put}
-use Rattle.store.specs.Columns.{Sized, eventsIn, eventsPast, eventOf, events-at, events-end}
+use Rattle.store.specs.Columns.{natural, event, Sized, Whole, eventsIn, eventsPast, eventOf, events-at, events-end}
 use Rattle.store.specs.Sent.{carries, due, held, held-is}
 use Rattle.encode2.specs.Evt2.{highWord2, wordOf2, highSent2, encode2, encoded2, writer2}
 use Rattle.store.specs.Storing.{Roomy, sets-over, piece, bytesFrom, Going, going-start, going-turn, going-room, going-end}
+
+-- an event whose words cut nothing off: rule 7 refuses every other
+pub record Fit2 (e : Event) : Type 0 where
+  pub fit-x : e .x ≤ 2047
+  pub fit-y : e .y ≤ 2047
+  pub fit-t : e .t < 2 ^ 34
+  pub fit-p : e .p ≤ 1
+
+-- columns of such events
+abbrev pub Fitting2 : List ℕ → List ℕ → List ℤ → List ℕ → Type 0
+Fitting2 xs ys ts ps = (i : ℕ) → Fit2 (eventOf xs ys ts ps i)
+
+-- the event at index i, where its time is t: a loop reads that first
+abbrev pub eventAt2 : (xs ys ps : List ℕ) (i t : ℕ) → Event
+eventAt2 xs ys ps i t = event (getD xs i 0) (getD ys i 0) t (getD ps i 0)
+
+-- all columns have an element at index i
+pub record Within2 (xs ys ps : List ℕ) (i : ℕ) : Type 0 where
+  pub few : i < 2 ^ 28
+  pub in-x : i < length xs
+  pub in-y : i < length ys
+  pub in-p : i < length ps
 
 abbrev pub bytes2 : EncoderState → Event → List ℕ
 bytes2 = piece 4 writer2
@@ -88,6 +110,10 @@ pub record Under2 (v₀ : EncoderState) (xs ys : List ℕ) (ts : List ℤ) (ps :
   pub is-high : high ≡ held (stateAt2 v₀ i high .«time_high»)
   pub going : Going 4 writer2 v₀ (eventsIn xs ys ts ps) at₀ out₀ (eventsPast xs ys ts ps i) (stateAt2 v₀ i high) at out
 
+-- what reading a time asks for
+pub time-asks2 : {xs ys : List ℕ} {ts : List ℤ} {ps : List ℕ} → Sized xs ys ts ps → Whole ts → {i : ℕ} → i < length xs → (i < length ts) × (length ts ≤ 2 ^ 28) × Whole ts
+time-asks2 sized whole h = (omega (arith, sized .same-t), omega (arith, sized .same-t, sized .few), whole)
+
 module _ {xs ys : List ℕ} {ts : List ℤ} {ps : List ℕ} (sized : Sized xs ys ts ps) {v₀ : EncoderState} {at₀ : ℕ} {out₀ : List ℕ} where
   pub under-start2 : (high : ℕ) → high ≡ held (v₀ .«time_high») → Under2 v₀ xs ys ts ps at₀ out₀ out₀ high at₀ 0
   under-start2 high h = record { within = omega arith; small = omega arith; is-high = h; going = going-start 4 writer2 }
@@ -103,14 +129,14 @@ module _ {xs ys : List ℕ} {ts : List ℤ} {ps : List ℕ} (sized : Sized xs ys
     next-is : i < length xs → (e : Event) → e ≡ eventOf xs ys ts ps i → Going 4 writer2 v₀ (eventsIn xs ys ts ps) at₀ out₀ (e ∷ eventsPast xs ys ts ps (i + 1)) (stateAt2 v₀ i high) at out
     next-is h e is = rw (is) (rw (events-at xs ys ts ps sized i h) at (u .going))
 
-    pub under-turn2 : i < length xs → (e : Event) → e ≡ eventOf xs ys ts ps i → e .t < 2 ^ 64 → (r : ℕ) (out′ : List ℕ)
-        → r ≡ at + length (eventBytes2 (eqb high (e .t / 64)) e) → out′ ≡ sets out at (eventBytes2 (eqb high (e .t / 64)) e)
-        → Under2 v₀ xs ys ts ps at₀ out₀ out′ (e .t / 64) r (i + 1)
-    under-turn2 h e is t< r out′ q o =
-        let v = stateAt2 v₀ i high in
-        let all = words-are e t< in
-        let few = few-event2 (eqb high (e .t / 64)) e in
-        let more = next-is h e is in
+    pub under-turn2 : i < length xs → Fitting2 xs ys ts ps → (t : ℕ) → t ≡ natural (getD ts i (pos 0)) → (r : ℕ) (out′ : List ℕ)
+        → r ≡ at + length (eventBytes2 (eqb high (t / 64)) (eventAt2 xs ys ps i t)) → out′ ≡ sets out at (eventBytes2 (eqb high (t / 64)) (eventAt2 xs ys ps i t))
+        → Under2 v₀ xs ys ts ps at₀ out₀ out′ (t / 64) r (i + 1)
+    under-turn2 h fitting t is r out′ q o =
+        let e = eventAt2 xs ys ps i t in
+        let all = words-are e (omega (arith, fitting i .fit-t)) in
+        let few = few-event2 (eqb high (t / 64)) e in
+        let more = next-is h e (rw is) in
         record {
           within = omega arith;
           small = omega (arith, u .small);
@@ -118,8 +144,21 @@ module _ {xs ys : List ℕ} {ts : List ℤ} {ps : List ℕ} (sized : Sized xs ys
           going = rw (q, all, add-one, ← state-step2 v₀ i high e) (rw add-one at (going-turn 4 writer2 e (eventsPast xs ys ts ps (i + 1)) (o ∙ ap (sets out at) all) more));
         }
 
-    pub under-room2 : i < length xs → (e : Event) → e ≡ eventOf xs ys ts ps i → e .t < 2 ^ 64 → Roomy out₀ at₀ (length (stream2 v₀ (eventsIn xs ys ts ps))) → Roomy out at (length (eventBytes2 (eqb high (e .t / 64)) e))
-    under-room2 h e is t< r = rw (words-are e t<) (going-room 4 writer2 e (eventsPast xs ys ts ps (i + 1)) (next-is h e is) r)
+    -- what storing the next event asks for
+    pub under-next2 : i < length xs → at₀ ≤ 2 ^ 32 → Fitting2 xs ys ts ps → Roomy out₀ at₀ (length (stream2 v₀ (eventsIn xs ys ts ps))) → (t : ℕ) → t ≡ natural (getD ts i (pos 0))
+        → Within2 xs ys ps i × (at < 2 ^ 60) × Roomy out at (length (eventBytes2 (eqb high (t / 64)) (eventAt2 xs ys ps i t))) × Fit2 (eventAt2 xs ys ps i t)
+    under-next2 h near fitting r t is =
+        let e = eventAt2 xs ys ps i t in
+        let fit : Fit2 e = rw is (fitting i) in (
+          record { few = omega (arith, sized .few); in-x = h; in-y = omega (arith, sized .same-y); in-p = omega (arith, sized .same-p) },
+          omega (arith, u .small, sized .few),
+          rw (words-are e (omega arith)) (going-room 4 writer2 e (eventsPast xs ys ts ps (i + 1)) (next-is h e (rw is)) r),
+          fit,
+        )
+
+    -- with what the code has, and the index as the code writes it
+    pub under-same2 : {out′ : List ℕ} {high′ at′ : ℕ} (j : ℕ) → out′ ≡ out → high′ ≡ high → at′ ≡ at → i ≡ j → Under2 v₀ xs ys ts ps at₀ out₀ out′ high′ at′ j
+    under-same2 j o h a n = rw (o, h, a, ← n) u
 
     pub under-end2 : length xs ≤ i → (v : EncoderState) → v ≡ stateAt2 v₀ (length xs) high
         → (record { state = v; at = at } ≡ passed2 v₀ (eventsIn xs ys ts ps) at₀) × (out ≡ sets out₀ at₀ (stream2 v₀ (eventsIn xs ys ts ps)))

@@ -17,8 +17,9 @@ use Rattle.store.specs.declared.Put.{Put}
 use Rattle.store.specs.Columns.{eventsIn, Sized, events-length}
 use Rattle.encode.specs.Laws.{encode-few}
 use Rattle.store.specs.Storing.{Roomy, roomy-rest, stored-both}
-use Rattle.encode.specs.Encode.{encodeState, passed}
+use Rattle.encode.specs.Encode.{encodeState, passed, Fitting}
 use Rattle.evt_types.specs.declared.Encoding.{Encoding}
+use Rattle.evt_types.specs.declared.Encoding.the-variants.{Evt2, Evt3}
 use Rattle.header_lines.specs.Header.{headerText, header-few}
 use Rattle.append_rules.specs.declared.Check.{Check}
 use Rattle.append_rules.specs.declared.Check.the-variants.{Passed, Failed}
@@ -30,6 +31,7 @@ use Rattle.sink.specs.declared.AppendAnswer.the-variants.{Written, Refus
 use Rattle.sink.specs.declared.Appended.{Appended}
 use Rattle.append_rules.specs.Range.{eventsInRange, fallsAfter, sameLengths, sinkInRange}
 use Rattle.append_rules.specs.Rules.{byRules, checkOf}
+use Rattle.append_rules.specs.Checks.{event-fine}
 use Rattle.sink.specs.Append.{toldAppend, some, headerDue, headerBytes, wordBytes, lastAfter, sends, appendVerdict, appendAnswer, accepts, handedOver, nextSink, sinkAfter, AppendOwed}
 
 -- ---- the last time
@@ -154,6 +156,11 @@ module _ (s : RawEventSink) (width height : ℕ) (xs ys : List ℕ) (ts : List �
 pub some-is : {A : Type 0} (l : List A) → ltb 0 (length l) ≡ some l
 some-is [] = refl
 some-is (a ∷ l) = lt-ltb 0 (suc (length l)) (omega arith)
+
+-- events that rule 7 lets pass can be written
+pub fitting-of : (e : Encoding) (xs ys : List ℕ) (ts : List ℤ) (ps : List ℕ) → eventsInRange e xs ys ts ps ≡ true → Fitting e xs ys ts ps
+fitting-of Evt2 xs ys ts ps h = λ i. let f = event-fine Evt2 xs ys ts ps h i in record { fit-x = f .fine-x; fit-y = f .fine-y; fit-t = f .fine-t; fit-p = f .fine-p }
+fitting-of Evt3 xs ys ts ps h = tt
 
 pub due-few : (b : Bool) (e : Encoding) (w h : ℕ) → w < 2 ^ 64 → h < 2 ^ 64 → length (cond b (headerText e w h) []) ≤ 96
 due-few true e w h lw lh = header-few e w h lw lh

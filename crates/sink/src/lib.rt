@@ -8,6 +8,7 @@ ghost use lib.ListN.{length};
 ghost use lib.Seq.{sets};
 ghost use Rattle.store.specs.Columns.{Sized, Whole};
 ghost use Rattle.store.specs.Storing.{Roomy};
+ghost use Rattle.encode.specs.Encode.{Fitting};
 ghost use Rattle.sink.specs.Append.{headerDue, some, lastAfter, sends, AppendOwed};
 ghost use Rattle.sink.specs.Ends.{wrote};
 use append_rules::Check;
@@ -67,7 +68,7 @@ fn write(
     ps: &[u8],
     out: &mut [u8],
 ) -> Put
-    requires { ⌜ Sized (now xs) (now ys) (now ts) (now ps) × Whole (now ts) × Roomy (now out) 0 (length (sends sink width height (now xs) (now ys) (now ts) (now ps))) ⌝ }
+    requires { ⌜ Sized (now xs) (now ys) (now ts) (now ps) × Whole (now ts) × Roomy (now out) 0 (length (sends sink width height (now xs) (now ys) (now ts) (now ps))) × Fitting (sink .version) (now xs) (now ys) (now ts) (now ps) ⌝ }
     ensures { λ r. ⌜ r ≡ wrote sink width height (now (xs .entry)) (now (ys .entry)) (now (ts .entry)) (now (ps .entry)) ⌝ ∗ ⌜ now (out .exit) ≡ sets (now (out .entry)) 0 (sends sink width height (now (xs .entry)) (now (ys .entry)) (now (ts .entry)) (now (ps .entry))) ⌝ }
 {
     let version = sink.version;
@@ -89,7 +90,7 @@ fn shortfall(
     ps: &[u8],
     room: usize,
 ) -> usize
-    requires { ⌜ Sized (now xs) (now ys) (now ts) (now ps) × Whole (now ts) ⌝ }
+    requires { ⌜ Sized (now xs) (now ys) (now ts) (now ps) × Whole (now ts) × Fitting (sink .version) (now xs) (now ys) (now ts) (now ps) ⌝ }
     ensures { λ r. ⌜ r ≡ cond (leb (length (sends sink width height (now (xs .entry)) (now (ys .entry)) (now (ts .entry)) (now (ps .entry)))) room) 0 (length (sends sink width height (now (xs .entry)) (now (ys .entry)) (now (ts .entry)) (now (ps .entry)))) ⌝ }
 {
     if 96 + 8 * xs.len() <= room {

@@ -12,7 +12,7 @@ pass2-requires : tie.Need-pass-requires
 pass2-requires c κs =
     let s = c .before .before .before .before .before .before .before in
     let room = rw (c .before .enum-told .given .1) at (s .pre .3) in
-    (s .pre .0, s .pre .1, s .pre .2, unfold encodeBytes bytesFrom in room)
+    (s .pre .0, s .pre .1, s .pre .2, unfold encodeBytes bytesFrom in room, rw (c .before .enum-told .given .1) at (s .pre .4))
 
 enum-told-2 : tie.Need-enum-told-2
 enum-told-2 c = search needs

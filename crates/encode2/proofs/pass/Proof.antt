@@ -1,20 +1,12 @@
 use borrow.Author.Needs.{needs}
-use mathlib.Core.Path.{_≡_, ap, _∙_}
-use Prim.Native.Nat.{_-_, _+_, _^_, _<_}
+use mathlib.Core.Path.{refl, ap, _∙_}
+use mathlib.Core.Logic.{⊎-elim}
+use Prim.Native.Nat.{_-_, _+_}
 use native.Mathlib.Omega.{arith}
-use lib.ListN.{length, getD}
-use lib.IntN.{pos}
-use denote.Ref.{now}
-use Rattle.store.specs.Columns.{event}
-use Rattle.encode2.specs.Pass2.{Under2, under-start2, under-turn2, under-room2, under-end2}
+use lib.ListN.{length}
+use Rattle.encode2.specs.Pass2.{Under2, time-asks2, under-start2, under-turn2, under-next2, under-same2, under-end2}
 use Rattle.encode2.proofs.pass.Statement.{statement}
 use Rattle.encode2.proofs.pass.Tie as tie
-use Rattle.encode2.proofs.pass.Reads as reads
-use Rattle.encode2.proofs.pass.Lts as lts
-use Rattle.encode2.proofs.put_event.Reads as put-event-reads
-use Rattle.encode2.proofs.sent_after.Reads as sent-after-reads
-use Rattle.store.proofs.held_of.Reads as held-of-reads
-use Rattle.store.proofs.time_at.Reads as time-at-reads
 
 abbrev Inv-loop : tie.InvT-loop
 Inv-loop state xs ys ts ps out₀ start high₀ at₀ i₀ out high at i = Under2 state xs ys ts ps start out₀ out high at i
@@ -22,75 +14,85 @@ Inv-loop state xs ys ts ps out₀ start high₀ at₀ i₀ out high at i = Under
 abbrev μ-loop : tie.MeasureT-loop
 μ-loop state xs ys ts ps out₀ start high₀ at₀ i₀ out high at i = length xs - i
 
--- src/evt2.rt:77:9
 held-of-requires : tie.Need-held-of-requires Inv-loop μ-loop
 held-of-requires c κs = search needs
 
--- src/evt2.rt:80:5
 loop-holds : tie.Need-loop-holds Inv-loop μ-loop
 loop-holds c = under-start2 (c .before .before .before .before .before .pre .0) _ (c .held-of .ensures)
 
--- src/evt2.rt:81:13
+add-loop : tie.Need-add-loop Inv-loop μ-loop
+add-loop c = omega (arith, c .before .before .before .before .before .before .pre .0 .few, c .loop .inv .within)
+
 time-at-requires : tie.Need-time-at-requires Inv-loop μ-loop
-time-at-requires c κs = (omega (arith, c .before .before .before .before .before .before .before .pre .0 .same-t, c .loop-test .taken), omega (arith, c .before .before .before .before .before .before .before .pre .0 .same-t, c .before .before .before .before .before .before .before .pre .0 .few), c .before .before .before .before .before .before .before .pre .2)
+time-at-requires c κs = let s = c .before .before .before .before .before .before .before .pre in time-asks2 (s .0) (s .2) (omega (arith, c .loop-test .taken))
 
--- src/evt2.rt:82:30
-mul-put-event : tie.Need-mul-put-event Inv-loop μ-loop
-mul-put-event c = omega (arith, c .before .before .before .before .before .before .before .before .pre .0 .few, c .before .loop-test .taken)
+add-time-at : tie.Need-add-time-at Inv-loop μ-loop
+add-time-at c = omega (arith, c .before .before .before .before .before .before .before .before .pre .0 .few, c .before .loop-test .taken)
 
--- src/evt2.rt:82:30
-shared-slice-read-put-event : tie.Need-shared-slice-read-put-event Inv-loop μ-loop
-shared-slice-read-put-event c = omega (arith, c .before .before .loop-test .taken)
+time-at-requires-2 : tie.Need-time-at-requires-2 Inv-loop μ-loop
+time-at-requires-2 c κs = let s = c .before .before .before .before .before .before .before .before .pre in time-asks2 (s .0) (s .2) (c .before .loop-test .taken)
 
--- src/evt2.rt:82:37
-mul-put-event-2 : tie.Need-mul-put-event-2 Inv-loop μ-loop
-mul-put-event-2 c = omega (arith, c .before .before .before .before .before .before .before .before .before .pre .0 .few, c .before .before .loop-test .taken)
+put-at-requires : tie.Need-put-at-requires Inv-loop μ-loop
+put-at-requires c κs =
+    let s = c .before .before .before .before .before .before .before .before .before .before .pre in
+    under-next2 (s .0) (c .before .before .before .before .loop .inv) (omega (arith, c .before .before .before .loop-test .taken)) (s .1) (s .4) (s .3) (c .before .before .time-at .result) (c .before .before .time-at .ensures)
 
--- src/evt2.rt:82:37
-shared-slice-read-put-event-2 : tie.Need-shared-slice-read-put-event-2 Inv-loop μ-loop
-shared-slice-read-put-event-2 c = omega (arith, c .before .before .before .before .before .before .before .before .before .before .pre .0 .same-y, c .before .before .before .loop-test .taken)
+add-put-at : tie.Need-add-put-at Inv-loop μ-loop
+add-put-at c = omega (arith, c .before .before .before .before .before .before .before .before .before .before .before .before .before .pre .0 .few, c .before .before .before .before .before .before .loop-test .taken)
 
--- src/evt2.rt:82:47
-shared-slice-read-put-event-3 : tie.Need-shared-slice-read-put-event-3 Inv-loop μ-loop
-shared-slice-read-put-event-3 c = omega (arith, c .before .before .before .before .before .before .before .before .before .before .before .pre .0 .same-p, c .before .before .before .before .loop-test .taken)
+put-at-requires-2 : tie.Need-put-at-requires-2 Inv-loop μ-loop
+put-at-requires-2 c κs =
+    let s = c .before .before .before .before .before .before .before .before .before .before .before .before .before .before .pre in
+    let l = c .before .before .before .before .before .before .before .before .loop in
+    let put = c .before .before .before .put-at in
+    let h = c .before .before .before .before .before .before .before .loop-test .taken in
+    let u = under-turn2 (s .0) (l .inv) (omega (arith, h)) (s .4) (c .before .before .before .before .before .before .time-at .result) (c .before .before .before .before .before .before .time-at .ensures) (put .result) _ (put .ensures .0) (put .ensures .1) in
+    under-next2 (s .0) u h (s .1) (s .4) (s .3) (c .before .before .before .before .before .time-at2 .result) (c .before .before .before .before .before .time-at2 .ensures)
 
--- src/evt2.rt:82:9
-put-event-requires : tie.Need-put-event-requires Inv-loop μ-loop
-put-event-requires c κs =
-    let s = c .before .before .before .before .before .before .before .before .before .before .before .before in
-    let l = c .before .before .before .before .before .before .loop in
-    let t = c .before .before .before .before .time-at in
-    let e = event (getD (s .args .xs .now) (l .i) 0) (getD (s .args .ys .now) (l .i) 0) (t .result) (getD (s .args .ps .now) (l .i) 0) in
-    (omega (arith, s .pre .0 .few, s .pre .1, l .inv .within, l .inv .small), under-room2 (s .pre .0) (l .inv) (c .before .before .before .before .before .loop-test .taken) e (rw (t .ensures)) (omega (arith, t .ok)) (s .pre .3))
-
--- src/evt2.rt:84:9
 add-i : tie.Need-add-i Inv-loop μ-loop
-add-i c = omega (arith, c .before .before .before .before .before .before .before .before .before .before .before .before .before .before .before .pre .0 .few, c .before .before .before .before .before .before .before .before .loop-test .taken)
+add-i c = omega (arith, c .before .before .before .before .before .before .before .before .before .before .before .before .before .before .before .before .before .pre .0 .few, c .before .before .before .before .before .before .before .before .before .before .loop-test .taken)
 
--- src/evt2.rt:80:5
 loop-less : tie.Need-loop-less Inv-loop μ-loop
-loop-less c = omega (arith, c .before .before .before .before .before .before .before .before .loop-test .taken)
+loop-less c = omega (arith, c .before .before .before .before .before .before .before .before .before .before .loop-test .taken)
 
--- src/evt2.rt:80:5
 loop-again : tie.Need-loop-again Inv-loop μ-loop
 loop-again c =
-    let s = c .before .before .before .before .before .before .before .before .before .before .before .before .before .before .before in
-    let l = c .before .before .before .before .before .before .before .before .before .loop in
-    let t = c .before .before .before .before .before .before .before .time-at in
-    let e = event (getD (s .args .xs .now) (l .i) 0) (getD (s .args .ys .now) (l .i) 0) (t .result) (getD (s .args .ps .now) (l .i) 0) in
-    under-turn2 (s .pre .0) (l .inv) (c .before .before .before .before .before .before .before .before .loop-test .taken) e (rw (t .ensures)) (omega (arith, t .ok)) (c .before .before .put-event .result) _ (c .before .before .put-event .ensures .0) (c .before .before .put-event .ensures .1)
+    let s = c .before .before .before .before .before .before .before .before .before .before .before .before .before .before .before .before .before .pre in
+    let l = c .before .before .before .before .before .before .before .before .before .before .before .loop in
+    let put = c .before .before .before .before .before .before .put-at in
+    let put2 = c .before .before .put-at2 in
+    let h = c .before .before .before .before .before .before .before .before .before .before .loop-test .taken in
+    let u = under-turn2 (s .0) (l .inv) (omega (arith, h)) (s .4) (c .before .before .before .before .before .before .before .before .before .time-at .result) (c .before .before .before .before .before .before .before .before .before .time-at .ensures) (put .result) _ (put .ensures .0) (put .ensures .1) in
+    let u2 = under-turn2 (s .0) u h (s .4) (c .before .before .before .before .before .before .before .before .time-at2 .result) (c .before .before .before .before .before .before .before .before .time-at2 .ensures) (put2 .result) _ (put2 .ensures .0) (put2 .ensures .1) in
+    under-same2 (s .0) u2 (l .i + 2) refl refl refl (omega arith)
 
--- src/evt2.rt:86:9
+time-at-requires-3 : tie.Need-time-at-requires-3 Inv-loop μ-loop
+time-at-requires-3 c κs = let s = c .before .before .before .before .before .before .before .before .pre in time-asks2 (s .0) (s .2) (c .if1 .taken)
+
+put-at-requires-3 : tie.Need-put-at-requires-3 Inv-loop μ-loop
+put-at-requires-3 c κs =
+    let s = c .before .before .before .before .before .before .before .before .before .before .pre in
+    under-next2 (s .0) (c .before .before .before .before .loop .inv) (c .before .before .if1 .taken) (s .1) (s .4) (s .3) (c .before .time-at3 .result) (c .before .time-at3 .ensures)
+
 sent-after-requires : tie.Need-sent-after-requires Inv-loop μ-loop
 sent-after-requires c κs = search needs
 
--- src/evt2.rt:64:1
 same-length : tie.Need-same-length Inv-loop μ-loop
-same-length c = c .before .before .loop .inv .going .storing .long
+same-length c =
+    let l = c .before .before .before .loop in
+    ⊎-elim (λ w. ap length (w .6) ∙ w .4 .given ∙ l .inv .going .storing .long) (λ w. ap length (w .1) ∙ l .inv .going .storing .long) (c .before .if1 .came)
 
--- src/evt2.rt:64:1
 returns : tie.Need-returns Inv-loop μ-loop
-returns c = under-end2 (c .before .before .before .before .before .before .before .before .pre .0) (c .before .before .loop .inv) (c .before .loop-test .left) (c .sent-after .result) (c .sent-after .ensures)
+returns c =
+    let s = c .before .before .before .before .before .before .before .before .before .pre in
+    let l = c .before .before .before .loop in
+    let e = c .sent-after .ensures in
+    ⊎-elim
+    (λ w.
+    let u = under-turn2 (s .0) (l .inv) (w .0 .taken) (s .4) (w .1 .result) (w .1 .ensures) (w .3 .result) _ (w .3 .ensures .0) (w .3 .ensures .1) in
+    under-end2 (s .0) (under-same2 (s .0) u (l .i + 1) (w .6) (w .7) (w .8) refl) (c .before .before .loop-test .left) (c .sent-after .result) e)
+    (λ w. under-end2 (s .0) (under-same2 (s .0) (l .inv) (l .i) (w .1) (w .2) (w .3) refl) (w .0 .left) (c .sent-after .result) e)
+    (c .before .if1 .came)
 
 pub pass-spec : {M : Type 1} → statement M
 pass-spec =
@@ -100,16 +102,18 @@ pass-spec =
     μ-loop
     held-of-requires
     loop-holds
+    add-loop
     time-at-requires
-    mul-put-event
-    shared-slice-read-put-event
-    mul-put-event-2
-    shared-slice-read-put-event-2
-    shared-slice-read-put-event-3
-    put-event-requires
+    add-time-at
+    time-at-requires-2
+    put-at-requires
+    add-put-at
+    put-at-requires-2
     add-i
     loop-less
     loop-again
+    time-at-requires-3
+    put-at-requires-3
     sent-after-requires
     same-length
     returns)

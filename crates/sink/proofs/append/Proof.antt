@@ -4,7 +4,7 @@ use denote.Ref.{now}
 use lib.ListN.{length}
 use Rattle.store.specs.declared.Put.{Put}
 use Rattle.sink.specs.Append.{sends}
-use Rattle.sink.specs.Ends.{ends-failed, ends-short, ends-written, short-cases}
+use Rattle.sink.specs.Ends.{ends-failed, ends-short, ends-written, short-cases, fitting-of}
 use Rattle.append_rules.specs.Checks.{checked-of}
 use borrow.Author.Needs.{needs}
 use Rattle.sink.proofs.append.Statement.{statement}
@@ -31,16 +31,19 @@ enum-told c = search needs
 
 -- src/lib.rt:124:17
 shortfall-requires : tie.Need-shortfall-requires
-shortfall-requires c κs = let r = checked-of (c .before .before .before .before .before .before .before .args .sink) (now (c .before .before .before .before .before .before .before .args .xs)) (now (c .before .before .before .before .before .before .before .args .ys)) (now (c .before .before .before .before .before .before .before .args .ts)) (now (c .before .before .before .before .before .before .before .args .ps)) (sym (c .before .before .check-append .ensures) ∙ c .enum-told .given .1) in (r .sized, r .whole)
+shortfall-requires c κs =
+    let a = c .before .before .before .before .before .before .before .args in
+    let r = checked-of (a .sink) (now (a .xs)) (now (a .ys)) (now (a .ts)) (now (a .ps)) (sym (c .before .before .check-append .ensures) ∙ c .enum-told .given .1) in
+    (r .sized, r .whole, fitting-of (a .sink .version) (now (a .xs)) (now (a .ys)) (now (a .ts)) (now (a .ps)) (r .events))
 
 -- src/lib.rt:126:21
 write-requires : tie.Need-write-requires
 write-requires c κs =
     let a = c .before .before .before .before .before .before .before .before .before .before .args in
-    let r = checked-of (c .before .before .before .before .before .before .before .before .before .before .args .sink) (now (c .before .before .before .before .before .before .before .before .before .before .args .xs)) (now (c .before .before .before .before .before .before .before .before .before .before .args .ys)) (now (c .before .before .before .before .before .before .before .before .before .before .args .ts)) (now (c .before .before .before .before .before .before .before .before .before .before .args .ps)) (sym (c .before .before .before .before .before .check-append .ensures) ∙ c .before .before .before .enum-told .given .1) in
+    let r = checked-of (a .sink) (now (a .xs)) (now (a .ys)) (now (a .ts)) (now (a .ps)) (sym (c .before .before .before .before .before .check-append .ensures) ∙ c .before .before .before .enum-told .given .1) in
     let all = sends (a .sink) (a .width) (a .height) (now (a .xs)) (now (a .ys)) (now (a .ts)) (now (a .ps)) in
     let fits = short-cases (length all) (length (now (a .output))) (c .before .before .shortfall .result) (c .before .before .shortfall .ensures) .0 (c .before .if1 .taken) in
-    (r .sized, r .whole, λ h. omega (arith, fits))
+    (r .sized, r .whole, (λ h. omega (arith, fits)), fitting-of (a .sink .version) (now (a .xs)) (now (a .ys)) (now (a .ts)) (now (a .ps)) (r .events))
 
 -- src/lib.rt:128:21
 header-after-requires : tie.Need-header-after-requires

@@ -25,7 +25,7 @@ pass-requires c κs =
     let s = c .before .before .before .before .before .before .before .before .before .before .before in
     let few = due-few (c .before .before .before .before .before .header-due .result) (s .args .sink .version) (s .args .width) (s .args .height) (omega arith) (omega arith) in
     let a = s .args in
-    (s .pre .0, omega (arith, few, c .before .before .before .put-due .ensures .0), s .pre .1, room-words (a .sink) (a .width) (a .height) (now (a .xs)) (now (a .ys)) (now (a .ts)) (now (a .ps)) (now (a .out)) (c .before .before .before .put-due .last .1 .1 .1 .1 .0) (c .before .before .before .before .before .header-due .ensures) (c .before .before .before .put-due .ensures .0) (c .before .before .out .given) (s .pre .2))
+    (s .pre .0, omega (arith, few, c .before .before .before .put-due .ensures .0), s .pre .1, room-words (a .sink) (a .width) (a .height) (now (a .xs)) (now (a .ys)) (now (a .ts)) (now (a .ps)) (now (a .out)) (c .before .before .before .put-due .last .1 .1 .1 .1 .0) (c .before .before .before .before .before .header-due .ensures) (c .before .before .before .put-due .ensures .0) (c .before .before .out .given) (s .pre .2), s .pre .3)
 
 -- src/lib.rt:60:1
 same-length : tie.Need-same-length

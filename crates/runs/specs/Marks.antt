@@ -166,11 +166,19 @@ module _ (xs ys : List ℕ) (ts : List ℤ) (ps : List ℕ) where
         let n : i + marksLeft i - i ≡ marksLeft i = omega arith in
         g .is-mask ∙ rw (e, n)
 
-  -- ---- the search for the end of a run: from j on it goes on as from i on
+  -- ---- the search for the end of a run
+
+  -- from j on it goes on as from i on
+  pub record Along (i j : ℕ) : Type 0 where
+    pub inside : j < length xs
+    pub further : i ≤ j
+    pub same : j + goOn j ≡ i + goOn i
+
+  pub along-start : (i : ℕ) → i < length xs → Along i i
+  along-start i h = record { inside = h; further = omega arith; same = refl }
 
   pub record Seeking (i j m : ℕ) : Type 0 where
-    pub inside : j < length xs
-    pub same : j + goOn j ≡ i + goOn i
+    pub along : Along i j
     pub marked : Marked j m
 
   -- falls with each turn
@@ -181,8 +189,8 @@ module _ (xs ys : List ℕ) (ts : List ℤ) (ps : List ℕ) where
   left-le true = omega arith
   left-le false = omega arith
 
-  pub seek-less : (j m m′ : ℕ) → j < length xs → m ≡ 0 → seekLeft (j + 63) m′ < seekLeft j m
-  seek-less j m m′ h e = rw (eq-eqb m 0 e) (omega (arith, left-le (eqb m′ 0)))
+  pub seek-less : (j k m m′ : ℕ) → j < length xs → m ≡ 0 → Along (j + 63) k → seekLeft k m′ < seekLeft j m
+  seek-less j k m m′ h e a = rw (eq-eqb m 0 e) (omega (arith, left-le (eqb m′ 0), a .further))
 
   pub seek-done : (j m m′ : ℕ) → m ≡ 0 → (m′ ≡ 0 → ⊥) → seekLeft j m′ < seekLeft j m
   seek-done j m m′ e n = rw (eq-eqb m 0 e, ne-eqb m′ 0 n) (omega arith)
@@ -203,7 +211,7 @@ module _ (xs ys : List ℕ) (ts : List ℤ) (ps : List ℕ) where
     go-is true false i p q = rw (events-at xs ys ts ps sized (i + 1) (ltb-true (i + 1) (length xs) p), q)
     go-is false c i p q = rw (events-end xs ys ts ps sized (i + 1) (ltb-false (i + 1) (length xs) p))
 
-    goes-on : (i : ℕ) → goOn i ≡ under (stopAt i) (goOn (i + 1))
+    pub goes-on : (i : ℕ) → goOn i ≡ under (stopAt i) (goOn (i + 1))
     goes-on i = go-is (ltb (i + 1) (length xs)) (joins (eventOf xs ys ts ps i) (eventOf xs ys ts ps (i + 1))) i refl refl
 
     -- the lowest bit that is set
@@ -231,26 +239,29 @@ module _ (xs ys : List ℕ) (ts : List ℤ) (ps : List ℕ) where
         rw to (omega (arith, ih .0), ih .1)
 
     pub seek-start : (i m : ℕ) → i < length xs → Marked i m → Seeking i i m
-    seek-start i m h k = record { inside = h; same = refl; marked = k }
+    seek-start i m h k = record { along = along-start i h; marked = k }
 
     module _ {i j m : ℕ} (s : Seeking i j m) (m′ : ℕ) (is : m′ ≡ marksFrom j) where
       pub seek-found : Seeking i j m′
-      seek-found = record { inside = s .inside; same = s .same; marked = record { k = marksLeft j; few = left-few j; is = is } }
+      seek-found = record { along = s .along; marked = record { k = marksLeft j; few = left-few j; is = is } }
 
-      pub seek-next : m′ ≡ 0 → Seeking i (j + 63) m′
-      seek-next z =
-          let e : marksFrom j ≡ 0 = sym is ∙ z in
-          let p = marks-pass (marksLeft j) j (s .inside) e in
-          let full : marksLeft j ≡ 63 = go (ltb (j + 63) (length xs)) refl (p .1) in
-          record {
-            inside = omega (arith, p .1);
-            same = sym (rw full at (p .0)) ∙ s .same;
-            marked = record { k = 0; few = omega arith; is = z ∙ sym (marks-none (j + 63)) };
-          }
-        where
-          go : (b : Bool) → ltb (j + 63) (length xs) ≡ b → j + cond b 63 (length xs - j) < length xs → cond b 63 (length xs - j) ≡ 63
-          go true q h = refl
-          go false q h = absurd (omega arith)
+      module _ (z : m′ ≡ 0) where
+        -- no end is among 63 events
+        pub seek-along : Along j (j + 63)
+        seek-along =
+            let p = marks-pass (marksLeft j) j (s .along .inside) (sym is ∙ z) in
+            let full : marksLeft j ≡ 63 = go (ltb (j + 63) (length xs)) refl (p .1) in
+            record { inside = omega (arith, full, p .1); further = omega arith; same = sym (rw full at (p .0)) }
+          where
+            go : (b : Bool) → ltb (j + 63) (length xs) ≡ b → j + cond b 63 (length xs - j) < length xs → cond b 63 (length xs - j) ≡ 63
+            go true q h = refl
+            go false q h = absurd (omega arith)
+
+        pub seek-next : (k : ℕ) → Along (j + 63) k → Seeking i k m′
+        seek-next k a = record {
+          along = record { inside = a .inside; further = omega (arith, a .further, s .along .further); same = a .same ∙ seek-along .same ∙ s .along .same };
+          marked = record { k = 0; few = omega arith; is = z ∙ sym (marks-none k) };
+        }
 
     pub seek-end : {i j m : ℕ} → Seeking i j m → 0 < m → (r : Found) → r .end ≡ j + 1 + trailingZeros 64 m → r .mask ≡ m / 2 ^ trailingZeros 64 m / 2 → Finds i r
     seek-end {i} {j} {m} s p r e f =
@@ -265,6 +276,6 @@ module _ (xs ys : List ℕ) (ts : List ℤ) (ps : List ℕ) where
         let next : m / 2 ^ goOn j / 2 ≡ marks n (j + goOn j + 1) = rw (rest, marks-some n (j + goOn j)) (omega (arith, stop-le (j + goOn j))) in
         let to : r .end ≡ j + goOn j + 1 = omega (arith, e, z) in
         record {
-          is-end = omega (arith, to, s .same);
+          is-end = omega (arith, to, s .along .same);
           marked = record { k = n; few = omega (arith, s .marked .few); is = f ∙ rw (z, to) next };
         }

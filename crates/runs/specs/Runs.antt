@@ -78,7 +78,7 @@ goes-true t y p last e h =
     record { is-t = eqb-true (e .t) t (a .0); is-y = eqb-true (e .y) y (b .0); is-p = eqb-true (e .p) p (c .0); rises = ltb-true last (e .x) (c .1) }
 
 -- compared at once: bits that differ are left of `^`
-xor-equal : (a b : ℕ) → bitXor a b ≡ 0 → a ≡ b
+pub xor-equal : (a b : ℕ) → bitXor a b ≡ 0 → a ≡ b
 xor-equal a b h = omega (arith, xor-add-and a b, and-le-l a b, and-le-r a b)
 
 or-zero : (a b : ℕ) → bitOr a b ≡ 0 → (a ≡ 0) × (b ≡ 0)

@@ -2,11 +2,15 @@
 // the ends of the longest runs, from the left. specs/Runs.antt says what a run is and which runs
 // events have, specs/Marks.antt how their ends stand as the bits of a number.
 ghost use mathlib.Core.Path.{_≡_};
-ghost use Prim.Native.Nat.{_+_, _<_};
+ghost use mathlib.Core.Bool.{cond};
+ghost use Prim.Native.Nat.{_+_, _^_, _≤_, _<_};
+ghost use lib.Dec.{ltb};
 ghost use lib.ListN.{length};
 ghost use Rattle.store.specs.Columns.{Sized, Whole, event};
 ghost use Rattle.runs.specs.Runs.{goes};
-ghost use Rattle.runs.specs.Marks.{stopAt, marksFrom, Marked, Finds};
+ghost use Rattle.runs.specs.Marks.{stopAt, marksFrom, Marked, Finds, Along};
+ghost use Rattle.runs.specs.Every.{every};
+ghost use Rattle.runs.specs.Blocks.{isAt, isTime, risesAfter, joinsNext};
 use store::time_at;
 
 // The end of a run, and what is known of the ends after it.
@@ -59,7 +63,105 @@ fn marks(xs: &[u16], ys: &[u16], ts: &[i64], ps: &[u8], i: usize) -> u64
     mask
 }
 
-// The end of the run at i, and the marks from there on.
+// Whether 64 rows from i on are y. This and the three below go through all without a branch, and
+// so compare several at once.
+fn rows_are(ys: &[u16], i: usize, y: u16) -> bool
+    requires { ⌜ (i + 64 ≤ length (now ys)) × (length (now ys) ≤ 2 ^ 28) ⌝ }
+    ensures { λ r. ⌜ r ≡ every (isAt (now (ys .entry)) y) 64 i ⌝ }
+{
+    let mut other: u16 = 0;
+    let mut j: usize = 0;
+    while j < 64 {
+        other = other | (ys[i + j] ^ y);
+        j += 1;
+    }
+    other == 0
+}
+
+// Whether 64 polarities from i on are p.
+fn signs_are(ps: &[u8], i: usize, p: u8) -> bool
+    requires { ⌜ (i + 64 ≤ length (now ps)) × (length (now ps) ≤ 2 ^ 28) ⌝ }
+    ensures { λ r. ⌜ r ≡ every (isAt (now (ps .entry)) p) 64 i ⌝ }
+{
+    let mut other: u8 = 0;
+    let mut j: usize = 0;
+    while j < 64 {
+        other = other | (ps[i + j] ^ p);
+        j += 1;
+    }
+    other == 0
+}
+
+// Whether 64 times from i on are t.
+fn times_are(ts: &[i64], i: usize, t: u64) -> bool
+    requires { ⌜ (i + 64 ≤ length (now ts)) × (length (now ts) ≤ 2 ^ 28) × Whole (now ts) ⌝ }
+    ensures { λ r. ⌜ r ≡ every (isTime (now (ts .entry)) t) 64 i ⌝ }
+{
+    let mut other: u64 = 0;
+    let mut j: usize = 0;
+    while j < 64 {
+        other = other | (time_at(ts, i + j) ^ t);
+        j += 1;
+    }
+    other == 0
+}
+
+// 1 where a column isn't above the one before it, else 0.
+fn no_rise(last: u16, x: u16) -> u16
+    ensures { λ r. ⌜ r ≡ cond (ltb last x) 0 1 ⌝ }
+{
+    if last < x { 0 } else { 1 }
+}
+
+// Whether 64 columns after i are each above the one before.
+fn columns_rise(xs: &[u16], i: usize) -> bool
+    requires { ⌜ (i + 64 < length (now xs)) × (length (now xs) ≤ 2 ^ 28) ⌝ }
+    ensures { λ r. ⌜ r ≡ every (risesAfter (now (xs .entry))) 64 i ⌝ }
+{
+    let mut other: u16 = 0;
+    let mut j: usize = 0;
+    while j < 64 {
+        let k = i + j;
+        other = other | no_rise(xs[k], xs[k + 1]);
+        j += 1;
+    }
+    other == 0
+}
+
+// Whether 64 events after i each go on the run of the one before.
+fn block_goes_on(xs: &[u16], ys: &[u16], ts: &[i64], ps: &[u8], i: usize) -> bool
+    requires { ⌜ Sized (now xs) (now ys) (now ts) (now ps) × (i + 64 < length (now xs)) × Whole (now ts) ⌝ }
+    ensures { λ r. ⌜ r ≡ every (joinsNext (now (xs .entry)) (now (ys .entry)) (now (ts .entry)) (now (ps .entry))) 64 i ⌝ }
+{
+    let from = i + 1;
+    if rows_are(ys, from, ys[i]) {
+        if signs_are(ps, from, ps[i]) {
+            if columns_rise(xs, i) {
+                return times_are(ts, from, time_at(ts, i));
+            }
+        }
+    }
+    false
+}
+
+// How far the run of event i goes on by blocks of 64 events: an event of it, whose run ends where that of i does.
+fn skip_blocks(xs: &[u16], ys: &[u16], ts: &[i64], ps: &[u8], i: usize) -> usize
+    requires { ⌜ Sized (now xs) (now ys) (now ts) (now ps) × (i < length (now xs)) × Whole (now ts) ⌝ }
+    ensures { λ r. ⌜ Along (now (xs .entry)) (now (ys .entry)) (now (ts .entry)) (now (ps .entry)) i r ⌝ }
+{
+    let mut j = i;
+    while 64 < xs.len() - j {
+        if block_goes_on(xs, ys, ts, ps, j) {
+            j += 64;
+        } else {
+            return j;
+        }
+    }
+    j
+}
+
+// The end of the run at i, and the marks from there on. Where no mark is found the run is long,
+// and goes on by blocks.
 pub fn run_at(mask: u64, xs: &[u16], ys: &[u16], ts: &[i64], ps: &[u8], i: usize) -> Found
     requires { ⌜ Sized (now xs) (now ys) (now ts) (now ps) × (i < length (now xs)) × Whole (now ts) × Marked (now xs) (now ys) (now ts) (now ps) i mask ⌝ }
     ensures { λ r. ⌜ Finds (now (xs .entry)) (now (ys .entry)) (now (ts .entry)) (now (ps .entry)) i r ⌝ }
@@ -69,7 +171,7 @@ pub fn run_at(mask: u64, xs: &[u16], ys: &[u16], ts: &[i64], ps: &[u8], i: usize
     while m == 0 {
         m = marks(xs, ys, ts, ps, j);
         if m == 0 {
-            j += 63;
+            j = skip_blocks(xs, ys, ts, ps, j + 63);
         }
     }
     let z = u64::trailing_zeros(m);

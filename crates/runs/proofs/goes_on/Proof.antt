@@ -6,19 +6,15 @@ use Rattle.runs.proofs.goes_on.Tie as tie
 use Rattle.runs.proofs.goes_on.Reads as reads
 use Rattle.runs.proofs.goes_on.Lts as lts
 
--- src/evt3.rt:33:16
 cast-rows : tie.Need-cast-rows
 cast-rows c = omega (arith, xor-lt 16 (c .args .y2) (c .args .y) (omega arith) (omega arith))
 
--- src/evt3.rt:34:17
 cast-signs : tie.Need-cast-signs
 cast-signs c = omega (arith, xor-lt 8 (c .args .p2) (c .args .p) (omega arith) (omega arith))
 
--- src/evt3.rt:30:1
 returns : tie.Need-returns
 returns c = let a = c .before .args in goes-same (a .t) (a .y) (a .p) (a .last) (a .x) (a .t2) (a .y2) (a .p2) (c .if1 .taken)
 
--- src/evt3.rt:30:1
 returns-2 : tie.Need-returns-2
 returns-2 c = let a = c .before .args in goes-differ (a .t) (a .y) (a .p) (a .last) (a .x) (a .t2) (a .y2) (a .p2) (c .if1 .left)
 

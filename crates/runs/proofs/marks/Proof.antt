@@ -18,19 +18,15 @@ Inv-loop xs ys ts ps i j₀ mask₀ j mask = Gathering xs ys ts ps i j mask
 abbrev μ-loop : tie.MeasureT-loop
 μ-loop xs ys ts ps i j₀ mask₀ j mask = j - i
 
--- src/evt3.rt:63:17
 sub-j : tie.Need-sub-j Inv-loop μ-loop
 sub-j c = omega (arith, c .before .before .before .pre .1)
 
--- src/evt3.rt:65:14
 sub-if1 : tie.Need-sub-if1 Inv-loop μ-loop
 sub-if1 c = omega (arith, c .before .before .before .pre .1)
 
--- src/evt3.rt:66:13
 add-j : tie.Need-add-j Inv-loop μ-loop
 add-j c = omega (arith, c .before .before .before .before .pre .0 .few, c .before .before .before .before .pre .1)
 
--- src/evt3.rt:69:5
 loop-holds : tie.Need-loop-holds Inv-loop μ-loop
 loop-holds c =
     let s = c .before .before .before .before in
@@ -40,31 +36,24 @@ loop-holds c =
     (λ w. rw (w .1, w .2) (gather-rest (now (a .xs)) (now (a .ys)) (now (a .ts)) (now (a .ps)) (a .i) (s .pre .1) (omega (arith, w .0 .left, s .pre .1))))
     (c .if1 .came)
 
--- src/evt3.rt:70:9
 sub-j-2 : tie.Need-sub-j-2 Inv-loop μ-loop
 sub-j-2 c = omega (arith, c .before .loop-test .taken)
 
--- src/evt3.rt:71:16
 mul-mask : tie.Need-mul-mask Inv-loop μ-loop
 mul-mask c = omega (arith, gather-small _ _ _ _ (c .before .before .before .loop .inv))
 
--- src/evt3.rt:71:27
 stops-requires : tie.Need-stops-requires Inv-loop μ-loop
 stops-requires c κs = (c .before .before .before .before .before .before .before .before .pre .0, omega (arith, c .before .before .before .loop .inv .inside, c .before .before .loop-test .taken), c .before .before .before .before .before .before .before .before .pre .2)
 
--- src/evt3.rt:71:16
 add-mask : tie.Need-add-mask Inv-loop μ-loop
 add-mask c = let a = c .before .before .before .before .before .before .before .before .before .args in omega (arith, gather-small _ _ _ _ (c .before .before .before .before .loop .inv), stop-le (now (a .xs)) (now (a .ys)) (now (a .ts)) (now (a .ps)) (c .before .before .before .before .loop .j - 1), c .stops .ensures)
 
--- src/evt3.rt:69:5
 loop-less : tie.Need-loop-less Inv-loop μ-loop
 loop-less c = omega (arith, c .before .before .before .loop-test .taken)
 
--- src/evt3.rt:69:5
 loop-again : tie.Need-loop-again Inv-loop μ-loop
 loop-again c = gather-turn _ _ _ _ (c .before .before .before .before .loop .inv) (c .before .before .before .loop-test .taken) (c .stops .result) (c .stops .ensures)
 
--- src/evt3.rt:59:1
 returns : tie.Need-returns Inv-loop μ-loop
 returns c = gather-end _ _ _ _ (c .before .loop .inv) (c .loop-test .left)
 

@@ -10,67 +10,51 @@ use Rattle.runs.proofs.stops.Lts as lts
 use Rattle.runs.proofs.goes_on.Reads as goes-on-reads
 use Rattle.store.proofs.time_at.Reads as time-at-reads
 
--- src/evt3.rt:51:13
 add-j : tie.Need-add-j
 add-j c = search needs
 
--- src/evt3.rt:52:9
 time-at-requires : tie.Need-time-at-requires
 time-at-requires c κs = search needs
 
--- src/evt3.rt:53:9
 time-at-requires-2 : tie.Need-time-at-requires-2
 time-at-requires-2 c κs = search needs
 
--- src/evt3.rt:54:19
 mul-goes-on : tie.Need-mul-goes-on
 mul-goes-on c = search needs
 
--- src/evt3.rt:54:19
 shared-slice-read-goes-on : tie.Need-shared-slice-read-goes-on
 shared-slice-read-goes-on c = search needs
 
--- src/evt3.rt:54:26
 shared-slice-read-goes-on-2 : tie.Need-shared-slice-read-goes-on-2
 shared-slice-read-goes-on-2 c = search needs
 
--- src/evt3.rt:54:33
 mul-goes-on-2 : tie.Need-mul-goes-on-2
 mul-goes-on-2 c = search needs
 
--- src/evt3.rt:54:33
 shared-slice-read-goes-on-3 : tie.Need-shared-slice-read-goes-on-3
 shared-slice-read-goes-on-3 c = search needs
 
--- src/evt3.rt:54:40
 mul-goes-on-3 : tie.Need-mul-goes-on-3
 mul-goes-on-3 c = search needs
 
--- src/evt3.rt:54:40
 shared-slice-read-goes-on-4 : tie.Need-shared-slice-read-goes-on-4
 shared-slice-read-goes-on-4 c = search needs
 
--- src/evt3.rt:54:47
 mul-goes-on-4 : tie.Need-mul-goes-on-4
 mul-goes-on-4 c = search needs
 
--- src/evt3.rt:54:47
 shared-slice-read-goes-on-5 : tie.Need-shared-slice-read-goes-on-5
 shared-slice-read-goes-on-5 c = search needs
 
--- src/evt3.rt:54:58
 shared-slice-read-goes-on-6 : tie.Need-shared-slice-read-goes-on-6
 shared-slice-read-goes-on-6 c = search needs
 
--- src/evt3.rt:54:8
 goes-on-requires : tie.Need-goes-on-requires
 goes-on-requires c κs = search needs
 
--- src/evt3.rt:47:1
 returns : tie.Need-returns
 returns c = let a = c .before .before .before .before .before .before .before .before .before .before .before .before .before .args in stop-is (now (a .xs)) (now (a .ys)) (now (a .ts)) (now (a .ps)) (a .k) true (c .before .before .before .before .before .before .before .before .before .before .before .before .before .pre .1) (sym (rw (c .before .before .before .before .before .before .before .before .before .time-at .ensures, c .before .before .before .before .before .before .before .before .time-at2 .ensures) at (c .before .goes-on .ensures)) ∙ c .if1 .taken)
 
--- src/evt3.rt:47:1
 returns-2 : tie.Need-returns-2
 returns-2 c = let a = c .before .before .before .before .before .before .before .before .before .before .before .before .before .args in stop-is (now (a .xs)) (now (a .ys)) (now (a .ts)) (now (a .ps)) (a .k) false (c .before .before .before .before .before .before .before .before .before .before .before .before .before .pre .1) (sym (rw (c .before .before .before .before .before .before .before .before .before .time-at .ensures, c .before .before .before .before .before .before .before .before .time-at2 .ensures) at (c .before .goes-on .ensures)) ∙ c .if1 .left)
 

@@ -4,7 +4,7 @@ use mathlib.Core.Bool.{Bool, true, false, cond, _&&_}
 use Prim.Native.Nat.{ℕ, zero, suc, _+_, _-_, _≤_, _<_}
 use native.Mathlib.Omega.{arith}
 use native.Mathlib.Nat.{add-zero}
-use lib.Bits.{bitOr, bitXor, xor-self, or-add-and, and-le-l, and-le-r}
+use lib.Bits.{bitOr, bitXor, xor-self, or-add-and, and-le-r}
 use lib.Dec.{eqb}
 use borrow.Author.Tests.{eq-eqb, ne-eqb, eqb-true, eqb-false}
 use Rattle.runs.specs.Runs.{xor-equal}
@@ -28,7 +28,7 @@ and-true : (a : Bool) → (a && true) ≡ a
 and-true true = refl
 and-true false = refl
 
-and-assoc : (a b c : Bool) → ((a && b) && c) ≡ (a && (b && c))
+pub and-assoc : (a b c : Bool) → ((a && b) && c) ≡ (a && (b && c))
 and-assoc true b c = refl
 and-assoc false b c = refl
 
@@ -36,7 +36,7 @@ or-as : (c d : Bool) (a b : ℕ) → eqb a 0 ≡ c → eqb b 0 ≡ d → eqb (bi
 or-as true d a b p q = rw (eqb-true a 0 p) q
 or-as false d a b p q = ne-eqb (bitOr a b) 0 (λ z. eqb-false a 0 p (omega (arith, or-add-and a b, and-le-r a b)))
 
-or-none : (a b : ℕ) → eqb (bitOr a b) 0 ≡ (eqb a 0 && eqb b 0)
+pub or-none : (a b : ℕ) → eqb (bitOr a b) 0 ≡ (eqb a 0 && eqb b 0)
 or-none a b = or-as (eqb a 0) (eqb b 0) a b refl refl
 
 pub xor-none : (a b : ℕ) → eqb (bitXor a b) 0 ≡ eqb a b

@@ -3,3 +3,4 @@ pub mod Runs
 pub mod Marks
 pub mod Every
 pub mod Blocks
+pub mod Flags

@@ -76,11 +76,11 @@ module _ (xs ys : List ℕ) (ts : List ℤ) (ps : List ℕ) where
   pub stop-is : (k : ℕ) (c : Bool) → k + 1 < length xs → joins (eventOf xs ys ts ps k) (eventOf xs ys ts ps (k + 1)) ≡ c → cond c 0 1 ≡ stopAt k
   stop-is k c h e = rw (lt-ltb (k + 1) (length xs) h, e)
 
-  marks-none : (i : ℕ) → marks 0 i ≡ 0
+  pub marks-none : (i : ℕ) → marks 0 i ≡ 0
   unfolding marks
   marks-none i = refl
 
-  marks-some : (k i : ℕ) → marks (suc k) i ≡ stopAt i + 2 * marks k (i + 1)
+  pub marks-some : (k i : ℕ) → marks (suc k) i ≡ stopAt i + 2 * marks k (i + 1)
   unfolding marks
   marks-some k i = refl
 
@@ -110,7 +110,7 @@ module _ (xs ys : List ℕ) (ts : List ℤ) (ps : List ℕ) where
     pub below : j ≤ i + marksLeft i
     pub is-mask : mask ≡ marks (i + marksLeft i - j) j
 
-  left-full : (i : ℕ) → i + 63 < length xs → marksLeft i ≡ 63
+  pub left-full : (i : ℕ) → i + 63 < length xs → marksLeft i ≡ 63
   left-full i h = rw (lt-ltb (i + 63) (length xs) h)
 
   left-rest : (i : ℕ) → length xs ≤ i + 63 → marksLeft i ≡ length xs - i

@@ -1,16 +1,10 @@
-use borrow.Author.Needs.{needs}
-use borrow.Author.Needs.{needs}
 use mathlib.Core.Logic.{⊎-elim}
 use Prim.Native.Nat.{_-_}
 use native.Mathlib.Omega.{arith}
-use lib.ListN.{length}
 use denote.Ref.{now}
 use Rattle.runs.specs.Marks.{Gathering, gather-full, gather-rest, gather-small, gather-turn, gather-end, stop-le}
-use Rattle.runs.proofs.marks.Statement.{statement}
-use Rattle.runs.proofs.marks.Tie as tie
-use Rattle.runs.proofs.marks.Reads as reads
-use Rattle.runs.proofs.marks.Lts as lts
-use Rattle.runs.proofs.stops.Reads as stops-reads
+use Rattle.runs.proofs.marks_one_by_one.Statement.{statement}
+use Rattle.runs.proofs.marks_one_by_one.Tie as tie
 
 abbrev Inv-loop : tie.InvT-loop
 Inv-loop xs ys ts ps i j₀ mask₀ j mask = Gathering xs ys ts ps i j mask
@@ -57,8 +51,8 @@ loop-again c = gather-turn _ _ _ _ (c .before .before .before .before .loop .inv
 returns : tie.Need-returns Inv-loop μ-loop
 returns c = gather-end _ _ _ _ (c .before .loop .inv) (c .loop-test .left)
 
-pub marks-spec : {M : Type 1} → statement M
-marks-spec =
+pub marks-one-by-one-spec : {M : Type 1} → statement M
+marks-one-by-one-spec =
     tie.close
     (tie.spec
     Inv-loop

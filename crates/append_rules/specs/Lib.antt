@@ -2,3 +2,4 @@
 pub mod Range
 pub mod Rules
 pub mod Checks
+pub mod Blocks

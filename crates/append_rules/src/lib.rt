@@ -74,11 +74,12 @@ pub fn check_append(sink: RawEventSink, xs: &[u16], ys: &[u16], ts: &[i64], ps: 
         return Check::Failed(Refusal::TooLong);
     }
     let last = sink.last_t;
-    if columns::times_fall_after(last, ts) {
+    let looked = columns::look_after(last, xs, ys, ts, ps);
+    if looked.falls {
         return Check::Failed(Refusal::TimeOrder);
     }
     let version = sink.version;
-    if columns::events_in_range(version, xs, ys, ts, ps) {
+    if columns::events_in_range(version, looked.fine, ts) {
         Check::Passed
     } else {
         Check::Failed(Refusal::EventOutOfRange)

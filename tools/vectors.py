@@ -892,8 +892,18 @@ def writer_drawn():
             yield Writing(f'wresume{enc}', sink, some(enc, sink, last))
 
 
+def writer_lengths():
+    """Rules 12 and 4 by the lengths of the columns alone, expected by the table: 12 comes first."""
+    most = 2**28
+    told = lambda lengths: 'refused 12' if len(set(lengths)) > 1 else 'refused 4' if lengths[0] > most else 'ok'
+    alike = [(n,) * 4 for n in (0, 1, most - 1, most, most + 1, 2**32, 2**64 - 1)]
+    apart = [tuple(b if i == k else a for i in range(4)) for a, b in itertools.permutations((0, most, most + 1, 2**64 - 1), 2) for k in range(4)]
+    for lengths in alike + apart:
+        yield Case('wlengths', 'lengths ' + ','.join(map(str, lengths)), [], lambda _, answer=told(lengths): answer)
+
+
 def writing():
-    for part in writer_bench, writer_states, writer_order, writer_columns, writer_rooms, writer_words, writer_drawn:
+    for part in writer_bench, writer_states, writer_order, writer_lengths, writer_columns, writer_rooms, writer_words, writer_drawn:
         yield from part()
 
 

@@ -2,16 +2,14 @@
 use mathlib.Core.Path.{_≡_, refl, sym, ap, _∙_}
 use mathlib.Core.Bool.{Bool, true, false, cond}
 use mathlib.Core.List.{List, [], _∷_, _++_, map}
-use Prim.Native.Nat.{ℕ, zero, suc, _+_, _-_, _*_, _/_, _≤_, _<_, _^_, min}
+use Prim.Native.Nat.{ℕ, _+_, _≤_, _<_, _^_}
 use native.Mathlib.Omega.{arith}
 use lib.Dec.{leb, ltb, eqb}
 use lib.IntN.{ℤ}
-use lib.ListN.{length, take, drop, length-map, length-append, length-drop, length-take}
+use lib.ListN.{length, take, drop, length-map, length-append}
 use lib.Seq.{take-at, take-all}
 use native.Mathlib.Numerals.{add-one}
-use native.Mathlib.Nat.{zero-add}
-use borrow.Author.Tests.{le-leb, lt-leb, le-ltb, lt-ltb, leb-true, leb-false, ltb-true, ltb-false, ne-eqb}
-use Rattle.stream.specs.Columns.{written}
+use borrow.Author.Tests.{le-ltb, lt-ltb, leb-true, leb-false, ltb-true, ltb-false, ne-eqb}
 use Rattle.stream.specs.Mask.{top}
 use Rattle.stream.specs.Order.{greatest, greatest-map}
 use Rattle.stream.specs.Slice.{sift}
@@ -25,17 +23,10 @@ use Rattle.evt_types.specs.declared.SensorSize.{SensorSize}
 use Rattle.evt_types.specs.declared.SensorSize.the-variants.{Unknown, Known}
 use Rattle.evt.specs.declared.codec.Codec.{Codec}
 use Rattle.evt.specs.Codec.{freshC, eventsFrom}
-use Rattle.evt_types.specs.Columns.{colX, colY, colT, colP, Wrote}
+use Rattle.evt_types.specs.Columns.{colX, colY}
 use Rattle.evt_types.specs.Event.{Event}
 use Rattle.evt_types.specs.Told.{accepted, refused, short}
-use Rattle.evt2_decoder.specs.Evt2.{fresh2}
-use Rattle.evt3_decoder.specs.Evt3.{fresh3}
-use Rattle.decode.specs.Loops.{few2, few3}
-use Rattle.decode.specs.declared.Tally.{Tally}
-use Rattle.count.specs.declared.Survey.{Survey}
-use Rattle.decode.specs.Decode.{Bounded, insideEvents, tallyOf}
-use Rattle.count.specs.Count.{surveyOf}
-use Rattle.decode.specs.Turn.{Fits}
+use Rattle.decode.specs.Decode.{insideEvents}
 use Rattle.answer.specs.declared.Span.{Span}
 use Rattle.room.specs.declared.Delivered.{Delivered}
 use Rattle.room.specs.declared.Delivered.the-variants.{Written, Needed}
@@ -50,9 +41,7 @@ use Rattle.header.specs.declared.HeaderAnswer.the-variants.{Header, Refused as 
 use Rattle.decode.specs.Laws.{bounded-fresh, range-fresh, all-inside, inside-bytes}
 use Rattle.sensor.specs.Inside.{inside}
 use Rattle.window.specs.declared.Window.{Window}
-use Rattle.select.specs.declared.Tally.{Tally as SelectTally}
-use Rattle.select.specs.declared.Filled.{Filled}
-use Rattle.select.specs.Pass.{Ready, handedOver, surveyed, filled}
+use Rattle.select.specs.Pass.{Ready, handedOver}
 use Rattle.select.specs.Uses.{able-range, numberedOver, over-limit}
 use Rattle.header.specs.declared.Header as header
 use Rattle.header.specs.Header.{encodingNumber, hasZero, headerOf}
@@ -276,7 +265,3 @@ module _ {xs₀ ys₀ : List ℕ} {ts₀ : List ℤ} {ps₀ : List ℕ} where
         → ReadsRaw recording o r xs₀ ys₀ ts₀ ps₀ xs ys ts ps
     unfolding bodyEvents
     raw-read h e b = raw-from (rw e b)
-
--- a part up to the end
-pub rest-of : {A : Type 0} (l : List A) (a : ℕ) → take (length l - a) (drop a l) ≡ drop a l
-rest-of l a = take-all (length l - a) (drop a l) (omega (arith, length-drop a l))

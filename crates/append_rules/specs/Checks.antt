@@ -1,6 +1,6 @@
 -- What the loops of a check keep, and what a check that is passed says.
 use mathlib.Core.Path.{_≡_, refl, sym, ap, _∙_}
-use mathlib.Core.Bool.{Bool, true, false, cond, _&&_, _||_, true≢false}
+use mathlib.Core.Bool.{Bool, true, false, cond, _&&_, _||_, true≢false, and-true, and-assoc}
 use mathlib.Core.List.{List, [], _∷_}
 use Prim.Native.Nat.{ℕ, zero, suc, _+_, _-_, _^_, _≤_, _<_}
 use native.Mathlib.Omega.{arith}
@@ -15,6 +15,7 @@ use borrow.Author.Tests.{eqb-true, leb-true, leb-false, ltb-true, ltb-false, le-
 use Rattle.stream.specs.Machine.{and-both}
 use Rattle.evt_types.specs.declared.Encoding.{Encoding}
 use Rattle.evt_types.specs.declared.Encoding.the-variants.{Evt2, Evt3}
+use Rattle.evt_types.specs.declared.Refusal.{Refusal}
 use Rattle.evt_types.specs.declared.Refusal.the-variants.{TooLong, TimeOrder, EventOutOfRange, StateOutOfRange, ColumnLengths}
 use Rattle.store.specs.declared.EncoderState.{EncoderState}
 use Rattle.store.specs.Columns.{natural, Sized, Whole}
@@ -24,7 +25,7 @@ use Rattle.append_rules.specs.declared.LastTime.{LastTime}
 use Rattle.append_rules.specs.declared.LastTime.the-variants.{Never, At}
 use Rattle.append_rules.specs.declared.RawEventSink.{RawEventSink}
 use Rattle.append_rules.specs.Range.{timeBound, timeInRange, every, atMost, eventsInRange, falls, fallsAfter, sameLengths, isNothing, sentInRange, lastInRange, sinkInRange}
-use Rattle.append_rules.specs.Rules.{checkOf}
+use Rattle.append_rules.specs.Rules.{lengthsOf, checkOf}
 
 pub or-neither : (a b : Bool) → (a || b) ≡ false → (a ≡ false) × (b ≡ false)
 or-neither true b h = absurd (true≢false h)
@@ -41,14 +42,6 @@ or-as false d k most a b e p q = lt-leb (bitOr a b) most (omega (arith, leb-fals
 
 pub or-most : (k most a b : ℕ) → suc most ≡ 2 ^ k → leb (bitOr a b) most ≡ (leb a most && leb b most)
 or-most k most a b e = or-as (leb a most) (leb b most) k most a b e refl refl
-
-and-assoc : (a b c : Bool) → ((a && b) && c) ≡ (a && (b && c))
-and-assoc true b c = refl
-and-assoc false b c = refl
-
-and-true : (a : Bool) → (a && true) ≡ a
-and-true true = refl
-and-true false = refl
 
 module _ (k most : ℕ) (e : suc most ≡ 2 ^ k) (xs : List ℕ) where
   -- at index i
@@ -101,7 +94,7 @@ falls-never Never ts h = h
 falls-never (At t) [] h = refl
 falls-never (At t) (u ∷ ts) h = or-neither (ltZ u t) (falls u ts) h .1
 
-abbrev lastOf : ℤ → List ℤ → ℤ
+abbrev pub lastOf : ℤ → List ℤ → ℤ
 lastOf t ts = getD (t ∷ ts) (length ts) (pos 0)
 
 -- the last is not before the first
@@ -182,6 +175,29 @@ event-fine e xs ys ts ps h i =
       whole = d .0;
       fine-t = ltb-true (natural t) (timeBound e) (d .1);
     }
+
+-- ---- what the check of the lengths says
+
+module _ (xs ys : List ℕ) (ts : List ℤ) (ps : List ℕ) (c : Check) (is : c ≡ lengthsOf (length xs) (length ys) (length ts) (length ps)) where
+  pub lengths-passed : c ≡ Passed → (sameLengths (length xs) (length ys) (length ts) (length ps) ≡ true) × (leb (length xs) (2 ^ 28) ≡ true)
+  lengths-passed h = go (sameLengths (length xs) (length ys) (length ts) (length ps)) (leb (length xs) (2 ^ 28)) (sym is ∙ h)
+    where
+      go : (a b : Bool) → cond a (cond b Passed (Failed TooLong)) (Failed ColumnLengths) ≡ Passed → (a ≡ true) × (b ≡ true)
+      go true true e = (refl, refl)
+      go true false e = absurd (let z : _≡_ {A = ℕ} 0 1 = cc in omega arith)
+      go false b e = absurd (let z : _≡_ {A = ℕ} 0 1 = cc in omega arith)
+
+  -- what they refuse is refused
+  pub lengths-failed : (s : RawEventSink) → sinkInRange s ≡ true → (why : Refusal) → c ≡ Failed why → c ≡ checkOf s xs ys ts ps
+  lengths-failed s r why h = rw r (go (sameLengths (length xs) (length ys) (length ts) (length ps)) (leb (length xs) (2 ^ 28)) is)
+    where
+      more : Check
+      more = cond (fallsAfter (s .«last_t») ts) (Failed TimeOrder) (cond (eventsInRange (s .version) xs ys ts ps) Passed (Failed EventOutOfRange))
+
+      go : (a b : Bool) → c ≡ cond a (cond b Passed (Failed TooLong)) (Failed ColumnLengths) → c ≡ cond a (cond b more (Failed TooLong)) (Failed ColumnLengths)
+      go true true e = absurd (let z : _≡_ {A = ℕ} 0 1 = cc in omega arith)
+      go true false e = e
+      go false b e = e
 
 -- ---- what a check that is passed says
 

@@ -17,17 +17,21 @@ use Rattle.append_rules.specs.Range.{eventsInRange, fallsAfter, sameLeng
 abbrev pub freshSink : Encoding → (header : Bool) → RawEventSink
 freshSink e header = record { version = e; «header_written» = not header; «n_events» = 0; «last_t» = Never; state = freshState }
 
+-- of columns of these lengths: the first of the rules 12 and 4 that applies, or none
+abbrev pub byLengths : (x y t p : ℕ) → {A : Type 0} → (is12 is4 passed : A) → A
+byLengths x y t p is12 is4 passed = cond (sameLengths x y t p) (cond (leb x (2 ^ 28)) passed is4) is12
+
+abbrev pub lengthsOf : (x y t p : ℕ) → Check
+lengthsOf x y t p = byLengths x y t p (Failed ColumnLengths) (Failed TooLong) Passed
+
 module _ (s : RawEventSink) (xs ys : List ℕ) (ts : List ℤ) (ps : List ℕ) where
   -- the first of the rules 10, 12, 4, 6 and 7 that applies, or none
   abbrev pub byRules : {A : Type 0} → (is10 is12 is4 is6 is7 passed : A) → A
   byRules is10 is12 is4 is6 is7 passed =
       cond (sinkInRange s)
-      (cond (sameLengths (length xs) (length ys) (length ts) (length ps))
-      (cond (leb (length xs) (2 ^ 28))
+      (byLengths (length xs) (length ys) (length ts) (length ps) is12 is4
       (cond (fallsAfter (s .«last_t») ts) is6
-      (cond (eventsInRange (s .version) xs ys ts ps) passed is7))
-      is4)
-      is12)
+      (cond (eventsInRange (s .version) xs ys ts ps) passed is7)))
       is10
 
 module _ (s : RawEventSink) (xs ys : List ℕ) (ts : List ℤ) (ps : List ℕ) where

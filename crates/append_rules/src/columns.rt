@@ -112,7 +112,7 @@ fn places_in_range(xs: &[u16], ys: &[u16], ps: &[u8]) -> bool
 }
 
 // Whether a time is before the one before it, the first before `from`, and else whether all places are
-// in range: 64 events at a time, so that the four columns come from memory side by side.
+// in range: 64 events at a time, all four columns of them.
 fn look(from: i64, xs: &[u16], ys: &[u16], ts: &[i64], ps: &[u8]) -> Looked
     requires { ⌜ Sized (now xs) (now ys) (now ts) (now ps) ⌝ }
     ensures { λ r. ⌜ Looks (falls from (now (ts .entry))) (now (xs .entry)) (now (ys .entry)) (now (ps .entry)) r ⌝ }

@@ -3,7 +3,7 @@
 // first rule that applies. specs/Range.antt says what each asks for, specs/Rules.antt their order.
 ghost use mathlib.Core.Path.{_≡_};
 ghost use Rattle.append_rules.specs.Range.{sinkInRange};
-ghost use Rattle.append_rules.specs.Rules.{freshSink, checkOf};
+ghost use Rattle.append_rules.specs.Rules.{freshSink, lengthsOf, checkOf};
 use evt_types::Encoding;
 use evt_types::Refusal;
 use evt_types::Sent;
@@ -60,6 +60,20 @@ fn in_range(sink: RawEventSink) -> bool
     range::last(version, state, sink.n_events, last)
 }
 
+// Rules 12 and 4, by the columns' lengths.
+pub fn check_lengths(x: usize, y: usize, t: usize, p: usize) -> Check
+    ensures { λ r. ⌜ r ≡ lengthsOf x y t p ⌝ }
+{
+    if columns::same_lengths(x, y, t, p) {} else {
+        return Check::Failed(Refusal::ColumnLengths);
+    }
+    if 268435456 < x {
+        Check::Failed(Refusal::TooLong)
+    } else {
+        Check::Passed
+    }
+}
+
 // Rules 10, 12, 4, 6 and 7.
 pub fn check_append(sink: RawEventSink, xs: &[u16], ys: &[u16], ts: &[i64], ps: &[u8]) -> Check
     ensures { λ r. ⌜ r ≡ checkOf sink (now (xs .entry)) (now (ys .entry)) (now (ts .entry)) (now (ps .entry)) ⌝ }
@@ -67,12 +81,10 @@ pub fn check_append(sink: RawEventSink, xs: &[u16], ys: &[u16], ts: &[i64], ps: 
     if in_range(sink) {} else {
         return Check::Failed(Refusal::StateOutOfRange);
     }
-    if columns::same_lengths(xs.len(), ys.len(), ts.len(), ps.len()) {} else {
-        return Check::Failed(Refusal::ColumnLengths);
-    }
-    if 268435456 < xs.len() {
-        return Check::Failed(Refusal::TooLong);
-    }
+    let lengths = check_lengths(xs.len(), ys.len(), ts.len(), ps.len());
+    let Check::Passed = lengths else {
+        return lengths;
+    };
     let last = sink.last_t;
     let looked = columns::look_after(last, xs, ys, ts, ps);
     if looked.falls {

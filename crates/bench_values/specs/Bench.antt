@@ -1,6 +1,6 @@
 -- Document 01's bench values that are to be proved of the definitions: one statement over one list.
 use mathlib.Core.Path.{_≡_, refl}
-use mathlib.Core.List.{List, [], _∷_, _++_}
+use mathlib.Core.List.{List, [], _∷_}
 use Prim.Native.Nat.{ℕ}
 use lib.ListN.{take}
 use Rattle.stream.specs.Loop.{loopsAfter, timeAfter}

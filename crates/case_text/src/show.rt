@@ -2,6 +2,7 @@
 use evt_types::Encoding;
 use evt_types::RawEvent;
 use evt_types::Refusal;
+use evt_types::refusal_number;
 use libc::STDOUT_FILENO;
 
 pub fn text(s: &[u8]) {
@@ -63,28 +64,10 @@ pub fn hex(s: &[u8]) {
     }
 }
 
-// The table's number.
-pub fn table(r: Refusal) -> u64 {
-    match r {
-        Refusal::InvalidSensorSize => 1,
-        Refusal::UnknownEncoding => 2,
-        Refusal::HeaderNotAscii => 3,
-        Refusal::TooLong => 4,
-        Refusal::ColumnsTooShort(_) => 5,
-        Refusal::TimeOrder => 6,
-        Refusal::EventOutOfRange => 7,
-        Refusal::InvalidSpacing => 8,
-        Refusal::TooFewRecords(_) => 9,
-        Refusal::StateOutOfRange => 10,
-        Refusal::OutputTooShort(_) => 11,
-        Refusal::ColumnLengths => 12,
-    }
-}
-
 // `refused`, the table's number, and the count that the refusal tells.
 pub fn refusal(r: Refusal) {
     text(b"refused");
-    next(b' ', table(r));
+    next(b' ', refusal_number(r) as u64);
     match r {
         Refusal::ColumnsTooShort(n) => next(b' ', n as u64),
         Refusal::TooFewRecords(n) => next(b' ', n as u64),

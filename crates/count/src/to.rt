@@ -1,5 +1,4 @@
 // Passing over words up to a number of events: a loop for each encoding.
-ghost use mathlib.Core.Path.{_≡_};
 ghost use Prim.Native.Nat.{_+_, _*_, _/_, _≤_, _^_};
 ghost use lib.ListN.{length};
 ghost use Rattle.evt2_decoder.specs.Evt2.{reader2};

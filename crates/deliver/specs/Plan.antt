@@ -1,14 +1,19 @@
 -- Which bytes are decoded for a window, and why nothing is lost: a window of everything has all events inside the sensor; what lies before its first time or number is passed over, and the plain loops decode up to its last time.
 use mathlib.Core.Path.{_≡_, refl, sym, _∙_}
-use mathlib.Core.Bool.{Bool, true, false, true≢false}
+use mathlib.Core.Bool.{Bool, true, false, _&&_, true≢false}
 use mathlib.Core.List.{List}
-use Prim.Native.Nat.{ℕ, _+_, _-_, _*_, _≤_, _<_, _^_}
+use Prim.Native.Nat.{ℕ, _+_, _-_, _≤_, _<_, _^_}
 use native.Mathlib.Omega.{arith}
 use native.Mathlib.Nat.{add-sub-cancel-left}
+use lib.Dec.{eqb, leb, ltb}
 use lib.IntN.{ℤ}
+use borrow.Author.Tests.{eqb-true, leb-true, ltb-true}
 use lib.ListN.{length, take, drop, length-take, length-drop}
+use Rattle.stream.specs.Machine.{and-both}
+use Rattle.stream.specs.Part.{between, rest-of}
 use Rattle.evt.specs.declared.codec.Codec.{Codec}
 use Rattle.evt.specs.declared.codec.Codec.the-variants.{Evt2, Evt3}
+use Rattle.evt.specs.Codec.{inRangeC}
 use Rattle.evt_types.specs.Event.{Event}
 use Rattle.count.specs.declared.Passed.{Passed}
 use Rattle.decode.specs.Decode.{insideEvents, Bounded, Fitting}
@@ -19,35 +24,64 @@ use Rattle.select.specs.Pass.{Able, Ready, handedOver}
 use Rattle.select.specs.Uses.{numberedOver, over-all}
 use Rattle.seek.specs.declared.Sought.{Sought}
 use Rattle.seek.specs.Seek.{soughtOf}
-use Rattle.seek.specs.Laws.{sought-within, sought-from, sought-upto, ready-there, rest-of}
+use Rattle.seek.specs.Laws.{sought-within, sought-from, sought-upto, ready-there}
 use Rattle.pass_over.specs.Laws.{passed-within, passed-few, handed-passed, ready-passed}
 use Rattle.room.specs.declared.Delivered.{Delivered}
 use Rattle.deliver.specs.declared.plan.Plan.{Plan}
 use Rattle.room.specs.Deliver.{Delivers}
 
+-- ---- windows that can be decoded otherwise than word by word
+
 -- every number, and some time
+abbrev pub isTimed : Window → Bool
+isTimed win = eqb (win .n0) 0 && (eqb (win .n1) 18446744073709551615 && ltb (win .t0) (win .t1))
+
+-- every number, and every time
+abbrev pub isWhole : Window → Bool
+isWhole win = eqb (win .t0) 0 && (leb (2 ^ 63) (win .t1) && isTimed win)
+
+-- all times, and a first number that lies ahead of the next event's; no index counts more than 2^33
+abbrev pub isNumbered : Window → (k : ℕ) → Bool
+isNumbered win k = leb (2 ^ 63) (win .t1) && (leb (win .n0) (2 ^ 33) && ltb k (win .n0))
+
 pub record Timed (win : Window) : Type 0 where
   pub first : win .n0 ≡ 0
   pub last : win .n1 ≡ 18446744073709551615
   pub order : win .t0 < win .t1
 
--- every number, and every time
 pub record Whole (win : Window) : Type 0 where
   pub timed : Timed win
   pub no-start : win .t0 ≡ 0
   pub no-end : 2 ^ 63 ≤ win .t1
 
--- all times, and a first number not before the next event's
 pub record Numbered (win : Window) (k : ℕ) : Type 0 where
   pub order : k ≤ win .n0
   pub low : win .n0 ≤ 2 ^ 33
   pub no-end : 2 ^ 63 ≤ win .t1
 
--- ---- what a plan is to be
+module _ (win : Window) where
+  pub timed-of : isTimed win ≡ true → Timed win
+  timed-of h =
+      let a = and-both (eqb (win .n0) 0) _ h in
+      let b = and-both (eqb (win .n1) 18446744073709551615) _ (a .1) in
+      record { first = eqb-true (win .n0) 0 (a .0); last = eqb-true (win .n1) 18446744073709551615 (b .0); order = ltb-true (win .t0) (win .t1) (b .1) }
 
--- `&l[from..to]`
-abbrev pub partOf : (from to : ℕ) → List ℕ → List ℕ
-partOf from to l = take (to - from) (drop from l)
+  pub whole-of : isWhole win ≡ true → Whole win
+  whole-of h =
+      let a = and-both (eqb (win .t0) 0) _ h in
+      let b = and-both (leb (2 ^ 63) (win .t1)) _ (a .1) in
+      record { timed = timed-of (b .1); no-start = eqb-true (win .t0) 0 (a .0); no-end = leb-true (2 ^ 63) (win .t1) (b .0) }
+
+  pub whole-in-range : (c : Codec) (r : Bool) → r ≡ (isWhole win && inRangeC c) → r ≡ true → Whole win
+  whole-in-range c r is h = whole-of (and-both (isWhole win) (inRangeC c) (sym is ∙ h) .0)
+
+  pub numbered-of : (k : ℕ) → isNumbered win k ≡ true → Numbered win k
+  numbered-of k h =
+      let a = and-both (leb (2 ^ 63) (win .t1)) _ h in
+      let b = and-both (leb (win .n0) (2 ^ 33)) _ (a .1) in
+      record { order = omega (arith, ltb-true k (win .n0) (b .1)); low = leb-true (win .n0) (2 ^ 33) (b .0); no-end = leb-true (2 ^ 63) (win .t1) (a .0) }
+
+-- ---- what a plan is to be
 
 -- the plain loops can take the part, and all its events are what the pass hands over
 pub record Plainly (es : List Event) (width height : ℕ) (c : Codec) (l : List ℕ) : Type 0 where
@@ -63,8 +97,8 @@ pub record Under (es : List Event) (win : Window) (k : ℕ) (c : Codec) (l : Lis
 pub record Planned (win : Window) (k : ℕ) (c : Codec) (l : List ℕ) (p : Plan) : Type 0 where
   pub order : p .from ≤ p .to
   pub within : p .to ≤ length l
-  pub plainly : p .plain ≡ true → Plainly (handedOver win k c l) (win .width) (win .height) (p .codec) (partOf (p .from) (p .to) l)
-  pub under : p .plain ≡ false → Under (handedOver win k c l) win (p .number) (p .codec) (partOf (p .from) (p .to) l)
+  pub plainly : p .plain ≡ true → Plainly (handedOver win k c l) (win .width) (win .height) (p .codec) (between l (p .from) (p .to))
+  pub under : p .plain ≡ false → Under (handedOver win k c l) win (p .number) (p .codec) (between l (p .from) (p .to))
 
 -- what is delivered of the part is delivered of the whole
 module _ {es : List Event} {c : Codec} {l : List ℕ} {r : Delivered} {xs₀ ys₀ : List ℕ} {ts₀ : List ℤ} {ps₀ xs ys : List ℕ} {ts : List ℤ} {ps : List ℕ} where
@@ -123,10 +157,10 @@ module _ (win : Window) (k : ℕ) (c : Codec) (l : List ℕ) (ready : Ready c k 
     pub planned-stray : Planned win k c l (record { plain = false; from = s .at; to = length l; codec = s .codec; number = k })
     planned-stray = to-the-end win k c l (s .at) k (s .codec) within-time from-time ready-time
 
-    pub able-time : Able (length (partOf (s .at) (length l) l)) (s .codec) × (length (partOf (s .at) (length l) l) ≤ 2 ^ 30)
+    pub able-time : Able (length (between l (s .at) (length l))) (s .codec) × (length (between l (s .at) (length l)) ≤ 2 ^ 30)
     able-time = rw (rest-of l (s .at)) (ready-time .able, ready-time .long)
 
-    module _ (e : Sought) (is-span : e ≡ soughtOf (win .t0) (win .t1) (s .codec) (partOf (s .at) (length l) l)) where
+    module _ (e : Sought) (is-span : e ≡ soughtOf (win .t0) (win .t1) (s .codec) (between l (s .at) (length l))) where
       ends : e ≡ soughtOf (win .t0) (win .t1) (s .codec) (drop (s .at) l)
       ends = rw (rest-of l (s .at)) at is-span
 

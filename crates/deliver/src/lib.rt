@@ -2,7 +2,6 @@
 // (5). `deliver_all` has every event inside a sensor; `deliver` what a pass under a window selects,
 // for reading and for both slices; plan.rt settles before which bytes are decoded for it. What is
 // answered and what the columns hold is in specs/Deliver.antt of `room`.
-ghost use mathlib.Core.Path.{_≡_};
 ghost use Prim.Native.Nat.{_≤_, _^_};
 ghost use lib.ListN.{length};
 ghost use Rattle.decode.specs.Decode.{Bounded, insideEvents};
@@ -83,8 +82,8 @@ fn deliver_window(
 }
 
 // Writes what a pass hands over, if the columns hold it. Everything goes by a call of its own: with two
-// callers the plain loops stay a function of their own, with registers enough. `requires`: every caller
-// has refused longer recordings (4) and a decoder out of range (10).
+// callers the plain loops are compiled as a function of their own, which measured faster. `requires`:
+// every caller has refused longer recordings (4) and a decoder out of range (10).
 pub fn deliver(
     bytes: &[u8],
     codec: Codec,

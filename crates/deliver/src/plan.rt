@@ -4,11 +4,12 @@
 // them.
 // specs/Plan.antt says why nothing is lost.
 ghost use mathlib.Core.Path.{_≡_};
-ghost use mathlib.Core.Bool.{true};
+ghost use mathlib.Core.Bool.{_&&_};
 ghost use lib.ListN.{length};
+ghost use Rattle.evt.specs.Codec.{inRangeC};
 ghost use Rattle.decode.specs.Decode.{Fitting};
 ghost use Rattle.select.specs.Pass.{Ready};
-ghost use Rattle.deliver.specs.Plan.{Timed, Whole, Numbered, Planned};
+ghost use Rattle.deliver.specs.Plan.{isTimed, isWhole, isNumbered, Timed, Numbered, Planned};
 use evt::Codec;
 use select::Window;
 
@@ -89,7 +90,7 @@ fn plan_number(bytes: &[u8], codec: Codec, window: Window, number: u64) -> Plan
 
 // Whether a window has every number, and is not empty in time.
 fn is_timed(window: Window) -> bool
-    ensures { λ r. ⌜ (r ≡ true → Timed window) ⌝ }
+    ensures { λ r. ⌜ r ≡ isTimed window ⌝ }
 {
     if window.n0 == 0 {
         if window.n1 == 18446744073709551615 {
@@ -102,7 +103,7 @@ fn is_timed(window: Window) -> bool
 // Whether a window has everything. A decoder out of range, which the callers refuse, goes under the
 // window like any other.
 pub fn is_everything(window: Window, codec: Codec) -> bool
-    ensures { λ r. ⌜ (r ≡ true → Whole window × Fitting codec) ⌝ }
+    ensures { λ r. ⌜ (r ≡ (isWhole window && inRangeC codec)) × Fitting codec ⌝ }
 {
     let fits = decode::in_range(codec);
     if is_whole(window) { fits } else { false }
@@ -110,7 +111,7 @@ pub fn is_everything(window: Window, codec: Codec) -> bool
 
 // Whether a window has every number and every time.
 fn is_whole(window: Window) -> bool
-    ensures { λ r. ⌜ (r ≡ true → Whole window) ⌝ }
+    ensures { λ r. ⌜ r ≡ isWhole window ⌝ }
 {
     if window.t0 == 0 {
         if 9223372036854775808 <= window.t1 {
@@ -122,7 +123,7 @@ fn is_whole(window: Window) -> bool
 
 // Whether a window has every time, and its first number lies ahead. No index counts more than 2^33.
 fn is_numbered(window: Window, number: u64) -> bool
-    ensures { λ r. ⌜ (r ≡ true → Numbered window number) ⌝ }
+    ensures { λ r. ⌜ r ≡ isNumbered window number ⌝ }
 {
     if window.t1 < 9223372036854775808 {
         return false;

@@ -12,7 +12,7 @@ use Rattle.store.specs.declared.EncoderState.{EncoderState}
 use Rattle.store.specs.declared.Put.{Put}
 use Rattle.encode2.specs.Evt2.{writer2}
 use Rattle.encode2.specs.Pass2.{Fitting2}
-use Rattle.runs.specs.Runs.{runs}
+use Rattle.run_rules.specs.Runs.{runs}
 use Rattle.lead_words.specs.Evt3.{writer3}
 
 -- the words of events, each with a note of those that it carries

@@ -6,7 +6,6 @@ use Prim.Native.Nat.{ℕ, zero, suc, _+_, _*_, _%_, _^_, _≤_, _<_}
 use native.Mathlib.Omega.{arith}
 use lib.Dec.{ltb}
 use lib.ListN.{length, length-append, length-map}
-use borrow.Author.Tests.{ltb-true, ltb-false}
 use Rattle.stream.specs.Machine.{Note, All, all-append, emits, words, words-append, notes, notes-append}
 use Rattle.stream.specs.Mask.{Inc, mask}
 use Rattle.stream.specs.Words.{Fits}
@@ -17,8 +16,8 @@ use Rattle.store.specs.declared.EncoderState.{EncoderState}
 use Rattle.store.specs.Columns.{event}
 use Rattle.store.specs.Sent.{due}
 use Rattle.encode2.specs.Evt2.{encoded2, writer2, notes2, fits2}
-use Rattle.runs.specs.Runs.{Run, runs, runs-are, given, givenBy, spread, Rising, Valid, firstX, lastX}
-use Rattle.lead_words.specs.Evt3.{highWord3, lowWord3, rowWord3, highSent3, lowSent3, rowSent3, leads3, singleWord3, baseWord3, maskWord3, nearby, beyond, windows, vectored, singles, masks, vectors, body3, encode3, encoded3, writer3}
+use Rattle.run_rules.specs.Runs.{Run, runs, runs-are, given, givenBy, spread, Rising, Valid, firstX, lastX}
+use Rattle.lead_words.specs.Evt3.{highWord3, lowWord3, rowWord3, highSent3, lowSent3, rowSent3, leads3, nearby, beyond, windows, vectored, singles, masks, vectors, body3, encode3, encoded3, writer3}
 use Rattle.encode.specs.Encode.{encodeNotes, encodeSize, encodeBytes}
 use Rattle.store.specs.Storing.{bytesFrom, bytes-cons}
 use Rattle.encode2.specs.Pass2.{bytes2, few2}

@@ -3,12 +3,13 @@ use mathlib.Core.Path.{_≡_, refl, sym, ap, _∙_}
 use mathlib.Core.List.{List, [], _∷_, _++_, map}
 use Prim.Native.Nat.{ℕ, zero, suc, _+_, _-_, _*_, _/_, _%_, _^_, _≤_, _<_}
 use native.Mathlib.Omega.{arith}
-use lib.ListN.{length, getD, take, drop, length-drop}
+use lib.ListN.{length, take, drop, length-drop}
 use lib.Seq.{sets}
 use lib.IntN.{ℤ}
+use Rattle.stream.specs.Part.{between, between-at, length-between}
 use Rattle.evt_types.specs.Event.{Event}
 use Rattle.evt_types.specs.declared.Sent.the-variants.{Value}
-use Rattle.stream.specs.Machine.{run, All}
+use Rattle.stream.specs.Machine.{run}
 use Rattle.stream.specs.Words.{stream}
 use Rattle.store.specs.Sent.{held}
 use Rattle.store.specs.declared.EncoderState.{EncoderState}
@@ -16,11 +17,11 @@ use Rattle.store.specs.declared.Put.{Put}
 use Rattle.evt_types.specs.Columns.{colX}
 use Rattle.store.specs.Columns.{Sized, eventsIn, eventsPast, eventOf, events-at, events-end, events-x, events-drop, events-length}
 use Rattle.store.specs.Storing.{Roomy, bytesFrom, Going, going-start, going-turn, going-room, going-end}
-use Rattle.runs.specs.Runs.{Run, Rising, Valid, runs, runs-are, runAt, runOf, runs-at, follow-le}
+use Rattle.run_rules.specs.Runs.{Run, Rising, runs, runs-are, runOf, runs-at, follow-le}
 use Rattle.lead_words.specs.Evt3.{writer3}
 use Rattle.lead_words.specs.Leads.{leadsBytes, leads-held}
-use Rattle.run_words.specs.Parts.{bytes3, few3, bytes-parts, bodyWords, Part, between, between-at, length-between}
-use Rattle.runs.specs.Marks.{goOn, Marked, marks-start}
+use Rattle.run_words.specs.Parts.{bytes3, few3, bytes-parts, bodyWords, Part}
+use Rattle.run_rules.specs.Marks.{goOn, Marked, marks-start}
 
 abbrev pub stream3 : EncoderState → List Event → List ℕ
 stream3 v es = bytesFrom 2 writer3 v (runs es)
@@ -73,7 +74,7 @@ module _ {xs ys : List ℕ} {ts : List ℤ} {ps : List ℕ} (sized : Sized xs ys
       let n = goOn xs ys ts ps i in
       let m : e - (i + 1) ≡ n = omega arith in
       let part : between xs i e ≡ a .x ∷ map colX (take n es) =
-      between-at xs i e (omega arith) (end-within i e h q) ∙ ap (λ (l : List ℕ). a .x ∷ l) (ap (λ (k : ℕ). take k (drop (i + 1) xs)) m ∙ sym (map-take colX n es ∙ ap (take n) (events-x xs ys ts ps sized (i + 1)))) in
+      between-at xs i e 0 (omega arith) (end-within i e h q) ∙ ap (λ (l : List ℕ). a .x ∷ l) (ap (λ (k : ℕ). take k (drop (i + 1) xs)) m ∙ sym (map-take colX n es ∙ ap (take n) (events-x xs ys ts ps sized (i + 1)))) in
       let left : drop n es ≡ eventsPast xs ys ts ps e = events-drop xs ys ts ps sized (i + 1) n ∙ ap (eventsPast xs ys ts ps) (sym q) in
       ap runs (events-at xs ys ts ps sized i h) ∙ runs-at a es ∙ rw (part, left)
 

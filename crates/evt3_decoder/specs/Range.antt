@@ -1,21 +1,19 @@
 -- What every decoder that started fresh keeps, and what follows: at most 2^30 bytes from a fresh decoder leave it in range, and from any
 -- decoder in range no sum of so many words wraps and every event time fits an i64. (One step from the greatest number of loops may leave the range.)
-use mathlib.Core.Path.{_≡_, refl, sym, ap, _∙_, subst}
-use mathlib.Core.Bool.{Bool, true, false, cond, not, _&&_, true≢false}
+use mathlib.Core.Path.{_≡_, refl, sym, ap, _∙_}
+use mathlib.Core.Bool.{Bool, true, false, not, true≢false}
 use mathlib.Core.List.{List}
 use Prim.Native.Nat.{ℕ, suc, _+_, _*_, _/_, _%_, _^_, _≤_, _<_}
 use native.Mathlib.Omega.{arith}
-use borrow.Author.Tests.{le-leb, lt-ltb, eq-eqb, leb-true, ltb-true, eqb-true}
-use lib.Dec.{leb, eqb, ltb}
+use borrow.Author.Tests.{le-leb, leb-true, eqb-true}
 use lib.ListN.{length}
 use Rattle.stream.specs.Machine.{and-both, run, run-keeps}
-use Rattle.stream.specs.Loop.{loopsAfter, timeAfter, loops-one, charge, charge-one, charge-le, charge-fresh, charge-run}
+use Rattle.stream.specs.Loop.{loops-one, charge, charge-one, charge-le, charge-fresh, charge-run}
 use Rattle.stream.specs.Words.{wordsOf, length-words}
 use Rattle.evt3_decoder.specs.declared.Decoder.{Decoder}
-use Rattle.evt3_decoder.specs.declared.WideDecoder.{WideDecoder}
-use Rattle.evt_types.specs.Clock.{Ticking, ticking-word, ticking-range, range-ticking, clockInRange}
+use Rattle.evt_types.specs.Clock.{Ticking, ticking-word, ticking-range, range-ticking}
 use Rattle.evt_types.specs.Event.{Narrow}
-use Rattle.evt_types.specs.Layout.{type3, time3, y3, x3}
+use Rattle.evt_types.specs.Layout.{type3, time3}
 use Rattle.evt3_decoder.specs.Evt3 as Evt3
 use Rattle.evt3_decoder.specs.Evt3.{fresh3, period3, threshold3, step3, vector3, reader3, inRange3, isZero, Sane3, Slim, widened, number}
 

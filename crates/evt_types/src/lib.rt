@@ -3,6 +3,9 @@
 // (specs/Clock.antt), the events of a word (specs/Event.antt), and the number and the values of
 // every refusal (specs/Told.antt).
 
+ghost use mathlib.Core.Path.{_≡_};
+ghost use Rattle.evt_types.specs.Told.{told};
+
 // An event: column, row, time in microseconds, polarity 0 or 1.
 pub struct RawEvent {
     pub x: u16,
@@ -51,6 +54,26 @@ pub enum Refusal {
     StateOutOfRange,
     OutputTooShort(usize),
     ColumnLengths,
+}
+
+// A refusal's number in the table.
+pub fn refusal_number(refusal: Refusal) -> u32
+    ensures { λ r. ⌜ r ≡ told refusal .number ⌝ }
+{
+    match refusal {
+        Refusal::InvalidSensorSize => 1,
+        Refusal::UnknownEncoding => 2,
+        Refusal::HeaderNotAscii => 3,
+        Refusal::TooLong => 4,
+        Refusal::ColumnsTooShort(_) => 5,
+        Refusal::TimeOrder => 6,
+        Refusal::EventOutOfRange => 7,
+        Refusal::InvalidSpacing => 8,
+        Refusal::TooFewRecords(_) => 9,
+        Refusal::StateOutOfRange => 10,
+        Refusal::OutputTooShort(_) => 11,
+        Refusal::ColumnLengths => 12,
+    }
 }
 
 // What decoding one word answers.

@@ -52,7 +52,7 @@ impl EventVector {
 }
 
 // A column, at most 65,535.
-fn held(x: u64) -> u64
+pub fn held(x: u64) -> u64
     ensures { λ r. ⌜ r ≡ min x 65535 ⌝ }
 {
     if x <= 65535 { x } else { 65535 }

@@ -25,7 +25,7 @@ fn needed(why: Refusal) -> usize {
 // The number, and the count that three of them tell.
 fn refusal(why: Refusal) {
     show::text(b"refused");
-    show::next(b' ', prophesee_raw::refusal_number(why));
+    show::next(b' ', prophesee_raw::refusal_number(why) as u64);
     let n = needed(why);
     if n > 0 {
         show::next(b' ', n as u64);

@@ -1,11 +1,10 @@
 -- Records that were made into entries are read back as they were.
 use mathlib.Core.Path.{_≡_, refl, sym, ap, subst, _∙_}
-use mathlib.Core.Bool.{cond}
 use mathlib.Core.List.{List, [], _∷_, _++_}
 use Prim.Native.Nat.{ℕ, zero, suc, _+_, _*_, _/_, _≤_, _<_, _^_, min}
 use native.Mathlib.Nat.{not-suc-le-zero, le-of-suc-le-suc}
 use native.Mathlib.Omega.{arith}
-use lib.IntN.{ℤ, pos, negsuc}
+use lib.IntN.{ℤ, pos}
 use lib.ListN.{length, take, getD}
 use lib.Seq.{getD-append-add, take-suc, take-length}
 use borrow.Author.Tests.{lt-ltb}
@@ -17,10 +16,9 @@ use Rattle.store.specs.Columns.{natural}
 use Rattle.index.specs.declared.Checkpoint.{Checkpoint}
 use Rattle.index.specs.Index.{firsts}
 use Rattle.index.specs.Nth.{nth, blank}
-use Rattle.flat.specs.declared.records.PropheseeRecord.{PropheseeRecord}
 use Rattle.flat.specs.Laws.{bit-back}
 use Rattle.flat.specs.Making.{length-entries}
-use Rattle.flat.specs.Records.{flatOf, flatRecord, entriesOf, entriesAll, timeOf, codecOf, checkpointOf, partAt, roomOf, recordAt, recordsIn}
+use Rattle.flat.specs.Records.{flatOf, flatRecord, entriesOf, entriesAll, timeOf, checkpointOf, partAt, roomOf, recordAt, recordsIn}
 
 -- ---- one record
 

@@ -9,9 +9,9 @@ use crate::options::size_of;
 use crate::reading::encoding_number;
 use crate::records::put_record;
 use crate::refusal::count_of;
-use crate::refusal::number_of;
 use evt_types::Encoding;
 use evt_types::Refusal;
+use evt_types::refusal_number;
 use index::OpenAnswer;
 use index::OpenOptions;
 use index::Opening;
@@ -104,7 +104,7 @@ fn refused_numbers(r: Refusal) -> PropheseeOpening
         n_events: 0,
     };
     PropheseeOpening {
-        refusal: number_of(r),
+        refusal: refusal_number(r),
         encoding: 0,
         told: count_of(r),
         records: 0,

@@ -5,9 +5,9 @@ ghost use Rattle.header.specs.Header.{encodingNumber};
 ghost use Rattle.answer.specs.Read.{toldRead};
 ghost use Rattle.flat.specs.Reading.{readingOf};
 use crate::refusal::count_of;
-use crate::refusal::number_of;
 use evt_types::Encoding;
 use evt_types::Refusal;
+use evt_types::refusal_number;
 use read::ReadAnswer;
 use read::Reading;
 
@@ -59,7 +59,7 @@ fn refused_numbers(r: Refusal) -> PropheseeReading
     ensures { λ n. ⌜ n ≡ readingOf (toldRead (ReadAnswer.Refused r)) ⌝ }
 {
     PropheseeReading {
-        refusal: number_of(r),
+        refusal: refusal_number(r),
         encoding: 0,
         told: count_of(r),
         width: 0,

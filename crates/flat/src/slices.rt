@@ -9,11 +9,11 @@ ghost use Rattle.flat.specs.Slicing.{slicedOf};
 use crate::opening::PropheseeSource;
 use crate::records::record_at;
 use crate::refusal::count_of;
-use crate::refusal::number_of;
 use checkpoints::Choice;
 use checkpoints::Judging;
 use evt_types::Encoding;
 use evt_types::Refusal;
+use evt_types::refusal_number;
 use index::Checkpoint;
 use index::RawSliceSource;
 use slice_rules::SliceAnswer;
@@ -77,7 +77,7 @@ fn refused_numbers(r: Refusal) -> PropheseeSlice
     ensures { λ n. ⌜ n ≡ slicedOf (toldSlice (SliceAnswer.Refused r)) ⌝ }
 {
     PropheseeSlice {
-        refusal: number_of(r),
+        refusal: refusal_number(r),
         told: count_of(r),
         count: 0,
     }

@@ -2,14 +2,13 @@
 ghost use mathlib.Core.Path.{_≡_};
 ghost use Rattle.evt_types.specs.declared.Encoding.the-variants.{Evt2, Evt3};
 ghost use Rattle.sink.specs.Append.{toldAppend};
-ghost use Rattle.flat.specs.Options.{flag};
 ghost use Rattle.flat.specs.Writer.{versionOf, sentOf, lastOf, stateOf, sinkOf, bit, evt3Of, hasSent, sentValue, hasLast, lastValue, flatSink, appendedOf};
 use crate::options::is_set;
 use crate::refusal::count_of;
-use crate::refusal::number_of;
 use evt_types::Encoding;
 use evt_types::Refusal;
 use evt_types::Sent;
+use evt_types::refusal_number;
 use sink::AppendAnswer;
 use sink::Appended;
 use sink::LastTime;
@@ -179,7 +178,7 @@ pub fn refused_of(flat: PropheseeSink, next: RawEventSink, refusal: Refusal) -> 
 {
     PropheseeAppended {
         sink: flat,
-        refusal: number_of(refusal),
+        refusal: refusal_number(refusal),
         told: count_of(refusal),
         written: 0,
     }

@@ -25,7 +25,7 @@ use Rattle.window.specs.declared.Window.{Window}
 use Rattle.select.specs.Uses.{isTimely, PastOver}
 use Rattle.store.specs.declared.EncoderState.{EncoderState}
 use Rattle.store.specs.Sent.{freshState}
-use Rattle.runs.specs.Runs.{Run, runs, runs-are, givenBy}
+use Rattle.run_rules.specs.Runs.{Run, runs, runs-are, givenBy}
 use Rattle.encode.specs.Encode.{encodeNotes, encodeState, encodeSize}
 use Rattle.formats.specs.Ready.{limit, sayable}
 use Rattle.formats.specs.Lawful2.{Ready2, format2, lawful2}

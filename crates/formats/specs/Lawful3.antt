@@ -23,7 +23,7 @@ use Rattle.sensor.specs.Inside.{clock}
 use Rattle.store.specs.declared.EncoderState.{EncoderState}
 use Rattle.store.specs.Columns.{event}
 use Rattle.store.specs.Sent.{freshState, sentIs, due}
-use Rattle.runs.specs.Runs.{Run, given, spread, Rising, Valid, firstX, lastX}
+use Rattle.run_rules.specs.Runs.{Run, given, spread, Rising, Valid, firstX, lastX}
 use Rattle.lead_words.specs.Evt3.{highWord3, lowWord3, rowWord3, lowHeld, highSent3, lowSent3, rowSent3, leads3, singleWord3, baseWord3, maskWord3, nearby, beyond, windows, vectored, singles, masks, vectors, body3, encode3, encoded3, writer3}
 use Rattle.run_words.specs.Windows.{near-inc}
 use Rattle.encode.specs.Laws.{reach, spread-is, none-left, singles-notes, masks-notes, body-notes, due-notes, encode-notes3}

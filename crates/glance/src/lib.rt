@@ -4,10 +4,10 @@
 // specs/Ones.antt and specs/Quick.antt say in what.
 ghost use mathlib.Core.Path.{_≡_};
 ghost use mathlib.Core.Bool.{cond};
-ghost use Prim.Native.Nat.{min};
 ghost use Rattle.evt3_decoder.specs.Evt3.{Sane3, Slim, slimmed};
 ghost use Rattle.glance.specs.Glance.{scanned, spanTable, vectTable, Glanced, glanced};
 use evt_types::fields::bits;
+use evt_types::vector::held;
 use evt3_decoder::WideDecoder;
 
 pub mod ones;
@@ -125,13 +125,6 @@ impl Scan {
             mask: choose(single, 1, several),
         }
     }
-}
-
-// A column, at most 65,535.
-fn held(x: u64) -> u64
-    ensures { λ r. ⌜ r ≡ min x 65535 ⌝ }
-{
-    if x < 65535 { x } else { 65535 }
 }
 
 // One of two, without a branch.

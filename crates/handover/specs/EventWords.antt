@@ -14,7 +14,7 @@ use Rattle.evt_types.specs.Layout.{event-type2, word-type3, column-type3}
 use Rattle.store.specs.declared.EncoderState.{EncoderState}
 use Rattle.store.specs.Sent.{carries, due}
 use Rattle.encode2.specs.Evt2.{wordOf2, highWord2, highSent2, encode2, encoded2, writer2}
-use Rattle.runs.specs.Runs.{Run, runs, firstX}
+use Rattle.run_rules.specs.Runs.{Run, runs, firstX}
 use Rattle.lead_words.specs.Evt3.{nearby, beyond, windows, vectored, singles, masks, vectors, body3, leads3, highWord3, lowWord3, rowWord3, highSent3, lowSent3, rowSent3, encode3, encoded3, writer3}
 use Rattle.encode.specs.Encode.{encodeNotes, encodeState}
 use Rattle.formats.specs.Appends.{appendNotes}

@@ -4,10 +4,11 @@ use crate::compare::Difference;
 use crate::given;
 use crate::print;
 use crate::reading;
-use evt_types::Encoding;
-use index::Checkpoint;
-use index::OpenAnswer;
-use index::Opening;
+use case_text::show;
+use prophesee_raw::Checkpoint;
+use prophesee_raw::Encoding;
+use prophesee_raw::OpenAnswer;
+use prophesee_raw::Opening;
 
 // Where the two slices by time part, and where the second one ends.
 const MIDDLE: i64 = 4100;
@@ -24,8 +25,8 @@ fn what(d: Difference) {
         Difference::Refusal(n) => print::told(b" refused ", n),
         Difference::Count(n) => print::told(b" count ", n as u64),
         Difference::Column(b) => {
-            print::text(b" column ");
-            print::byte(b);
+            show::text(b" column ");
+            show::byte(b);
         }
     }
 }
@@ -35,8 +36,8 @@ fn told(d: Difference, bytes: &[u8], call: &[u8]) -> bool {
     if let Difference::Nothing = d {
         return true;
     }
-    print::text(bytes);
-    print::text(call);
+    show::text(bytes);
+    show::text(call);
     what(d);
     false
 }
@@ -87,7 +88,11 @@ fn indexed(encoding: Encoding, bytes: &[u8], spacing: usize, count: usize, name:
             let second = by_time(bytes, opened, records, count, name);
             both(first, second)
         }
-        OpenAnswer::Refused(why) => told(Difference::Refusal(print::table(why)), name, b" opened"),
+        OpenAnswer::Refused(why) => told(
+            Difference::Refusal(prophesee_raw::refusal_number(why) as u64),
+            name,
+            b" opened",
+        ),
     }
 }
 

@@ -5,7 +5,7 @@ ghost use mathlib.Core.Path.{_≡_};
 ghost use Prim.Native.Nat.{_≤_};
 ghost use lib.ListN.{length, take};
 ghost use Rattle.handover_demo.specs.Given.{givenXs, givenYs, givenTs, givenPs, wordEnds, upTo, earlierThan};
-use evt_types::Encoding;
+use prophesee_raw::Encoding;
 
 // Each `ensures` keeps the array itself out of its callers' proofs.
 pub fn columns() -> [u16; 16]

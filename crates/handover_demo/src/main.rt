@@ -3,12 +3,11 @@
 // stream is decoded; both are indexed at two spacings and sliced by number and by time. A line for
 // each cut says how many events were whole before it, how long the joined stream is, and `exact`, or
 // what differs. src/given.rt has the appends, and what each cut owes.
-ghost use mathlib.Core.Path.{_≡_};
 ghost use Prim.Native.Nat.{_≤_, _<_};
 ghost use lib.ListN.{length};
-use evt_types::Encoding;
-use evt2_decoder::Evt2Decoder;
-use evt3_decoder::Decoder;
+use prophesee_raw::Decoder;
+use prophesee_raw::Encoding;
+use prophesee_raw::Evt2Decoder;
 
 mod compare;
 mod exact;
@@ -57,8 +56,8 @@ fn check_cuts(encoding: Encoding, stream: &[u8]) -> bool
 }
 
 fn show(encoding: Encoding) {
-    print::encoding(encoding);
-    print::text(b"\n");
+    case_text::show::encoding(encoding);
+    case_text::show::text(b"\n");
     let mut out = write::room();
     let n = write::appends(encoding, &mut out);
     let stream = &out[..n];

@@ -5,15 +5,16 @@ use crate::compare;
 use crate::compare::Difference;
 use crate::compare::Got;
 use crate::print;
-use evt_types::Encoding;
-use evt_types::Limit;
-use evt_types::SensorSize;
-use fixed_index::FixedIndex;
-use index::Checkpoint;
-use index::Opening;
-use index::WordsOptions;
-use read::ReadAnswer;
-use slice_rules::SliceAnswer;
+use prophesee_raw::Checkpoint;
+use prophesee_raw::Encoding;
+use prophesee_raw::Limit;
+use prophesee_raw::Opening;
+use prophesee_raw::ReadAnswer;
+use prophesee_raw::SensorSize;
+use prophesee_raw::SliceAnswer;
+use prophesee_raw::WordsOptions;
+use prophesee_raw::fixed;
+use prophesee_raw::fixed::FixedIndex;
 
 // A refusal's number, or 0, and a count.
 struct Outcome {
@@ -28,7 +29,7 @@ fn read_outcome(answer: ReadAnswer) -> Outcome {
             count: r.count,
         },
         ReadAnswer::Refused(why) => Outcome {
-            refused: print::table(why),
+            refused: prophesee_raw::refusal_number(why) as u64,
             count: 0,
         },
     }
@@ -41,7 +42,7 @@ fn slice_outcome(answer: SliceAnswer) -> Outcome {
             count: n,
         },
         SliceAnswer::Refused(why) => Outcome {
-            refused: print::table(why),
+            refused: prophesee_raw::refusal_number(why) as u64,
             count: 0,
         },
     }
@@ -54,7 +55,7 @@ pub fn decode(encoding: Encoding, bytes: &[u8], to: usize) -> Difference
     let mut ys = [0; 16];
     let mut ts = [0; 16];
     let mut ps = [0; 16];
-    let answer = read::decode_words(
+    let answer = prophesee_raw::decode_words(
         bytes,
         encoding,
         SensorSize::Known(2048, 2048),
@@ -82,7 +83,7 @@ pub fn open(encoding: Encoding, bytes: &[u8], spacing: usize) -> FixedIndex {
         sensor_size: SensorSize::Known(2048, 2048),
         spacing,
     };
-    fixed_index::open_words(bytes, options, 64)
+    fixed::open_words(bytes, options, 64)
 }
 
 pub fn by_number(
@@ -101,7 +102,7 @@ pub fn by_number(
     let mut ys = [0; 16];
     let mut ts = [0; 16];
     let mut ps = [0; 16];
-    let answer = fixed_index::slice_index(
+    let answer = fixed::slice_index(
         bytes,
         source,
         records,
@@ -142,7 +143,7 @@ pub fn by_time(
     let mut ys = [0; 16];
     let mut ts = [0; 16];
     let mut ps = [0; 16];
-    let answer = fixed_index::slice_time(
+    let answer = fixed::slice_time(
         bytes,
         source,
         records,

@@ -5,9 +5,9 @@ ghost use Prim.Native.Nat.{_≤_};
 ghost use lib.ListN.{length, drop};
 use crate::given;
 use crate::print;
-use evt_types::Encoding;
-use sink::AppendAnswer;
-use sink::RawEventSink;
+use prophesee_raw::AppendAnswer;
+use prophesee_raw::Encoding;
+use prophesee_raw::RawEventSink;
 
 // A writer, how many bytes of the output are written, and whether the answers are told.
 struct Progress {
@@ -58,7 +58,7 @@ fn append(w: Progress, xs: &[u16], ys: &[u16], ts: &[i64], ps: &[u8], out: &mut 
     let sink = w.sink;
     let at = w.at;
     let len = out.len();
-    let appended = sink::append(sink, 2048, 2048, xs, ys, ts, ps, &mut out[at..]);
+    let appended = prophesee_raw::append(sink, 2048, 2048, xs, ys, ts, ps, &mut out[at..]);
     let next = appended.sink;
     let answer = appended.answer;
     print::append(w.told, xs.len() as u64, answer);

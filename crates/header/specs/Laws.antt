@@ -1,6 +1,6 @@
 -- Laws of the definitions that callers cite: the header is a part of the recording, the verdict is what the answer tells, answers are
 -- told apart, and what an acceptance says.
-use Prim.Native.Nat.{ℕ, _^_, _<_, _≤_}
+use Prim.Native.Nat.{ℕ, _^_, _≤_}
 use mathlib.Core.Path.{_≡_, refl, sym, _∙_, ap}
 use mathlib.Core.List.{List, [], _∷_, _++_, append-assoc}
 use mathlib.Core.Bool.{Bool, true, false, cond}

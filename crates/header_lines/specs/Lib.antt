@@ -1,3 +1,2 @@
 -- The root of the header that a writer sends: what each file is stands at its head.
 pub mod Header
-pub mod Texts

@@ -3,48 +3,21 @@
 // length. specs/Header.antt says which text that is.
 ghost use mathlib.Core.Path.{_≡_};
 ghost use mathlib.Core.Bool.{cond};
-ghost use mathlib.Core.List.{[], _++_};
-ghost use Prim.Native.Nat.{_+_, _^_, _≤_};
+ghost use mathlib.Core.List.{[]};
 ghost use lib.ListN.{length};
 ghost use lib.Seq.{sets};
-ghost use Rattle.header_lines.specs.Header.{ascii, decimal, formatLine, headerText};
+ghost use Rattle.texts.specs.Stored.{Stored};
+ghost use Rattle.header_lines.specs.Header.{formatLine, headerText};
 use evt_types::Encoding;
-
-fn put_text(text: &[u8], out: &mut [u8], start: usize) -> usize
-    requires { ⌜ (length (now text) ≤ 1000) × (start ≤ 2 ^ 20) ⌝ }
-    ensures { λ r. ⌜ r ≡ start + length (now (text .entry)) ⌝ ∗ ⌜ now (out .exit) ≡ sets (now (out .entry)) start (now (text .entry)) ⌝ }
-{
-    let mut at = start;
-    let mut i: usize = 0;
-    while i < text.len() {
-        store::put8(&mut *out, at, text[i]);
-        at += 1;
-        i += 1;
-    }
-    at
-}
-
-// The digits of n, without leading zeros.
-fn put_decimal(n: u64, out: &mut [u8], start: usize) -> usize
-    requires { ⌜ start ≤ 2 ^ 20 ⌝ }
-    ensures { λ r. ⌜ r ≡ start + length (decimal n) ⌝ ∗ ⌜ now (out .exit) ≡ sets (now (out .entry)) start (decimal n) ⌝ }
-{
-    if n < 10 {
-        store::put8(&mut *out, start, 48 + n as u8);
-        start + 1
-    } else {
-        let at = put_decimal(n / 10, &mut *out, start);
-        store::put8(&mut *out, at, 48 + (n % 10) as u8);
-        at + 1
-    }
-}
+use texts::put_decimal;
+use texts::put_text;
 
 fn put_format(version: Encoding, out: &mut [u8]) -> usize
-    ensures { λ r. ⌜ r ≡ length (formatLine version) ⌝ ∗ ⌜ now (out .exit) ≡ sets (now (out .entry)) 0 (formatLine version) ⌝ }
+    ensures { λ r. ⌜ Stored 14 (now (out .entry)) 0 (formatLine version) r (now (out .exit)) ⌝ }
 {
     match version {
-        Encoding::Evt2 => put_text(b"% format EVT2\n", &mut *out, 0),
-        Encoding::Evt3 => put_text(b"% format EVT3\n", &mut *out, 0),
+        Encoding::Evt2 => put_text(&mut *out, 0, b"% format EVT2\n"),
+        Encoding::Evt3 => put_text(&mut *out, 0, b"% format EVT3\n"),
     }
 }
 
@@ -53,11 +26,11 @@ fn put_header(version: Encoding, width: usize, height: usize, out: &mut [u8]) ->
     ensures { λ r. ⌜ r ≡ length (headerText version width height) ⌝ ∗ ⌜ now (out .exit) ≡ sets (now (out .entry)) 0 (headerText version width height) ⌝ }
 {
     let a = put_format(version, &mut *out);
-    let b = put_text(b"% geometry ", &mut *out, a);
-    let c = put_decimal(width as u64, &mut *out, b);
-    let d = put_text(b"x", &mut *out, c);
-    let e = put_decimal(height as u64, &mut *out, d);
-    put_text(b"\n% generator eventcv\n% end\n", &mut *out, e)
+    let b = put_text(&mut *out, a, b"% geometry ");
+    let c = put_decimal(&mut *out, b, width as u64);
+    let d = put_text(&mut *out, c, b"x");
+    let e = put_decimal(&mut *out, d, height as u64);
+    put_text(&mut *out, e, b"\n% generator eventcv\n% end\n")
 }
 
 // The header, where one is due.

@@ -1,14 +1,14 @@
 -- The making of the records: what it works on, where it stands before record j, and one turn of it.
 use mathlib.Core.Path.{_≡_}
-use mathlib.Core.Bool.{Bool, true, false, cond}
-use mathlib.Core.List.{List, [], _∷_}
+use mathlib.Core.Bool.{cond}
+use mathlib.Core.List.{List}
 use Prim.Native.Nat.{ℕ, _+_, _-_, _*_, _≤_, _<_, _^_, max}
 use lib.Dec.{ltb}
 use lib.IntN.{pos}
 use lib.ListN.{length, take, drop}
 use Rattle.stream.specs.Order.{greatest}
 use Rattle.evt_types.specs.declared.Encoding.{Encoding}
-use Rattle.evt_types.specs.declared.Encoding.the-variants.{Evt2, Evt3}
+use Rattle.evt_types.specs.declared.Encoding.the-variants.{Evt2}
 use Rattle.evt_types.specs.declared.Refusal.{Refusal}
 use Rattle.evt_types.specs.declared.Refusal.the-variants.{InvalidSensorSize, UnknownEncoding, TooLong, InvalidSpacing, TooFewRecords}
 use Rattle.evt_types.specs.declared.SensorSize.{SensorSize}

@@ -1,30 +1,27 @@
 -- The making of the records turn by turn comes to what specs/Index.antt defines.
 use mathlib.Core.Path.{_≡_, refl, sym, ap, _∙_}
-use mathlib.Core.Bool.{Bool, true, false, cond}
+use mathlib.Core.Bool.{Bool, true, false}
 use mathlib.Core.List.{List, [], _∷_, _++_}
-use Prim.Native.Nat.{ℕ, zero, suc, _+_, _-_, _*_, _/_, _≤_, _<_, _^_, max, min}
+use Prim.Native.Nat.{ℕ, zero, suc, _+_, _-_, _*_, _≤_, _<_, _^_, max, min}
 use native.Mathlib.Omega.{arith}
 use native.Mathlib.Numerals.{add-one}
-use native.Mathlib.Nat.{zero-mul, suc-mul, mul-add, add-assoc}
+use native.Mathlib.Nat.{zero-mul, suc-mul}
 use lib.Dec.{ltb}
 use lib.IntN.{ℤ, pos}
 use lib.ListN.{length, take, drop, set, length-take, length-drop, length-append}
 use lib.Seq.{take-add, drop-drop, take-suc-set, drop-set-lt, length-take-le, take-all}
-use borrow.Author.Tests.{lt-ltb, le-ltb}
 use Rattle.stream.specs.Order.{greatest}
 use Rattle.evt.specs.declared.codec.Codec.{Codec}
 use Rattle.evt.specs.Codec.{freshC, codecAfter}
-use Rattle.evt_types.specs.Event.{Event}
 use Rattle.sensor.specs.Inside.{clock}
 use Rattle.decode.specs.Decode.{Bounded, insideEvents}
 use Rattle.count.specs.Count.{surveyOf}
 use Rattle.decode.specs.Laws.{codec-append, codec-nil, events-nil, count-append, latest-append, bounded-after, bounded-fresh, bounded-less, inside-bytes, latest-small}
 use Rattle.index.specs.declared.Checkpoint.{Checkpoint}
-use Rattle.index.specs.declared.Plan.{Plan}
 use Rattle.index.specs.declared.Run.{Run}
 use Rattle.index.specs.Index.{firsts}
 use Rattle.count.specs.declared.Survey.{Survey}
-use Rattle.index.specs.Build.{Advanced, recordOf, chunkOf, nextOf, Fit, Job, firstOf, frontOf, seenOf, runAt}
+use Rattle.index.specs.Build.{Advanced, chunkOf, nextOf, Fit, Job, firstOf, frontOf, seenOf, runAt}
 
 -- ---- one turn
 

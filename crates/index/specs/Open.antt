@@ -2,14 +2,15 @@
 use mathlib.Core.Path.{_≡_, refl, sym, ap, _∙_}
 use mathlib.Core.Bool.{Bool, true, false, cond}
 use mathlib.Core.List.{List, [], _∷_, _++_}
-use Prim.Native.Nat.{ℕ, zero, suc, _+_, _-_, _*_, _/_, _%_, _≤_, _<_, _^_, max, min}
+use Prim.Native.Nat.{ℕ, zero, suc, _+_, _-_, _*_, _/_, _%_, _≤_, _<_, _^_}
 use native.Mathlib.Omega.{arith}
 use native.Mathlib.Nat.{zero-mul, suc-mul, div-add-mod', mod-lt}
 use lib.Dec.{ltb, eqb}
 use lib.IntN.{pos}
 use lib.ListN.{length, take, drop, length-take, length-drop}
 use lib.Seq.{take-all}
-use borrow.Author.Tests.{lt-ltb, le-ltb, ltb-true, ltb-false, eqb-true}
+use borrow.Author.Tests.{lt-ltb, le-ltb, ltb-false, eqb-true}
+use Rattle.stream.specs.Part.{rest-of}
 use Rattle.stream.specs.Order.{greatest}
 use Rattle.evt_types.specs.declared.Encoding.{Encoding}
 use Rattle.evt_types.specs.declared.Encoding.the-variants.{Evt2, Evt3}
@@ -18,9 +19,8 @@ use Rattle.evt_types.specs.declared.Refusal.the-variants.{InvalidSensorSize, To
 use Rattle.evt_types.specs.declared.SensorSize.{SensorSize}
 use Rattle.evt_types.specs.declared.SensorSize.the-variants.{Unknown, Known}
 use Rattle.evt.specs.Codec.{freshC, eventsFrom, codecAfter}
-use Rattle.evt_types.specs.Columns.{colX, colY}
 use Rattle.evt_types.specs.Event.{Event}
-use Rattle.evt_types.specs.Told.{told, accepted, refused, short}
+use Rattle.evt_types.specs.Told.{accepted, refused, short}
 use Rattle.sensor.specs.Inside.{clock}
 use Rattle.decode.specs.Decode.{insideEvents}
 use Rattle.decode.specs.Laws.{bounded-fresh, all-inside, inside-bytes}
@@ -34,18 +34,18 @@ use Rattle.select.specs.Pass.{Ready, handedOver, surveyed}
 use Rattle.select.specs.Uses.{numberedOver, over-all}
 use Rattle.window.specs.declared.Window.{Window}
 use Rattle.evt.specs.declared.codec.Codec.{Codec}
-use Rattle.index.specs.declared.Plan.the-variants.{Refuse, Build}
-use Rattle.answer.specs.Laws.{ready-fresh, rest-of}
-use Rattle.answer.specs.Read.{kept, widthOf, heightOf, sizeless}
+use Rattle.index.specs.declared.Plan.the-variants.{Build}
+use Rattle.answer.specs.Laws.{ready-fresh}
+use Rattle.answer.specs.Read.{widthOf, heightOf, sizeless}
 use Rattle.index.specs.declared.Checkpoint.{Checkpoint}
 use Rattle.index.specs.declared.OpenAnswer.{OpenAnswer}
 use Rattle.index.specs.declared.OpenAnswer.the-variants.{Opened, Refused}
 use Rattle.index.specs.declared.OpenOptions.{OpenOptions}
 use Rattle.index.specs.declared.WordsOptions.{WordsOptions}
 use Rattle.index.specs.declared.Run.{Run}
-use Rattle.index.specs.Index.{keptEvents, recordAt, firsts, recordCount, recordsOf, alignment, spacingOk, toldOpen, bodyVerdict, bodyMade, bodyAnswer, sourceOf, verdictAfter, madeAfter, answerAfter, rawVerdict, rawMade, rawAnswer, wordsVerdict, wordsMade, wordsAnswer, Opens, OpensRaw, OpensWords}
-use Rattle.index.specs.Build.{recordOf, Job, idle, spanWidth, spanHeight, wholeWindow, buildJob, bodyJob, jobAfter, rawJob, wordsJob, refusedJob, runAt, concluded, firstOf}
-use Rattle.index.specs.Laws.{Sound, Laid, laid-end, length-firsts}
+use Rattle.index.specs.Index.{keptEvents, recordAt, firsts, recordCount, recordsOf, alignment, spacingOk, toldOpen, bodyVerdict, bodyMade, bodyAnswer, sourceOf, Opens}
+use Rattle.index.specs.Build.{recordOf, Job, idle, spanWidth, spanHeight, wholeWindow, buildJob, bodyJob, jobAfter, rawJob, wordsJob, runAt, concluded, firstOf}
+use Rattle.index.specs.Laws.{Sound, Laid, laid-end}
 
 -- ---- spacing and counts
 

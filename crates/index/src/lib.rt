@@ -5,7 +5,7 @@
 // records and finds the one that a slice starts at.
 ghost use mathlib.Core.Path.{_≡_};
 ghost use mathlib.Core.Bool.{true};
-ghost use Prim.Native.Nat.{_≤_, _<_, _^_, min, max};
+ghost use Prim.Native.Nat.{_≤_, _<_, _^_};
 ghost use lib.ListN.{length};
 ghost use Rattle.index.specs.Index.{spacingOk, recordCount};
 ghost use Rattle.index.specs.Build.{Fit, Advanced, firstOf, idle, bodyJob, rawJob, refusedJob, wholeWindow, wordsJob, concluded};
@@ -14,7 +14,9 @@ use evt_types::Encoding;
 use evt_types::Refusal;
 use evt_types::SensorSize;
 use header::HeaderAnswer;
+use room::less;
 use select::Window;
+use window::extent::greater;
 
 // What is kept after the first `byte_offset` bytes: the events counted before, their greatest time
 // (0 if none), and the decoder.
@@ -85,18 +87,6 @@ pub struct Ran {
     pub next: Run,
 }
 
-fn less(a: usize, b: usize) -> usize
-    ensures { λ r. ⌜ r ≡ min a b ⌝ }
-{
-    if a < b { a } else { b }
-}
-
-fn later(a: u64, b: u64) -> u64
-    ensures { λ r. ⌜ r ≡ max a b ⌝ }
-{
-    if a < b { b } else { a }
-}
-
 // The record that stands where the run is, and the run behind the record's bytes.
 pub fn advance(recording: &[u8], run: Run) -> Ran
     requires { ⌜ Fit (now recording) run ⌝ }
@@ -115,7 +105,7 @@ pub fn advance(recording: &[u8], run: Run) -> Ran
     let end = less(next_offset, recording.len());
     let s = count::count_all(&recording[start..end], codec, run.width, run.height);
     let count = run.count + s.count;
-    let latest = later(run.latest, s.latest);
+    let latest = greater(run.latest, s.latest);
     let at = run.at + 1;
     let after = s.codec;
     let next = Run {

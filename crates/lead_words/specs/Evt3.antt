@@ -13,7 +13,7 @@ use Rattle.evt_types.specs.declared.Sent.the-variants.{Value}
 use Rattle.store.specs.declared.EncoderState.{EncoderState}
 use Rattle.store.specs.Columns.{event}
 use Rattle.store.specs.Sent.{sentIs, quiet, carries, due}
-use Rattle.runs.specs.Runs.{Run, spread, firstX, lastX}
+use Rattle.run_rules.specs.Runs.{Run, spread, firstX, lastX}
 
 -- ---- time and row
 

@@ -1,5 +1,5 @@
 // Lists a recording from standard input: its first line by `listing_text::begin`, then the events'
-// lines. listing_text/specs/Listing.antt has the text; reading and writing are all that is added.
+// lines. listing_lines/specs/Listing.antt has the text; reading and writing are all that is added.
 ghost use mathlib.Core.Path.{_≡_};
 ghost use Prim.Native.Nat.{_≤_};
 ghost use lib.ListN.{length};

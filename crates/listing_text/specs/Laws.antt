@@ -2,30 +2,29 @@
 use mathlib.Core.Path.{_≡_, refl, sym, ap, _∙_}
 use mathlib.Core.Bool.{Bool, true, false, cond}
 use mathlib.Core.List.{List, [], _∷_, _++_, map, append-nil, append-assoc}
-use Prim.Native.Nat.{ℕ, zero, suc, _+_, _-_, _*_, _/_, _^_, _≤_, _<_, min}
+use Prim.Native.Nat.{ℕ, zero, suc, _+_, _-_, _*_, _^_, _≤_, _<_}
 use native.Mathlib.Omega.{arith}
 use native.Mathlib.Nat.{add-zero, zero-add, add-suc, suc-add}
 use native.Mathlib.Numerals.{add-one}
 use borrow.Author.Tests.{lt-ltb, le-ltb}
 use lib.Dec.{ltb, eqb}
-use lib.IntN.{ℤ, pos, negsuc}
-use lib.ListN.{length, getD, drop, length-append, length-drop}
+use lib.IntN.{ℤ}
+use lib.ListN.{length, drop, length-append, length-drop}
 use Rattle.evt_types.specs.declared.Encoding.{Encoding}
 use Rattle.evt_types.specs.declared.Encoding.the-variants.{Evt2, Evt3}
 use Rattle.evt_types.specs.declared.Limit.the-variants.{Unlimited}
 use Rattle.evt_types.specs.declared.Refusal.{Refusal}
-use Rattle.evt_types.specs.declared.Refusal.the-variants.{InvalidSensorSize, ColumnsTooShort}
+use Rattle.evt_types.specs.declared.Refusal.the-variants.{InvalidSensorSize}
 use Rattle.evt_types.specs.declared.SensorSize.{SensorSize}
-use Rattle.evt_types.specs.declared.SensorSize.the-variants.{Unknown, Known}
+use Rattle.evt_types.specs.declared.SensorSize.the-variants.{Unknown}
 use Rattle.evt_types.specs.Event.{Event}
 use Rattle.evt_types.specs.Columns.{colX, colY, colT, colP}
 use Rattle.evt_types.specs.Told.{told, accepted, refused}
 use Rattle.stream.specs.Columns.{sets-append}
 use lib.Seq.{sets, length-sets}
-use Rattle.header.specs.declared.Header as header
 use Rattle.header.specs.declared.HeaderAnswer.{HeaderAnswer}
 use Rattle.header.specs.declared.HeaderAnswer.the-variants.{Header, Refused as NoHeader}
-use Rattle.header.specs.Header.{headerOf, headerVerdict, toldHeader, namedNumber, encodingOf, saidBy, hasZero, sizeThatHolds, sizeValues, encodingNumber}
+use Rattle.header.specs.Header.{headerOf, headerVerdict, toldHeader, namedNumber, encodingOf, saidBy, hasZero, sizeThatHolds, sizeValues}
 use Rattle.header.specs.Laws.{verdict-of}
 use Rattle.header_text.specs.Text.{any, notAscii}
 use Rattle.header.specs.Lines.{headerBytes, bodyStart}
@@ -37,27 +36,18 @@ use Rattle.evt.specs.Codec.{freshC}
 use Rattle.room.specs.Deliver.{mostFrom}
 use Rattle.room.specs.Laws.{few-inside}
 use Rattle.answer.specs.Laws.{spanOf, body-all}
+use Rattle.store.specs.Columns.{eventOf}
 use Rattle.listing_text.specs.declared.Begun.{Begun}
-use Rattle.listing_text.specs.Listing.{field, space, newline, tooLong, refusedLine, readLine, eventLine, eventLines, mostBytes, listOptions, listRoom, answerText, listingOf}
-use Rattle.listing_text.specs.Store.{Stored, stored-then, stored-weaken}
+use Rattle.listing_lines.specs.Listing.{tooLong, refusedLine, eventLine, eventLines, mostBytes, listOptions, listRoom, answerText, listingOf}
+use Rattle.texts.specs.Stored.{Stored}
+use Rattle.listing_lines.specs.Lines.{headLine}
 
 -- ---- rows of columns
-
--- a time is never negative
-abbrev pub natural : ℤ → ℕ
-natural (pos n) = n
-natural (negsuc n) = 0
-
-abbrev pub event : (t x y p : ℕ) → Event
-event t x y p = record { t = t; x = x; y = y; p = p }
-
-abbrev pub rowAt : List ℕ → List ℕ → List ℤ → List ℕ → ℕ → Event
-rowAt xs ys ts ps i = event (natural (getD ts i (pos 0))) (getD xs i 0) (getD ys i 0) (getD ps i 0)
 
 -- n rows from i on
 unfoldable pub rowsFrom : List ℕ → List ℕ → List ℤ → List ℕ → (i n : ℕ) → List Event
 rowsFrom xs ys ts ps i zero = []
-rowsFrom xs ys ts ps i (suc n) = rowAt xs ys ts ps i ∷ rowsFrom xs ys ts ps (suc i) n
+rowsFrom xs ys ts ps i (suc n) = eventOf xs ys ts ps i ∷ rowsFrom xs ys ts ps (suc i) n
 
 -- the columns reach so far, and the lines' length is a number
 pub record Rows (xs ys : List ℕ) (ts : List ℤ) (ps : List ℕ) (i n : ℕ) : Type 0 where
@@ -70,7 +60,7 @@ pub record Rows (xs ys : List ℕ) (ts : List ℤ) (ps : List ℕ) (i n : ℕ) :
 rows-tail : (x y : ℕ) (t : ℤ) (p : ℕ) (xs ys : List ℕ) (ts : List ℤ) (ps : List ℕ) (i n : ℕ) → rowsFrom (x ∷ xs) (y ∷ ys) (t ∷ ts) (p ∷ ps) (suc i) n ≡ rowsFrom xs ys ts ps i n
 unfolding rowsFrom
 rows-tail x y t p xs ys ts ps i zero = refl
-rows-tail x y t p xs ys ts ps i (suc n) = ap (λ (l : List Event). rowAt xs ys ts ps i ∷ l) (rows-tail x y t p xs ys ts ps (suc i) n)
+rows-tail x y t p xs ys ts ps i (suc n) = ap (λ (l : List Event). eventOf xs ys ts ps i ∷ l) (rows-tail x y t p xs ys ts ps (suc i) n)
 
 -- the rows of columns that events were handed over in
 rows-events : (es : List Event) (a b : List ℕ) (c : List ℤ) (d : List ℕ) → rowsFrom (map colX es ++ a) (map colY es ++ b) (map colT es ++ c) (map colP es ++ d) 0 (length es) ≡ es
@@ -84,12 +74,12 @@ rows-handed {es} {xs₀} {ys₀} {ts₀} {ps₀} h =
 
 -- rows that are listed one part after another
 module _ (xs ys : List ℕ) (ts : List ℤ) (ps : List ℕ) where
-  pub rows-first : (i n : ℕ) → 0 < n → rowsFrom xs ys ts ps i n ≡ rowAt xs ys ts ps i ∷ rowsFrom xs ys ts ps (i + 1) (n - 1)
+  pub rows-first : (i n : ℕ) → 0 < n → rowsFrom xs ys ts ps i n ≡ eventOf xs ys ts ps i ∷ rowsFrom xs ys ts ps (i + 1) (n - 1)
   unfolding rowsFrom
   rows-first i zero h = absurd (omega arith)
   rows-first i (suc n) h = let e : suc n - 1 ≡ n = omega arith in rw (add-one, e)
 
-  lines-first : (i left : ℕ) → 0 < left → eventLines (rowsFrom xs ys ts ps i left) ≡ eventLine (rowAt xs ys ts ps i) ++ eventLines (rowsFrom xs ys ts ps (i + 1) (left - 1))
+  lines-first : (i left : ℕ) → 0 < left → eventLines (rowsFrom xs ys ts ps i left) ≡ eventLine (eventOf xs ys ts ps i) ++ eventLines (rowsFrom xs ys ts ps (i + 1) (left - 1))
   unfolding eventLines
   lines-first i left h = ap eventLines (rows-first i left h)
 
@@ -97,7 +87,7 @@ module _ (xs ys : List ℕ) (ts : List ℤ) (ps : List ℕ) where
   unfolding rowsFrom eventLines
   rows-parts i zero m = rw (zero-add, add-zero)
   rows-parts i (suc n) m =
-      rw (suc-add, append-assoc, add-suc) (ap (λ (l : List ℕ). eventLine (rowAt xs ys ts ps i) ++ l) (rows-parts (suc i) n m ∙ rw suc-add))
+      rw (suc-add, append-assoc, add-suc) (ap (λ (l : List ℕ). eventLine (eventOf xs ys ts ps i) ++ l) (rows-parts (suc i) n m ∙ rw suc-add))
 
 -- ---- the answer
 
@@ -105,11 +95,6 @@ module _ (xs ys : List ℕ) (ts : List ℤ) (ps : List ℕ) where
 abbrev pub countOf : ReadAnswer → ℕ
 countOf (Read r) = r .count
 countOf (Refused r) = 0
-
--- the first line
-abbrev pub headLine : ReadAnswer → List ℕ
-headLine (Read r) = readLine r
-headLine (Refused r) = refusedLine r
 
 unfoldable pub headOf : List ℕ → List ℕ
 headOf recording = cond (ltb mostBytes (length recording)) tooLong (headLine (rawAnswer recording listOptions listRoom))
@@ -212,25 +197,6 @@ module _ (recording : List ℕ) {out₀ out : List ℕ} (n : ℕ) where
       let hands : Handed (rawHanded recording listOptions listRoom) _ _ _ _ _ _ _ _ = rw room at (r .columns) in
       rw is (begins-go a (rawHanded recording listOptions listRoom) h p refl (rw p (lists-raw recording h)) (rows-handed hands) s)
 
--- ---- lines by their fields
-
-module _ {out₀ : List ℕ} {at : ℕ} {o₁ o₂ o₃ o₄ : List ℕ} {r₁ r₂ r₃ r₄ : ℕ} where
-  pub stored-event : (t x y p : ℕ) → Stored 21 out₀ at (field t space) r₁ o₁ → Stored 21 o₁ r₁ (field x space) r₂ o₂ → Stored 21 o₂ r₂ (field y space) r₃ o₃
-      → Stored 21 o₃ r₃ (field p newline) r₄ o₄ → Stored 84 out₀ at (eventLine (event t x y p)) r₄ o₄
-  unfolding eventLine
-  stored-event t x y p a b c d = stored-then (stored-then (stored-then a b) c) d
-
-  pub stored-reading : {o₀ : List ℕ} {r₀ : ℕ} (r : Reading) (n : ℕ) → n ≡ encodingNumber (r .encoding) → Stored 3 out₀ at (69 ∷ 86 ∷ 84 ∷ []) r₀ o₀ → Stored 21 o₀ r₀ (field n space) r₁ o₁
-      → Stored 21 o₁ r₁ (field (r .width) space) r₂ o₂ → Stored 21 o₂ r₂ (field (r .height) space) r₃ o₃ → Stored 21 o₃ r₃ (field (r .count) newline) r₄ o₄
-      → Stored 96 out₀ at (readLine r) r₄ o₄
-  unfolding readLine
-  stored-reading r n is e a b c d = stored-weaken (omega arith) (stored-then (stored-then (stored-then (stored-then e (rw is at a)) b) c) d)
-
-pub stored-refused : {out₀ : List ℕ} {at : ℕ} {o₁ o₂ : List ℕ} {r₁ r₂ : ℕ} (r : Refusal) (n : ℕ) → n ≡ told r .number → Stored 8 out₀ at (114 ∷ 101 ∷ 102 ∷ 117 ∷ 115 ∷ 101 ∷ 100 ∷ 32 ∷ []) r₁ o₁ → Stored 21 o₁ r₁ (field n newline) r₂ o₂
-    → Stored 96 out₀ at (refusedLine r) r₂ o₂
-unfolding refusedLine
-stored-refused r n is e a = stored-weaken (omega arith) (stored-then e (rw is at a))
-
 -- ---- lines stored row by row: `left` rows from i on are to come
 
 pub record Listing (xs ys : List ℕ) (ts : List ℤ) (ps : List ℕ) (from n : ℕ) (out₀ : List ℕ) (at i left : ℕ) (out : List ℕ) : Type 0 where
@@ -245,10 +211,10 @@ module _ {xs ys : List ℕ} {ts : List ℤ} {ps : List ℕ} {from n : ℕ} {out�
   pub listing-start : Listing xs ys ts ps from n out₀ 0 from n out₀
   listing-start = record { count = refl; fewer = omega arith; long = refl; small = omega arith; ends = zero-add _; stores = refl }
 
-  pub listing-turn : {at i left : ℕ} {out : List ℕ} (r : ℕ) (out′ : List ℕ) → 0 < left → Stored 84 out at (eventLine (rowAt xs ys ts ps i)) r out′
+  pub listing-turn : {at i left : ℕ} {out : List ℕ} (r : ℕ) (out′ : List ℕ) → 0 < left → Stored 84 out at (eventLine (eventOf xs ys ts ps i)) r out′
       → Listing xs ys ts ps from n out₀ at i left out → Listing xs ys ts ps from n out₀ r (i + 1) (left - 1) out′
   listing-turn {at} {i} {left} {out} r out′ h s l =
-      let line = eventLine (rowAt xs ys ts ps i) in
+      let line = eventLine (eventOf xs ys ts ps i) in
       let rest = eventLines (rowsFrom xs ys ts ps (i + 1) (left - 1)) in
       let is : eventLines (rowsFrom xs ys ts ps i left) ≡ line ++ rest = lines-first xs ys ts ps i left h in
       record {

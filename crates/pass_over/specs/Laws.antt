@@ -1,7 +1,7 @@
 -- What is passed over by number: its bytes, its events and the decoder behind it; and that a pass under a window of all times hands over the same from there.
 use mathlib.Core.Path.{_≡_, sym, ap, _∙_}
 use mathlib.Core.List.{List}
-use Prim.Native.Nat.{ℕ, _+_, _-_, _*_, _/_, _≤_, _<_, _^_}
+use Prim.Native.Nat.{ℕ, _+_, _-_, _≤_, _^_}
 use native.Mathlib.Omega.{arith}
 use lib.ListN.{length, take, drop, length-take, length-drop}
 use Rattle.stream.specs.Words.{wordsOf, length-words, words-taken, words-dropped}

@@ -46,8 +46,6 @@
 // records or bytes are needed: lend as many, and call again. A refused call alters no buffer, and
 // returns the writer or the decoder as it was. An accepted one alters nothing behind what it hands over.
 // Examples: `no_encoding`, `columns_too_short`, `records_too_few`, `output_too_short`, `times_fall`.
-ghost use mathlib.Core.Path.{_≡_};
-ghost use Rattle.evt_types.specs.Told.{told};
 pub use evt::Codec;
 pub use evt::codec::CodecDecoded;
 pub use evt_types::DecodeAnswer;
@@ -59,6 +57,7 @@ pub use evt_types::RawEvent;
 pub use evt_types::Refusal;
 pub use evt_types::SensorSize;
 pub use evt_types::Sent;
+pub use evt_types::refusal_number;
 pub use evt_types::vector::NextEvent;
 pub use evt2_decoder::Evt2Decoded;
 pub use evt2_decoder::Evt2Decoder;
@@ -91,23 +90,3 @@ pub use slice_rules::SliceAnswer;
 pub use store::EncoderState;
 
 pub mod fixed;
-
-// A refusal's number in the table.
-pub fn refusal_number(refusal: Refusal) -> u64
-    ensures { λ r. ⌜ r ≡ told refusal .number ⌝ }
-{
-    match refusal {
-        Refusal::InvalidSensorSize => 1,
-        Refusal::UnknownEncoding => 2,
-        Refusal::HeaderNotAscii => 3,
-        Refusal::TooLong => 4,
-        Refusal::ColumnsTooShort(_) => 5,
-        Refusal::TimeOrder => 6,
-        Refusal::EventOutOfRange => 7,
-        Refusal::InvalidSpacing => 8,
-        Refusal::TooFewRecords(_) => 9,
-        Refusal::StateOutOfRange => 10,
-        Refusal::OutputTooShort(_) => 11,
-        Refusal::ColumnLengths => 12,
-    }
-}

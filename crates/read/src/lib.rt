@@ -1,7 +1,6 @@
 // Reading a whole recording, or headerless words, into four lent columns. Both entries are total.
 // What they answer and hand over, by document 01's table, is in specs/Read.antt of `answer`, whose
 // functions settle all that needs no column.
-ghost use mathlib.Core.Path.{_≡_};
 ghost use Prim.Native.Nat.{_≤_, _^_};
 ghost use lib.ListN.{length};
 ghost use Rattle.answer.specs.Read.{bodyEvents, ReadsBody, DecodesWords, ReadsRaw};

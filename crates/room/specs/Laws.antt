@@ -2,13 +2,13 @@
 use mathlib.Core.Path.{_≡_, refl, ap, _∙_}
 use mathlib.Core.Bool.{Bool, true, false, _&&_}
 use mathlib.Core.List.{List, [], _∷_, _++_, map}
-use Prim.Native.Nat.{ℕ, suc, _+_, _-_, _*_, _≤_, _<_, _^_, min, max}
+use Prim.Native.Nat.{ℕ, suc, _+_, _-_, _≤_, _<_, min, max}
 use native.Mathlib.Omega.{arith}
 use native.Mathlib.Nat.{zero-add}
 use lib.Dec.{leb, ltb}
 use lib.IntN.{ℤ}
 use lib.ListN.{length, take, drop, length-map}
-use borrow.Author.Tests.{leb-true, leb-false, ltb-true, ltb-false, le-leb, lt-leb}
+use borrow.Author.Tests.{leb-true, ltb-true, le-leb, lt-leb}
 use Rattle.stream.specs.Columns.{written}
 use Rattle.stream.specs.Slice.{onto}
 use Rattle.stream.specs.Select as Select
@@ -26,11 +26,10 @@ use Rattle.window.specs.declared.Window.{Window}
 use Rattle.window.specs.Window.{spanOf, reading2, reading3}
 use Rattle.select.specs.declared.Tally.{Tally}
 use Rattle.select.specs.declared.Filled.{Filled}
-use Rattle.select.specs.Pass.{Ready, handedOver, surveyed, filled}
+use Rattle.select.specs.Pass.{handedOver, surveyed, filled}
 use Rattle.select.specs.Uses.{numberedOver, over-few}
-use Rattle.room.specs.declared.Delivered.{Delivered}
 use Rattle.room.specs.declared.Delivered.the-variants.{Written, Needed}
-use Rattle.room.specs.Deliver.{shortest, Handed, deliveredOf, fitting, Delivers, mostFrom, mostOver, Enough}
+use Rattle.room.specs.Deliver.{shortest, Handed, Delivers, mostFrom, mostOver, Enough}
 
 -- ---- what was written
 

@@ -1,18 +1,19 @@
 -- EVT3: the loops over one run, and what holds on the way.
-use mathlib.Core.Path.{_≡_, refl, sym, ap, _∙_}
+use mathlib.Core.Path.{_≡_, refl, sym, _∙_}
 use mathlib.Core.Bool.{Bool, true, false}
-use mathlib.Core.List.{List, [], _∷_, _++_, map}
+use mathlib.Core.List.{List, [], _∷_, map}
 use Prim.Native.Nat.{ℕ, _+_, _-_, _*_, _≤_, _<_}
 use native.Mathlib.Omega.{arith}
 use lib.ListN.{length, getD}
 use lib.Seq.{sets}
 use lib.Dec.{eqb}
 use borrow.Author.Tests.{eqb-true, eqb-false}
+use Rattle.stream.specs.Part.{between, between-at, between-end}
 use Rattle.stream.specs.Columns.{sets-append}
 use Rattle.stream.specs.Words.{stream, bytes}
 use Rattle.store.specs.Storing.{Roomy, sets-over, Storing, storing-start, storing-turn, storing-room, storing-end}
 use Rattle.lead_words.specs.Evt3.{singleWord3}
-use Rattle.run_words.specs.Parts.{Part, between, between-at, between-end, singles-length}
+use Rattle.run_words.specs.Parts.{Part, singles-length}
 
 -- ---- a word for each event
 
@@ -32,11 +33,11 @@ module _ {p : ℕ} {xs : List ℕ} {i e : ℕ} {out₀ : List ℕ} {at : ℕ} (p
       above = omega (arith, s .above);
       below = omega arith;
       place = omega (arith, s .place);
-      storing = storing-turn (bytes 2 (singleWord3 p (getD xs j 0))) (stream 2 (map (singleWord3 p) (between xs (j + 1) e))) (rw (between-at xs j e h (part .high))) o (s .storing);
+      storing = storing-turn (bytes 2 (singleWord3 p (getD xs j 0))) (stream 2 (map (singleWord3 p) (between xs (j + 1) e))) (rw (between-at xs j e 0 h (part .high))) o (s .storing);
     }
 
     pub single-room : j < e → Roomy out₀ at (length (stream 2 (map (singleWord3 p) (between xs i e)))) → Roomy out a 2
-    single-room h r = storing-room (bytes 2 (singleWord3 p (getD xs j 0))) (stream 2 (map (singleWord3 p) (between xs (j + 1) e))) (rw (between-at xs j e h (part .high))) (s .storing) r
+    single-room h r = storing-room (bytes 2 (singleWord3 p (getD xs j 0))) (stream 2 (map (singleWord3 p) (between xs (j + 1) e))) (rw (between-at xs j e 0 h (part .high))) (s .storing) r
 
     pub single-end : e ≤ j → (a ≡ at + length (stream 2 (map (singleWord3 p) (between xs i e)))) × (out ≡ sets out₀ at (stream 2 (map (singleWord3 p) (between xs i e))))
     single-end h = storing-end (rw (between-end xs j e h) at (s .storing))
@@ -51,13 +52,13 @@ module _ (p : ℕ) (xs : List ℕ) (i e : ℕ) (out : List ℕ) (at : ℕ) (h : 
       → o₂ ≡ sets out at (stream 2 (map (singleWord3 p) (between xs i e)))
   pair-as true q l o₁ o₂ =
       let e₁ = eqb-true e (i + 1) q in
-      let here : between xs i e ≡ getD xs i 0 ∷ [] = between-at xs i e h f ∙ rw (between-end xs (i + 1) e (omega arith)) in
+      let here : between xs i e ≡ getD xs i 0 ∷ [] = between-at xs i e 0 h f ∙ rw (between-end xs (i + 1) e (omega arith)) in
       let same : e - 1 ≡ i = omega arith in
       let z : at + 2 * (i - i) ≡ at = omega arith in
       o₂ ∙ rw (o₁, l, same, z, here) (sets-over out at (wordAt i) (wordAt i) (omega arith))
   pair-as false q l o₁ o₂ =
       let ne = eqb-false e (i + 1) q in
-      let here : between xs i e ≡ getD xs i 0 ∷ getD xs (i + 1) 0 ∷ [] = between-at xs i e h f ∙ rw (between-at xs (i + 1) e (omega arith) f, between-end xs (i + 1 + 1) e (omega arith)) in
+      let here : between xs i e ≡ getD xs i 0 ∷ getD xs (i + 1) 0 ∷ [] = between-at xs i e 0 h f ∙ rw (between-at xs (i + 1) e 0 (omega arith) f, between-end xs (i + 1 + 1) e (omega arith)) in
       let next : e - 1 ≡ i + 1 = omega arith in
       let two : at + 2 * (i + 1 - i) ≡ at + 2 = omega arith in
       o₂ ∙ rw (o₁, l, next, two, here) (sym (sets-append out at (wordAt i) (wordAt (i + 1))))

@@ -5,16 +5,15 @@ use mathlib.Core.List.{List, [], _∷_, _++_, map}
 use Prim.Native.Nat.{ℕ, zero, suc, _+_, _-_, _*_, _/_, _^_, _≤_, _<_}
 use native.Mathlib.Omega.{arith}
 use native.Mathlib.Nat.{add-zero}
-use native.Mathlib.Numerals.{add-one}
 use lib.Dec.{ltb}
 use borrow.Author.Tests.{lt-ltb, le-ltb, ltb-true, ltb-false}
-use lib.ListN.{length, getD, take, drop, length-append, length-map, length-take, length-drop}
-use lib.Seq.{drop-cons, getD-take, getD-drop}
+use lib.ListN.{length, getD, length-append, length-map}
 use Rattle.stream.specs.Machine.{words, words-append, and-both}
+use Rattle.stream.specs.Part.{between, between-getD, length-between}
 use Rattle.stream.specs.Words.{stream, bytes, stream-append, length-stream}
 use Rattle.store.specs.declared.EncoderState.{EncoderState}
 use Rattle.store.specs.Storing.{piece}
-use Rattle.runs.specs.Runs.{Run, firstX, lastX}
+use Rattle.run_rules.specs.Runs.{Run, firstX, lastX}
 use Rattle.lead_words.specs.Evt3.{leads3, singleWord3, baseWord3, maskWord3, nearby, beyond, windows, vectored, singles, masks, vectors, body3, encode3, writer3}
 use Rattle.lead_words.specs.Leads.{leadBytes, lead-few}
 
@@ -74,24 +73,7 @@ few3 v r h =
     let b = bodyWords (r .p) (r .xs) in
     rw bytes-parts (omega (arith, length-append a (stream 2 b), length-stream 2 b, length-body (r .p) (r .xs), lead-few v (r .t) (r .y)))
 
--- ---- a part of a column, from i up to e
-
-abbrev pub between : {A : Type 0} → List A → ℕ → ℕ → List A
-between xs i e = take (e - i) (drop i xs)
-
-pub between-at : (xs : List ℕ) (i e : ℕ) → i < e → e ≤ length xs → between xs i e ≡ getD xs i 0 ∷ between xs (i + 1) e
-between-at xs i e h k =
-    let n : e - i ≡ suc (e - suc i) = omega arith in
-    rw (add-one, drop-cons xs i 0 (omega arith), n)
-
-pub between-end : (xs : List ℕ) (i e : ℕ) → e ≤ i → between xs i e ≡ []
-between-end xs i e h = let n : e - i ≡ 0 = omega arith in rw n
-
-pub length-between : (xs : List ℕ) (i e : ℕ) → i ≤ e → e ≤ length xs → length (between xs i e) ≡ e - i
-length-between xs i e h k = rw (length-take, length-drop) (omega arith)
-
-pub between-getD : (xs : List ℕ) (i e k : ℕ) → i + k < e → getD (between xs i e) k 0 ≡ getD xs (i + k) 0
-between-getD xs i e k h = let n : k < e - i = omega arith in rw (getD-take (e - i) (drop i xs) k 0 n, getD-drop)
+-- ---- a part of a column
 
 pub singles-length : (p : ℕ) (xs : List ℕ) (i e : ℕ) → i ≤ e → e ≤ length xs → length (stream 2 (map (singleWord3 p) (between xs i e))) ≡ 2 * (e - i)
 singles-length p xs i e h k = length-stream 2 (map (singleWord3 p) (between xs i e)) ∙ rw (length-map, length-between xs i e h k) (omega arith)
@@ -124,12 +106,12 @@ module _ (to x : ℕ) (xs : List ℕ) where
 
 module _ (xs : List ℕ) (i e : ℕ) (h : i < e) (f : e ≤ length xs) where
   pub first-is : firstX (between xs i e) ≡ getD xs i 0
-  first-is = between-getD xs i e 0 (omega arith) ∙ ap (λ (j : ℕ). getD xs j 0) (add-zero i)
+  first-is = between-getD xs i e 0 0 (omega arith) ∙ ap (λ (j : ℕ). getD xs j 0) (add-zero i)
 
   pub last-is : lastX (between xs i e) ≡ getD xs (e - 1) 0
   last-is =
       let n : i + (e - i - 1) ≡ e - 1 = omega arith in
-      rw (length-between xs i e (omega arith) f) (between-getD xs i e (e - i - 1) (omega arith) ∙ ap (λ (j : ℕ). getD xs j 0) n)
+      rw (length-between xs i e (omega arith) f) (between-getD xs i e 0 (e - i - 1) (omega arith) ∙ ap (λ (j : ℕ). getD xs j 0) n)
 
 module _ (p : ℕ) (xs : List ℕ) (i e k : ℕ) (h : i < e) (f : e ≤ length xs) (is-k : k ≡ (getD xs (e - 1) 0 - getD xs i 0 + 12) / 12) where
   windows-is : windows (between xs i e) ≡ k

@@ -1,7 +1,7 @@
 -- EVT3: the masks of a run's windows, five at a time: 60 columns are the bits of one number.
 use mathlib.Core.Path.{_≡_, refl, sym, ap, _∙_}
 use mathlib.Core.Bool.{Bool, true, false, cond}
-use mathlib.Core.List.{List, [], _∷_, _++_, append-assoc, append-nil}
+use mathlib.Core.List.{List, [], _∷_, _++_}
 use Prim.Native.Nat.{ℕ, zero, suc, _+_, _-_, _*_, _/_, _%_, _^_, _≤_, _<_}
 use native.Mathlib.Omega.{arith}
 use native.Mathlib.Nat.{zero-add, suc-add}
@@ -9,15 +9,16 @@ use lib.Dec.{ltb}
 use lib.ListN.{length, getD}
 use lib.Pow.{pow-add}
 use lib.Seq.{sets}
-use borrow.Author.Tests.{ltb-true, ltb-false, lt-ltb, le-ltb}
+use borrow.Author.Tests.{ltb-true, ltb-false}
+use Rattle.stream.specs.Part.{between, between-at, between-end}
 use Rattle.stream.specs.Mask.{Inc, mask, mask-lt}
-use Rattle.stream.specs.Words.{stream, bytes, stream-append, length-stream}
+use Rattle.stream.specs.Words.{stream, bytes, stream-append}
 use Rattle.evt_types.specs.Layout.{word3}
 use Rattle.run_words.specs.declared.Window.{Window}
-use Rattle.runs.specs.Runs.{Rising, firstX, lastX}
+use Rattle.run_rules.specs.Runs.{Rising, firstX, lastX}
 use Rattle.lead_words.specs.Evt3.{maskWord3, nearby, beyond}
 use Rattle.store.specs.Storing.{Roomy, Storing, storing-start, storing-turn, storing-room, storing-end}
-use Rattle.run_words.specs.Parts.{Part, maskWords, between, between-at, between-end, first-is, last-is, nearby-in, nearby-out, beyond-in, beyond-out}
+use Rattle.run_words.specs.Parts.{Part, maskWords, first-is, last-is, nearby-in, nearby-out, beyond-in, beyond-out}
 
 -- the masks of k windows, from the bits of their columns
 unfoldable pub digitWords : (k m : ℕ) → List ℕ
@@ -140,7 +141,7 @@ module _ {xs : List ℕ} {from e b top : ℕ} (part : Part xs from e 0) (rising 
     x = getD xs c 0
 
     here : c < e → between xs c e ≡ x ∷ between xs (c + 1) e
-    here h = between-at xs c e h (part .high)
+    here h = between-at xs c e 0 h (part .high)
 
     rise-here : c < e → Inc b top (x ∷ between xs (c + 1) e)
     rise-here h = rw (here h) at (s .rise)

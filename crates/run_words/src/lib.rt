@@ -9,13 +9,14 @@ ghost use Prim.Native.Nat.{_+_, _*_, _-_, _/_, _^_, _≤_, _<_};
 ghost use lib.Dec.{ltb};
 ghost use lib.ListN.{length};
 ghost use lib.Seq.{sets};
+ghost use Rattle.stream.specs.Part.{between};
 ghost use Rattle.stream.specs.Mask.{Inc};
 ghost use Rattle.stream.specs.Words.{stream};
 ghost use Rattle.store.specs.Storing.{Roomy};
-ghost use Rattle.runs.specs.Runs.{Rising};
+ghost use Rattle.run_rules.specs.Runs.{Rising};
 ghost use Rattle.lead_words.specs.Evt3.{singleWord3, baseWord3};
 ghost use Rattle.lead_words.specs.Leads.{leadsBytes};
-ghost use Rattle.run_words.specs.Parts.{bodyWords, maskWords, between, Part};
+ghost use Rattle.run_words.specs.Parts.{bodyWords, maskWords, Part};
 ghost use Rattle.run_words.specs.Windows.{digitWords, Windowed};
 use lead_words::put_leads;
 

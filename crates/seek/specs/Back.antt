@@ -13,7 +13,7 @@ use Rattle.words.specs.Ahead.{ahead, ahead-some}
 use Rattle.stream.specs.Stream.{split-words}
 use Rattle.evt3_decoder.specs.declared.Decoder.{Decoder}
 use Rattle.evt_types.specs.Layout.{type3, y3, x3, polarity3}
-use Rattle.evt3_decoder.specs.Evt3.{Kind, kindOn, stepAs, step3, reader3}
+use Rattle.evt3_decoder.specs.Evt3.{kindOn, stepAs, step3, reader3}
 use Rattle.seek.specs.declared.back.Column.{Column}
 use Rattle.seek.specs.declared.times.Times.{Times}
 use Rattle.seek.specs.Times.{timesOf, by-type, started-step, step-on}

@@ -1,6 +1,6 @@
 -- The words of a whole number of words' bytes, and of the bytes behind them.
 use mathlib.Core.Path.{_≡_, sym, ap, _∙_}
-use mathlib.Core.List.{List, _++_}
+use mathlib.Core.List.{List}
 use Prim.Native.Nat.{ℕ, _*_, _≤_, _<_}
 use native.Mathlib.Nat.{div-eq-of-eq-mul-left}
 use lib.ListN.{length, take, drop}

@@ -1,19 +1,19 @@
 -- What a seek leaves of a slice by time: nothing that it passes over before the first time of the slice is lost, and what it passes over up to the last is the slice itself, unless a word strays.
 use mathlib.Core.Path.{_≡_, refl, sym, ap, _∙_}
-use mathlib.Core.Bool.{Bool, true, false, _&&_, true≢false}
+use mathlib.Core.Bool.{Bool, true, false, true≢false}
 use mathlib.Core.List.{List, []}
-use Prim.Native.Nat.{ℕ, _+_, _-_, _*_, _≤_, _<_, _^_}
+use Prim.Native.Nat.{ℕ, _+_, _*_, _≤_, _<_, _^_}
 use native.Mathlib.Omega.{arith}
 use lib.Dec.{ltb}
 use lib.ListN.{length, take, drop, length-drop}
-use lib.Seq.{take-all, drop-drop}
+use lib.Seq.{drop-drop}
 use borrow.Author.Tests.{lt-ltb, ltb-true, ltb-false}
 use Rattle.stream.specs.Machine.{All, all-of}
 use Rattle.stream.specs.Words.{wordsOf, length-words}
 use Rattle.stream.specs.Mask.{bits, bits-zero}
-use Rattle.stream.specs.Slice.{sift, sift-none, early, late}
+use Rattle.stream.specs.Slice.{sift-none, early, late}
 use Rattle.stream.specs.Select as Select
-use Rattle.stream.specs.Seek.{Reach, reach-most, handed-from, handed-upto}
+use Rattle.stream.specs.Seek.{reach-most, handed-from, handed-upto}
 use Rattle.evt2_decoder.specs.declared.Evt2Decoder.{Evt2Decoder}
 use Rattle.evt3_decoder.specs.declared.Decoder.{Decoder}
 use Rattle.evt.specs.declared.codec.Codec.{Codec}
@@ -164,10 +164,6 @@ pub ready-there : (c : Codec) (k at : ℕ) (l : List ℕ) → Bounded (length (d
 ready-there c k at l b long low = record { able = able-bounded c (length (drop at l)) b; long = omega (arith, length-drop at l); low = low }
 
 -- ---- a part, and the whole
-
--- `&l[at..]`
-pub rest-of : (l : List ℕ) (at : ℕ) → take (length l - at) (drop at l) ≡ drop at l
-rest-of l at = take-all (length l - at) (drop at l) (omega (arith, length-drop at l))
 
 -- what is found from a place on the way is found
 module _ (t : ℕ) (c : Codec) (l : List ℕ) (at : ℕ) (c′ : Codec) (m : Midway t c l at c′) (r : Sought) (is : r ≡ soughtOf 0 t c′ (drop at l)) where

@@ -2,7 +2,7 @@
 use mathlib.Core.Path.{_≡_, refl, sym, ap, _∙_}
 use mathlib.Core.Bool.{Bool, true, false, _&&_, _||_}
 use mathlib.Core.List.{List}
-use Prim.Native.Nat.{ℕ, _+_, _*_, _/_, _≤_, _<_}
+use Prim.Native.Nat.{ℕ, _+_, _/_, _≤_, _<_}
 use native.Mathlib.Omega.{arith}
 use lib.Dec.{ltb}
 use lib.ListN.{length, drop}
@@ -10,13 +10,11 @@ use Rattle.stream.specs.Words.{length-words}
 use Rattle.words.specs.Ahead.{ahead, ahead-some}
 use Rattle.stream.specs.Seek.{Reach}
 use Rattle.evt2_decoder.specs.declared.Evt2Decoder.{Evt2Decoder}
-use Rattle.evt2_decoder.specs.declared.Evt2Step.{Evt2Step}
 use Rattle.evt3_decoder.specs.declared.Decoder.{Decoder}
-use Rattle.evt3_decoder.specs.declared.WideDecoder.{WideDecoder}
 use Rattle.evt.specs.declared.codec.Codec.the-variants.{Evt2, Evt3}
 use Rattle.evt_types.specs.Layout.{type2, type3}
 use Rattle.evt2_decoder.specs.Evt2.{step2, reader2}
-use Rattle.evt3_decoder.specs.Evt3.{step3, reader3, widened, slimmed}
+use Rattle.evt3_decoder.specs.Evt3.{step3, reader3}
 use Rattle.evt2_decoder.specs.Range.{Bounded2, bounded-step2}
 use Rattle.evt3_decoder.specs.Range.{Bounded3, bounded-step3, bounded-sane3}
 use Rattle.seek.specs.declared.times.Times.{Times}

@@ -1,10 +1,10 @@
 -- Where a seek over EVT3 words ends: the decoder put together of its times, its row and its base column.
 use mathlib.Core.Path.{_≡_, refl, sym, ap, _∙_}
-use mathlib.Core.Bool.{true, false}
+use mathlib.Core.Bool.{true}
 use mathlib.Core.List.{List}
 use Prim.Native.Nat.{ℕ, _*_, _/_, _≤_, _<_, _^_}
 use native.Mathlib.Omega.{arith}
-use lib.ListN.{length, take, drop, length-take}
+use lib.ListN.{length, take, drop}
 use Rattle.stream.specs.Machine.{run}
 use Rattle.stream.specs.Words.{wordsOf, length-words}
 use Rattle.stream.specs.Seek.{Reach, reach-state, reach-most}

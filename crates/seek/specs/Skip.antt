@@ -2,11 +2,11 @@
 use mathlib.Core.Path.{_≡_, refl, sym, ap, _∙_}
 use mathlib.Core.Bool.{Bool, true, false, cond, _||_, _&&_}
 use mathlib.Core.List.{List}
-use Prim.Native.Nat.{ℕ, _+_, _*_, _/_, _≤_, _<_, _^_}
+use Prim.Native.Nat.{ℕ, _+_, _/_, _≤_, _<_, _^_}
 use native.Mathlib.Omega.{arith}
-use lib.Dec.{eqb, ltb}
+use lib.Dec.{ltb}
 use lib.ListN.{length, take, drop}
-use borrow.Author.Tests.{eq-eqb, ne-eqb, le-ltb}
+use borrow.Author.Tests.{ne-eqb, le-ltb}
 use Rattle.stream.specs.Machine.{run}
 use Rattle.stream.specs.Words.{wordsOf, length-words}
 use Rattle.words.specs.Ahead.{ahead}
@@ -15,14 +15,14 @@ use Rattle.evt3_decoder.specs.declared.Decoder.{Decoder}
 use Rattle.evt.specs.declared.codec.Codec.the-variants.{Evt2, Evt3}
 use Rattle.evt_types.specs.Layout.{type2, type3}
 use Rattle.evt2_decoder.specs.Evt2 as Evt2
-use Rattle.evt2_decoder.specs.Evt2.{step2, reader2}
+use Rattle.evt2_decoder.specs.Evt2.{step2}
 use Rattle.evt3_decoder.specs.Evt3.{step3, reader3}
 use Rattle.evt2_decoder.specs.Range.{Bounded2, Regular2, bounded-step2, bounded-sane2, regular-step2}
-use Rattle.evt3_decoder.specs.Range.{Bounded3, Regular3, bounded-step3, regular-step3}
+use Rattle.evt3_decoder.specs.Range.{Bounded3, bounded-step3, regular-step3}
 use Rattle.seek.specs.declared.times.Times.{Times}
-use Rattle.seek.specs.Seek.{carries2, carriesAs, carries3, soughtOf, Midway}
-use Rattle.seek.specs.Turn.{Seeking, seeking-start, seeking-same}
-use Rattle.seek.specs.Times.{timesOf, Slow, ticked, tickedAs, step-on, step-times}
+use Rattle.seek.specs.Seek.{carriesAs, Midway}
+use Rattle.seek.specs.Turn.{seeking-start, seeking-same}
+use Rattle.seek.specs.Times.{timesOf, ticked, tickedAs, step-on, step-times}
 use Rattle.seek.specs.Back.{putBehind, put-is}
 use Rattle.seek.specs.Cut.{take-words}
 use Rattle.seek.specs.Loops.{Seeking2, start2, turn2, Seeking3, Passing, passing-start, passing-turn, passing-slow}

@@ -1,16 +1,14 @@
 -- What of an EVT3 decoder tells the time: what a word does to it, in the code's form, is what the step does.
-use mathlib.Core.Path.{_≡_, refl, sym, ap, _∙_}
-use mathlib.Core.Bool.{Bool, true, false, cond, _||_}
-use mathlib.Core.List.{List}
-use Prim.Native.Nat.{ℕ, _+_, _*_, _≤_, _<_, _^_}
-use native.Mathlib.Omega.{arith}
+use mathlib.Core.Path.{_≡_, refl, ap}
+use mathlib.Core.Bool.{Bool, true, false, cond}
+use Prim.Native.Nat.{ℕ, _+_, _*_, _<_, _^_}
 use lib.Dec.{eqb}
 use borrow.Author.Tests.{eqb-true}
 use Rattle.stream.specs.Loop.{loopsAfter, timeAfter}
 use Rattle.stream.specs.Seek.{Reach}
 use Rattle.evt3_decoder.specs.declared.Decoder.{Decoder}
 use Rattle.evt_types.specs.Layout.{type3, time3}
-use Rattle.evt3_decoder.specs.Evt3.{Kind, kindOn, kindOf, stepAs, step3, period3, threshold3}
+use Rattle.evt3_decoder.specs.Evt3.{kindOn, kindOf, stepAs, step3, period3, threshold3}
 pub use Rattle.seek.specs.Seek.{carriesAs}
 use Rattle.seek.specs.declared.times.Times.{Times}
 use Rattle.seek.specs.declared.evt3.Passed.{Passed}

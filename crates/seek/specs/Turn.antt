@@ -1,6 +1,6 @@
 -- A loop over the words of some bytes that seeks a time, for every machine and every word size: what holds at index i, at the start, after a word, at the end.
 use mathlib.Core.Path.{_≡_, refl, sym, ap, _∙_}
-use mathlib.Core.Bool.{Bool, true, false, _||_}
+use mathlib.Core.Bool.{Bool, false, _||_}
 use mathlib.Core.List.{List, [], _∷_, _++_}
 use Prim.Native.Nat.{ℕ, suc, _+_, _*_, _/_, _≤_, _<_}
 use native.Mathlib.Omega.{arith}
@@ -9,7 +9,7 @@ use lib.ListN.{length, take, drop}
 use lib.Seq.{take-add}
 use Rattle.stream.specs.Machine.{Machine, run, run-append}
 use Rattle.stream.specs.Words.{wordsOf, value, words-next, words-end, length-words}
-use Rattle.stream.specs.Seek.{Reach, reach, reachIf, behind, behind-none, behind-stay, behind-more, strays, reach-nil, reach-on, reach-stop}
+use Rattle.stream.specs.Seek.{Reach, reach, behind, behind-none, behind-stay, behind-more, strays, reach-nil, reach-on, reach-stop}
 use Rattle.evt.specs.declared.codec.Codec.{Codec}
 use Rattle.evt_types.specs.Event.{Event}
 use Rattle.seek.specs.Seek.{soughtAs, further}

@@ -6,9 +6,7 @@ use Prim.Native.Nat.{ℕ, _+_}
 use lib.Dec.{eqb, leb}
 use lib.ListN.{length, drop}
 use lib.IntN.{ℤ}
-use Rattle.evt_types.specs.Event.{Event}
 use Rattle.evt_types.specs.Told.{Told, told, accepted, refused, short}
-use Rattle.evt_types.specs.declared.Refusal.{Refusal}
 use Rattle.evt_types.specs.declared.Refusal.the-variants.{TooLong, TimeOrder, EventOutOfRange, StateOutOfRange, OutputTooShort, ColumnLengths}
 use Rattle.store.specs.Columns.{eventsIn}
 use Rattle.encode.specs.Encode.{encodeState, encodeBytes}

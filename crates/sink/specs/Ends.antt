@@ -7,7 +7,7 @@ use native.Mathlib.Omega.{arith}
 use native.Mathlib.Nat.{zero-add}
 use lib.Dec.{eqb, ltb, leb}
 use borrow.Author.Tests.{le-leb, lt-leb, lt-ltb, leb-true, leb-false}
-use lib.ListN.{length, getD, drop, length-append}
+use lib.ListN.{length, getD, length-append}
 use lib.Seq.{sets, sets-eq}
 use lib.IntN.{ℤ, pos}
 use Rattle.evt_types.specs.Told.{Told, told, accepted, refused, short}
@@ -28,11 +28,10 @@ use Rattle.append_rules.specs.declared.LastTime.the-variants.{At}
 use Rattle.append_rules.specs.declared.RawEventSink.{RawEventSink}
 use Rattle.sink.specs.declared.AppendAnswer.{AppendAnswer}
 use Rattle.sink.specs.declared.AppendAnswer.the-variants.{Written, Refused}
-use Rattle.sink.specs.declared.Appended.{Appended}
 use Rattle.append_rules.specs.Range.{eventsInRange, fallsAfter, sameLengths, sinkInRange}
 use Rattle.append_rules.specs.Rules.{byRules, checkOf}
 use Rattle.append_rules.specs.Checks.{event-fine}
-use Rattle.sink.specs.Append.{toldAppend, some, headerDue, headerBytes, wordBytes, lastAfter, sends, appendVerdict, appendAnswer, accepts, handedOver, nextSink, sinkAfter, AppendOwed}
+use Rattle.sink.specs.Append.{toldAppend, some, headerDue, headerBytes, wordBytes, lastAfter, sends, appendVerdict, appendAnswer, accepts, nextSink, AppendOwed}
 
 -- ---- the last time
 

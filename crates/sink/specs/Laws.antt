@@ -20,7 +20,7 @@ use Rattle.store.specs.declared.EncoderState.{EncoderState}
 use Rattle.store.specs.Columns.{natural, event, eventsIn, Sized}
 use Rattle.encode.specs.Encode.{encodeState, encodeBytes}
 use Rattle.encode2.specs.Evt2.{writer2}
-use Rattle.runs.specs.Runs.{Run, goes, goes-true, firstOf, single, before, glue, runs, runAt, runs-at, follow}
+use Rattle.run_rules.specs.Runs.{Run, goes, goes-true, firstOf, single, before, glue, runs, runAt, runs-at, follow}
 use Rattle.lead_words.specs.Evt3.{writer3}
 use Rattle.append_rules.specs.declared.Check.{Check}
 use Rattle.append_rules.specs.declared.Check.the-variants.{Passed, Failed}

@@ -1,7 +1,6 @@
 // Slices of a recording by number and by time, over an index whose records are lent: each meets what
 // specs/Slice.antt of the crate `slice_rules` defines. specs/Own.antt and specs/Opened.antt say what
 // that is over an index that opening made.
-ghost use mathlib.Core.Path.{_≡_};
 ghost use Rattle.slice_rules.specs.Slice.{SlicesIndex, SlicesTime};
 ghost use Rattle.slice_rules.specs.From.{passedFrom, SlicesFrom, Startable};
 use index::Checkpoint;

@@ -33,7 +33,7 @@ use Rattle.room.specs.declared.Delivered.{Delivered}
 use Rattle.room.specs.declared.Delivered.the-variants.{Written, Needed}
 use Rattle.room.specs.Deliver.{shortest, Handed, Delivers, mostFrom}
 use Rattle.room.specs.Laws.{numbered-most, handed-none}
-use Rattle.answer.specs.Laws.{rest-of}
+use Rattle.stream.specs.Part.{rest-of}
 use Rattle.index.specs.declared.Checkpoint.{Checkpoint}
 use Rattle.checkpoints.specs.declared.Judging.{Judging}
 use Rattle.index.specs.declared.RawSliceSource.{RawSliceSource}

@@ -1,15 +1,14 @@
 -- Bytes stored piece by piece, as far as a list reaches; and a loop that gives a writer its input piece by piece, and stores the bytes of its words.
 use mathlib.Core.Path.{_≡_, refl, sym, ap, _∙_}
 use mathlib.Core.List.{List, [], _∷_, _++_}
-use Prim.Native.Nat.{ℕ, zero, suc, _+_, _-_, _/_, _%_, _≤_, _<_}
+use Prim.Native.Nat.{ℕ, suc, _+_, _≤_, _<_}
 use native.Mathlib.Omega.{arith}
 use native.Mathlib.Nat.{add-zero}
-use native.Mathlib.Numerals.{add-one}
 use lib.ListN.{length, set, length-append}
 use lib.Seq.{sets, length-sets, set-out, set-set, set-comm}
 use Rattle.stream.specs.Columns.{sets-append}
 use Rattle.stream.specs.Machine.{Machine, Note, run, emits, words, words-append}
-use Rattle.stream.specs.Words.{bytes, stream, stream-append}
+use Rattle.stream.specs.Words.{stream, stream-append}
 
 -- nothing is stored past the end
 pub sets-out : (l : List ℕ) (i : ℕ) (vs : List ℕ) → length l ≤ i → sets l i vs ≡ l

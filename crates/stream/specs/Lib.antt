@@ -1,4 +1,5 @@
 -- The root of the laws: what each file is stands at its head.
+pub mod Part
 pub mod Machine
 pub mod Words
 pub mod Mask

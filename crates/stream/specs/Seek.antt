@@ -9,7 +9,7 @@ use lib.Dec.{leb, ltb}
 use lib.ListN.{length, take, drop}
 use borrow.Author.Tests.{ltb-true, ltb-false, lt-ltb, le-ltb, le-leb}
 use Rattle.stream.specs.Machine.{Machine, All, all-append, all-map, run}
-use Rattle.stream.specs.Slice.{sift, sift-append, sift-none, sift-all, all-sift, until, unless, early, late, timely, not-reached}
+use Rattle.stream.specs.Slice.{sift, sift-append, sift-none, sift-all, all-sift, until, early, late, timely, not-reached}
 use Rattle.stream.specs.Select.{Window, Reading, numbered, numberedOf, numbered-cons, inTime, isOver, handed, handed-by-time}
 
 -- where a seek ends: how many words were passed over, whether one of them that carries events left the state before a time, and the state

@@ -3,6 +3,7 @@
 // where the cases and the expected answers come from. A command has a module of its own.
 mod given;
 mod hdr;
+mod lengths;
 mod reading;
 mod step;
 mod write;
@@ -18,6 +19,7 @@ fn run(case: &[u8], command: &[u8]) {
     match text::at(command, 0) {
         b's' => step::answer(case, true),
         b'h' => hdr::answer(case),
+        b'l' => lengths::answer(case),
         b'r' => reading::answer(case, false),
         _ => {
             match text::at(command, 4) {

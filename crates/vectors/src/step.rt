@@ -54,7 +54,7 @@ fn turn(r: Run, bytes: &[u8], shown: bool) -> Run {
         },
         DecodeAnswer::Refused(why) => Run {
             codec: next,
-            refused: show::table(why),
+            refused: evt_types::refusal_number(why) as u64,
             count: r.count,
         },
     }

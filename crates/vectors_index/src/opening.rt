@@ -10,12 +10,12 @@ use case_text::columns;
 use case_text::options;
 use case_text::show;
 use case_text::text;
-use evt_types::Encoding;
-use evt_types::SensorSize;
-use fixed_index::FixedIndex;
-use index::OpenAnswer;
-use index::OpenOptions;
-use index::WordsOptions;
+use prophesee_raw::Encoding;
+use prophesee_raw::OpenAnswer;
+use prophesee_raw::OpenOptions;
+use prophesee_raw::SensorSize;
+use prophesee_raw::WordsOptions;
+use prophesee_raw::fixed::FixedIndex;
 
 // Which of the two is called.
 enum Entry {

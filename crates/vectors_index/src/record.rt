@@ -3,9 +3,9 @@
 use case_text::show;
 use case_text::state;
 use case_text::text;
-use evt::Codec;
-use evt3_decoder::Decoder;
-use index::Checkpoint;
+use prophesee_raw::Checkpoint;
+use prophesee_raw::Codec;
+use prophesee_raw::Decoder;
 
 const ROW: u16 = 43981;
 

@@ -9,8 +9,8 @@ use crate::source;
 use case_text::columns;
 use case_text::show;
 use case_text::text;
-use index::RawSliceSource;
-use slice_rules::SliceAnswer;
+use prophesee_raw::RawSliceSource;
+use prophesee_raw::SliceAnswer;
 
 fn dispatch(
     query: &[u8],

@@ -2,7 +2,7 @@
 use case_text::options;
 use case_text::show;
 use case_text::text;
-use index::RawSliceSource;
+use prophesee_raw::RawSliceSource;
 
 pub fn read(s: &[u8]) -> RawSliceSource {
     let mut n = [0u64; 7];

@@ -3,8 +3,8 @@ ghost use mathlib.Core.Path.{_≡_};
 ghost use Prim.Native.Nat.{max};
 ghost use Rattle.evt_types.specs.Event.{Narrow, eventsOf};
 ghost use Rattle.window.specs.Extent.{extentWith};
-use crate::trim::held;
 use evt_types::vector::Vector;
+use evt_types::vector::held;
 
 // The greatest time, and the greatest column and row plus 1; 0 of no events.
 pub struct Extent {
@@ -13,7 +13,7 @@ pub struct Extent {
     pub height: u64,
 }
 
-fn greater(a: u64, b: u64) -> u64
+pub fn greater(a: u64, b: u64) -> u64
     ensures { λ r. ⌜ r ≡ max a b ⌝ }
 {
     if a < b { b } else { a }

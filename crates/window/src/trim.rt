@@ -1,24 +1,18 @@
 // Which events of one word a window hands over.
 ghost use mathlib.Core.Path.{_≡_};
-ghost use Prim.Native.Nat.{_+_, _≤_, _<_, _^_, min};
+ghost use Prim.Native.Nat.{_+_, _<_, _^_};
 ghost use Rattle.evt_types.specs.Event.{Narrow};
 ghost use Rattle.sensor.specs.Inside.{isInside};
 ghost use Rattle.window.specs.Window.{isWithin, isSpanned, isStopped};
 ghost use Rattle.window.specs.Trim.{Pickable, Picked, isWhole, isSkipped};
 use crate::Window;
 use evt_types::vector::Vector;
+use evt_types::vector::held;
 
 // The bits of the events that are handed over, and how many events are numbered besides.
 pub struct Trimmed {
     pub mask: u64,
     pub extra: u64,
-}
-
-// A column, held at 65,535.
-pub fn held(x: u64) -> u64
-    ensures { λ r. ⌜ r ≡ min x 65535 ⌝ }
-{
-    if x <= 65535 { x } else { 65535 }
 }
 
 fn inside(win: Window, x: u64, y: u64) -> bool

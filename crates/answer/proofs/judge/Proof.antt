@@ -3,9 +3,6 @@ use Rattle.answer.specs.Laws.{judged-long, judged-zero, judged-fit}
 use borrow.Author.Needs.{needs}
 use Rattle.answer.proofs.judge.Statement.{statement}
 use Rattle.answer.proofs.judge.Tie as tie
-use Rattle.answer.proofs.judge.Reads as reads
-use Rattle.answer.proofs.judge.Lts as lts
-use Rattle.header.proofs.has_zero.Reads as has-zero-reads
 
 -- src/lib.rt:45:9
 returns : tie.Need-returns

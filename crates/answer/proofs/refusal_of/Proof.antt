@@ -1,10 +1,8 @@
-use mathlib.Core.Path.{_≡_, refl, sym, ap, _∙_}
+use mathlib.Core.Path.{sym, ap}
 use Rattle.answer.specs.Laws.{refusalOf}
 use borrow.Author.Needs.{needs}
 use Rattle.answer.proofs.refusal_of.Statement.{statement}
 use Rattle.answer.proofs.refusal_of.Tie as tie
-use Rattle.answer.proofs.refusal_of.Reads as reads
-use Rattle.answer.proofs.refusal_of.Lts as lts
 
 -- src/lib.rt:284:31
 enum-known-answer : tie.Need-enum-known-answer

@@ -1,9 +1,6 @@
 use borrow.Author.Needs.{needs}
 use Rattle.answer.proofs.settle.Statement.{statement}
 use Rattle.answer.proofs.settle.Tie as tie
-use Rattle.answer.proofs.settle.Reads as reads
-use Rattle.answer.proofs.settle.Lts as lts
-use Rattle.answer.proofs.sized.Reads as sized-reads
 
 -- src/lib.rt:208:28
 enum-known-delivered : tie.Need-enum-known-delivered

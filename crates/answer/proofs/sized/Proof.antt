@@ -1,15 +1,10 @@
-use mathlib.Core.Path.{_≡_, refl, sym, ap, _∙_}
+use mathlib.Core.Path.{sym}
 use native.Mathlib.Omega.{arith}
 use lib.Seq.{length-take-le}
 use borrow.Author.Tests.{eq-eqb, ne-eqb}
-use Rattle.evt_types.specs.declared.SensorSize.{SensorSize}
-use Rattle.answer.specs.Laws.{sizedOf}
 use borrow.Author.Needs.{needs}
 use Rattle.answer.proofs.sized.Statement.{statement}
 use Rattle.answer.proofs.sized.Tie as tie
-use Rattle.answer.proofs.sized.Reads as reads
-use Rattle.answer.proofs.sized.Lts as lts
-use Rattle.decode.proofs.extent.greatest.Reads as greatest-reads
 
 -- src/lib.rt:132:27
 enum-known-size : tie.Need-enum-known-size

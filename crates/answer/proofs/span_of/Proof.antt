@@ -1,10 +1,8 @@
-use mathlib.Core.Path.{_≡_, refl, sym, ap, _∙_}
+use mathlib.Core.Path.{sym, ap}
 use Rattle.answer.specs.Laws.{spanOf}
 use borrow.Author.Needs.{needs}
 use Rattle.answer.proofs.span_of.Statement.{statement}
 use Rattle.answer.proofs.span_of.Tie as tie
-use Rattle.answer.proofs.span_of.Reads as reads
-use Rattle.answer.proofs.span_of.Lts as lts
 
 -- src/lib.rt:52:32
 enum-told : tie.Need-enum-told

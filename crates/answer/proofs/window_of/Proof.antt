@@ -2,10 +2,6 @@ use Rattle.answer.specs.Laws.{window-parts}
 use borrow.Author.Needs.{needs}
 use Rattle.answer.proofs.window_of.Statement.{statement}
 use Rattle.answer.proofs.window_of.Tie as tie
-use Rattle.answer.proofs.window_of.Reads as reads
-use Rattle.answer.proofs.window_of.Lts as lts
-use Rattle.answer.proofs.most_of.Reads as most-of-reads
-use Rattle.answer.proofs.span_of.Reads as span-of-reads
 
 -- src/lib.rt:97:9
 span-of-requires : tie.Need-span-of-requires

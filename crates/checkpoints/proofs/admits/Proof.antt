@@ -1,14 +1,9 @@
-use mathlib.Core.Path.{_≡_, refl, sym, ap, _∙_}
+use mathlib.Core.Path.{refl, sym, _∙_}
 use mathlib.Core.Bool.{true, false}
 use Rattle.checkpoints.specs.Judge.{admits-by, standsOf}
 use borrow.Author.Needs.{needs}
 use Rattle.checkpoints.proofs.admits.Statement.{statement}
 use Rattle.checkpoints.proofs.admits.Tie as tie
-use Rattle.checkpoints.proofs.admits.Reads as reads
-use Rattle.checkpoints.proofs.admits.Lts as lts
-use Rattle.evt.proofs.codec.Codec.in_range.Reads as in-range-reads
-use Rattle.checkpoints.proofs.is_other.Reads as is-other-reads
-use Rattle.checkpoints.proofs.stands.Reads as stands-reads
 
 -- src/lib.rt:552:8
 is-other-requires : tie.Need-is-other-requires

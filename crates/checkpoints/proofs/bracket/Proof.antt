@@ -1,9 +1,6 @@
 use borrow.Author.Needs.{needs}
 use Rattle.checkpoints.proofs.bracket.Statement.{statement}
 use Rattle.checkpoints.proofs.bracket.Tie as tie
-use Rattle.checkpoints.proofs.bracket.Reads as reads
-use Rattle.checkpoints.proofs.bracket.Lts as lts
-use Rattle.checkpoints.proofs.place.Reads as place-reads
 
 -- src/lib.rt:466:9
 place-requires : tie.Need-place-requires

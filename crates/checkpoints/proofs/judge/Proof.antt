@@ -1,13 +1,8 @@
-use mathlib.Core.Path.{_≡_, refl, sym, ap, _∙_}
-use mathlib.Core.Bool.{true, false}
+use mathlib.Core.Path.{ap, _∙_}
 use Rattle.checkpoints.specs.Judge.{onwardOf}
 use borrow.Author.Needs.{needs}
 use Rattle.checkpoints.proofs.judge.Statement.{statement}
 use Rattle.checkpoints.proofs.judge.Tie as tie
-use Rattle.checkpoints.proofs.judge.Reads as reads
-use Rattle.checkpoints.proofs.judge.Lts as lts
-use Rattle.checkpoints.proofs.admits.Reads as admits-reads
-use Rattle.checkpoints.proofs.onward.Reads as onward-reads
 
 -- src/lib.rt:567:9
 admits-requires : tie.Need-admits-requires

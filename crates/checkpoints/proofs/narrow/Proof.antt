@@ -4,11 +4,6 @@ use borrow.Author.Needs.{needs}
 use Rattle.checkpoints.specs.Search.{narrow-by, narrow-met}
 use Rattle.checkpoints.proofs.narrow.Statement.{statement}
 use Rattle.checkpoints.proofs.narrow.Tie as tie
-use Rattle.checkpoints.proofs.narrow.Reads as reads
-use Rattle.checkpoints.proofs.narrow.Lts as lts
-use Rattle.checkpoints.proofs.bracket.Reads as bracket-reads
-use Rattle.checkpoints.proofs.middle.Reads as middle-reads
-use Rattle.checkpoints.proofs.passes.Reads as passes-reads
 
 -- src/lib.rt:497:13
 middle-requires : tie.Need-middle-requires

@@ -1,11 +1,7 @@
 use borrow.Author.Tests.{lt-ltb, le-ltb}
-use mathlib.Core.Path.{_≡_, refl, sym, ap, _∙_}
 use borrow.Author.Needs.{needs}
 use Rattle.checkpoints.proofs.onward.Statement.{statement}
 use Rattle.checkpoints.proofs.onward.Tie as tie
-use Rattle.checkpoints.proofs.onward.Reads as reads
-use Rattle.checkpoints.proofs.onward.Lts as lts
-use Rattle.checkpoints.proofs.ahead.Reads as ahead-reads
 
 -- src/lib.rt:539:16
 sub-most : tie.Need-sub-most

@@ -1,12 +1,6 @@
-use mathlib.Core.Path.{_≡_, refl, sym, ap, _∙_}
-use mathlib.Core.Bool.{Bool, cond}
 use borrow.Author.Needs.{needs}
-use lib.Signed.{ltZ}
-use lib.Dec.{leb}
 use Rattle.checkpoints.proofs.passes.Statement.{statement}
 use Rattle.checkpoints.proofs.passes.Tie as tie
-use Rattle.checkpoints.proofs.passes.Reads as reads
-use Rattle.checkpoints.proofs.passes.Lts as lts
 
 -- src/lib.rt:399:9
 returns : tie.Need-returns

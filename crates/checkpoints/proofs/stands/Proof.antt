@@ -1,10 +1,7 @@
-use mathlib.Core.Path.{_≡_, refl, sym, ap, _∙_}
 use borrow.Author.Needs.{needs}
 use borrow.Author.Tests.{lt-ltb, le-ltb}
 use Rattle.checkpoints.proofs.stands.Statement.{statement}
 use Rattle.checkpoints.proofs.stands.Tie as tie
-use Rattle.checkpoints.proofs.stands.Reads as reads
-use Rattle.checkpoints.proofs.stands.Lts as lts
 
 -- src/lib.rt:499:9
 returns : tie.Need-returns

@@ -1,13 +1,7 @@
-use Rattle.deliver.specs.Plan.{plainly-whole, delivers-plainly, delivers-under}
+use Rattle.deliver.specs.Plan.{whole-in-range, plainly-whole, delivers-plainly, delivers-under}
 use borrow.Author.Needs.{needs}
 use Rattle.deliver.proofs.deliver.Statement.{statement}
 use Rattle.deliver.proofs.deliver.Tie as tie
-use Rattle.deliver.proofs.deliver.Reads as reads
-use Rattle.deliver.proofs.deliver.Lts as lts
-use Rattle.deliver.proofs.deliver_all.Reads as deliver-all-reads
-use Rattle.deliver.proofs.deliver_window.Reads as deliver-window-reads
-use Rattle.deliver.proofs.plan.is_everything.Reads as is-everything-reads
-use Rattle.deliver.proofs.plan.plan_window.Reads as plan-window-reads
 
 is-everything-requires : tie.Need-is-everything-requires
 is-everything-requires c κs = search needs
@@ -15,8 +9,9 @@ is-everything-requires c κs = search needs
 deliver-all-requires : tie.Need-deliver-all-requires
 deliver-all-requires c κs =
     let s = c .before .before .before .before .before .before .before .before .before .before in
-    let e = c .before .before .before .before .before .is-everything .ensures (c .before .before .before .before .if1 .taken) in
-    let p = plainly-whole (s .args .window) (s .args .number) (s .args .codec) (s .args .bytes .now) (s .pre) (e .0) (e .1) in
+    let e = c .before .before .before .before .before .is-everything .ensures in
+    let w = whole-in-range (s .args .window) (s .args .codec) _ (e .0) (c .before .before .before .before .if1 .taken) in
+    let p = plainly-whole (s .args .window) (s .args .number) (s .args .codec) (s .args .bytes .now) (s .pre) w (e .1) in
     (p .long, p .able)
 
 same-length : tie.Need-same-length
@@ -34,8 +29,9 @@ same-length-4 c = search needs
 returns : tie.Need-returns
 returns c =
     let s = c .before .before .before .before .before .before .before .before .before .before .before .before .before .before .before .before .before .before in
-    let e = c .before .before .before .before .before .before .before .before .before .before .before .before .before .is-everything .ensures (c .before .before .before .before .before .before .before .before .before .before .before .before .if1 .taken) in
-    delivers-plainly (plainly-whole (s .args .window) (s .args .number) (s .args .codec) (s .args .bytes .now) (s .pre) (e .0) (e .1)) (c .before .before .before .before .before .before .before .deliver-all .ensures)
+    let e = c .before .before .before .before .before .before .before .before .before .before .before .before .before .is-everything .ensures in
+    let w = whole-in-range (s .args .window) (s .args .codec) _ (e .0) (c .before .before .before .before .before .before .before .before .before .before .before .before .if1 .taken) in
+    delivers-plainly (plainly-whole (s .args .window) (s .args .number) (s .args .codec) (s .args .bytes .now) (s .pre) w (e .1)) (c .before .before .before .before .before .before .before .deliver-all .ensures)
 
 plan-window-requires : tie.Need-plan-window-requires
 plan-window-requires c κs = search needs

@@ -1,15 +1,9 @@
-use native.Mathlib.Omega.{arith}
 use lib.ListN.{length}
 use Rattle.decode.specs.Decode.{insideEvents}
 use Rattle.room.specs.Laws.{delivers-none, delivers-inside, enough-fits}
 use borrow.Author.Needs.{needs}
 use Rattle.deliver.proofs.deliver_all.Statement.{statement}
 use Rattle.deliver.proofs.deliver_all.Tie as tie
-use Rattle.deliver.proofs.deliver_all.Reads as reads
-use Rattle.deliver.proofs.deliver_all.Lts as lts
-use Rattle.decode.proofs.fill_all.Reads as fill-all-reads
-use Rattle.room.proofs.need_all.Reads as need-all-reads
-use Rattle.room.proofs.shortest.Reads as shortest-reads
 
 -- src/lib.rt:72:9
 shortest-requires : tie.Need-shortest-requires

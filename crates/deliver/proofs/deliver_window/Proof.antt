@@ -1,15 +1,9 @@
-use native.Mathlib.Omega.{arith}
 use lib.ListN.{length}
 use Rattle.select.specs.Pass.{handedOver}
 use Rattle.room.specs.Laws.{delivers-none, delivers-filled, enough-fits}
 use borrow.Author.Needs.{needs}
 use Rattle.deliver.proofs.deliver_window.Statement.{statement}
 use Rattle.deliver.proofs.deliver_window.Tie as tie
-use Rattle.deliver.proofs.deliver_window.Reads as reads
-use Rattle.deliver.proofs.deliver_window.Lts as lts
-use Rattle.room.proofs.need.Reads as need-reads
-use Rattle.room.proofs.shortest.Reads as shortest-reads
-use Rattle.select.proofs.fill.Reads as fill-reads
 
 -- src/lib.rt:89:9
 shortest-requires : tie.Need-shortest-requires

@@ -1,4 +1,3 @@
-use mathlib.Core.Path.{_≡_, refl, sym, ap, _∙_}
 use Rattle.store.specs.Storing.{bytesFrom}
 use Rattle.encode.specs.Encode.{encodeBytes}
 use borrow.Author.Needs.{needs}

@@ -7,12 +7,6 @@ use Rattle.encode2.specs.Pass2.{stored-event2, room-high2, room-event2, 
 use borrow.Author.Needs.{needs}
 use Rattle.encode2.proofs.put_event.Statement.{statement}
 use Rattle.encode2.proofs.put_event.Tie as tie
-use Rattle.encode2.proofs.put_event.Reads as reads
-use Rattle.encode2.proofs.put_event.Lts as lts
-use Rattle.encode2.proofs.event_word.Reads as event-word-reads
-use Rattle.encode2.proofs.high_word.Reads as high-word-reads
-use Rattle.store.proofs.past.Reads as past-reads
-use Rattle.store.proofs.put32.Reads as put32-reads
 
 -- src/evt2.rt:39:9
 event-word-requires : tie.Need-event-word-requires

@@ -2,8 +2,6 @@ use mathlib.Core.Path.{sym}
 use Rattle.encode2.specs.Pass2.{state-some2, state-none2}
 use Rattle.encode2.proofs.sent_after.Statement.{statement}
 use Rattle.encode2.proofs.sent_after.Tie as tie
-use Rattle.encode2.proofs.sent_after.Reads as reads
-use Rattle.encode2.proofs.sent_after.Lts as lts
 
 -- src/evt2.rt:49:1
 returns : tie.Need-returns

@@ -1,14 +1,8 @@
-use mathlib.Core.Path.{_≡_, refl, sym, ap, _∙_}
-use native.Mathlib.Omega.{arith}
+use mathlib.Core.Path.{refl}
 use Rattle.evt2_decoder.specs.Evt2.{time-word, event-word, early-word, other-word}
 use borrow.Author.Needs.{needs}
 use Rattle.evt2_decoder.proofs.advance.Statement.{statement}
 use Rattle.evt2_decoder.proofs.advance.Tie as tie
-use Rattle.evt2_decoder.proofs.advance.Reads as reads
-use Rattle.evt2_decoder.proofs.advance.Lts as lts
-use Rattle.evt_types.proofs.clock.after.Reads as after-reads
-use Rattle.evt_types.proofs.fields.bits.Reads as bits-reads
-use Rattle.evt_types.proofs.vector.none.Reads as none-reads
 
 -- src/evt2.rt:44:13
 bits-requires : tie.Need-bits-requires

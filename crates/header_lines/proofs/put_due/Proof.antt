@@ -1,23 +1,20 @@
 use borrow.Author.Needs.{needs}
 use Rattle.header_lines.proofs.put_due.Statement.{statement}
 use Rattle.header_lines.proofs.put_due.Tie as tie
-use Rattle.header_lines.proofs.put_due.Reads as reads
-use Rattle.header_lines.proofs.put_due.Lts as lts
-use Rattle.header_lines.proofs.put_header.Reads as put-header-reads
 
--- src/lib.rt:68:9
+-- src/lib.rt:41:9
 put-header-requires : tie.Need-put-header-requires
 put-header-requires c κs = search needs
 
--- src/lib.rt:64:1
+-- src/lib.rt:37:1
 same-length : tie.Need-same-length
 same-length c = search needs
 
--- src/lib.rt:64:1
+-- src/lib.rt:37:1
 returns : tie.Need-returns
 returns c = rw (c .before .before .before .before .if1 .taken) (c .before .before .put-header .ensures)
 
--- src/lib.rt:64:1
+-- src/lib.rt:37:1
 returns-2 : tie.Need-returns-2
 returns-2 c = search needs
 

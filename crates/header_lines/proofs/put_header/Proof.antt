@@ -1,66 +1,57 @@
-use mathlib.Core.Path.{_≡_, refl}
-use native.Mathlib.Omega.{arith}
-use denote.Ref.{now}
-use Rattle.header_lines.specs.Header.{ascii, decimal, formatLine, headerText, decimal-few, format-few}
-use Rattle.header_lines.specs.Texts.{stored-six}
+use mathlib.Core.Path.{_∙_}
+use native.Mathlib.Nat.{zero-add}
+use Rattle.texts.specs.Stored.{stored-then}
+use Rattle.header_lines.specs.Header.{headerText}
 use borrow.Author.Needs.{needs}
 use Rattle.header_lines.proofs.put_header.Statement.{statement}
 use Rattle.header_lines.proofs.put_header.Tie as tie
-use Rattle.header_lines.proofs.put_header.Reads as reads
-use Rattle.header_lines.proofs.put_header.Lts as lts
-use Rattle.header_lines.proofs.put_decimal.Reads as put-decimal-reads
-use Rattle.header_lines.proofs.put_format.Reads as put-format-reads
-use Rattle.header_lines.proofs.put_text.Reads as put-text-reads
 
--- src/lib.rt:55:9
+-- src/lib.rt:28:9
 put-format-requires : tie.Need-put-format-requires
 put-format-requires c κs = search needs
 
--- src/lib.rt:56:22
+-- src/lib.rt:29:36
 slice-aggregate-put-text : tie.Need-slice-aggregate-put-text
 slice-aggregate-put-text c = search needs
 
--- src/lib.rt:56:9
+-- src/lib.rt:29:9
 put-text-requires : tie.Need-put-text-requires
-put-text-requires c κs = (omega arith, omega (arith, format-few (c .before .before .before .before .before .before .before .args .version), c .before .before .before .before .put-format .ensures .0))
+put-text-requires c κs = search needs
 
--- src/lib.rt:57:9
+-- src/lib.rt:30:9
 put-decimal-requires : tie.Need-put-decimal-requires
-put-decimal-requires c κs = omega (arith, format-few (c .before .before .before .before .before .before .before .before .before .before .before .args .version), c .before .before .before .before .before .before .before .before .put-format .ensures .0, c .before .before .before .put-text .ensures .0)
+put-decimal-requires c κs = search needs
 
--- src/lib.rt:58:22
+-- src/lib.rt:31:36
 slice-aggregate-put-text-2 : tie.Need-slice-aggregate-put-text-2
 slice-aggregate-put-text-2 c = search needs
 
--- src/lib.rt:58:9
+-- src/lib.rt:31:9
 put-text-requires-2 : tie.Need-put-text-requires-2
-put-text-requires-2 c κs = (omega arith, omega (arith, format-few (c .before .before .before .before .before .before .before .before .before .before .before .before .before .before .before .before .args .version), c .before .before .before .before .before .before .before .before .before .before .before .before .before .put-format .ensures .0, c .before .before .before .before .before .before .before .before .put-text .ensures .0, c .before .before .before .before .put-decimal .ensures .0, decimal-few (c .before .before .before .before .before .before .before .before .before .before .before .before .before .before .before .before .args .width) (omega arith)))
+put-text-requires-2 c κs = search needs
 
--- src/lib.rt:59:9
+-- src/lib.rt:32:9
 put-decimal-requires-2 : tie.Need-put-decimal-requires-2
-put-decimal-requires-2 c κs = omega (arith, format-few (c .before .before .before .before .before .before .before .before .before .before .before .before .before .before .before .before .before .before .before .before .args .version), c .before .before .before .before .before .before .before .before .before .before .before .before .before .before .before .before .before .put-format .ensures .0, c .before .before .before .before .before .before .before .before .before .before .before .before .put-text .ensures .0, c .before .before .before .before .before .before .before .before .put-decimal .ensures .0, decimal-few (c .before .before .before .before .before .before .before .before .before .before .before .before .before .before .before .before .before .before .before .before .args .width) (omega arith), c .before .before .before .put-text2 .ensures .0)
+put-decimal-requires-2 c κs = search needs
 
--- src/lib.rt:60:14
+-- src/lib.rt:33:28
 slice-aggregate-put-text-3 : tie.Need-slice-aggregate-put-text-3
 slice-aggregate-put-text-3 c = search needs
 
--- src/lib.rt:60:5
+-- src/lib.rt:33:5
 put-text-requires-3 : tie.Need-put-text-requires-3
-put-text-requires-3 c κs = (omega arith, omega (arith, format-few (c .before .before .before .before .before .before .before .before .before .before .before .before .before .before .before .before .before .before .before .before .before .before .before .before .before .args .version), c .before .before .before .before .before .before .before .before .before .before .before .before .before .before .before .before .before .before .before .before .before .before .put-format .ensures .0, c .before .before .before .before .before .before .before .before .before .before .before .before .before .before .before .before .before .put-text .ensures .0, c .before .before .before .before .before .before .before .before .before .before .before .before .before .put-decimal .ensures .0, decimal-few (c .before .before .before .before .before .before .before .before .before .before .before .before .before .before .before .before .before .before .before .before .before .before .before .before .before .args .width) (omega arith), c .before .before .before .before .before .before .before .before .put-text2 .ensures .0, c .before .before .before .before .put-decimal2 .ensures .0, decimal-few (c .before .before .before .before .before .before .before .before .before .before .before .before .before .before .before .before .before .before .before .before .before .before .before .before .before .args .height) (omega arith)))
+put-text-requires-3 c κs = search needs
 
--- src/lib.rt:52:1
+-- src/lib.rt:25:1
 same-length : tie.Need-same-length
 same-length c = search needs
 
--- src/lib.rt:52:1
+-- src/lib.rt:25:1
 returns : tie.Need-returns
 unfolding headerText
 returns c =
-    let a = c .before .before .before .before .before .before .before .before .before .before .before .before .before .before .before .before .before .before .before .before .before .before .before .before .before .before .before .before .args in
-    stored-six (now (a .out)) (formatLine (a .version)) (ascii "% geometry ") (decimal (a .width)) (ascii "x") (decimal (a .height)) (ascii "\n% generator eventcv\n% end\n")
-    (c .before .before .before .before .before .before .before .before .before .before .before .before .before .before .before .before .before .before .before .before .before .before .before .before .before .put-format .ensures .0) (c .before .before .before .before .before .before .before .before .before .before .before .before .before .before .before .before .before .before .before .before .before .before .before .before .before .put-format .ensures .1) (c .before .before .before .before .before .before .before .before .before .before .before .before .before .before .before .before .before .before .before .before .put-text .ensures .0) (c .before .before .before .before .before .before .before .before .before .before .before .before .before .before .before .before .before .before .before .before .put-text .ensures .1)
-    (c .before .before .before .before .before .before .before .before .before .before .before .before .before .before .before .before .put-decimal .ensures .0) (c .before .before .before .before .before .before .before .before .before .before .before .before .before .before .before .before .put-decimal .ensures .1) (c .before .before .before .before .before .before .before .before .before .before .before .put-text2 .ensures .0) (c .before .before .before .before .before .before .before .before .before .before .before .put-text2 .ensures .1)
-    (c .before .before .before .before .before .before .before .put-decimal2 .ensures .0) (c .before .before .before .before .before .before .before .put-decimal2 .ensures .1) (c .before .before .put-text3 .ensures .0) (c .before .before .put-text3 .ensures .1)
+    let all = stored-then (c .before .before .before .before .before .before .before .before .before .before .before .before .before .before .before .before .before .before .before .before .before .before .before .before .before .put-format .ensures) (stored-then (c .before .before .before .before .before .before .before .before .before .before .before .before .before .before .before .before .before .before .before .before .put-text .ensures) (stored-then (c .before .before .before .before .before .before .before .before .before .before .before .before .before .before .before .before .put-decimal .ensures) (stored-then (c .before .before .before .before .before .before .before .before .before .before .before .put-text2 .ensures) (stored-then (c .before .before .before .before .before .before .before .put-decimal2 .ensures) (c .before .before .put-text3 .ensures))))) in
+    (all .ends ∙ zero-add _, all .stores)
 
 pub put-header-spec : {M : Type 1} → statement M
 put-header-spec =

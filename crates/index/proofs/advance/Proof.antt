@@ -1,16 +1,9 @@
-use mathlib.Core.Path.{_≡_, refl, sym, ap, _∙_}
-use native.Mathlib.Omega.{arith}
 use mir.Facts.{toZ-pos}
 use mir.Syntax.{w64}
 use Rattle.index.specs.Laws.{part-bounded, count-sum, advanced}
 use borrow.Author.Needs.{needs}
 use Rattle.index.proofs.advance.Statement.{statement}
 use Rattle.index.proofs.advance.Tie as tie
-use Rattle.index.proofs.advance.Reads as reads
-use Rattle.index.proofs.advance.Lts as lts
-use Rattle.count.proofs.count_all.Reads as count-all-reads
-use Rattle.index.proofs.later.Reads as later-reads
-use Rattle.index.proofs.less.Reads as less-reads
 
 -- src/lib.rt:106:15
 cast-t15 : tie.Need-cast-t15
@@ -45,8 +38,8 @@ add-count : tie.Need-add-count
 add-count c = record { fits = count-sum (c .before .before .before .before .before .before .before .before .args .recording .now) (c .before .before .before .before .before .before .before .before .args .run) (c .before .before .before .before .before .before .before .before .pre) (c .before .before .before .before .less .result) (c .before .before .before .before .less .ensures) (c .before .before .count-all .result) (c .before .before .count-all .ensures) }
 
 -- src/lib.rt:114:9
-later-requires : tie.Need-later-requires
-later-requires c κs = search needs
+greater-requires : tie.Need-greater-requires
+greater-requires c κs = search needs
 
 -- src/lib.rt:115:14
 add-at : tie.Need-add-at
@@ -54,7 +47,7 @@ add-at c = search needs
 
 -- src/lib.rt:97:1
 returns : tie.Need-returns
-returns c = advanced (c .before .before .before .before .before .before .before .before .before .before .before .args .recording .now) (c .before .before .before .before .before .before .before .before .before .before .before .args .run) (c .before .before .before .before .before .before .before .before .before .before .before .pre) (c .before .before .before .before .before .before .before .less .result) (c .before .before .before .before .before .before .before .less .ensures) (c .before .before .before .before .before .count-all .result) (c .before .before .before .before .before .count-all .ensures) _ (toZ-pos w64 (c .before .before .before .before .before .before .before .before .before .before .before .pre .early)) _ (c .before .before .later .ensures)
+returns c = advanced (c .before .before .before .before .before .before .before .before .before .before .before .args .recording .now) (c .before .before .before .before .before .before .before .before .before .before .before .args .run) (c .before .before .before .before .before .before .before .before .before .before .before .pre) (c .before .before .before .before .before .before .before .less .result) (c .before .before .before .before .before .before .before .less .ensures) (c .before .before .before .before .before .count-all .result) (c .before .before .before .before .before .count-all .ensures) _ (toZ-pos w64 (c .before .before .before .before .before .before .before .before .before .before .before .pre .early)) _ (c .before .before .greater .ensures)
 
 pub advance-spec : {M : Type 1} → statement M
 advance-spec =
@@ -68,6 +61,6 @@ advance-spec =
     part-count-all-end
     count-all-requires
     add-count
-    later-requires
+    greater-requires
     add-at
     returns)

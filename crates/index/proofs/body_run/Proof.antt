@@ -1,15 +1,9 @@
-use mathlib.Core.Path.{_≡_, refl, sym, ap, _∙_}
-use native.Mathlib.Omega.{arith}
+use mathlib.Core.Path.{sym, ap, _∙_}
 use Rattle.index.specs.Build.{firstOf}
 use Rattle.index.specs.Open.{job-spacing}
 use borrow.Author.Needs.{needs}
 use Rattle.index.proofs.body_run.Statement.{statement}
 use Rattle.index.proofs.body_run.Tie as tie
-use Rattle.index.proofs.body_run.Reads as reads
-use Rattle.index.proofs.body_run.Lts as lts
-use Rattle.index.proofs.idle_run.Reads as idle-run-reads
-use Rattle.index.proofs.spaced_run.Reads as spaced-run-reads
-use Rattle.index.proofs.spacing_ok.Reads as spacing-ok-reads
 
 -- src/lib.rt:280:8
 spacing-ok-requires : tie.Need-spacing-ok-requires

@@ -1,11 +1,8 @@
-use mathlib.Core.Path.{_≡_, refl, sym, ap, _∙_}
-use native.Mathlib.Omega.{arith}
+use mathlib.Core.Path.{sym, ap}
 use Rattle.index.specs.Build.{concludedAs}
 use borrow.Author.Needs.{needs}
 use Rattle.index.proofs.conclude.Statement.{statement}
 use Rattle.index.proofs.conclude.Tie as tie
-use Rattle.index.proofs.conclude.Reads as reads
-use Rattle.index.proofs.conclude.Lts as lts
 
 -- src/lib.rt:318:22
 enum-known-plan : tie.Need-enum-known-plan

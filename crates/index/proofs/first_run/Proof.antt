@@ -1,11 +1,6 @@
-use mathlib.Core.Path.{_≡_, refl, sym, ap, _∙_}
-use native.Mathlib.Omega.{arith}
 use borrow.Author.Needs.{needs}
 use Rattle.index.proofs.first_run.Statement.{statement}
 use Rattle.index.proofs.first_run.Tie as tie
-use Rattle.index.proofs.first_run.Reads as reads
-use Rattle.index.proofs.first_run.Lts as lts
-use Rattle.evt.proofs.codec.Codec.new.Reads as new-reads
 
 -- src/lib.rt:184:16
 new-requires : tie.Need-new-requires

@@ -1,15 +1,9 @@
-use mathlib.Core.Path.{_≡_, refl, sym, ap, _∙_}
-use native.Mathlib.Omega.{arith}
+use mathlib.Core.Path.{ap, _∙_}
 use Rattle.index.specs.Build.{firstOf, refusedJob}
 use Rattle.index.specs.Open.{job-refused, job-header, header-fits}
 use borrow.Author.Needs.{needs}
 use Rattle.index.proofs.prepare.Statement.{statement}
 use Rattle.index.proofs.prepare.Tie as tie
-use Rattle.index.proofs.prepare.Reads as reads
-use Rattle.index.proofs.prepare.Lts as lts
-use Rattle.header.proofs.parse_header.Reads as parse-header-reads
-use Rattle.index.proofs.body_run.Reads as body-run-reads
-use Rattle.index.proofs.refused_run.Reads as refused-run-reads
 
 -- src/lib.rt:286:9
 parse-header-requires : tie.Need-parse-header-requires

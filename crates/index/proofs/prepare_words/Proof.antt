@@ -1,15 +1,9 @@
 use Rattle.index.specs.Build.{firstOf}
 use Rattle.index.specs.Open.{job-long, job-zero, job-words}
-use mathlib.Core.Path.{_≡_, refl, sym, ap, _∙_}
-use native.Mathlib.Omega.{arith}
+use mathlib.Core.Path.{sym, ap, _∙_}
 use borrow.Author.Needs.{needs}
 use Rattle.index.proofs.prepare_words.Statement.{statement}
 use Rattle.index.proofs.prepare_words.Tie as tie
-use Rattle.index.proofs.prepare_words.Reads as reads
-use Rattle.index.proofs.prepare_words.Lts as lts
-use Rattle.header.proofs.has_zero.Reads as has-zero-reads
-use Rattle.index.proofs.body_run.Reads as body-run-reads
-use Rattle.index.proofs.idle_run.Reads as idle-run-reads
 
 -- src/lib.rt:304:9
 idle-run-requires : tie.Need-idle-run-requires

@@ -1,12 +1,8 @@
-use mathlib.Core.Path.{_≡_, refl, sym, ap, _∙_}
-use native.Mathlib.Omega.{arith}
+use mathlib.Core.Path.{sym, ap, _∙_}
 use Rattle.index.specs.Build.{refusedJob, firstOf}
 use borrow.Author.Needs.{needs}
 use Rattle.index.proofs.refused_run.Statement.{statement}
 use Rattle.index.proofs.refused_run.Tie as tie
-use Rattle.index.proofs.refused_run.Reads as reads
-use Rattle.index.proofs.refused_run.Lts as lts
-use Rattle.index.proofs.idle_run.Reads as idle-run-reads
 
 -- src/lib.rt:275:31
 enum-known-answer : tie.Need-enum-known-answer

@@ -1,18 +1,10 @@
-use mathlib.Core.Path.{_≡_, refl, sym, ap, _∙_}
+use mathlib.Core.Path.{ap, _∙_}
 use native.Mathlib.Omega.{arith}
 use Rattle.index.specs.Build.{firstOf}
 use Rattle.index.specs.Open.{spaced, job-short, run-known, run-none, run-unknown, ready-rest}
 use borrow.Author.Needs.{needs}
 use Rattle.index.proofs.spaced_run.Statement.{statement}
 use Rattle.index.proofs.spaced_run.Tie as tie
-use Rattle.index.proofs.spaced_run.Reads as reads
-use Rattle.index.proofs.spaced_run.Lts as lts
-use Rattle.evt.proofs.codec.Codec.new.Reads as new-reads
-use Rattle.index.proofs.first_run.Reads as first-run-reads
-use Rattle.index.proofs.idle_run.Reads as idle-run-reads
-use Rattle.index.proofs.record_count.Reads as record-count-reads
-use Rattle.index.proofs.whole_window.Reads as whole-window-reads
-use Rattle.select.proofs.survey.Reads as survey-reads
 
 -- src/lib.rt:224:29
 sub-record-count : tie.Need-sub-record-count

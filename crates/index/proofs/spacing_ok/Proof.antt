@@ -1,12 +1,8 @@
-use mathlib.Core.Path.{_≡_, refl, sym, ap, _∙_}
-use native.Mathlib.Omega.{arith}
 use borrow.Author.Tests.{lt-ltb, le-ltb}
 use Rattle.index.specs.Index.{spacingOk}
 use borrow.Author.Needs.{needs}
 use Rattle.index.proofs.spacing_ok.Statement.{statement}
 use Rattle.index.proofs.spacing_ok.Tie as tie
-use Rattle.index.proofs.spacing_ok.Reads as reads
-use Rattle.index.proofs.spacing_ok.Lts as lts
 
 -- src/lib.rt:142:9
 returns : tie.Need-returns

@@ -1,12 +1,8 @@
-use mathlib.Core.Path.{_≡_, _∙_}
+use mathlib.Core.Path.{_∙_}
 use Rattle.lead_words.specs.Leads.{due-is}
 use borrow.Author.Needs.{needs}
 use Rattle.lead_words.proofs.put_lead.Statement.{statement}
 use Rattle.lead_words.proofs.put_lead.Tie as tie
-use Rattle.lead_words.proofs.put_lead.Reads as reads
-use Rattle.lead_words.proofs.put_lead.Lts as lts
-use Rattle.store.proofs.past.Reads as past-reads
-use Rattle.store.proofs.put16.Reads as put16-reads
 
 -- src/evt3.rt:109:5
 put16-requires : tie.Need-put16-requires

@@ -1,17 +1,12 @@
 use lib.Seq.{length-take-le}
-use Rattle.listing_text.specs.Store.{stored-length, stored-within}
-use mathlib.Core.Path.{_≡_, sym, ap, _∙_}
+use Rattle.texts.specs.Stored.{stored-length, stored-within}
+use mathlib.Core.Path.{_≡_, sym, _∙_}
 use Prim.Native.Nat.{_≤_, _-_}
 use native.Mathlib.Omega.{arith}
 use borrow.Author.Needs.{needs}
 use lib.ListN.{length}
 use Rattle.listing.proofs.lines.Statement.{statement}
 use Rattle.listing.proofs.lines.Tie as tie
-use Rattle.listing.proofs.lines.Reads as reads
-use Rattle.listing.proofs.lines.Lts as lts
-use Rattle.io.proofs.write_all.Reads as write-all-reads
-use Rattle.listing.proofs.part.Reads as part-reads
-use Rattle.listing_text.proofs.lines_text.Reads as lines-text-reads
 
 abbrev Inv-loop : tie.InvT-loop
 Inv-loop xs ys ts ps count out₀ from₀ out from = (from ≤ count) × (length out ≡ length out₀)

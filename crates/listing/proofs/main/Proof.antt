@@ -1,21 +1,10 @@
 use mathlib.Core.Path.{sym}
 use native.Mathlib.Omega.{arith}
 use lib.Seq.{length-take-le}
-use Rattle.listing_text.specs.Store.{stored-within}
+use Rattle.texts.specs.Stored.{stored-within}
 use borrow.Author.Needs.{needs}
 use Rattle.listing.proofs.main.Statement.{statement}
 use Rattle.listing.proofs.main.Tie as tie
-use Rattle.listing.proofs.main.Reads as reads
-use Rattle.listing.proofs.main.Lts as lts
-use Rattle.io.proofs.large_buffer.Reads as large-buffer-reads
-use Rattle.io.proofs.read_full.Reads as read-full-reads
-use Rattle.io.proofs.write_all.Reads as write-all-reads
-use Rattle.listing.proofs.coordinates.Reads as coordinates-reads
-use Rattle.listing.proofs.lines.Reads as lines-reads
-use Rattle.listing.proofs.polarities.Reads as polarities-reads
-use Rattle.listing.proofs.recording_room.Reads as recording-room-reads
-use Rattle.listing.proofs.times.Reads as times-reads
-use Rattle.listing_text.proofs.begin.Reads as begin-reads
 
 -- src/main.rt:61:25
 recording-room-requires : tie.Need-recording-room-requires

@@ -1,22 +1,16 @@
 use Rattle.listing_text.specs.Laws.{begins-long, begins-read}
-use Rattle.listing_text.specs.Listing.{tooLong}
+use Rattle.listing_lines.specs.Listing.{tooLong}
 use borrow.Author.Needs.{needs}
 use Rattle.listing_text.proofs.begin.Statement.{statement}
 use Rattle.listing_text.proofs.begin.Tie as tie
-use Rattle.listing_text.proofs.begin.Reads as reads
-use Rattle.listing_text.proofs.begin.Lts as lts
-use Rattle.listing_text.proofs.count_of.Reads as count-of-reads
-use Rattle.listing_text.proofs.head_text.Reads as head-text-reads
-use Rattle.listing_text.proofs.text.Reads as text-reads
-use Rattle.read.proofs.read_raw.Reads as read-raw-reads
 
 -- src/lib.rt:202:42
-slice-aggregate-text : tie.Need-slice-aggregate-text
-slice-aggregate-text c = search needs
+slice-aggregate-put-text : tie.Need-slice-aggregate-put-text
+slice-aggregate-put-text c = search needs
 
 -- src/lib.rt:202:13
-text-requires : tie.Need-text-requires
-text-requires c κs = search needs
+put-text-requires : tie.Need-put-text-requires
+put-text-requires c κs = search needs
 
 -- src/lib.rt:203:9
 same-length : tie.Need-same-length
@@ -25,7 +19,7 @@ same-length c = search needs
 -- src/lib.rt:203:9
 returns : tie.Need-returns
 unfolding tooLong
-returns c = begins-long (c .before .before .before .before .before .before .before .before .before .before .before .args .recording .now) _ (c .before .before .before .before .before .if1 .taken) (c .before .before .text .ensures)
+returns c = begins-long (c .before .before .before .before .before .before .before .before .before .before .before .args .recording .now) _ (c .before .before .before .before .before .if1 .taken) (c .before .before .put-text .ensures)
 
 -- src/lib.rt:209:9
 read-raw-requires : tie.Need-read-raw-requires
@@ -67,8 +61,8 @@ pub begin-spec : {M : Type 1} → statement M
 begin-spec =
     tie.close
     (tie.spec
-    slice-aggregate-text
-    text-requires
+    slice-aggregate-put-text
+    put-text-requires
     same-length
     returns
     read-raw-requires

@@ -5,13 +5,10 @@ use native.Mathlib.Omega.{arith}
 use borrow.Author.Needs.{needs}
 use lib.ListN.{getD}
 use lib.IntN.{pos}
-use Rattle.listing_text.specs.Laws.{natural, Listing, listing-start, listing-turn, listing-end}
+use Rattle.store.specs.Columns.{natural}
+use Rattle.listing_text.specs.Laws.{Listing, listing-start, listing-turn, listing-end}
 use Rattle.listing_text.proofs.lines_text.Statement.{statement}
 use Rattle.listing_text.proofs.lines_text.Tie as tie
-use Rattle.listing_text.proofs.lines_text.Reads as reads
-use Rattle.listing_text.proofs.lines_text.Lts as lts
-use Rattle.listing_text.proofs.event_at.Reads as event-at-reads
-use Rattle.listing_text.proofs.time_of.Reads as time-of-reads
 
 abbrev Inv-loop : tie.InvT-loop
 Inv-loop xs ys ts ps from n out₀ at₀ i₀ left₀ out at i left = Listing xs ys ts ps from n out₀ at i left out

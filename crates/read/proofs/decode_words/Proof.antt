@@ -4,10 +4,6 @@ use Rattle.answer.specs.Laws.{words-refused, words-read, fit-judged}
 use borrow.Author.Needs.{needs}
 use Rattle.read.proofs.decode_words.Statement.{statement}
 use Rattle.read.proofs.decode_words.Tie as tie
-use Rattle.read.proofs.decode_words.Reads as reads
-use Rattle.read.proofs.decode_words.Lts as lts
-use Rattle.answer.proofs.judge.Reads as judge-reads
-use Rattle.read.proofs.read_body.Reads as read-body-reads
 
 -- src/lib.rt:62:9
 judge-requires : tie.Need-judge-requires

@@ -4,12 +4,6 @@ use Rattle.answer.specs.Laws.{ready-new, delivers-body, holds-delivered, reads-
 use borrow.Author.Needs.{needs}
 use Rattle.read.proofs.read_body.Statement.{statement}
 use Rattle.read.proofs.read_body.Tie as tie
-use Rattle.read.proofs.read_body.Reads as reads
-use Rattle.read.proofs.read_body.Lts as lts
-use Rattle.answer.proofs.settle.Reads as settle-reads
-use Rattle.answer.proofs.window_of.Reads as window-of-reads
-use Rattle.deliver.proofs.deliver.Reads as deliver-reads
-use Rattle.evt.proofs.codec.Codec.new.Reads as new-reads
 
 -- src/lib.rt:34:9
 new-requires : tie.Need-new-requires

@@ -1,16 +1,12 @@
 use native.Mathlib.Omega.{arith}
-use mathlib.Core.Path.{_≡_, refl, sym, ap, _∙_}
-use lib.ListN.{length, drop, length-drop}
+use mathlib.Core.Path.{sym, _∙_}
+use lib.ListN.{length-drop}
+use Rattle.stream.specs.Part.{rest-of}
 use Rattle.header.specs.Laws.{of-accepted}
-use Rattle.answer.specs.Laws.{raw-refused, raw-read, rest-of}
+use Rattle.answer.specs.Laws.{raw-refused, raw-read}
 use borrow.Author.Needs.{needs}
 use Rattle.read.proofs.read_raw.Statement.{statement}
 use Rattle.read.proofs.read_raw.Tie as tie
-use Rattle.read.proofs.read_raw.Reads as reads
-use Rattle.read.proofs.read_raw.Lts as lts
-use Rattle.header.proofs.parse_header.Reads as parse-header-reads
-use Rattle.read.proofs.read_body.Reads as read-body-reads
-use Rattle.answer.proofs.refusal_of.Reads as refusal-of-reads
 
 -- src/lib.rt:302:9
 parse-header-requires : tie.Need-parse-header-requires

@@ -4,8 +4,6 @@ use Rattle.room.specs.Deliver.{mostFrom}
 use borrow.Author.Needs.{needs}
 use Rattle.room.proofs.most_from.Statement.{statement}
 use Rattle.room.proofs.most_from.Tie as tie
-use Rattle.room.proofs.most_from.Reads as reads
-use Rattle.room.proofs.most_from.Lts as lts
 
 -- src/lib.rt:37:27
 enum-told : tie.Need-enum-told

@@ -1,12 +1,7 @@
-use native.Mathlib.Omega.{arith}
 use Rattle.room.specs.Laws.{need-most, need-count}
 use borrow.Author.Needs.{needs}
 use Rattle.room.proofs.need.Statement.{statement}
 use Rattle.room.proofs.need.Tie as tie
-use Rattle.room.proofs.need.Reads as reads
-use Rattle.room.proofs.need.Lts as lts
-use Rattle.room.proofs.most_over.Reads as most-over-reads
-use Rattle.select.proofs.survey.Reads as survey-reads
 
 -- src/lib.rt:67:9
 most-over-requires : tie.Need-most-over-requires

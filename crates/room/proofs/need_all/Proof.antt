@@ -1,12 +1,7 @@
-use native.Mathlib.Omega.{arith}
 use Rattle.room.specs.Laws.{need-all-most, need-all-count}
 use borrow.Author.Needs.{needs}
 use Rattle.room.proofs.need_all.Statement.{statement}
 use Rattle.room.proofs.need_all.Tie as tie
-use Rattle.room.proofs.need_all.Reads as reads
-use Rattle.room.proofs.need_all.Lts as lts
-use Rattle.count.proofs.count_all.Reads as count-all-reads
-use Rattle.room.proofs.most_from.Reads as most-from-reads
 
 -- src/lib.rt:50:9
 most-from-requires : tie.Need-most-from-requires

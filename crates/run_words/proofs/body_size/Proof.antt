@@ -1,11 +1,7 @@
-use mathlib.Core.Path.{_≡_, ap, sym, _∙_}
 use borrow.Author.Tests.{lt-ltb, le-ltb}
 use borrow.Author.Needs.{needs}
 use Rattle.run_words.proofs.body_size.Statement.{statement}
 use Rattle.run_words.proofs.body_size.Tie as tie
-use Rattle.run_words.proofs.body_size.Reads as reads
-use Rattle.run_words.proofs.body_size.Lts as lts
-use Rattle.run_words.proofs.windows_to.Reads as windows-to-reads
 
 -- src/evt3.rt:287:21
 windows-to-requires : tie.Need-windows-to-requires

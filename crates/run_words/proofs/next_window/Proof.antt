@@ -1,13 +1,8 @@
-use borrow.Author.Needs.{needs}
-use mathlib.Core.Path.{_≡_}
 use Prim.Native.Nat.{_-_, _^_}
 use native.Mathlib.Omega.{arith}
 use Rattle.run_words.specs.Windows.{Scanning, scan-start, scan-low, scan-small, scan-turn, scan-out, scan-end}
 use Rattle.run_words.proofs.next_window.Statement.{statement}
 use Rattle.run_words.proofs.next_window.Tie as tie
-use Rattle.run_words.proofs.next_window.Reads as reads
-use Rattle.run_words.proofs.next_window.Lts as lts
-use Rattle.run_words.proofs.bit.Reads as bit-reads
 
 abbrev Inv-loop : tie.InvT-loop
 Inv-loop xs from end base mask₀ c₀ mask c = Scanning xs from end base (2 ^ 16) mask c

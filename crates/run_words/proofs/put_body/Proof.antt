@@ -1,25 +1,17 @@
-use mathlib.Core.Path.{_≡_, refl, sym, ap, _∙_}
-use Prim.Native.Nat.{_+_, _-_, _/_, _^_}
+use mathlib.Core.Path.{refl, sym, _∙_}
+use Prim.Native.Nat.{_-_, _^_}
 use native.Mathlib.Omega.{arith}
 use denote.Ref.{now}
-use lib.ListN.{getD, length}
+use lib.ListN.{getD}
+use Rattle.stream.specs.Part.{between}
 use Rattle.stream.specs.Words.{stream, bytes}
-use Rattle.store.specs.Storing.{Roomy, stored-both, roomy-rest}
+use Rattle.store.specs.Storing.{stored-both, roomy-rest}
 use Rattle.lead_words.specs.Evt3.{baseWord3}
 use Rattle.run_words.specs.Windows.{rising-inc}
-use Rattle.run_words.specs.Parts.{body-vector, body-singles, body-pair, body-some, maskWords, between}
+use Rattle.run_words.specs.Parts.{body-vector, body-singles, body-pair, body-some, maskWords}
 use borrow.Author.Needs.{needs}
 use Rattle.run_words.proofs.put_body.Statement.{statement}
 use Rattle.run_words.proofs.put_body.Tie as tie
-use Rattle.run_words.proofs.put_body.Reads as reads
-use Rattle.run_words.proofs.put_body.Lts as lts
-use Rattle.run_words.proofs.base_word.Reads as base-word-reads
-use Rattle.run_words.proofs.put_masks.Reads as put-masks-reads
-use Rattle.run_words.proofs.put_pair.Reads as put-pair-reads
-use Rattle.run_words.proofs.put_singles.Reads as put-singles-reads
-use Rattle.run_words.proofs.vector_pays.Reads as vector-pays-reads
-use Rattle.run_words.proofs.windows_to.Reads as windows-to-reads
-use Rattle.store.proofs.put16.Reads as put16-reads
 
 sub-n : tie.Need-sub-n
 sub-n c = search needs

@@ -3,9 +3,6 @@ use native.Mathlib.Omega.{arith}
 use Rattle.run_words.specs.Windows.{Digiting, digit-start, digit-turn, digit-room, digit-end}
 use Rattle.run_words.proofs.put_digits.Statement.{statement}
 use Rattle.run_words.proofs.put_digits.Tie as tie
-use Rattle.run_words.proofs.put_digits.Reads as reads
-use Rattle.run_words.proofs.put_digits.Lts as lts
-use Rattle.store.proofs.put16.Reads as put16-reads
 
 abbrev Inv-loop : tie.InvT-loop
 Inv-loop mask k out₀ at a₀ m₀ left₀ out a m left = Digiting k mask out₀ at out a m left

@@ -1,13 +1,8 @@
-use borrow.Author.Needs.{needs}
 use Prim.Native.Nat.{_^_}
 use native.Mathlib.Omega.{arith}
 use Rattle.run_words.specs.Windows.{Masking, masking-start, masking-room, masking-turn, masking-end}
 use Rattle.run_words.proofs.put_masks.Statement.{statement}
 use Rattle.run_words.proofs.put_masks.Tie as tie
-use Rattle.run_words.proofs.put_masks.Reads as reads
-use Rattle.run_words.proofs.put_masks.Lts as lts
-use Rattle.run_words.proofs.next_window.Reads as next-window-reads
-use Rattle.run_words.proofs.put_digits.Reads as put-digits-reads
 
 abbrev Inv-loop : tie.InvT-loop
 Inv-loop xs i end base k out₀ at a₀ c₀ b₀ left₀ out a c b left = Masking xs i end base k (2 ^ 16) out₀ at out a c b left

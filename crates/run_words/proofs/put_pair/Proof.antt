@@ -1,4 +1,4 @@
-use mathlib.Core.Path.{_≡_, refl, _∙_}
+use mathlib.Core.Path.{refl, _∙_}
 use Prim.Native.Nat.{_+_, _*_, _-_, _<_, _≤_}
 use native.Mathlib.Omega.{arith}
 use denote.Ref.{now}
@@ -8,10 +8,6 @@ use Rattle.run_words.specs.Loops.{pair-stored}
 use borrow.Author.Needs.{needs}
 use Rattle.run_words.proofs.put_pair.Statement.{statement}
 use Rattle.run_words.proofs.put_pair.Tie as tie
-use Rattle.run_words.proofs.put_pair.Reads as reads
-use Rattle.run_words.proofs.put_pair.Lts as lts
-use Rattle.run_words.proofs.single_word.Reads as single-word-reads
-use Rattle.store.proofs.put16.Reads as put16-reads
 
 -- all words have room
 room : (s : tie.Start) → 0 < length (now (s .args .out)) → s .args .at + 2 * (s .args .end - s .args .i) ≤ length (now (s .args .out))

@@ -1,21 +1,16 @@
-use mathlib.Core.Path.{_≡_, refl, sym, ap, _∙_}
-use mathlib.Core.List.{_++_}
-use Prim.Native.Nat.{_+_, _-_, _/_}
+use mathlib.Core.Path.{refl, _∙_}
+use Prim.Native.Nat.{_-_}
 use native.Mathlib.Omega.{arith}
 use denote.Ref.{now}
-use lib.ListN.{getD, length, length-append}
+use lib.ListN.{length-append}
+use Rattle.stream.specs.Part.{between}
 use Rattle.stream.specs.Words.{stream}
-use Rattle.store.specs.Storing.{Roomy, roomy-rest, sets-empty}
+use Rattle.store.specs.Storing.{roomy-rest, sets-empty}
 use Rattle.lead_words.specs.Leads.{leadsBytes, leads-few}
-use Rattle.run_words.specs.Parts.{body-some, body-few, body-length, between, bodyWords}
+use Rattle.run_words.specs.Parts.{body-some, body-few, body-length, bodyWords}
 use borrow.Author.Needs.{needs}
 use Rattle.run_words.proofs.put_run.Statement.{statement}
 use Rattle.run_words.proofs.put_run.Tie as tie
-use Rattle.run_words.proofs.put_run.Reads as reads
-use Rattle.run_words.proofs.put_run.Lts as lts
-use Rattle.run_words.proofs.body_size.Reads as body-size-reads
-use Rattle.run_words.proofs.put_body.Reads as put-body-reads
-use Rattle.lead_words.proofs.put_leads.Reads as put-leads-reads
 
 -- src/evt3.rt:309:9
 put-leads-requires : tie.Need-put-leads-requires

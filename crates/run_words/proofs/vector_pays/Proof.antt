@@ -1,10 +1,6 @@
-use mathlib.Core.Path.{_≡_}
 use borrow.Author.Needs.{needs}
 use Rattle.run_words.proofs.vector_pays.Statement.{statement}
 use Rattle.run_words.proofs.vector_pays.Tie as tie
-use Rattle.run_words.proofs.vector_pays.Reads as reads
-use Rattle.run_words.proofs.vector_pays.Lts as lts
-use Rattle.run_words.proofs.windows_to.Reads as windows-to-reads
 
 -- src/evt3.rt:230:9
 windows-to-requires : tie.Need-windows-to-requires

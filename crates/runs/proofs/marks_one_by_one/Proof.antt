@@ -2,7 +2,7 @@ use mathlib.Core.Logic.{⊎-elim}
 use Prim.Native.Nat.{_-_}
 use native.Mathlib.Omega.{arith}
 use denote.Ref.{now}
-use Rattle.runs.specs.Marks.{Gathering, gather-full, gather-rest, gather-small, gather-turn, gather-end, stop-le}
+use Rattle.run_rules.specs.Marks.{Gathering, gather-full, gather-rest, gather-small, gather-turn, gather-end, stop-le}
 use Rattle.runs.proofs.marks_one_by_one.Statement.{statement}
 use Rattle.runs.proofs.marks_one_by_one.Tie as tie
 

@@ -1,15 +1,11 @@
-use Prim.Native.Nat.{_-_, _<_}
+use Prim.Native.Nat.{_<_}
 use mathlib.Core.Path.{refl}
 use native.Mathlib.Omega.{arith}
 use denote.Ref.{now}
 use lib.Count.{trailing-le}
-use lib.ListN.{length}
-use Rattle.runs.specs.Marks.{Seeking, seekLeft, seek-start, seek-found, seek-along, seek-next, seek-end, seek-less, seek-done, marked-few}
+use Rattle.run_rules.specs.Marks.{Seeking, seekLeft, seek-start, seek-found, seek-along, seek-next, seek-end, seek-less, seek-done, marked-few}
 use Rattle.runs.proofs.run_at.Statement.{statement}
 use Rattle.runs.proofs.run_at.Tie as tie
-use Rattle.runs.proofs.run_at.Reads as reads
-use Rattle.runs.proofs.run_at.Lts as lts
-use Rattle.runs.proofs.marks.Reads as marks-reads
 
 abbrev Inv-loop : tie.InvT-loop
 Inv-loop mask xs ys ts ps i j₀ m₀ j m = Seeking xs ys ts ps i j m

@@ -1,14 +1,10 @@
-use mathlib.Core.Path.{_≡_, sym, _∙_}
+use mathlib.Core.Path.{sym, _∙_}
 use mathlib.Core.Bool.{true, false}
 use denote.Ref.{now}
-use Rattle.runs.specs.Marks.{stop-is}
+use Rattle.run_rules.specs.Marks.{stop-is}
 use borrow.Author.Needs.{needs}
 use Rattle.runs.proofs.stops.Statement.{statement}
 use Rattle.runs.proofs.stops.Tie as tie
-use Rattle.runs.proofs.stops.Reads as reads
-use Rattle.runs.proofs.stops.Lts as lts
-use Rattle.runs.proofs.goes_on.Reads as goes-on-reads
-use Rattle.store.proofs.time_at.Reads as time-at-reads
 
 add-j : tie.Need-add-j
 add-j c = search needs

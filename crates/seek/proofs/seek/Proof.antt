@@ -1,14 +1,11 @@
 use native.Mathlib.Omega.{arith}
 use lib.ListN.{length, drop, length-drop}
 use denote.Ref.{now}
-use Rattle.seek.specs.Laws.{rest-of, able-bounded, midway-within, midway-found}
+use Rattle.stream.specs.Part.{rest-of}
+use Rattle.seek.specs.Laws.{able-bounded, midway-within, midway-found}
 use borrow.Author.Needs.{needs}
 use Rattle.seek.proofs.seek.Statement.{statement}
 use Rattle.seek.proofs.seek.Tie as tie
-use Rattle.seek.proofs.seek.Reads as reads
-use Rattle.seek.proofs.seek.Lts as lts
-use Rattle.seek.proofs.skip.Reads as skip-reads
-use Rattle.seek.proofs.span.Reads as span-reads
 
 -- src/lib.rt:40:9
 skip-requires : tie.Need-skip-requires

@@ -1,10 +1,6 @@
 use borrow.Author.Needs.{needs}
 use Rattle.seek.proofs.skip.Statement.{statement}
 use Rattle.seek.proofs.skip.Tie as tie
-use Rattle.seek.proofs.skip.Reads as reads
-use Rattle.seek.proofs.skip.Lts as lts
-use Rattle.seek.proofs.evt2.skip2.Reads as skip2-reads
-use Rattle.seek.proofs.evt3.skip3.Reads as skip3-reads
 
 -- src/lib.rt:70:21
 enum-known-codec : tie.Need-enum-known-codec

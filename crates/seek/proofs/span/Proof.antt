@@ -1,10 +1,6 @@
 use borrow.Author.Needs.{needs}
 use Rattle.seek.proofs.span.Statement.{statement}
 use Rattle.seek.proofs.span.Tie as tie
-use Rattle.seek.proofs.span.Reads as reads
-use Rattle.seek.proofs.span.Lts as lts
-use Rattle.seek.proofs.evt2.span2.Reads as span2-reads
-use Rattle.seek.proofs.evt3.span3.Reads as span3-reads
 
 -- src/lib.rt:35:21
 enum-known-codec : tie.Need-enum-known-codec

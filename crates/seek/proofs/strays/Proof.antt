@@ -1,11 +1,9 @@
-use mathlib.Core.Path.{_≡_, sym, ap, _∙_}
-use mathlib.Core.Bool.{Bool, _&&_, _||_, or-true, or-false, and-false}
+use mathlib.Core.Path.{sym, ap, _∙_}
+use mathlib.Core.Bool.{Bool, _||_, or-true, or-false, and-false}
 use lib.Dec.{ltb}
 use borrow.Author.Tests.{lt-ltb, le-ltb}
 use Rattle.seek.proofs.strays.Statement.{statement}
 use Rattle.seek.proofs.strays.Tie as tie
-use Rattle.seek.proofs.strays.Reads as reads
-use Rattle.seek.proofs.strays.Lts as lts
 
 -- src/lib.rt:46:13
 returns : tie.Need-returns

@@ -1,4 +1,4 @@
-use mathlib.Core.Path.{_≡_, refl, sym, ap, _∙_}
+use mathlib.Core.Path.{sym, ap, _∙_}
 use native.Mathlib.Omega.{arith}
 use denote.Ref.{now}
 use lib.ListN.{length}
@@ -9,13 +9,6 @@ use Rattle.append_rules.specs.Checks.{checked-of}
 use borrow.Author.Needs.{needs}
 use Rattle.sink.proofs.append.Statement.{statement}
 use Rattle.sink.proofs.append.Tie as tie
-use Rattle.sink.proofs.append.Reads as reads
-use Rattle.sink.proofs.append.Lts as lts
-use Rattle.append_rules.proofs.check_append.Reads as check-append-reads
-use Rattle.sink.proofs.header_after.Reads as header-after-reads
-use Rattle.sink.proofs.last_after.Reads as last-after-reads
-use Rattle.sink.proofs.shortfall.Reads as shortfall-reads
-use Rattle.sink.proofs.write.Reads as write-reads
 
 -- src/lib.rt:117:9
 check-append-requires : tie.Need-check-append-requires

@@ -3,8 +3,6 @@ use denote.Ref.{now}
 use borrow.Author.Needs.{needs}
 use Rattle.sink.proofs.header_after.Statement.{statement}
 use Rattle.sink.proofs.header_after.Tie as tie
-use Rattle.sink.proofs.header_after.Reads as reads
-use Rattle.sink.proofs.header_after.Lts as lts
 
 -- src/lib.rt:41:1
 returns : tie.Need-returns

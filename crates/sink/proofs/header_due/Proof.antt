@@ -3,8 +3,6 @@ use denote.Ref.{now}
 use borrow.Author.Needs.{needs}
 use Rattle.sink.proofs.header_due.Statement.{statement}
 use Rattle.sink.proofs.header_due.Tie as tie
-use Rattle.sink.proofs.header_due.Reads as reads
-use Rattle.sink.proofs.header_due.Lts as lts
 
 -- src/lib.rt:31:1
 returns : tie.Need-returns

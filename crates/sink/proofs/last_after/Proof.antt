@@ -1,4 +1,4 @@
-use mathlib.Core.Path.{_≡_, sym, ap, _∙_}
+use mathlib.Core.Path.{sym, ap, _∙_}
 use Prim.Native.Nat.{_-_}
 use denote.Ref.{now}
 use lib.ListN.{length, getD}
@@ -10,8 +10,6 @@ use Rattle.sink.specs.Ends.{last-some, last-none}
 use borrow.Author.Needs.{needs}
 use Rattle.sink.proofs.last_after.Statement.{statement}
 use Rattle.sink.proofs.last_after.Tie as tie
-use Rattle.sink.proofs.last_after.Reads as reads
-use Rattle.sink.proofs.last_after.Lts as lts
 
 -- src/lib.rt:55:25
 sub-t6 : tie.Need-sub-t6

@@ -1,4 +1,4 @@
-use mathlib.Core.Path.{_≡_, refl, ap, _∙_}
+use mathlib.Core.Path.{_≡_, ap, _∙_}
 use native.Mathlib.Omega.{arith}
 use denote.Ref.{now}
 use lib.ListN.{length}
@@ -8,9 +8,6 @@ use Rattle.sink.specs.Ends.{sends-few, short-fits, short-lacks}
 use borrow.Author.Needs.{needs}
 use Rattle.sink.proofs.shortfall.Statement.{statement}
 use Rattle.sink.proofs.shortfall.Tie as tie
-use Rattle.sink.proofs.shortfall.Reads as reads
-use Rattle.sink.proofs.shortfall.Lts as lts
-use Rattle.sink.proofs.write.Reads as write-reads
 
 -- src/lib.rt:95:13
 mul-if1 : tie.Need-mul-if1

@@ -1,15 +1,9 @@
-use mathlib.Core.Path.{_≡_, ap, _∙_}
 use native.Mathlib.Omega.{arith}
 use denote.Ref.{now}
 use Rattle.sink.specs.Ends.{due-few, wrote-is, room-words}
 use borrow.Author.Needs.{needs}
 use Rattle.sink.proofs.write.Statement.{statement}
 use Rattle.sink.proofs.write.Tie as tie
-use Rattle.sink.proofs.write.Reads as reads
-use Rattle.sink.proofs.write.Lts as lts
-use Rattle.encode.proofs.pass.Reads as pass-reads
-use Rattle.header_lines.proofs.put_due.Reads as put-due-reads
-use Rattle.sink.proofs.header_due.Reads as header-due-reads
 
 -- src/lib.rt:75:9
 header-due-requires : tie.Need-header-due-requires

@@ -3,8 +3,6 @@ use Rattle.slice_rules.specs.From.{answerOf}
 use borrow.Author.Needs.{needs}
 use Rattle.slice_rules.proofs.answer_of.Statement.{statement}
 use Rattle.slice_rules.proofs.answer_of.Tie as tie
-use Rattle.slice_rules.proofs.answer_of.Reads as reads
-use Rattle.slice_rules.proofs.answer_of.Lts as lts
 
 -- src/lib.rt:110:28
 enum-known-delivered : tie.Need-enum-known-delivered

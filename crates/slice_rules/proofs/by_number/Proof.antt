@@ -1,11 +1,6 @@
 use borrow.Author.Needs.{needs}
 use Rattle.slice_rules.proofs.by_number.Statement.{statement}
 use Rattle.slice_rules.proofs.by_number.Tie as tie
-use Rattle.slice_rules.proofs.by_number.Reads as reads
-use Rattle.slice_rules.proofs.by_number.Lts as lts
-use Rattle.slice_rules.proofs.first_judging.Reads as first-judging-reads
-use Rattle.slice_rules.proofs.greater.Reads as greater-reads
-use Rattle.room.proofs.less.Reads as less-reads
 
 -- src/lib.rt:66:9
 less-requires : tie.Need-less-requires

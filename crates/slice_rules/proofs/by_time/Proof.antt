@@ -3,10 +3,6 @@ use mir.ValLaws.{toZ-ofZ}
 use borrow.Author.Needs.{needs}
 use Rattle.slice_rules.proofs.by_time.Statement.{statement}
 use Rattle.slice_rules.proofs.by_time.Tie as tie
-use Rattle.slice_rules.proofs.by_time.Reads as reads
-use Rattle.slice_rules.proofs.by_time.Lts as lts
-use Rattle.store.proofs.time_of.Reads as time-of-reads
-use Rattle.slice_rules.proofs.first_judging.Reads as first-judging-reads
 
 -- src/lib.rt:93:9
 first-judging-requires : tie.Need-first-judging-requires

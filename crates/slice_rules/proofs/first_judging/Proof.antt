@@ -5,8 +5,6 @@ use Rattle.index.proofs.RawSliceSource as P
 use Rattle.index.proofs.RawSliceSource.Laws as P′
 use Rattle.slice_rules.proofs.first_judging.Statement.{statement}
 use Rattle.slice_rules.proofs.first_judging.Tie as tie
-use Rattle.slice_rules.proofs.first_judging.Reads as reads
-use Rattle.slice_rules.proofs.first_judging.Lts as lts
 
 -- src/lib.rt:46:1
 returns : tie.Need-returns

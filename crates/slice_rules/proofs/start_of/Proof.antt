@@ -4,11 +4,6 @@ use borrow.Author.Tests.{lt-ltb, le-ltb}
 use borrow.Author.Needs.{needs}
 use Rattle.slice_rules.proofs.start_of.Statement.{statement}
 use Rattle.slice_rules.proofs.start_of.Tie as tie
-use Rattle.slice_rules.proofs.start_of.Reads as reads
-use Rattle.slice_rules.proofs.start_of.Lts as lts
-use Rattle.header.proofs.has_zero.Reads as has-zero-reads
-use Rattle.index.proofs.spacing_ok.Reads as spacing-ok-reads
-use Rattle.room.proofs.less.Reads as less-reads
 
 -- src/lib.rt:127:9
 returns : tie.Need-returns

@@ -1,8 +1,6 @@
 use borrow.Author.Needs.{needs}
 use Rattle.store.proofs.held_of.Statement.{statement}
 use Rattle.store.proofs.held_of.Tie as tie
-use Rattle.store.proofs.held_of.Reads as reads
-use Rattle.store.proofs.held_of.Lts as lts
 
 -- src/lib.rt:41:25
 enum-told : tie.Need-enum-told

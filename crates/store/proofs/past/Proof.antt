@@ -1,8 +1,6 @@
 use borrow.Author.Needs.{needs}
 use Rattle.store.proofs.past.Statement.{statement}
 use Rattle.store.proofs.past.Tie as tie
-use Rattle.store.proofs.past.Reads as reads
-use Rattle.store.proofs.past.Lts as lts
 
 -- src/store.rt:48:27
 add-result : tie.Need-add-result

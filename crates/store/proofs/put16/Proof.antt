@@ -7,8 +7,6 @@ use Rattle.store.specs.Storing.{sets-empty}
 use borrow.Author.Needs.{needs}
 use Rattle.store.proofs.put16.Statement.{statement}
 use Rattle.store.proofs.put16.Tie as tie
-use Rattle.store.proofs.put16.Reads as reads
-use Rattle.store.proofs.put16.Lts as lts
 
 -- src/store.rt:26:19
 cast-out : tie.Need-cast-out

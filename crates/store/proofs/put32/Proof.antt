@@ -7,8 +7,6 @@ use Rattle.store.specs.Storing.{sets-empty}
 use borrow.Author.Needs.{needs}
 use Rattle.store.proofs.put32.Statement.{statement}
 use Rattle.store.proofs.put32.Tie as tie
-use Rattle.store.proofs.put32.Reads as reads
-use Rattle.store.proofs.put32.Lts as lts
 
 -- src/store.rt:36:19
 cast-out : tie.Need-cast-out

@@ -1,10 +1,8 @@
 use borrow.Author.Needs.{needs}
-use mathlib.Core.Path.{_≡_, sym}
+use mathlib.Core.Path.{sym}
 use lib.Seq.{set-out}
 use Rattle.store.proofs.put8.Statement.{statement}
 use Rattle.store.proofs.put8.Tie as tie
-use Rattle.store.proofs.put8.Reads as reads
-use Rattle.store.proofs.put8.Lts as lts
 
 -- src/lib.rt:43:9
 slice-write-out : tie.Need-slice-write-out

@@ -13,8 +13,6 @@ use Rattle.store.specs.Columns.{natural}
 use borrow.Author.Needs.{needs}
 use Rattle.store.proofs.time_at.Statement.{statement}
 use Rattle.store.proofs.time_at.Tie as tie
-use Rattle.store.proofs.time_at.Reads as reads
-use Rattle.store.proofs.time_at.Lts as lts
 
 fits-time : (z : ℤ) → mag z < 2 ^ 63 → nonNeg z ≡ true → T (nonNeg z) × Fits w64 (natAbs z)
 fits-time (pos n) h e = (tt, record { fits = omega arith })

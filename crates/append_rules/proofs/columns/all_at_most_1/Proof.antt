@@ -5,8 +5,6 @@ use lib.ListN.{length}
 use Rattle.append_rules.specs.Checks.{Gathered, gathered-start, gathered-turn, gathered-end}
 use Rattle.append_rules.proofs.columns.all_at_most_1.Statement.{statement}
 use Rattle.append_rules.proofs.columns.all_at_most_1.Tie as tie
-use Rattle.append_rules.proofs.columns.all_at_most_1.Reads as reads
-use Rattle.append_rules.proofs.columns.all_at_most_1.Lts as lts
 
 abbrev Inv-loop : tie.InvT-loop
 Inv-loop ps all₀ i₀ all i = Gathered 1 1 refl ps all i

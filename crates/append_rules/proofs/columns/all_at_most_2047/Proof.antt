@@ -5,8 +5,6 @@ use lib.ListN.{length}
 use Rattle.append_rules.specs.Checks.{Gathered, gathered-start, gathered-turn, gathered-end}
 use Rattle.append_rules.proofs.columns.all_at_most_2047.Statement.{statement}
 use Rattle.append_rules.proofs.columns.all_at_most_2047.Tie as tie
-use Rattle.append_rules.proofs.columns.all_at_most_2047.Reads as reads
-use Rattle.append_rules.proofs.columns.all_at_most_2047.Lts as lts
 
 abbrev Inv-loop : tie.InvT-loop
 Inv-loop xs all₀ i₀ all i = Gathered 11 2047 refl xs all i

@@ -1,11 +1,7 @@
-use mathlib.Core.Path.{_≡_, refl, sym, ap, _∙_}
+use mathlib.Core.Path.{_∙_}
 use borrow.Author.Needs.{needs}
 use Rattle.append_rules.proofs.columns.events_in_range.Statement.{statement}
 use Rattle.append_rules.proofs.columns.events_in_range.Tie as tie
-use Rattle.append_rules.proofs.columns.events_in_range.Reads as reads
-use Rattle.append_rules.proofs.columns.events_in_range.Lts as lts
-use Rattle.append_rules.proofs.columns.times_in_range.Reads as times-in-range-reads
-use Rattle.append_rules.proofs.range.and2.Reads as and2-reads
 
 times-in-range-requires : tie.Need-times-in-range-requires
 times-in-range-requires c κs = search needs

@@ -1,4 +1,4 @@
-use mathlib.Core.Path.{_≡_, refl, sym, ap, subst, _∙_}
+use mathlib.Core.Path.{_≡_, refl, sym, subst, _∙_}
 use mathlib.Core.Bool.{true, false}
 use Prim.Native.Nat.{_+_, _-_}
 use native.Mathlib.Omega.{arith}
@@ -9,14 +9,10 @@ use mir.Val.{toZ, ofZ}
 use mir.ValLaws.{toZ-ofZ}
 use borrow.Author.Needs.{needs}
 use Rattle.append_rules.specs.Range.{falls}
-use Rattle.append_rules.specs.Blocks.{Looks, Looking, part-few, looking-start, looked-falls, looking-turn, looked-end}
+use Rattle.stream.specs.Part.{between-few}
+use Rattle.append_rules.specs.Blocks.{Looks, Looking, looking-start, looked-falls, looking-turn, looked-end}
 use Rattle.append_rules.proofs.columns.look.Statement.{statement}
 use Rattle.append_rules.proofs.columns.look.Tie as tie
-use Rattle.append_rules.proofs.columns.look.Reads as reads
-use Rattle.append_rules.proofs.columns.look.Lts as lts
-use Rattle.append_rules.proofs.columns.places_in_range.Reads as places-in-range-reads
-use Rattle.append_rules.proofs.columns.times_fall.Reads as times-fall-reads
-use Rattle.append_rules.proofs.range.and2.Reads as and2-reads
 
 abbrev Inv-loop : tie.InvT-loop
 Inv-loop from xs ys ts ps last₀ ok₀ i₀ last ok i = Looking (toZ w64 from) xs ys ts ps (toZ w64 last) ok i
@@ -49,7 +45,7 @@ times-fall-requires : tie.Need-times-fall-requires Inv-loop μ-loop
 times-fall-requires c κs =
     let a = c .before .before .before .before .before .before .args in
     let k = c .before .before .loop in
-    omega (arith, part-few (a .ts .now) (k .i) (k .i + 64), c .before .before .loop .inv .within, c .before .loop-test .taken, c .before .before .before .before .before .before .pre .few, c .before .before .before .before .before .before .pre .same-t, c .before .before .before .before .before .before .pre .same-y, c .before .before .before .before .before .before .pre .same-p)
+    omega (arith, between-few (a .ts .now) (k .i) (k .i + 64), c .before .before .loop .inv .within, c .before .loop-test .taken, c .before .before .before .before .before .before .pre .few, c .before .before .before .before .before .before .pre .same-t, c .before .before .before .before .before .before .pre .same-y, c .before .before .before .before .before .before .pre .same-p)
 
 returns : tie.Need-returns Inv-loop μ-loop
 returns c =
@@ -95,7 +91,7 @@ places-in-range-requires : tie.Need-places-in-range-requires Inv-loop μ-loop
 places-in-range-requires c κs =
     let a = c .before .before .before .before .before .before .before .before .before .before .before .args in
     let k = c .before .before .before .before .before .before .before .loop in
-    (omega (arith, part-few (a .xs .now) (k .i) (k .i + 64), c .before .before .before .before .before .before .before .loop .inv .within, c .before .before .before .before .before .before .loop-test .taken, c .before .before .before .before .before .before .before .before .before .before .before .pre .few, c .before .before .before .before .before .before .before .before .before .before .before .pre .same-t, c .before .before .before .before .before .before .before .before .before .before .before .pre .same-y, c .before .before .before .before .before .before .before .before .before .before .before .pre .same-p), omega (arith, part-few (a .ys .now) (k .i) (k .i + 64), c .before .before .before .before .before .before .before .loop .inv .within, c .before .before .before .before .before .before .loop-test .taken, c .before .before .before .before .before .before .before .before .before .before .before .pre .few, c .before .before .before .before .before .before .before .before .before .before .before .pre .same-t, c .before .before .before .before .before .before .before .before .before .before .before .pre .same-y, c .before .before .before .before .before .before .before .before .before .before .before .pre .same-p), omega (arith, part-few (a .ps .now) (k .i) (k .i + 64), c .before .before .before .before .before .before .before .loop .inv .within, c .before .before .before .before .before .before .loop-test .taken, c .before .before .before .before .before .before .before .before .before .before .before .pre .few, c .before .before .before .before .before .before .before .before .before .before .before .pre .same-t, c .before .before .before .before .before .before .before .before .before .before .before .pre .same-y, c .before .before .before .before .before .before .before .before .before .before .before .pre .same-p))
+    (omega (arith, between-few (a .xs .now) (k .i) (k .i + 64), c .before .before .before .before .before .before .before .loop .inv .within, c .before .before .before .before .before .before .loop-test .taken, c .before .before .before .before .before .before .before .before .before .before .before .pre .few, c .before .before .before .before .before .before .before .before .before .before .before .pre .same-t, c .before .before .before .before .before .before .before .before .before .before .before .pre .same-y, c .before .before .before .before .before .before .before .before .before .before .before .pre .same-p), omega (arith, between-few (a .ys .now) (k .i) (k .i + 64), c .before .before .before .before .before .before .before .loop .inv .within, c .before .before .before .before .before .before .loop-test .taken, c .before .before .before .before .before .before .before .before .before .before .before .pre .few, c .before .before .before .before .before .before .before .before .before .before .before .pre .same-t, c .before .before .before .before .before .before .before .before .before .before .before .pre .same-y, c .before .before .before .before .before .before .before .before .before .before .before .pre .same-p), omega (arith, between-few (a .ps .now) (k .i) (k .i + 64), c .before .before .before .before .before .before .before .loop .inv .within, c .before .before .before .before .before .before .loop-test .taken, c .before .before .before .before .before .before .before .before .before .before .before .pre .few, c .before .before .before .before .before .before .before .before .before .before .before .pre .same-t, c .before .before .before .before .before .before .before .before .before .before .before .pre .same-y, c .before .before .before .before .before .before .before .before .before .before .before .pre .same-p))
 
 and2-requires : tie.Need-and2-requires Inv-loop μ-loop
 and2-requires c κs = search needs
@@ -135,7 +131,7 @@ times-fall-requires-2 : tie.Need-times-fall-requires-2 Inv-loop μ-loop
 times-fall-requires-2 c κs =
     let a = c .before .before .before .before .before .before .args in
     let k = c .before .before .loop in
-    omega (arith, part-few (a .ts .now) (k .i) (length (a .ts .now)), c .before .before .loop .inv .within, c .before .loop-test .left, c .before .before .before .before .before .before .pre .few, c .before .before .before .before .before .before .pre .same-t, c .before .before .before .before .before .before .pre .same-y, c .before .before .before .before .before .before .pre .same-p)
+    omega (arith, between-few (a .ts .now) (k .i) (length (a .ts .now)), c .before .before .loop .inv .within, c .before .loop-test .left, c .before .before .before .before .before .before .pre .few, c .before .before .before .before .before .before .pre .same-t, c .before .before .before .before .before .before .pre .same-y, c .before .before .before .before .before .before .pre .same-p)
 
 mul-places-in-range-3 : tie.Need-mul-places-in-range-3 Inv-loop μ-loop
 mul-places-in-range-3 c = omega (arith, c .before .before .before .loop .inv .within, c .before .before .loop-test .left, c .before .before .before .before .before .before .before .pre .few, c .before .before .before .before .before .before .before .pre .same-t, c .before .before .before .before .before .before .before .pre .same-y, c .before .before .before .before .before .before .before .pre .same-p)
@@ -174,7 +170,7 @@ places-in-range-requires-2 : tie.Need-places-in-range-requires-2 Inv-loop μ-loo
 places-in-range-requires-2 c κs =
     let a = c .before .before .before .before .before .before .before .before .before .before .args in
     let k = c .before .before .before .before .before .before .loop in
-    (omega (arith, part-few (a .xs .now) (k .i) (length (a .ts .now)), c .before .before .before .before .before .before .loop .inv .within, c .before .before .before .before .before .loop-test .left, c .before .before .before .before .before .before .before .before .before .before .pre .few, c .before .before .before .before .before .before .before .before .before .before .pre .same-t, c .before .before .before .before .before .before .before .before .before .before .pre .same-y, c .before .before .before .before .before .before .before .before .before .before .pre .same-p), omega (arith, part-few (a .ys .now) (k .i) (length (a .ts .now)), c .before .before .before .before .before .before .loop .inv .within, c .before .before .before .before .before .loop-test .left, c .before .before .before .before .before .before .before .before .before .before .pre .few, c .before .before .before .before .before .before .before .before .before .before .pre .same-t, c .before .before .before .before .before .before .before .before .before .before .pre .same-y, c .before .before .before .before .before .before .before .before .before .before .pre .same-p), omega (arith, part-few (a .ps .now) (k .i) (length (a .ts .now)), c .before .before .before .before .before .before .loop .inv .within, c .before .before .before .before .before .loop-test .left, c .before .before .before .before .before .before .before .before .before .before .pre .few, c .before .before .before .before .before .before .before .before .before .before .pre .same-t, c .before .before .before .before .before .before .before .before .before .before .pre .same-y, c .before .before .before .before .before .before .before .before .before .before .pre .same-p))
+    (omega (arith, between-few (a .xs .now) (k .i) (length (a .ts .now)), c .before .before .before .before .before .before .loop .inv .within, c .before .before .before .before .before .loop-test .left, c .before .before .before .before .before .before .before .before .before .before .pre .few, c .before .before .before .before .before .before .before .before .before .before .pre .same-t, c .before .before .before .before .before .before .before .before .before .before .pre .same-y, c .before .before .before .before .before .before .before .before .before .before .pre .same-p), omega (arith, between-few (a .ys .now) (k .i) (length (a .ts .now)), c .before .before .before .before .before .before .loop .inv .within, c .before .before .before .before .before .loop-test .left, c .before .before .before .before .before .before .before .before .before .before .pre .few, c .before .before .before .before .before .before .before .before .before .before .pre .same-t, c .before .before .before .before .before .before .before .before .before .before .pre .same-y, c .before .before .before .before .before .before .before .before .before .before .pre .same-p), omega (arith, between-few (a .ps .now) (k .i) (length (a .ts .now)), c .before .before .before .before .before .before .loop .inv .within, c .before .before .before .before .before .loop-test .left, c .before .before .before .before .before .before .before .before .before .before .pre .few, c .before .before .before .before .before .before .before .before .before .before .pre .same-t, c .before .before .before .before .before .before .before .before .before .before .pre .same-y, c .before .before .before .before .before .before .before .before .before .before .pre .same-p))
 
 and2-requires-2 : tie.Need-and2-requires-2 Inv-loop μ-loop
 and2-requires-2 c κs = search needs

@@ -1,4 +1,4 @@
-use mathlib.Core.Path.{_≡_, refl, sym, ap, subst, _∙_}
+use mathlib.Core.Path.{ap, subst, _∙_}
 use mathlib.Core.Bool.{Bool}
 use native.Mathlib.Omega.{arith}
 use lib.IntN.{ℤ, pos}
@@ -11,9 +11,6 @@ use Rattle.append_rules.specs.Blocks.{Looks, looked-none}
 use borrow.Author.Needs.{needs}
 use Rattle.append_rules.proofs.columns.look_after.Statement.{statement}
 use Rattle.append_rules.proofs.columns.look_after.Tie as tie
-use Rattle.append_rules.proofs.columns.look_after.Reads as reads
-use Rattle.append_rules.proofs.columns.look_after.Lts as lts
-use Rattle.append_rules.proofs.columns.look.Reads as look-reads
 
 -- src/columns.rt:150:20
 enum-told : tie.Need-enum-told

@@ -1,12 +1,7 @@
-use mathlib.Core.Path.{_≡_, refl, sym, ap, _∙_}
+use mathlib.Core.Path.{_∙_}
 use borrow.Author.Needs.{needs}
 use Rattle.append_rules.proofs.columns.places_in_range.Statement.{statement}
 use Rattle.append_rules.proofs.columns.places_in_range.Tie as tie
-use Rattle.append_rules.proofs.columns.places_in_range.Reads as reads
-use Rattle.append_rules.proofs.columns.places_in_range.Lts as lts
-use Rattle.append_rules.proofs.columns.all_at_most_1.Reads as all-at-most-1-reads
-use Rattle.append_rules.proofs.columns.all_at_most_2047.Reads as all-at-most-2047-reads
-use Rattle.append_rules.proofs.range.and3.Reads as and3-reads
 
 -- src/columns.rt:109:9
 all-at-most-2047-requires : tie.Need-all-at-most-2047-requires

@@ -1,7 +1,7 @@
-use mathlib.Core.Path.{_≡_, refl, sym, ap, _∙_}
+use mathlib.Core.Path.{_≡_, sym, ap, _∙_}
 use Prim.Native.Nat.{_-_}
 use denote.Ref.{now}
-use lib.IntN.{ℤ, pos}
+use lib.IntN.{pos}
 use lib.ListN.{length, getD}
 use mir.Syntax.{w64}
 use mir.ValLaws.{toZ-ofZ}
@@ -10,10 +10,6 @@ use Rattle.append_rules.specs.Checks.{times-ends, every-none}
 use borrow.Author.Needs.{needs}
 use Rattle.append_rules.proofs.columns.times_in_range.Statement.{statement}
 use Rattle.append_rules.proofs.columns.times_in_range.Tie as tie
-use Rattle.append_rules.proofs.columns.times_in_range.Reads as reads
-use Rattle.append_rules.proofs.columns.times_in_range.Lts as lts
-use Rattle.append_rules.proofs.range.and2.Reads as and2-reads
-use Rattle.append_rules.proofs.range.time.Reads as time-reads
 
 -- src/columns.rt:94:42
 shared-slice-copy-out-time : tie.Need-shared-slice-copy-out-time

@@ -1,8 +1,6 @@
 use borrow.Author.Needs.{needs}
 use Rattle.append_rules.proofs.range.at_most.Statement.{statement}
 use Rattle.append_rules.proofs.range.at_most.Tie as tie
-use Rattle.append_rules.proofs.range.at_most.Reads as reads
-use Rattle.append_rules.proofs.range.at_most.Lts as lts
 
 -- src/range.rt:33:26
 enum-told : tie.Need-enum-told

@@ -1,8 +1,6 @@
 use borrow.Author.Needs.{needs}
 use Rattle.append_rules.proofs.range.is_or_nothing.Statement.{statement}
 use Rattle.append_rules.proofs.range.is_or_nothing.Tie as tie
-use Rattle.append_rules.proofs.range.is_or_nothing.Reads as reads
-use Rattle.append_rules.proofs.range.is_or_nothing.Lts as lts
 
 -- src/range.rt:24:26
 enum-told : tie.Need-enum-told

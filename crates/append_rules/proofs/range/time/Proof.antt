@@ -1,5 +1,4 @@
-use mathlib.Core.Path.{_≡_, refl, sym, ap, _∙_}
-use lib.IntN.{pos}
+use mathlib.Core.Path.{_≡_, ap, _∙_}
 use mir.Syntax.{w64}
 use mir.ValLaws.{toZ-ofZ}
 use Rattle.store.specs.Columns.{natural}
@@ -7,10 +6,6 @@ use Rattle.append_rules.specs.Checks.{time-early, time-late}
 use borrow.Author.Needs.{needs}
 use Rattle.append_rules.proofs.range.time.Statement.{statement}
 use Rattle.append_rules.proofs.range.time.Tie as tie
-use Rattle.append_rules.proofs.range.time.Reads as reads
-use Rattle.append_rules.proofs.range.time.Lts as lts
-use Rattle.store.proofs.time_of.Reads as time-of-reads
-use Rattle.append_rules.proofs.range.time_bound.Reads as time-bound-reads
 
 -- src/range.rt:70:9
 time-of-requires : tie.Need-time-of-requires

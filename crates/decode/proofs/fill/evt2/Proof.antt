@@ -1,7 +1,6 @@
 -- `decode::fill::evt2` meets its contract. The loop: `Filling`, of Turn.
 use Prim.Native.Nat.{_-_, _≤_}
 use native.Mathlib.Omega.{arith}
-use borrow.Author.Needs.{needs}
 use lib.ListN.{length}
 use denote.Ref.{now}
 use Rattle.evt_types.specs.Event.{Narrow}

@@ -1,27 +1,24 @@
-use mathlib.Core.Path.{sym}
-use mathlib.Core.Bool.{true≢false}
+use Prim.Native.Nat.{_^_}
 use borrow.Author.Needs.{needs}
+use borrow.Author.Tests.{eq-eqb, ne-eqb, le-leb, lt-leb}
 use Rattle.deliver.proofs.plan.is_whole.Statement.{statement}
 use Rattle.deliver.proofs.plan.is_whole.Tie as tie
-use Rattle.deliver.proofs.plan.is_whole.Reads as reads
-use Rattle.deliver.proofs.plan.is_whole.Lts as lts
-use Rattle.deliver.proofs.plan.is_timed.Reads as is-timed-reads
 
--- src/plan.rt:124:13
 is-timed-requires : tie.Need-is-timed-requires
 is-timed-requires c κs = search needs
 
--- src/plan.rt:124:13
 returns : tie.Need-returns
-returns c = λ h. record { timed = c .is-timed .ensures h; no-start = c .before .before .before .if1 .taken; no-end = c .before .if2 .taken }
+returns c =
+    let w = c .before .before .before .before .before .args .window in
+    rw (eq-eqb (w .t0) 0 (c .before .before .before .if1 .taken), le-leb (2 ^ 63) (w .t1) (c .before .if2 .taken)) (c .is-timed .ensures)
 
--- src/plan.rt:119:1
 returns-2 : tie.Need-returns-2
-returns-2 c = λ h. absurd (true≢false (sym h))
+returns-2 c =
+    let w = c .before .before .before .before .args .window in
+    rw (eq-eqb (w .t0) 0 (c .before .before .if1 .taken), lt-leb (2 ^ 63) (w .t1) (c .if2 .left))
 
--- src/plan.rt:119:1
 returns-3 : tie.Need-returns-3
-returns-3 c = λ h. absurd (true≢false (sym h))
+returns-3 c = rw (ne-eqb (c .before .before .args .window .t0) 0 (c .if1 .left))
 
 pub is-whole-spec : {M : Type 1} → statement M
 is-whole-spec = tie.close (tie.spec is-timed-requires returns returns-2 returns-3)

@@ -5,9 +5,6 @@ use Rattle.deliver.specs.Plan.{few-number, planned-number}
 use borrow.Author.Needs.{needs}
 use Rattle.deliver.proofs.plan.plan_number.Statement.{statement}
 use Rattle.deliver.proofs.plan.plan_number.Tie as tie
-use Rattle.deliver.proofs.plan.plan_number.Reads as reads
-use Rattle.deliver.proofs.plan.plan_number.Lts as lts
-use Rattle.count.proofs.count_to.Reads as count-to-reads
 
 -- src/plan.rt:74:17
 sub-most : tie.Need-sub-most

@@ -3,10 +3,6 @@ use Rattle.deliver.specs.Plan.{within-time, able-time, within-span, plan
 use borrow.Author.Needs.{needs}
 use Rattle.deliver.proofs.plan.plan_time.Statement.{statement}
 use Rattle.deliver.proofs.plan.plan_time.Tie as tie
-use Rattle.deliver.proofs.plan.plan_time.Reads as reads
-use Rattle.deliver.proofs.plan.plan_time.Lts as lts
-use Rattle.seek.proofs.seek.Reads as seek-reads
-use Rattle.seek.proofs.span.Reads as span-reads
 
 -- src/plan.rt:47:9
 seek-requires : tie.Need-seek-requires

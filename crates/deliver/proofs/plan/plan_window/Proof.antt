@@ -1,19 +1,14 @@
-use Rattle.deliver.specs.Plan.{planned-all}
+use mathlib.Core.Path.{sym, _∙_}
+use Rattle.deliver.specs.Plan.{timed-of, numbered-of, planned-all}
 use borrow.Author.Needs.{needs}
 use Rattle.deliver.proofs.plan.plan_window.Statement.{statement}
 use Rattle.deliver.proofs.plan.plan_window.Tie as tie
-use Rattle.deliver.proofs.plan.plan_window.Reads as reads
-use Rattle.deliver.proofs.plan.plan_window.Lts as lts
-use Rattle.deliver.proofs.plan.is_numbered.Reads as is-numbered-reads
-use Rattle.deliver.proofs.plan.is_timed.Reads as is-timed-reads
-use Rattle.deliver.proofs.plan.plan_number.Reads as plan-number-reads
-use Rattle.deliver.proofs.plan.plan_time.Reads as plan-time-reads
 
 is-timed-requires : tie.Need-is-timed-requires
 is-timed-requires c κs = search needs
 
 plan-time-requires : tie.Need-plan-time-requires
-plan-time-requires c κs = (c .before .before .before .pre, c .before .is-timed .ensures (c .if1 .taken))
+plan-time-requires c κs = (c .before .before .before .pre, timed-of (c .before .before .before .args .window) (sym (c .before .is-timed .ensures) ∙ c .if1 .taken))
 
 returns : tie.Need-returns
 returns c = search needs
@@ -22,7 +17,7 @@ is-numbered-requires : tie.Need-is-numbered-requires
 is-numbered-requires c κs = search needs
 
 plan-number-requires : tie.Need-plan-number-requires
-plan-number-requires c κs = (c .before .before .before .before .before .pre, c .before .is-numbered .ensures (c .if2 .taken))
+plan-number-requires c κs = (c .before .before .before .before .before .pre, let s = c .before .before .before .before .before .args in numbered-of (s .window) (s .number) (sym (c .before .is-numbered .ensures) ∙ c .if2 .taken))
 
 returns-2 : tie.Need-returns-2
 returns-2 c = search needs

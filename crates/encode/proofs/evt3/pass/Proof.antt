@@ -1,18 +1,11 @@
 use borrow.Author.Needs.{needs}
-use mathlib.Core.Path.{_≡_, refl}
+use mathlib.Core.Path.{refl}
 use Prim.Native.Nat.{_-_}
 use native.Mathlib.Omega.{arith}
 use lib.ListN.{length, getD}
 use Rattle.encode.specs.Pass3.{Under3, under-start3, under-part3, under-rising3, under-room3, under-turn3, under-end3}
 use Rattle.encode.proofs.evt3.pass.Statement.{statement}
 use Rattle.encode.proofs.evt3.pass.Tie as tie
-use Rattle.encode.proofs.evt3.pass.Reads as reads
-use Rattle.encode.proofs.evt3.pass.Lts as lts
-use Rattle.run_words.proofs.put_run.Reads as put-run-reads
-use Rattle.runs.proofs.run_at.Reads as run-at-reads
-use Rattle.encode.proofs.evt3.sent_after.Reads as sent-after-reads
-use Rattle.store.proofs.held_of.Reads as held-of-reads
-use Rattle.store.proofs.time_at.Reads as time-at-reads
 
 abbrev Inv-loop : tie.InvT-loop
 Inv-loop state xs ys ts ps out₀ start high₀ low₀ row₀ at₀ i₀ mask₀ out high low row at i mask = Under3 state xs ys ts ps start out₀ out high low row at i mask

@@ -2,8 +2,6 @@ use mathlib.Core.Path.{sym}
 use Rattle.encode.specs.Pass3.{state-some3, state-none3}
 use Rattle.encode.proofs.evt3.sent_after.Statement.{statement}
 use Rattle.encode.proofs.evt3.sent_after.Tie as tie
-use Rattle.encode.proofs.evt3.sent_after.Reads as reads
-use Rattle.encode.proofs.evt3.sent_after.Lts as lts
 
 -- src/evt3.rt:234:1
 returns : tie.Need-returns

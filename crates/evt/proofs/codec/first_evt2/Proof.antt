@@ -1,15 +1,10 @@
-use mathlib.Core.Path.{_≡_, refl, sym, ap, _∙_}
+use mathlib.Core.Path.{sym, _∙_}
 use native.Mathlib.Omega.{arith}
 use Rattle.stream.specs.Words.{value-four}
 use Rattle.evt.specs.Decode.{owed-idle, owed-evt2}
 use borrow.Author.Needs.{needs}
 use Rattle.evt.proofs.codec.first_evt2.Statement.{statement}
 use Rattle.evt.proofs.codec.first_evt2.Tie as tie
-use Rattle.evt.proofs.codec.first_evt2.Reads as reads
-use Rattle.evt.proofs.codec.first_evt2.Lts as lts
-use Rattle.evt.proofs.codec.Codec.idle.Reads as idle-reads
-use Rattle.evt2_decoder.proofs.Evt2Decoder.step.Reads as step-reads
-use Rattle.evt_types.proofs.fields.word32.Reads as word32-reads
 
 -- src/codec.rt:88:9
 idle-requires : tie.Need-idle-requires

@@ -1,15 +1,10 @@
-use mathlib.Core.Path.{_≡_, refl, sym, ap, _∙_}
+use mathlib.Core.Path.{sym, _∙_}
 use native.Mathlib.Omega.{arith}
 use Rattle.stream.specs.Words.{value-two}
 use Rattle.evt.specs.Decode.{owed-idle, owed-evt3}
 use borrow.Author.Needs.{needs}
 use Rattle.evt.proofs.codec.first_evt3.Statement.{statement}
 use Rattle.evt.proofs.codec.first_evt3.Tie as tie
-use Rattle.evt.proofs.codec.first_evt3.Reads as reads
-use Rattle.evt.proofs.codec.first_evt3.Lts as lts
-use Rattle.evt.proofs.codec.Codec.idle.Reads as idle-reads
-use Rattle.evt3_decoder.proofs.Decoder.step.Reads as step-reads
-use Rattle.evt_types.proofs.fields.word16.Reads as word16-reads
 
 -- src/codec.rt:103:9
 idle-requires : tie.Need-idle-requires

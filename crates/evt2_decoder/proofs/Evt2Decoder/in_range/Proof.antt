@@ -2,9 +2,6 @@ use borrow.Author.Tests.{eq-eqb, ne-eqb}
 use borrow.Author.Needs.{needs}
 use Rattle.evt2_decoder.proofs.Evt2Decoder.in_range.Statement.{statement}
 use Rattle.evt2_decoder.proofs.Evt2Decoder.in_range.Tie as tie
-use Rattle.evt2_decoder.proofs.Evt2Decoder.in_range.Reads as reads
-use Rattle.evt2_decoder.proofs.Evt2Decoder.in_range.Lts as lts
-use Rattle.evt_types.proofs.clock.in_range.Reads as in-range-reads
 
 -- src/evt2.rt:52:13
 in-range-requires : tie.Need-in-range-requires

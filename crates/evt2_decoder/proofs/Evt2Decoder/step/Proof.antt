@@ -1,4 +1,4 @@
-use mathlib.Core.Path.{_≡_, refl, sym, ap, _∙_}
+use mathlib.Core.Path.{sym, ap, _∙_}
 use native.Mathlib.Omega.{arith}
 use Rattle.evt_types.specs.Owed.{owed-refused, owed-events}
 use Rattle.evt_types.specs.Event.{narrowed}
@@ -6,11 +6,6 @@ use Rattle.evt2_decoder.specs.Range.{bounded-range2, bounded-sane2, boun
 use borrow.Author.Needs.{needs}
 use Rattle.evt2_decoder.proofs.Evt2Decoder.step.Statement.{statement}
 use Rattle.evt2_decoder.proofs.Evt2Decoder.step.Tie as tie
-use Rattle.evt2_decoder.proofs.Evt2Decoder.step.Reads as reads
-use Rattle.evt2_decoder.proofs.Evt2Decoder.step.Lts as lts
-use Rattle.evt2_decoder.proofs.advance.Reads as advance-reads
-use Rattle.evt2_decoder.proofs.Evt2Decoder.in_range.Reads as in-range-reads
-use Rattle.evt_types.proofs.vector.narrow.Reads as narrow-reads
 
 -- src/evt2.rt:74:12
 in-range-requires : tie.Need-in-range-requires

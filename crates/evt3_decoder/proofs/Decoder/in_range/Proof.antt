@@ -1,11 +1,6 @@
-use mathlib.Core.Path.{_≡_, refl, sym, ap, _∙_}
 use borrow.Author.Needs.{needs}
 use Rattle.evt3_decoder.proofs.Decoder.in_range.Statement.{statement}
 use Rattle.evt3_decoder.proofs.Decoder.in_range.Tie as tie
-use Rattle.evt3_decoder.proofs.Decoder.in_range.Reads as reads
-use Rattle.evt3_decoder.proofs.Decoder.in_range.Lts as lts
-use Rattle.evt_types.proofs.clock.in_range.Reads as in-range-reads
-use Rattle.evt3_decoder.proofs.Decoder.is_zero.Reads as is-zero-reads
 
 -- src/evt3.rt:70:16
 in-range-requires : tie.Need-in-range-requires

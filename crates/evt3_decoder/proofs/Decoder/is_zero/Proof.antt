@@ -1,8 +1,6 @@
 use borrow.Author.Tests.{eq-eqb, ne-eqb}
 use Rattle.evt3_decoder.proofs.Decoder.is_zero.Statement.{statement}
 use Rattle.evt3_decoder.proofs.Decoder.is_zero.Tie as tie
-use Rattle.evt3_decoder.proofs.Decoder.is_zero.Reads as reads
-use Rattle.evt3_decoder.proofs.Decoder.is_zero.Lts as lts
 
 -- src/evt3.rt:90:13
 returns : tie.Need-returns

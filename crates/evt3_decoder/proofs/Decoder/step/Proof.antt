@@ -1,20 +1,11 @@
-use mathlib.Core.Path.{_≡_, refl, sym, ap, _∙_}
+use mathlib.Core.Path.{sym, ap, _∙_}
 use native.Mathlib.Omega.{arith}
-use Prim.Native.Nat.{_<_, _^_}
 use Rattle.evt_types.specs.Owed.{owed-refused, owed-events}
 use Rattle.evt_types.specs.Event.{narrowed}
-use Rattle.evt3_decoder.specs.Evt3.{slimmed, vector3, step3}
 use Rattle.evt3_decoder.specs.Range.{bounded-range3, bounded-step3, bounded-sane3, bounded-slim3, bounded-narrow3}
 use borrow.Author.Needs.{needs}
 use Rattle.evt3_decoder.proofs.Decoder.step.Statement.{statement}
 use Rattle.evt3_decoder.proofs.Decoder.step.Tie as tie
-use Rattle.evt3_decoder.proofs.Decoder.step.Reads as reads
-use Rattle.evt3_decoder.proofs.Decoder.step.Lts as lts
-use Rattle.evt3_decoder.proofs.Decoder.in_range.Reads as in-range-reads
-use Rattle.evt3_decoder.proofs.widen.Reads as widen-reads
-use Rattle.evt3_decoder.proofs.WideDecoder.advance.Reads as advance-reads
-use Rattle.evt3_decoder.proofs.WideDecoder.slim.Reads as slim-reads
-use Rattle.evt_types.proofs.vector.narrow.Reads as narrow-reads
 
 -- src/evt3.rt:111:12
 in-range-requires : tie.Need-in-range-requires

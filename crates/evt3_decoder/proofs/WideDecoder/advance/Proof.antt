@@ -1,17 +1,9 @@
-use mathlib.Core.Path.{_≡_, refl, sym, ap, _∙_}
+use mathlib.Core.Path.{_≡_, refl}
 use mathlib.Core.Logic.{⊎-elim}
 use Rattle.evt3_decoder.specs.Evt3.{slimmed, started-word, started-other, first-word, early-word}
 use borrow.Author.Needs.{needs}
 use Rattle.evt3_decoder.proofs.WideDecoder.advance.Statement.{statement}
 use Rattle.evt3_decoder.proofs.WideDecoder.advance.Tie as tie
-use Rattle.evt3_decoder.proofs.WideDecoder.advance.Reads as reads
-use Rattle.evt3_decoder.proofs.WideDecoder.advance.Lts as lts
-use Rattle.evt_types.proofs.clock.after.Reads as after-reads
-use Rattle.evt3_decoder.proofs.WideDecoder.many.Reads as many-reads
-use Rattle.evt3_decoder.proofs.WideDecoder.one.Reads as one-reads
-use Rattle.evt3_decoder.proofs.advanced.Reads as advanced-reads
-use Rattle.evt_types.proofs.fields.bits.Reads as bits-reads
-use Rattle.evt_types.proofs.vector.none.Reads as none-reads
 
 -- src/evt3.rt:127:13
 bits-requires : tie.Need-bits-requires

@@ -1,13 +1,10 @@
-use mathlib.Core.Path.{_≡_, refl, sym, ap, _∙_}
 use borrow.Author.Tests.{le-leb, lt-leb}
-use Rattle.stream.specs.Loop.{same-loop, next-loop, loopsAfter, timeAfter}
+use Rattle.stream.specs.Loop.{loopsAfter, timeAfter}
 use borrow.Author.Needs.{needs}
 use native.Mathlib.Numerals.{add-one}
 use native.Mathlib.Nat.{suc-mul, add-assoc}
 use Rattle.evt_types.proofs.clock.after.Statement.{statement}
 use Rattle.evt_types.proofs.clock.after.Tie as tie
-use Rattle.evt_types.proofs.clock.after.Reads as reads
-use Rattle.evt_types.proofs.clock.after.Lts as lts
 
 -- src/clock.rt:17:22
 mul-next : tie.Need-mul-next

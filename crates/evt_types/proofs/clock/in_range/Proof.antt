@@ -1,9 +1,7 @@
-use borrow.Author.Tests.{le-leb, lt-leb, lt-ltb, le-ltb, eq-eqb, ne-eqb}
+use borrow.Author.Tests.{le-leb, lt-leb, eq-eqb, ne-eqb}
 use borrow.Author.Needs.{needs}
 use Rattle.evt_types.proofs.clock.in_range.Statement.{statement}
 use Rattle.evt_types.proofs.clock.in_range.Tie as tie
-use Rattle.evt_types.proofs.clock.in_range.Reads as reads
-use Rattle.evt_types.proofs.clock.in_range.Lts as lts
 
 -- src/clock.rt:37:9
 returns : tie.Need-returns

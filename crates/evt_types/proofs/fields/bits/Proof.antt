@@ -1,14 +1,10 @@
-use mathlib.Core.Path.{_≡_, refl, sym, ap, _∙_}
 use native.Mathlib.Omega.{arith}
 use native.Mathlib.Nat.{one-mul}
-use Prim.Native.Nat.{_*_, _%_, _^_, _≤_}
 use lib.Bits.{and-mask}
 use lib.Pow.{shl-exact, pow-pos}
 use borrow.Author.Needs.{needs}
 use Rattle.evt_types.proofs.fields.bits.Statement.{statement}
 use Rattle.evt_types.proofs.fields.bits.Tie as tie
-use Rattle.evt_types.proofs.fields.bits.Reads as reads
-use Rattle.evt_types.proofs.fields.bits.Lts as lts
 
 -- src/fields.rt:10:17
 shl-mask : tie.Need-shl-mask

@@ -1,12 +1,9 @@
-use mathlib.Core.Path.{_≡_, refl, sym, ap, _∙_}
 use native.Mathlib.Omega.{arith}
 use mir.ValLaws.{toZ-pos}
 use mir.Syntax.{w64}
 use borrow.Author.Needs.{needs}
 use Rattle.evt_types.proofs.vector.narrow.Statement.{statement}
 use Rattle.evt_types.proofs.vector.narrow.Tie as tie
-use Rattle.evt_types.proofs.vector.narrow.Reads as reads
-use Rattle.evt_types.proofs.vector.narrow.Lts as lts
 
 -- src/vector.rt:40:13
 cast-t : tie.Need-cast-t

@@ -1,14 +1,9 @@
-use mathlib.Core.Path.{ap}
 use native.Mathlib.Omega.{arith}
 use borrow.Author.Needs.{needs}
 use Rattle.index.specs.Begun.{jobOf}
 use Rattle.flat.specs.Making.{left, Stage, stage-start, stage-fit, stage-room, stage-next, stage-less, makes}
 use Rattle.flat.proofs.opening.make_records.Statement.{statement}
 use Rattle.flat.proofs.opening.make_records.Tie as tie
-use Rattle.flat.proofs.opening.make_records.Reads as reads
-use Rattle.flat.proofs.opening.make_records.Lts as lts
-use Rattle.index.proofs.advance.Reads as advance-reads
-use Rattle.flat.proofs.records.put_record.Reads as put-record-reads
 
 abbrev Inv-loop : tie.InvT-loop
 Inv-loop recording records₀ t₀ records t = Stage (jobOf t₀) recording records₀ t records

@@ -1,9 +1,6 @@
 use borrow.Author.Needs.{needs}
 use Rattle.flat.proofs.opening.opened_numbers.Statement.{statement}
 use Rattle.flat.proofs.opening.opened_numbers.Tie as tie
-use Rattle.flat.proofs.opening.opened_numbers.Reads as reads
-use Rattle.flat.proofs.opening.opened_numbers.Lts as lts
-use Rattle.flat.proofs.reading.encoding_number.Reads as encoding-number-reads
 
 -- src/opening.rt:88:19
 encoding-number-requires : tie.Need-encoding-number-requires

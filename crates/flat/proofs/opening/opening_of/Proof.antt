@@ -1,10 +1,6 @@
 use borrow.Author.Needs.{needs}
 use Rattle.flat.proofs.opening.opening_of.Statement.{statement}
 use Rattle.flat.proofs.opening.opening_of.Tie as tie
-use Rattle.flat.proofs.opening.opening_of.Reads as reads
-use Rattle.flat.proofs.opening.opening_of.Lts as lts
-use Rattle.flat.proofs.opening.opened_numbers.Reads as opened-numbers-reads
-use Rattle.flat.proofs.opening.refused_numbers.Reads as refused-numbers-reads
 
 -- src/opening.rt:119:28
 enum-known-answer : tie.Need-enum-known-answer

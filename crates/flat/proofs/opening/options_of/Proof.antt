@@ -1,9 +1,6 @@
 use borrow.Author.Needs.{needs}
 use Rattle.flat.proofs.opening.options_of.Statement.{statement}
 use Rattle.flat.proofs.opening.options_of.Tie as tie
-use Rattle.flat.proofs.opening.options_of.Reads as reads
-use Rattle.flat.proofs.opening.options_of.Lts as lts
-use Rattle.flat.proofs.options.size_of.Reads as size-of-reads
 
 -- src/opening.rt:55:9
 size-of-requires : tie.Need-size-of-requires

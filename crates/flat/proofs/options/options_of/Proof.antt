@@ -1,10 +1,6 @@
 use borrow.Author.Needs.{needs}
 use Rattle.flat.proofs.options.options_of.Statement.{statement}
 use Rattle.flat.proofs.options.options_of.Tie as tie
-use Rattle.flat.proofs.options.options_of.Reads as reads
-use Rattle.flat.proofs.options.options_of.Lts as lts
-use Rattle.flat.proofs.options.limit_of.Reads as limit-of-reads
-use Rattle.flat.proofs.options.size_of.Reads as size-of-reads
 
 -- src/options.rt:46:9
 size-of-requires : tie.Need-size-of-requires

@@ -1,10 +1,6 @@
 use borrow.Author.Needs.{needs}
 use Rattle.flat.proofs.reading.reading_of.Statement.{statement}
 use Rattle.flat.proofs.reading.reading_of.Tie as tie
-use Rattle.flat.proofs.reading.reading_of.Reads as reads
-use Rattle.flat.proofs.reading.reading_of.Lts as lts
-use Rattle.flat.proofs.reading.read_numbers.Reads as read-numbers-reads
-use Rattle.flat.proofs.reading.refused_numbers.Reads as refused-numbers-reads
 
 -- src/reading.rt:41:26
 enum-known-answer : tie.Need-enum-known-answer

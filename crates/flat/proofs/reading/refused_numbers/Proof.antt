@@ -2,14 +2,10 @@ use Rattle.flat.specs.Laws.{refused-reading}
 use borrow.Author.Needs.{needs}
 use Rattle.flat.proofs.reading.refused_numbers.Statement.{statement}
 use Rattle.flat.proofs.reading.refused_numbers.Tie as tie
-use Rattle.flat.proofs.reading.refused_numbers.Reads as reads
-use Rattle.flat.proofs.reading.refused_numbers.Lts as lts
-use Rattle.flat.proofs.refusal.count_of.Reads as count-of-reads
-use Rattle.flat.proofs.refusal.number_of.Reads as number-of-reads
 
 -- src/reading.rt:64:18
-number-of-requires : tie.Need-number-of-requires
-number-of-requires c κs = search needs
+refusal-number-requires : tie.Need-refusal-number-requires
+refusal-number-requires c κs = search needs
 
 -- src/reading.rt:66:15
 count-of-requires : tie.Need-count-of-requires
@@ -17,7 +13,7 @@ count-of-requires c κs = search needs
 
 -- src/reading.rt:60:1
 returns : tie.Need-returns
-returns c = refused-reading (c .before .before .args .r) _ _ (c .before .number-of .ensures) (c .count-of .ensures)
+returns c = refused-reading (c .before .before .args .r) _ _ (c .before .refusal-number .ensures) (c .count-of .ensures)
 
 pub refused-numbers-spec : {M : Type 1} → statement M
-refused-numbers-spec = tie.close (tie.spec number-of-requires count-of-requires returns)
+refused-numbers-spec = tie.close (tie.spec refusal-number-requires count-of-requires returns)

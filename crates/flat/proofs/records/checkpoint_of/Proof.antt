@@ -3,10 +3,6 @@ use mir.ValLaws.{toZ-ofZ}
 use borrow.Author.Needs.{needs}
 use Rattle.flat.proofs.records.checkpoint_of.Statement.{statement}
 use Rattle.flat.proofs.records.checkpoint_of.Tie as tie
-use Rattle.flat.proofs.records.checkpoint_of.Reads as reads
-use Rattle.flat.proofs.records.checkpoint_of.Lts as lts
-use Rattle.flat.proofs.records.codec_of.Reads as codec-of-reads
-use Rattle.flat.proofs.records.time_of.Reads as time-of-reads
 
 -- src/records.rt:150:9
 time-of-requires : tie.Need-time-of-requires

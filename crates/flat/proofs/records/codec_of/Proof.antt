@@ -1,10 +1,6 @@
 use borrow.Author.Needs.{needs}
 use Rattle.flat.proofs.records.codec_of.Statement.{statement}
 use Rattle.flat.proofs.records.codec_of.Tie as tie
-use Rattle.flat.proofs.records.codec_of.Reads as reads
-use Rattle.flat.proofs.records.codec_of.Lts as lts
-use Rattle.flat.proofs.records.evt2_of.Reads as evt2-of-reads
-use Rattle.flat.proofs.records.evt3_of.Reads as evt3-of-reads
 
 -- src/records.rt:142:27
 enum-told : tie.Need-enum-told

@@ -1,9 +1,6 @@
 use borrow.Author.Needs.{needs}
 use Rattle.flat.proofs.records.evt2_of.Statement.{statement}
 use Rattle.flat.proofs.records.evt2_of.Tie as tie
-use Rattle.flat.proofs.records.evt2_of.Reads as reads
-use Rattle.flat.proofs.records.evt2_of.Lts as lts
-use Rattle.flat.proofs.options.is_set_wide.Reads as is-set-wide-reads
 
 -- src/records.rt:117:22
 is-set-wide-requires : tie.Need-is-set-wide-requires

@@ -1,10 +1,6 @@
 use borrow.Author.Needs.{needs}
 use Rattle.flat.proofs.records.evt3_of.Statement.{statement}
 use Rattle.flat.proofs.records.evt3_of.Tie as tie
-use Rattle.flat.proofs.records.evt3_of.Reads as reads
-use Rattle.flat.proofs.records.evt3_of.Lts as lts
-use Rattle.flat.proofs.options.is_set_wide.Reads as is-set-wide-reads
-use Rattle.flat.proofs.records.held.Reads as held-reads
 
 -- src/records.rt:128:22
 is-set-wide-requires : tie.Need-is-set-wide-requires

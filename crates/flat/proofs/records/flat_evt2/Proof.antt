@@ -1,9 +1,6 @@
 use borrow.Author.Needs.{needs}
 use Rattle.flat.proofs.records.flat_evt2.Statement.{statement}
 use Rattle.flat.proofs.records.flat_evt2.Tie as tie
-use Rattle.flat.proofs.records.flat_evt2.Reads as reads
-use Rattle.flat.proofs.records.flat_evt2.Lts as lts
-use Rattle.flat.proofs.writer.bit_of.Reads as bit-of-reads
 
 -- src/records.rt:38:22
 bit-of-requires : tie.Need-bit-of-requires

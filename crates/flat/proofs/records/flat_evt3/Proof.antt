@@ -1,9 +1,6 @@
 use borrow.Author.Needs.{needs}
 use Rattle.flat.proofs.records.flat_evt3.Statement.{statement}
 use Rattle.flat.proofs.records.flat_evt3.Tie as tie
-use Rattle.flat.proofs.records.flat_evt3.Reads as reads
-use Rattle.flat.proofs.records.flat_evt3.Lts as lts
-use Rattle.flat.proofs.writer.bit_of.Reads as bit-of-reads
 
 -- src/records.rt:55:22
 bit-of-requires : tie.Need-bit-of-requires

@@ -6,11 +6,6 @@ use Rattle.flat.specs.Entries.{flat-is}
 use borrow.Author.Needs.{needs}
 use Rattle.flat.proofs.records.flat_record.Statement.{statement}
 use Rattle.flat.proofs.records.flat_record.Tie as tie
-use Rattle.flat.proofs.records.flat_record.Reads as reads
-use Rattle.flat.proofs.records.flat_record.Lts as lts
-use Rattle.store.proofs.time_of.Reads as time-of-reads
-use Rattle.flat.proofs.records.flat_evt2.Reads as flat-evt2-reads
-use Rattle.flat.proofs.records.flat_evt3.Reads as flat-evt3-reads
 
 -- src/records.rt:71:9
 time-of-requires : tie.Need-time-of-requires

@@ -4,8 +4,6 @@ use Rattle.flat.specs.Entries.{stores-five}
 use borrow.Author.Needs.{needs}
 use Rattle.flat.proofs.records.put_five.Statement.{statement}
 use Rattle.flat.proofs.records.put_five.Tie as tie
-use Rattle.flat.proofs.records.put_five.Reads as reads
-use Rattle.flat.proofs.records.put_five.Lts as lts
 
 -- src/records.rt:83:5
 mul-records : tie.Need-mul-records

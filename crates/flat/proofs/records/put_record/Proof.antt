@@ -6,10 +6,6 @@ use lib.Seq.{sets}
 use borrow.Author.Needs.{needs}
 use Rattle.flat.proofs.records.put_record.Statement.{statement}
 use Rattle.flat.proofs.records.put_record.Tie as tie
-use Rattle.flat.proofs.records.put_record.Reads as reads
-use Rattle.flat.proofs.records.put_record.Lts as lts
-use Rattle.flat.proofs.records.flat_record.Reads as flat-record-reads
-use Rattle.flat.proofs.records.put_five.Reads as put-five-reads
 
 -- src/records.rt:95:9
 flat-record-requires : tie.Need-flat-record-requires

@@ -2,8 +2,6 @@ use borrow.Author.Tests.{lt-ltb, le-ltb}
 use borrow.Author.Needs.{needs}
 use Rattle.flat.proofs.records.time_of.Statement.{statement}
 use Rattle.flat.proofs.records.time_of.Tie as tie
-use Rattle.flat.proofs.records.time_of.Reads as reads
-use Rattle.flat.proofs.records.time_of.Lts as lts
 
 -- src/records.rt:101:16
 cast-result : tie.Need-cast-result

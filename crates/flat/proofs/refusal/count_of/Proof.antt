@@ -6,8 +6,6 @@ use Prim.Native.Nat.{ℕ}
 use borrow.Author.Needs.{needs}
 use Rattle.flat.proofs.refusal.count_of.Statement.{statement}
 use Rattle.flat.proofs.refusal.count_of.Tie as tie
-use Rattle.flat.proofs.refusal.count_of.Reads as reads
-use Rattle.flat.proofs.refusal.count_of.Lts as lts
 
 abbrev count : Refusal → ℕ
 count r = countOf (told r)

@@ -2,11 +2,6 @@ use native.Mathlib.Omega.{arith}
 use Rattle.flat.specs.Lookup.{room-fits, left-of, Looks, looks-start, looks-place, looks-turn, looks-less, looks-end}
 use Rattle.flat.proofs.slices.choose_entries.Statement.{statement}
 use Rattle.flat.proofs.slices.choose_entries.Tie as tie
-use Rattle.flat.proofs.slices.choose_entries.Reads as reads
-use Rattle.flat.proofs.slices.choose_entries.Lts as lts
-use Rattle.checkpoints.proofs.first_search.Reads as first-search-reads
-use Rattle.checkpoints.proofs.narrow.Reads as narrow-reads
-use Rattle.flat.proofs.records.record_at.Reads as record-at-reads
 
 abbrev Inv-loop : tie.InvT-loop
 Inv-loop encoding records n t₀ t = Looks encoding records (t₀ .asked) t

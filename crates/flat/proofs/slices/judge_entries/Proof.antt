@@ -1,4 +1,4 @@
-use mathlib.Core.Path.{_≡_, refl, sym, ap}
+use mathlib.Core.Path.{refl, sym, ap}
 use Prim.Native.Nat.{_+_, _≤_, _-_}
 use native.Mathlib.Omega.{arith}
 use Rattle.checkpoints.specs.declared.Judging.{Judging}
@@ -6,10 +6,6 @@ use Rattle.flat.specs.Lookup.{room-fits, Judged, judged-turn, judged-sto
 use Rattle.flat.specs.Records.{roomOf}
 use Rattle.flat.proofs.slices.judge_entries.Statement.{statement}
 use Rattle.flat.proofs.slices.judge_entries.Tie as tie
-use Rattle.flat.proofs.slices.judge_entries.Reads as reads
-use Rattle.flat.proofs.slices.judge_entries.Lts as lts
-use Rattle.checkpoints.proofs.judge.Reads as judge-reads
-use Rattle.flat.proofs.records.record_at.Reads as record-at-reads
 
 abbrev Inv-loop : tie.InvT-loop
 Inv-loop encoding records n t₀ i₀ t i = (i ≤ roomOf records) × Judged encoding records t₀ i t

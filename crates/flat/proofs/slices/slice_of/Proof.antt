@@ -1,9 +1,6 @@
 use borrow.Author.Needs.{needs}
 use Rattle.flat.proofs.slices.slice_of.Statement.{statement}
 use Rattle.flat.proofs.slices.slice_of.Tie as tie
-use Rattle.flat.proofs.slices.slice_of.Reads as reads
-use Rattle.flat.proofs.slices.slice_of.Lts as lts
-use Rattle.flat.proofs.slices.refused_numbers.Reads as refused-numbers-reads
 
 -- src/slices.rt:88:29
 enum-known-answer : tie.Need-enum-known-answer

@@ -1,10 +1,6 @@
 use borrow.Author.Needs.{needs}
 use Rattle.flat.proofs.writer.appended_of.Statement.{statement}
 use Rattle.flat.proofs.writer.appended_of.Tie as tie
-use Rattle.flat.proofs.writer.appended_of.Reads as reads
-use Rattle.flat.proofs.writer.appended_of.Lts as lts
-use Rattle.flat.proofs.writer.flat_of.Reads as flat-of-reads
-use Rattle.flat.proofs.writer.refused_of.Reads as refused-of-reads
 
 -- src/writer.rt:211:31
 enum-known-answer : tie.Need-enum-known-answer

@@ -3,14 +3,6 @@ use mir.ValLaws.{toZ-ofZ}
 use borrow.Author.Needs.{needs}
 use Rattle.flat.proofs.writer.flat_of.Statement.{statement}
 use Rattle.flat.proofs.writer.flat_of.Tie as tie
-use Rattle.flat.proofs.writer.flat_of.Reads as reads
-use Rattle.flat.proofs.writer.flat_of.Lts as lts
-use Rattle.flat.proofs.writer.bit_of.Reads as bit-of-reads
-use Rattle.flat.proofs.writer.evt3_of.Reads as evt3-of-reads
-use Rattle.flat.proofs.writer.has_last.Reads as has-last-reads
-use Rattle.flat.proofs.writer.has_sent.Reads as has-sent-reads
-use Rattle.flat.proofs.writer.last_value.Reads as last-value-reads
-use Rattle.flat.proofs.writer.sent_value.Reads as sent-value-reads
 
 -- src/writer.rt:165:17
 last-value-requires : tie.Need-last-value-requires

@@ -4,9 +4,6 @@ use mir.ValLaws.{toZ-ofZ}
 use borrow.Author.Needs.{needs}
 use Rattle.flat.proofs.writer.last_of.Statement.{statement}
 use Rattle.flat.proofs.writer.last_of.Tie as tie
-use Rattle.flat.proofs.writer.last_of.Reads as reads
-use Rattle.flat.proofs.writer.last_of.Lts as lts
-use Rattle.flat.proofs.options.is_set.Reads as is-set-reads
 
 -- src/writer.rt:68:8
 is-set-requires : tie.Need-is-set-requires

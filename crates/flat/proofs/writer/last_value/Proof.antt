@@ -3,8 +3,6 @@ use mir.ValLaws.{toZ-ofZ}
 use borrow.Author.Needs.{needs}
 use Rattle.flat.proofs.writer.last_value.Statement.{statement}
 use Rattle.flat.proofs.writer.last_value.Tie as tie
-use Rattle.flat.proofs.writer.last_value.Reads as reads
-use Rattle.flat.proofs.writer.last_value.Lts as lts
 
 -- src/writer.rt:149:28
 enum-told : tie.Need-enum-told

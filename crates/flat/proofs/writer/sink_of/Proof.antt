@@ -3,12 +3,6 @@ use mir.ValLaws.{toZ-ofZ}
 use borrow.Author.Needs.{needs}
 use Rattle.flat.proofs.writer.sink_of.Statement.{statement}
 use Rattle.flat.proofs.writer.sink_of.Tie as tie
-use Rattle.flat.proofs.writer.sink_of.Reads as reads
-use Rattle.flat.proofs.writer.sink_of.Lts as lts
-use Rattle.flat.proofs.options.is_set.Reads as is-set-reads
-use Rattle.flat.proofs.writer.last_of.Reads as last-of-reads
-use Rattle.flat.proofs.writer.state_of.Reads as state-of-reads
-use Rattle.flat.proofs.writer.version_of.Reads as version-of-reads
 
 -- src/writer.rt:90:9
 version-of-requires : tie.Need-version-of-requires

@@ -1,9 +1,6 @@
 use borrow.Author.Needs.{needs}
 use Rattle.flat.proofs.writer.state_of.Statement.{statement}
 use Rattle.flat.proofs.writer.state_of.Tie as tie
-use Rattle.flat.proofs.writer.state_of.Reads as reads
-use Rattle.flat.proofs.writer.state_of.Lts as lts
-use Rattle.flat.proofs.writer.sent_of.Reads as sent-of-reads
 
 -- src/writer.rt:77:9
 sent-of-requires : tie.Need-sent-of-requires

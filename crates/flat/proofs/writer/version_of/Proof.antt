@@ -2,9 +2,6 @@ use mathlib.Core.Path.{sym, _∙_}
 use borrow.Author.Needs.{needs}
 use Rattle.flat.proofs.writer.version_of.Statement.{statement}
 use Rattle.flat.proofs.writer.version_of.Tie as tie
-use Rattle.flat.proofs.writer.version_of.Reads as reads
-use Rattle.flat.proofs.writer.version_of.Lts as lts
-use Rattle.flat.proofs.options.is_set.Reads as is-set-reads
 
 -- src/writer.rt:50:8
 is-set-requires : tie.Need-is-set-requires

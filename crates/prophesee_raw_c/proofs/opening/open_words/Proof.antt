@@ -9,13 +9,6 @@ use Rattle.flat.specs.Records.{roomOf}
 use borrow.Author.Needs.{needs}
 use Rattle.prophesee_raw_c.proofs.opening.open_words.Statement.{statement}
 use Rattle.prophesee_raw_c.proofs.opening.open_words.Tie as tie
-use Rattle.prophesee_raw_c.proofs.opening.open_words.Reads as reads
-use Rattle.prophesee_raw_c.proofs.opening.open_words.Lts as lts
-use Rattle.index.proofs.conclude.Reads as conclude-reads
-use Rattle.index.proofs.prepare_words.Reads as prepare-words-reads
-use Rattle.flat.proofs.opening.make_records.Reads as make-records-reads
-use Rattle.flat.proofs.opening.opening_of.Reads as opening-of-reads
-use Rattle.flat.proofs.opening.words_options_of.Reads as words-options-of-reads
 
 -- src/opening.rt:166:9
 words-options-of-requires : tie.Need-words-options-of-requires

@@ -9,13 +9,6 @@ use Rattle.flat.specs.Records.{roomOf}
 use borrow.Author.Needs.{needs}
 use Rattle.prophesee_raw_c.proofs.opening.prophesee_open.Statement.{statement}
 use Rattle.prophesee_raw_c.proofs.opening.prophesee_open.Tie as tie
-use Rattle.prophesee_raw_c.proofs.opening.prophesee_open.Reads as reads
-use Rattle.prophesee_raw_c.proofs.opening.prophesee_open.Lts as lts
-use Rattle.index.proofs.conclude.Reads as conclude-reads
-use Rattle.index.proofs.prepare.Reads as prepare-reads
-use Rattle.flat.proofs.opening.make_records.Reads as make-records-reads
-use Rattle.flat.proofs.opening.opening_of.Reads as opening-of-reads
-use Rattle.flat.proofs.opening.options_of.Reads as options-of-reads
 
 -- src/opening.rt:150:9
 options-of-requires : tie.Need-options-of-requires

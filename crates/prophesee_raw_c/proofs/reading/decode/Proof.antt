@@ -2,11 +2,6 @@ use Rattle.flat.specs.Laws.{reads-words}
 use borrow.Author.Needs.{needs}
 use Rattle.prophesee_raw_c.proofs.reading.decode.Statement.{statement}
 use Rattle.prophesee_raw_c.proofs.reading.decode.Tie as tie
-use Rattle.prophesee_raw_c.proofs.reading.decode.Reads as reads
-use Rattle.prophesee_raw_c.proofs.reading.decode.Lts as lts
-use Rattle.flat.proofs.options.options_of.Reads as options-of-reads
-use Rattle.flat.proofs.reading.reading_of.Reads as reading-of-reads
-use Rattle.read.proofs.decode_words.Reads as decode-words-reads
 
 -- src/reading.rt:102:9
 options-of-requires : tie.Need-options-of-requires

@@ -2,11 +2,6 @@ use Rattle.flat.specs.Laws.{reads-raw}
 use borrow.Author.Needs.{needs}
 use Rattle.prophesee_raw_c.proofs.reading.prophesee_read_raw.Statement.{statement}
 use Rattle.prophesee_raw_c.proofs.reading.prophesee_read_raw.Tie as tie
-use Rattle.prophesee_raw_c.proofs.reading.prophesee_read_raw.Reads as reads
-use Rattle.prophesee_raw_c.proofs.reading.prophesee_read_raw.Lts as lts
-use Rattle.flat.proofs.options.options_of.Reads as options-of-reads
-use Rattle.flat.proofs.reading.reading_of.Reads as reading-of-reads
-use Rattle.read.proofs.read_raw.Reads as read-raw-reads
 
 -- src/reading.rt:85:9
 options-of-requires : tie.Need-options-of-requires

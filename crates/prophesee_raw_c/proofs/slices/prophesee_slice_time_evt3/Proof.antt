@@ -3,9 +3,6 @@ use mir.ValLaws.{toZ-ofZ}
 use borrow.Author.Needs.{needs}
 use Rattle.prophesee_raw_c.proofs.slices.prophesee_slice_time_evt3.Statement.{statement}
 use Rattle.prophesee_raw_c.proofs.slices.prophesee_slice_time_evt3.Tie as tie
-use Rattle.prophesee_raw_c.proofs.slices.prophesee_slice_time_evt3.Reads as reads
-use Rattle.prophesee_raw_c.proofs.slices.prophesee_slice_time_evt3.Lts as lts
-use Rattle.prophesee_raw_c.proofs.slices.slice_time.Reads as slice-time-reads
 
 -- src/slices.rt:269:5
 slice-time-requires : tie.Need-slice-time-requires

@@ -2,14 +2,6 @@ use Rattle.flat.specs.Laws.{start-number, slices-number}
 use borrow.Author.Needs.{needs}
 use Rattle.prophesee_raw_c.proofs.slices.slice_index.Statement.{statement}
 use Rattle.prophesee_raw_c.proofs.slices.slice_index.Tie as tie
-use Rattle.prophesee_raw_c.proofs.slices.slice_index.Reads as reads
-use Rattle.prophesee_raw_c.proofs.slices.slice_index.Lts as lts
-use Rattle.flat.proofs.slices.choose_entries.Reads as choose-entries-reads
-use Rattle.flat.proofs.slices.judge_entries.Reads as judge-entries-reads
-use Rattle.flat.proofs.slices.slice_of.Reads as slice-of-reads
-use Rattle.flat.proofs.slices.source_of.Reads as source-of-reads
-use Rattle.slice_rules.proofs.by_number.Reads as by-number-reads
-use Rattle.slice.proofs.slice_from.Reads as slice-from-reads
 
 -- src/slices.rt:111:9
 source-of-requires : tie.Need-source-of-requires

@@ -2,11 +2,6 @@ use Rattle.flat.specs.Laws.{appends}
 use borrow.Author.Needs.{needs}
 use Rattle.prophesee_raw_c.proofs.writer.prophesee_append.Statement.{statement}
 use Rattle.prophesee_raw_c.proofs.writer.prophesee_append.Tie as tie
-use Rattle.prophesee_raw_c.proofs.writer.prophesee_append.Reads as reads
-use Rattle.prophesee_raw_c.proofs.writer.prophesee_append.Lts as lts
-use Rattle.flat.proofs.writer.appended_of.Reads as appended-of-reads
-use Rattle.flat.proofs.writer.sink_of.Reads as sink-of-reads
-use Rattle.sink.proofs.append.Reads as append-reads
 
 -- src/writer.rt:235:9
 sink-of-requires : tie.Need-sink-of-requires

@@ -3,11 +3,6 @@ use Rattle.flat.specs.Writer.{flatSink}
 use borrow.Author.Needs.{needs}
 use Rattle.prophesee_raw_c.proofs.writer.prophesee_writer_evt2.Statement.{statement}
 use Rattle.prophesee_raw_c.proofs.writer.prophesee_writer_evt2.Tie as tie
-use Rattle.prophesee_raw_c.proofs.writer.prophesee_writer_evt2.Reads as reads
-use Rattle.prophesee_raw_c.proofs.writer.prophesee_writer_evt2.Lts as lts
-use Rattle.flat.proofs.options.is_set.Reads as is-set-reads
-use Rattle.flat.proofs.writer.flat_of.Reads as flat-of-reads
-use Rattle.append_rules.proofs.RawEventSink.to_writer.Reads as to-writer-reads
 
 -- src/writer.rt:183:53
 is-set-requires : tie.Need-is-set-requires

@@ -3,11 +3,6 @@ use Rattle.flat.specs.Writer.{flatSink}
 use borrow.Author.Needs.{needs}
 use Rattle.prophesee_raw_c.proofs.writer.prophesee_writer_evt3.Statement.{statement}
 use Rattle.prophesee_raw_c.proofs.writer.prophesee_writer_evt3.Tie as tie
-use Rattle.prophesee_raw_c.proofs.writer.prophesee_writer_evt3.Reads as reads
-use Rattle.prophesee_raw_c.proofs.writer.prophesee_writer_evt3.Lts as lts
-use Rattle.flat.proofs.options.is_set.Reads as is-set-reads
-use Rattle.flat.proofs.writer.flat_of.Reads as flat-of-reads
-use Rattle.append_rules.proofs.RawEventSink.to_writer.Reads as to-writer-reads
 
 -- src/writer.rt:191:53
 is-set-requires : tie.Need-is-set-requires

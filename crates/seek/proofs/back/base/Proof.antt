@@ -1,4 +1,4 @@
-use mathlib.Core.Path.{_≡_, sym, ap, _∙_}
+use mathlib.Core.Path.{_≡_, _∙_}
 use native.Mathlib.Omega.{arith}
 use borrow.Author.Needs.{needs}
 use Prim.Native.Nat.{_-_}
@@ -6,12 +6,6 @@ use denote.Ref.{now}
 use Rattle.seek.specs.Back.{Baseless, baseless-start, baseless-turn, base-found, base-none, width-small}
 use Rattle.seek.proofs.back.base.Statement.{statement}
 use Rattle.seek.proofs.back.base.Tie as tie
-use Rattle.seek.proofs.back.base.Reads as reads
-use Rattle.seek.proofs.back.base.Lts as lts
-use Rattle.evt_types.proofs.fields.bits.Reads as bits-reads
-use Rattle.seek.proofs.back.held.Reads as held-reads
-use Rattle.seek.proofs.back.moves.Reads as moves-reads
-use Rattle.words.proofs.two_at.Reads as two-at-reads
 
 abbrev Inv-loop : tie.InvT-loop
 Inv-loop front x p by₀ k₀ by k = Baseless front by k

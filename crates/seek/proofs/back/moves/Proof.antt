@@ -1,8 +1,6 @@
-use borrow.Author.Tests.{eq-eqb, ne-eqb}
+use borrow.Author.Tests.{ne-eqb}
 use Rattle.seek.proofs.back.moves.Statement.{statement}
 use Rattle.seek.proofs.back.moves.Tie as tie
-use Rattle.seek.proofs.back.moves.Reads as reads
-use Rattle.seek.proofs.back.moves.Lts as lts
 
 -- src/back.rt:46:1
 returns : tie.Need-returns

@@ -6,10 +6,6 @@ use denote.Ref.{now}
 use Rattle.seek.specs.Back.{Rowless, rowless-start, rowless-turn, row-found, row-none}
 use Rattle.seek.proofs.back.row.Statement.{statement}
 use Rattle.seek.proofs.back.row.Tie as tie
-use Rattle.seek.proofs.back.row.Reads as reads
-use Rattle.seek.proofs.back.row.Lts as lts
-use Rattle.evt_types.proofs.fields.bits.Reads as bits-reads
-use Rattle.words.proofs.two_at.Reads as two-at-reads
 
 abbrev Inv-loop : tie.InvT-loop
 Inv-loop front y k₀ k = Rowless front k

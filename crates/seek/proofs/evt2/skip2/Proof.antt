@@ -8,11 +8,6 @@ use Rattle.seek.specs.Loops.{start2}
 use Rattle.seek.specs.Skip.{Skipping2, midway2, skip-start2, skip-other2, skip-time2, skip-small2, skip-on2}
 use Rattle.seek.proofs.evt2.skip2.Statement.{statement}
 use Rattle.seek.proofs.evt2.skip2.Tie as tie
-use Rattle.seek.proofs.evt2.skip2.Reads as reads
-use Rattle.seek.proofs.evt2.skip2.Lts as lts
-use Rattle.evt2_decoder.proofs.advance.Reads as advance-reads
-use Rattle.evt_types.proofs.fields.bits.Reads as bits-reads
-use Rattle.words.proofs.four_at.Reads as four-at-reads
 
 abbrev Inv-loop : tie.InvT-loop
 Inv-loop bytes t s₀ at₀ i₀ s at i = Skipping2 t s₀ bytes s at i

@@ -7,12 +7,6 @@ use Rattle.evt2_decoder.specs.Range.{bounded-sane2}
 use Rattle.seek.specs.Loops.{Seeking2, start2, end2, stop2, turn2}
 use Rattle.seek.proofs.evt2.span2.Statement.{statement}
 use Rattle.seek.proofs.evt2.span2.Tie as tie
-use Rattle.seek.proofs.evt2.span2.Reads as reads
-use Rattle.seek.proofs.evt2.span2.Lts as lts
-use Rattle.evt2_decoder.proofs.advance.Reads as advance-reads
-use Rattle.evt_types.proofs.fields.bits.Reads as bits-reads
-use Rattle.words.proofs.four_at.Reads as four-at-reads
-use Rattle.seek.proofs.strays.Reads as strays-reads
 
 abbrev Inv-loop : tie.InvT-loop
 Inv-loop bytes t0 t1 s₀ stray₀ i₀ s stray i = Seeking2 t0 t1 s₀ bytes s stray i

@@ -11,14 +11,6 @@ use Rattle.seek.specs.Times.{timesOf}
 use Rattle.seek.specs.Loops.{Passing, passing-start, passing-end, passing-slow, passing-stop, passing-turn}
 use Rattle.seek.proofs.evt3.pass.Statement.{statement}
 use Rattle.seek.proofs.evt3.pass.Tie as tie
-use Rattle.seek.proofs.evt3.pass.Reads as reads
-use Rattle.seek.proofs.evt3.pass.Lts as lts
-use Rattle.evt_types.proofs.fields.bits.Reads as bits-reads
-use Rattle.words.proofs.two_at.Reads as two-at-reads
-use Rattle.seek.proofs.strays.Reads as strays-reads
-use Rattle.seek.proofs.times.carries.Reads as carries-reads
-use Rattle.seek.proofs.times.of.Reads as of-reads
-use Rattle.seek.proofs.times.tick.Reads as tick-reads
 
 abbrev Inv-loop : tie.InvT-loop
 Inv-loop bytes t0 t1 c₀ stray₀ i₀ c stray i = (d : Decoder) → d .initialised ≡ true → c₀ ≡ timesOf d → Bounded3 (length bytes / 2) d → Passing t0 t1 d bytes c stray i

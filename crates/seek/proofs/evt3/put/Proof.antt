@@ -1,11 +1,6 @@
-use mathlib.Core.Path.{_≡_}
 use borrow.Author.Needs.{needs}
 use Rattle.seek.proofs.evt3.put.Statement.{statement}
 use Rattle.seek.proofs.evt3.put.Tie as tie
-use Rattle.seek.proofs.evt3.put.Reads as reads
-use Rattle.seek.proofs.evt3.put.Lts as lts
-use Rattle.seek.proofs.back.base.Reads as base-reads
-use Rattle.seek.proofs.back.row.Reads as row-reads
 
 -- src/evt3.rt:91:9
 row-requires : tie.Need-row-requires

@@ -1,14 +1,10 @@
 use native.Mathlib.Omega.{arith}
-use lib.ListN.{length, length-take}
+use lib.ListN.{length-take}
 use denote.Ref.{now}
 use Rattle.seek.specs.Skip.{midway3, midway-none3}
 use borrow.Author.Needs.{needs}
 use Rattle.seek.proofs.evt3.skip3.Statement.{statement}
 use Rattle.seek.proofs.evt3.skip3.Tie as tie
-use Rattle.seek.proofs.evt3.skip3.Reads as reads
-use Rattle.seek.proofs.evt3.skip3.Lts as lts
-use Rattle.seek.proofs.evt3.put.Reads as put-reads
-use Rattle.seek.proofs.evt3.stride.Reads as stride-reads
 
 -- src/evt3.rt:164:13
 stride-requires : tie.Need-stride-requires

@@ -1,15 +1,10 @@
 use native.Mathlib.Omega.{arith}
-use lib.ListN.{length, length-take}
+use lib.ListN.{length-take}
 use denote.Ref.{now}
 use Rattle.seek.specs.Put.{passed-within, put-found}
 use borrow.Author.Needs.{needs}
 use Rattle.seek.proofs.evt3.span3.Statement.{statement}
 use Rattle.seek.proofs.evt3.span3.Tie as tie
-use Rattle.seek.proofs.evt3.span3.Reads as reads
-use Rattle.seek.proofs.evt3.span3.Lts as lts
-use Rattle.seek.proofs.evt3.pass.Reads as pass-reads
-use Rattle.seek.proofs.evt3.put.Reads as put-reads
-use Rattle.seek.proofs.evt3.walk.Reads as walk-reads
 
 -- src/evt3.rt:109:13
 pass-requires : tie.Need-pass-requires

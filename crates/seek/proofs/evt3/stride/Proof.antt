@@ -13,12 +13,6 @@ use Rattle.seek.specs.Loops.{passing-start, passing-slow}
 use Rattle.seek.specs.Skip.{Skipping3, skip-start3, skip-other3, skip-time3, skip-small3, skip-on3}
 use Rattle.seek.proofs.evt3.stride.Statement.{statement}
 use Rattle.seek.proofs.evt3.stride.Tie as tie
-use Rattle.seek.proofs.evt3.stride.Reads as reads
-use Rattle.seek.proofs.evt3.stride.Lts as lts
-use Rattle.evt_types.proofs.fields.bits.Reads as bits-reads
-use Rattle.words.proofs.two_at.Reads as two-at-reads
-use Rattle.seek.proofs.times.of.Reads as of-reads
-use Rattle.seek.proofs.times.tick.Reads as tick-reads
 
 abbrev Inv-loop : tie.InvT-loop
 Inv-loop bytes t c₀ at₀ i₀ c at i = (d : Decoder) → d .initialised ≡ true → c₀ ≡ timesOf d → Bounded3 (length bytes / 2) d → Skipping3 t d bytes c at i

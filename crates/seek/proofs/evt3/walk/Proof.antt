@@ -3,22 +3,13 @@ use native.Mathlib.Omega.{arith}
 use borrow.Author.Needs.{needs}
 use lib.ListN.{length}
 use denote.Ref.{now}
-use mathlib.Core.Path.{_≡_, ap, _∙_}
+use mathlib.Core.Path.{ap, _∙_}
 use mathlib.Core.Logic.{⊎-elim}
 use Rattle.evt3_decoder.specs.Evt3.{slimmed}
 use Rattle.evt3_decoder.specs.Range.{bounded-sane3, bounded-slim3}
 use Rattle.seek.specs.Loops.{Seeking3, Ends3, start3, end3, stop3, turn3}
 use Rattle.seek.proofs.evt3.walk.Statement.{statement}
 use Rattle.seek.proofs.evt3.walk.Tie as tie
-use Rattle.seek.proofs.evt3.walk.Reads as reads
-use Rattle.seek.proofs.evt3.walk.Lts as lts
-use Rattle.evt3_decoder.proofs.widen.Reads as widen-reads
-use Rattle.evt3_decoder.proofs.WideDecoder.advance.Reads as advance-reads
-use Rattle.evt3_decoder.proofs.WideDecoder.slim.Reads as slim-reads
-use Rattle.evt_types.proofs.fields.bits.Reads as bits-reads
-use Rattle.words.proofs.two_at.Reads as two-at-reads
-use Rattle.seek.proofs.strays.Reads as strays-reads
-use Rattle.seek.proofs.times.carries.Reads as carries-reads
 
 abbrev Inv-loop : tie.InvT-loop
 Inv-loop bytes t0 t1 s₀ stray₀ i₀ s stray i = Seeking3 t0 t1 (slimmed s₀) bytes (slimmed s) stray i

@@ -1,8 +1,6 @@
 use borrow.Author.Tests.{eq-eqb, ne-eqb}
 use Rattle.seek.proofs.times.carries.Statement.{statement}
 use Rattle.seek.proofs.times.carries.Tie as tie
-use Rattle.seek.proofs.times.carries.Reads as reads
-use Rattle.seek.proofs.times.carries.Lts as lts
 
 -- src/times.rt:61:9
 returns : tie.Need-returns

@@ -3,11 +3,6 @@ use borrow.Author.Tests.{eq-eqb, ne-eqb}
 use borrow.Author.Needs.{needs}
 use Rattle.seek.proofs.times.tick.Statement.{statement}
 use Rattle.seek.proofs.times.tick.Tie as tie
-use Rattle.seek.proofs.times.tick.Reads as reads
-use Rattle.seek.proofs.times.tick.Lts as lts
-use Rattle.evt_types.proofs.clock.after.Reads as after-reads
-use Rattle.evt_types.proofs.fields.bits.Reads as bits-reads
-use Rattle.seek.proofs.times.choose.Reads as choose-reads
 
 -- src/times.rt:38:9
 bits-requires : tie.Need-bits-requires

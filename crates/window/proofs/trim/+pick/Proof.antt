@@ -11,7 +11,7 @@ use borrow.Fn.PlainCycle.{Measures, is, falls, and}
 use Rattle.window.proofs.trim.pick.Reads as pick
 use Rattle.window.proofs.trim.pick.Kinds as pick-kinds
 use Rattle.window.proofs.trim.+pick.Lts-pick as pick-lts
-use Rattle.window.proofs.trim.held.Reads as held-reads
+use Rattle.evt_types.proofs.vector.held.Reads as held-reads
 use Rattle.window.proofs.trim.skips.Reads as skips-reads
 use Rattle.window.proofs.trim.spans.Reads as spans-reads
 use Rattle.window.proofs.trim.+pick.{statement}

@@ -1,6 +1,5 @@
 -- `inside` tells whether a place is inside the sensor.
 use borrow.Author.Tests.{lt-ltb, le-ltb}
-use Prim.Native.Nat.{_-_}
 use Rattle.window.proofs.trim.inside.Statement.{statement}
 use Rattle.window.proofs.trim.inside.Tie as tie
 

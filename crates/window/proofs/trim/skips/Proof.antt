@@ -1,7 +1,6 @@
 -- `skips` computes `isSkipped`.
 use mathlib.Core.Path.{sym, _∙_}
 use borrow.Author.Tests.{le-leb, lt-leb}
-use Prim.Native.Nat.{_-_}
 use borrow.Author.Needs.{needs}
 use Rattle.window.proofs.trim.skips.Statement.{statement}
 use Rattle.window.proofs.trim.skips.Tie as tie

@@ -1,6 +1,5 @@
 -- `spans` tells whether a number at a time is in the window.
 use borrow.Author.Tests.{lt-ltb, le-ltb, le-leb, lt-leb}
-use Prim.Native.Nat.{_-_}
 use borrow.Author.Needs.{needs}
 use Rattle.window.proofs.trim.spans.Statement.{statement}
 use Rattle.window.proofs.trim.spans.Tie as tie

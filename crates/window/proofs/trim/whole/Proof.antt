@@ -1,6 +1,5 @@
 -- `whole` computes `isWhole`.
 use borrow.Author.Tests.{lt-ltb, le-ltb, le-leb, lt-leb}
-use Prim.Native.Nat.{_-_}
 use borrow.Author.Needs.{needs}
 use Rattle.window.proofs.trim.whole.Statement.{statement}
 use Rattle.window.proofs.trim.whole.Tie as tie

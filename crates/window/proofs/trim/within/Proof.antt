@@ -1,6 +1,5 @@
 -- `within` tells whether a time is in the window.
 use borrow.Author.Tests.{le-leb, lt-leb}
-use Prim.Native.Nat.{_-_}
 use Rattle.window.proofs.trim.within.Statement.{statement}
 use Rattle.window.proofs.trim.within.Tie as tie
 

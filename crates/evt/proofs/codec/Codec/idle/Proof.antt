@@ -1,15 +1,10 @@
-use mathlib.Core.Path.{_≡_, refl, sym, ap, _∙_}
+use mathlib.Core.Path.{refl, sym, ap, _∙_}
 use native.Mathlib.Omega.{arith}
 use Rattle.evt_types.specs.Owed.{owed-refused, owed-events}
 use Rattle.evt_types.specs.Event.{narrowed}
 use borrow.Author.Needs.{needs}
 use Rattle.evt.proofs.codec.Codec.idle.Statement.{statement}
 use Rattle.evt.proofs.codec.Codec.idle.Tie as tie
-use Rattle.evt.proofs.codec.Codec.idle.Reads as reads
-use Rattle.evt.proofs.codec.Codec.idle.Lts as lts
-use Rattle.evt.proofs.codec.Codec.in_range.Reads as in-range-reads
-use Rattle.evt_types.proofs.vector.narrow.Reads as narrow-reads
-use Rattle.evt_types.proofs.vector.none.Reads as none-reads
 
 -- src/codec.rt:89:12
 in-range-requires : tie.Need-in-range-requires

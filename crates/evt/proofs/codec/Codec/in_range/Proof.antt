@@ -1,12 +1,8 @@
-use mathlib.Core.Path.{_≡_, refl, sym, ap, _∙_}
+use mathlib.Core.Path.{sym, ap, _∙_}
 use Rattle.evt.specs.Codec.{inRangeC}
 use borrow.Author.Needs.{needs}
 use Rattle.evt.proofs.codec.Codec.in_range.Statement.{statement}
 use Rattle.evt.proofs.codec.Codec.in_range.Tie as tie
-use Rattle.evt.proofs.codec.Codec.in_range.Reads as reads
-use Rattle.evt.proofs.codec.Codec.in_range.Lts as lts
-use Rattle.evt2_decoder.proofs.Evt2Decoder.in_range.Reads as evt2-Evt2Decoder-in-range-reads
-use Rattle.evt3_decoder.proofs.Decoder.in_range.Reads as evt3-Decoder-in-range-reads
 
 -- src/codec.rt:50:25
 enum-known-self : tie.Need-enum-known-self

@@ -1,13 +1,9 @@
-use mathlib.Core.Path.{_≡_, refl, sym, ap, _∙_}
+use mathlib.Core.Path.{sym, ap, _∙_}
 use Rattle.evt.specs.Codec.{freshC}
 use Rattle.evt.specs.declared.codec.Codec.the-variants.{Evt2, Evt3}
 use borrow.Author.Needs.{needs}
 use Rattle.evt.proofs.codec.Codec.new.Statement.{statement}
 use Rattle.evt.proofs.codec.Codec.new.Tie as tie
-use Rattle.evt.proofs.codec.Codec.new.Reads as reads
-use Rattle.evt.proofs.codec.Codec.new.Lts as lts
-use Rattle.evt2_decoder.proofs.Evt2Decoder.new.Reads as evt2-Evt2Decoder-new-reads
-use Rattle.evt3_decoder.proofs.Decoder.new.Reads as evt3-Decoder-new-reads
 
 -- src/codec.rt:26:43
 enum-told : tie.Need-enum-told

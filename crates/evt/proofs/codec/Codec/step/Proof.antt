@@ -1,10 +1,6 @@
 use borrow.Author.Needs.{needs}
 use Rattle.evt.proofs.codec.Codec.step.Statement.{statement}
 use Rattle.evt.proofs.codec.Codec.step.Tie as tie
-use Rattle.evt.proofs.codec.Codec.step.Reads as reads
-use Rattle.evt.proofs.codec.Codec.step.Lts as lts
-use Rattle.evt.proofs.codec.first_evt2.Reads as first-evt2-reads
-use Rattle.evt.proofs.codec.first_evt3.Reads as first-evt3-reads
 
 -- src/codec.rt:61:25
 enum-known-self : tie.Need-enum-known-self

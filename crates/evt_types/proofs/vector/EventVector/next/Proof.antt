@@ -1,4 +1,3 @@
-use mathlib.Core.Path.{_≡_, refl, sym, ap, _∙_}
 use native.Mathlib.Omega.{arith}
 use borrow.Author.Tests.{eq-eqb, ne-eqb}
 use lib.Count.{trailing-le}
@@ -7,9 +6,6 @@ use mir.Syntax.{w64}
 use borrow.Author.Needs.{needs}
 use Rattle.evt_types.proofs.vector.EventVector.next.Statement.{statement}
 use Rattle.evt_types.proofs.vector.EventVector.next.Tie as tie
-use Rattle.evt_types.proofs.vector.EventVector.next.Reads as reads
-use Rattle.evt_types.proofs.vector.EventVector.next.Lts as lts
-use Rattle.evt_types.proofs.vector.held.Reads as held-reads
 
 -- src/vector.rt:38:13
 returns : tie.Need-returns

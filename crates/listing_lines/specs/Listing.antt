@@ -1,0 +1,70 @@
+-- What the listing program prints for the bytes of a recording. A text is its bytes in ASCII, a number its decimal digits (texts/specs/Text.antt).
+use mathlib.Core.Bool.{cond}
+use mathlib.Core.List.{List, [], _∷_, _++_}
+use Prim.Native.Nat.{ℕ, _/_, _*_}
+use lib.Dec.{ltb}
+use lib.ListN.{length}
+use Rattle.evt_types.specs.declared.Limit.the-variants.{Unlimited}
+use Rattle.evt_types.specs.declared.SensorSize.the-variants.{Unknown}
+use Rattle.evt_types.specs.declared.Refusal.{Refusal}
+use Rattle.evt_types.specs.Event.{Event}
+use Rattle.evt_types.specs.Told.{told}
+use Rattle.header.specs.Header.{encodingNumber}
+use Rattle.answer.specs.declared.LoadOptions.{LoadOptions}
+use Rattle.answer.specs.declared.Reading.{Reading}
+use Rattle.answer.specs.declared.ReadAnswer.{ReadAnswer}
+use Rattle.answer.specs.declared.ReadAnswer.the-variants.{Read, Refused}
+use Rattle.answer.specs.Read.{rawAnswer, rawHanded}
+use Rattle.texts.specs.Text.{ascii, decimal}
+
+-- ---- lines
+
+abbrev pub space : ℕ
+space = 32
+
+abbrev pub newline : ℕ
+newline = 10
+
+-- a number, and the byte that ends it
+unfoldable pub field : ℕ → (end : ℕ) → List ℕ
+field n end = decimal n ++ (end ∷ [])
+
+unfoldable pub tooLong : List ℕ
+tooLong = ascii "too long\n"
+
+-- `refused N`, N the table's number
+unfoldable pub refusedLine : Refusal → List ℕ
+refusedLine r = ascii "refused " ++ field (told r .number) newline
+
+-- `EVT3 64 48 3`: encoding, width, height, count
+unfoldable pub readLine : Reading → List ℕ
+readLine r = ascii "EVT" ++ field (encodingNumber (r .encoding)) space ++ field (r .width) space ++ field (r .height) space ++ field (r .count) newline
+
+-- `t x y p`
+unfoldable pub eventLine : Event → List ℕ
+eventLine e = field (e .t) space ++ field (e .x) space ++ field (e .y) space ++ field (e .p) newline
+
+unfoldable pub eventLines : List Event → List ℕ
+eventLines [] = []
+eventLines (e ∷ es) = eventLine e ++ eventLines es
+
+-- ---- the listing
+
+abbrev pub mostBytes : ℕ
+mostBytes = 65536
+
+-- no size and no limit
+abbrev pub listOptions : LoadOptions
+listOptions = record { «sensor_size» = Unknown; «max_events» = Unlimited }
+
+-- columns that always suffice: 12 events for each word of 2 bytes
+abbrev pub listRoom : ℕ
+listRoom = mostBytes / 2 * 12
+
+abbrev pub answerText : ReadAnswer → List Event → List ℕ
+answerText (Refused r) es = refusedLine r
+answerText (Read r) es = readLine r ++ eventLines es
+
+unfoldable pub listingOf : List ℕ → List ℕ
+listingOf recording =
+    cond (ltb mostBytes (length recording)) tooLong (answerText (rawAnswer recording listOptions listRoom) (rawHanded recording listOptions listRoom))

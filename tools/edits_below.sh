@@ -1,12 +1,12 @@
 #!/bin/sh
 # Tries the wrong programs of tools/edits_below. Each patch changes a definition and the code that meets it alike, so that every crate
-# below `formats` and `handover` still proves; one of these two must refuse it. (`rt must-fail` holds an edit to its own crate alone.)
+# below `laws_formats` and `laws_handover` still proves; one of these two must refuse it. (`rt must-fail` holds an edit to its own crate alone.)
 #   tools/edits_below.sh [NAME..]    NAME: tools/edits_below/NAME.patch alone
 # Exit status 0: each is refused by the crate that its first line names, for a fact that fails; 1: one isn't; 2: one wasn't tried.
 cd "$(dirname "$0")/.." || exit 2
 patches=$PWD/tools/edits_below
-below=$(sed -n 's/^handover: *//p' crates.txt | tr ' ' '\n' | grep -vx formats)
-[ -n "$below" ] || { echo "edits_below: crates.txt has no handover"; exit 2; }
+below=$(sed -n 's/^laws_handover: *//p' crates.txt | tr ' ' '\n' | grep -vx laws_formats)
+[ -n "$below" ] || { echo "edits_below: crates.txt has no laws_handover"; exit 2; }
 # shellcheck disable=SC2046
 [ $# -gt 0 ] || set -- $(cd "$patches" && ls | sed -n 's/\.patch$//p')
 room=$(mktemp -d) || exit 2
@@ -21,7 +21,7 @@ try() { # NAME
     work=$room/$1 log=$room/$1.log
     by=$(sed -n '1s/.*To be refused by \([a-z0-9_]*\)\.$/\1/p' "$patches/$1.patch")
     [ -n "$by" ] || { echo "$1: NOT TRIED, its first line names no crate that is to refuse it"; return 2; }
-    ! grep -q '^+++ b/crates/\(formats\|handover\)/' "$patches/$1.patch" || { echo "$1: NOT TRIED, it changes more than crates below"; return 2; }
+    ! grep -q '^+++ b/crates/\(laws_formats\|laws_handover\)/' "$patches/$1.patch" || { echo "$1: NOT TRIED, it changes more than crates below"; return 2; }
     mkdir -p "$work/target" && cp -R crates crates.txt "$work" && cp -R target/rlib target/stamp "$work/target" || return 2
     (cd "$work" && GIT_CEILING_DIRECTORIES=$room git apply "$patches/$1.patch") || { echo "$1: NOT TRIED, it doesn't apply"; return 2; }
     began=$(date +%s)
@@ -36,7 +36,7 @@ try() { # NAME
         ;;
     *) echo "$1: NOT TRIED, rt failed"; tail -n 3 "$log"; return 2 ;;
     esac
-    (cd "$work" && rt check formats handover) >"$log" 2>&1
+    (cd "$work" && rt check laws_formats laws_handover) >"$log" 2>&1
     case $? in
     0) echo "$1: SURVIVED"; return 1 ;;
     1) ;;
@@ -53,7 +53,7 @@ try() { # NAME
 }
 
 # the repository as it is must prove; what a patch leaves alone isn't proved again
-rt check formats handover >"$room/log" 2>&1 || { echo "edits_below: the repository isn't proved as it is"; tail -n 3 "$room/log"; exit 2; }
+rt check laws_formats laws_handover >"$room/log" 2>&1 || { echo "edits_below: the repository isn't proved as it is"; tail -n 3 "$room/log"; exit 2; }
 status=0
 for name in "$@"; do
     try "$name"

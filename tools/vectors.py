@@ -1,9 +1,9 @@
 #!/usr/bin/env python3
-"""vectors.py ORACLE [PROGRAM]: makes stdin and stdout of crates/vectors and crates/vectors_index anew, or those of one.
+"""vectors.py ORACLE [PROGRAM]: makes stdin and stdout of crates/test_vectors and crates/test_vectors_index anew, or those of one.
 
 ORACLE is the program built from the Rust original (docs/VECTORS.md). The cases are made here and in vectors_index.py, always the same ones.
 An expected answer is the oracle's, except where the table of refusals has a number that the Rust lacks.
-A layer of the library is a function that yields cases; LAYERS at the end lists those of crates/vectors.
+A layer of the library is a function that yields cases; LAYERS at the end lists those of crates/test_vectors.
 """
 import itertools, random, subprocess, sys
 from pathlib import Path
@@ -950,11 +950,11 @@ def main():
     import vectors_index
     if len(sys.argv) not in (2, 3):
         sys.exit(__doc__)
-    oracle, programs = sys.argv[1], sys.argv[2:] or ['vectors', 'vectors_index']
-    if 'vectors' in programs:
-        write('vectors', oracle, [c for layer in LAYERS for c in layer()])
-    if 'vectors_index' in programs:
-        write('vectors_index', oracle, list(vectors_index.cases(oracle)))
+    oracle, programs = sys.argv[1], sys.argv[2:] or ['test_vectors', 'test_vectors_index']
+    if 'test_vectors' in programs:
+        write('test_vectors', oracle, [c for layer in LAYERS for c in layer()])
+    if 'test_vectors_index' in programs:
+        write('test_vectors_index', oracle, list(vectors_index.cases(oracle)))
 
 
 if __name__ == '__main__':

@@ -1,4 +1,4 @@
-"""The cases of crates/vectors_index: opening (`open`, `openw`) and slices (`slice`). vectors.py runs this; docs/VECTORS.md says what a case is.
+"""The cases of crates/test_vectors_index: opening (`open`, `openw`) and slices (`slice`). vectors.py runs this; docs/VECTORS.md says what a case is.
 
 An expected answer is the oracle's, except where the table has a number that the Rust lacks (3, 5, 8, 9, 10). The records that slices are given are the oracle's too.
 """

@@ -5,8 +5,8 @@ use Prim.Native.Nat.{ℕ, _+_, _-_, _*_, _^_, _≤_, _<_}
 use native.Mathlib.Omega.{arith}
 use borrow.Author.Tests.{eq-eqb, ne-eqb, lt-ltb, le-ltb, ltb-true}
 use lib.Dec.{eqb, ltb}
-use Rattle.stream.specs.Loop.{loopsAfter, timeAfter}
-use Rattle.stream.specs.Machine.{Machine}
+use Rattle.laws_stream.specs.Loop.{loopsAfter, timeAfter}
+use Rattle.laws_stream.specs.Machine.{Machine}
 use Rattle.evt2_decoder.specs.declared.Evt2Decoder.{Evt2Decoder}
 use Rattle.evt_types.specs.declared.vector.Vector.{Vector}
 use Rattle.evt_types.specs.Clock.{either}

@@ -7,9 +7,9 @@ use Prim.Native.Nat.{ℕ, suc, _+_, _*_, _^_, _≤_, _<_}
 use native.Mathlib.Omega.{arith}
 use borrow.Author.Tests.{eqb-true}
 use lib.ListN.{length}
-use Rattle.stream.specs.Machine.{and-both, run, run-keeps}
-use Rattle.stream.specs.Loop.{loops-one, charge, charge-one, charge-fresh, charge-run}
-use Rattle.stream.specs.Words.{wordsOf, length-words}
+use Rattle.laws_stream.specs.Machine.{and-both, run, run-keeps}
+use Rattle.laws_stream.specs.Loop.{loops-one, charge, charge-one, charge-fresh, charge-run}
+use Rattle.laws_stream.specs.Words.{wordsOf, length-words}
 use Rattle.evt2_decoder.specs.declared.Evt2Decoder.{Evt2Decoder}
 use Rattle.evt_types.specs.Clock.{Ticking, ticking-word, ticking-range, range-ticking}
 use Rattle.evt_types.specs.Event.{Narrow}

@@ -4,8 +4,8 @@ use mathlib.Core.Bool.{Bool, true, false, cond, not, _&&_}
 use Prim.Native.Nat.{ℕ, _+_, _*_, _^_, _<_, min}
 use borrow.Author.Tests.{eq-eqb, ne-eqb}
 use lib.Dec.{eqb, leb}
-use Rattle.stream.specs.Loop.{loopsAfter, timeAfter}
-use Rattle.stream.specs.Machine.{Machine}
+use Rattle.laws_stream.specs.Loop.{loopsAfter, timeAfter}
+use Rattle.laws_stream.specs.Machine.{Machine}
 use Rattle.evt3_decoder.specs.declared.Decoder.{Decoder}
 use Rattle.evt3_decoder.specs.declared.WideDecoder.{WideDecoder}
 use Rattle.evt_types.specs.declared.vector.Vector.{Vector}

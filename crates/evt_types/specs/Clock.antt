@@ -6,8 +6,8 @@ use native.Mathlib.Omega.{arith}
 use native.Mathlib.Nat.{mul-lt-mul-of-pos-right, div-add-mod', mod-lt, mul-mod-left, add-mul, mul-assoc, le-div-iff-mul-le, div-lt-iff-lt-mul}
 use borrow.Author.Tests.{le-leb, lt-ltb, eq-eqb, leb-true, ltb-true, eqb-true}
 use lib.Dec.{leb, ltb, eqb}
-use Rattle.stream.specs.Loop.{loopsAfter, timeAfter, in-period}
-use Rattle.stream.specs.Machine.{and-both}
+use Rattle.laws_stream.specs.Loop.{loopsAfter, timeAfter, in-period}
+use Rattle.laws_stream.specs.Machine.{and-both}
 use Rattle.evt_types.specs.declared.clock.Clock.{Clock}
 
 abbrev pub clockAfter : (period threshold old loops raw : ℕ) → Clock

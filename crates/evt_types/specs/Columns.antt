@@ -5,7 +5,7 @@ use Prim.Native.Nat.{ℕ, _+_, _≤_, _<_, _^_}
 use native.Mathlib.Omega.{arith}
 use lib.ListN.{length, set, length-append}
 use lib.IntN.{ℤ, pos}
-use Rattle.stream.specs.Columns.{written, Column, column-start, column-one, column-run, column-end}
+use Rattle.laws_stream.specs.Columns.{written, Column, column-start, column-one, column-run, column-end}
 use Rattle.evt_types.specs.declared.vector.Vector.{Vector}
 use Rattle.evt_types.specs.Event.{Event}
 

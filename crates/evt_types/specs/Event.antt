@@ -9,7 +9,7 @@ use lib.Count.{trailingZeros}
 use lib.Dec.{eqb}
 use lib.IntN.{pos}
 use borrow.Author.Tests.{eqb-true, eqb-false}
-use Rattle.stream.specs.Mask.{bits, bits-zero, low-bit}
+use Rattle.laws_stream.specs.Mask.{bits, bits-zero, low-bit}
 use Rattle.evt_types.specs.declared.RawEvent.{RawEvent}
 use Rattle.evt_types.specs.declared.vector.NextEvent.{NextEvent}
 use Rattle.evt_types.specs.declared.vector.NextEvent.the-variants.{Nothing, Event as First}

@@ -7,12 +7,12 @@ use lib.ListN.{set}
 use Rattle.evt_types.specs.declared.Refusal.{Refusal}
 use Rattle.evt_types.specs.Told.{told}
 use Rattle.header.specs.Header.{encodingNumber}
-use Rattle.answer.specs.declared.Reading.{Reading}
-use Rattle.answer.specs.declared.ReadAnswer.{ReadAnswer}
-use Rattle.answer.specs.declared.ReadAnswer.the-variants.{Read, Refused}
-use Rattle.store.specs.Columns.{event}
-use Rattle.texts.specs.Text.{ascii, decimal}
-use Rattle.texts.specs.Stored.{Stored, stored-byte, stored-then, stored-weaken}
+use Rattle.read_rules.specs.declared.Reading.{Reading}
+use Rattle.read_rules.specs.declared.ReadAnswer.{ReadAnswer}
+use Rattle.read_rules.specs.declared.ReadAnswer.the-variants.{Read, Refused}
+use Rattle.write_buffer.specs.Columns.{event}
+use Rattle.write_text.specs.Text.{ascii, decimal}
+use Rattle.write_text.specs.Stored.{Stored, stored-byte, stored-then, stored-weaken}
 use Rattle.listing_lines.specs.Listing.{field, space, newline, refusedLine, readLine, eventLine}
 
 -- the first line

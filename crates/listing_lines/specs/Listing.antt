@@ -1,4 +1,4 @@
--- What the listing program prints for the bytes of a recording. A text is its bytes in ASCII, a number its decimal digits (texts/specs/Text.antt).
+-- What the listing program prints for the bytes of a recording. A text is its bytes in ASCII, a number its decimal digits (write_text/specs/Text.antt).
 use mathlib.Core.Bool.{cond}
 use mathlib.Core.List.{List, [], _∷_, _++_}
 use Prim.Native.Nat.{ℕ, _/_, _*_}
@@ -10,12 +10,12 @@ use Rattle.evt_types.specs.declared.Refusal.{Refusal}
 use Rattle.evt_types.specs.Event.{Event}
 use Rattle.evt_types.specs.Told.{told}
 use Rattle.header.specs.Header.{encodingNumber}
-use Rattle.answer.specs.declared.LoadOptions.{LoadOptions}
-use Rattle.answer.specs.declared.Reading.{Reading}
-use Rattle.answer.specs.declared.ReadAnswer.{ReadAnswer}
-use Rattle.answer.specs.declared.ReadAnswer.the-variants.{Read, Refused}
-use Rattle.answer.specs.Read.{rawAnswer, rawHanded}
-use Rattle.texts.specs.Text.{ascii, decimal}
+use Rattle.read_rules.specs.declared.LoadOptions.{LoadOptions}
+use Rattle.read_rules.specs.declared.Reading.{Reading}
+use Rattle.read_rules.specs.declared.ReadAnswer.{ReadAnswer}
+use Rattle.read_rules.specs.declared.ReadAnswer.the-variants.{Read, Refused}
+use Rattle.read_rules.specs.Read.{rawAnswer, rawHanded}
+use Rattle.write_text.specs.Text.{ascii, decimal}
 
 -- ---- lines
 

@@ -1,20 +1,20 @@
 // The lines of the text that the listing program prints, each stored into a lent buffer as far as
 // it reaches. specs/Listing.antt has what the program prints, specs/Lines.antt what its lines are
-// made of, and texts/specs/Stored.antt what stored means.
+// made of, and write_text/specs/Stored.antt what stored means.
 ghost use mathlib.Core.Path.{_≡_};
 ghost use Prim.Native.Nat.{_^_, _<_};
 ghost use Rattle.header.specs.Header.{encodingNumber};
-ghost use Rattle.store.specs.Columns.{event};
-ghost use Rattle.texts.specs.Stored.{Stored};
+ghost use Rattle.write_buffer.specs.Columns.{event};
+ghost use Rattle.write_text.specs.Stored.{Stored};
 ghost use Rattle.listing_lines.specs.Listing.{field as Listing·field, refusedLine, readLine, eventLine};
 ghost use Rattle.listing_lines.specs.Lines.{headLine};
-use answer::ReadAnswer;
-use answer::Reading;
 use evt_types::Encoding;
 use evt_types::Refusal;
 use evt_types::refusal_number;
-use texts::put_decimal;
-use texts::put_text;
+use read_rules::ReadAnswer;
+use read_rules::Reading;
+use write_text::put_decimal;
+use write_text::put_text;
 
 // A number, and the byte that ends it. Each function here that stores answers where its text ends.
 fn field(out: &mut [u8], at: usize, n: u64, end: u8) -> usize
@@ -22,7 +22,7 @@ fn field(out: &mut [u8], at: usize, n: u64, end: u8) -> usize
     ensures { λ r. ⌜ Stored 21 (now (out .entry)) at (Listing·field n end) r (now (out .exit)) ⌝ }
 {
     let e = put_decimal(&mut *out, at, n);
-    store::put8(&mut *out, e, end);
+    write_buffer::put8(&mut *out, e, end);
     e + 1
 }
 

@@ -20,7 +20,7 @@ use Rattle.evt_types.specs.declared.SensorSize.the-variants.{Unknown}
 use Rattle.evt_types.specs.Event.{Event}
 use Rattle.evt_types.specs.Columns.{colX, colY, colT, colP}
 use Rattle.evt_types.specs.Told.{told, accepted, refused}
-use Rattle.stream.specs.Columns.{sets-append}
+use Rattle.laws_stream.specs.Columns.{sets-append}
 use lib.Seq.{sets, length-sets}
 use Rattle.header.specs.declared.HeaderAnswer.{HeaderAnswer}
 use Rattle.header.specs.declared.HeaderAnswer.the-variants.{Header, Refused as NoHeader}
@@ -28,18 +28,18 @@ use Rattle.header.specs.Header.{headerOf, headerVerdict, toldHeader, namedNumbe
 use Rattle.header.specs.Laws.{verdict-of}
 use Rattle.header_text.specs.Text.{any, notAscii}
 use Rattle.header.specs.Lines.{headerBytes, bodyStart}
-use Rattle.answer.specs.declared.Reading.{Reading}
-use Rattle.answer.specs.declared.ReadAnswer.{ReadAnswer}
-use Rattle.answer.specs.declared.ReadAnswer.the-variants.{Read, Refused}
-use Rattle.answer.specs.Read.{toldRead, bodyEvents, sizeless, widthOf, heightOf, answerOf, handedOf, answerAfter, handedAfter, rawAnswer, rawHanded, shortest, Handed, ReadsRaw}
-use Rattle.evt.specs.Codec.{freshC}
-use Rattle.room.specs.Deliver.{mostFrom}
-use Rattle.room.specs.Laws.{few-inside}
-use Rattle.answer.specs.Laws.{spanOf, body-all}
-use Rattle.store.specs.Columns.{eventOf}
+use Rattle.read_rules.specs.declared.Reading.{Reading}
+use Rattle.read_rules.specs.declared.ReadAnswer.{ReadAnswer}
+use Rattle.read_rules.specs.declared.ReadAnswer.the-variants.{Read, Refused}
+use Rattle.read_rules.specs.Read.{toldRead, bodyEvents, sizeless, widthOf, heightOf, answerOf, handedOf, answerAfter, handedAfter, rawAnswer, rawHanded, shortest, Handed, ReadsRaw}
+use Rattle.evt_codec.specs.Codec.{freshC}
+use Rattle.read_capacity.specs.Deliver.{mostFrom}
+use Rattle.read_capacity.specs.Laws.{few-inside}
+use Rattle.read_rules.specs.Laws.{spanOf, body-all}
+use Rattle.write_buffer.specs.Columns.{eventOf}
 use Rattle.listing_text.specs.declared.Begun.{Begun}
 use Rattle.listing_lines.specs.Listing.{tooLong, refusedLine, eventLine, eventLines, mostBytes, listOptions, listRoom, answerText, listingOf}
-use Rattle.texts.specs.Stored.{Stored}
+use Rattle.write_text.specs.Stored.{Stored}
 use Rattle.listing_lines.specs.Lines.{headLine}
 
 -- ---- rows of columns

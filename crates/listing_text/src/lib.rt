@@ -4,7 +4,7 @@
 ghost use mathlib.Core.Path.{_≡_};
 ghost use Prim.Native.Nat.{_*_};
 ghost use Rattle.listing_lines.specs.Listing.{eventLines};
-ghost use Rattle.texts.specs.Stored.{Stored};
+ghost use Rattle.write_text.specs.Stored.{Stored};
 ghost use Rattle.listing_text.specs.Laws.{Rows, rowsFrom, countOf, Wide, Begins};
 use evt_types::Limit;
 use evt_types::SensorSize;
@@ -12,8 +12,8 @@ use listing_lines::event_at;
 use listing_lines::head_text;
 use read::LoadOptions;
 use read::ReadAnswer;
-use store::time_of;
-use texts::put_text;
+use write_buffer::time_of;
+use write_text::put_text;
 
 // How many bytes the first line has, and how many events are to be listed after it.
 pub struct Begun {

@@ -1,7 +1,7 @@
 // Prophesee RAW recordings: all that a user calls. The code, the definitions and the proofs stand in
 // the crates below; this one names what is for use from outside. No call has a `requires`: each takes
 // any arguments, and answers what was asked for or a refusal. The examples named here are functions
-// of the program crates/examples, which runs them.
+// of the program crates/demo_examples, which runs them.
 //
 // Reading. `read_raw` reads a recording, header and words, into four columns that the caller lends:
 // column, row, time in microseconds, polarity. `LoadOptions` has the sensor's size, which comes before
@@ -31,7 +31,7 @@
 // decoder's `WORD_SIZE`, and behind the others let a second writer append the events that are missing,
 // from the number on that reading told. It is a fresh one: the first has sent a time and a row that may
 // not have arrived. The joined stream reads as all events, and its slices are exact. That is proved
-// for every list of appends and every cut (crates/handover/specs/Handover.antt). Example:
+// for every list of appends and every cut (crates/laws_handover/specs/Handover.antt). Example:
 // `cut_and_resume`.
 //
 // Single words. `Evt2Decoder`, `Decoder` (EVT3) and `Codec` (either) step over one word, by value
@@ -46,8 +46,8 @@
 // records or bytes are needed: lend as many, and call again. A refused call alters no buffer, and
 // returns the writer or the decoder as it was. An accepted one alters nothing behind what it hands over.
 // Examples: `no_encoding`, `columns_too_short`, `records_too_few`, `output_too_short`, `times_fall`.
-pub use evt::Codec;
-pub use evt::codec::CodecDecoded;
+pub use evt_codec::Codec;
+pub use evt_codec::codec::CodecDecoded;
 pub use evt_types::DecodeAnswer;
 pub use evt_types::Encoding;
 pub use evt_types::EventVector;
@@ -66,27 +66,27 @@ pub use evt3_decoder::Decoder;
 pub use header::Header;
 pub use header::HeaderAnswer;
 pub use header::parse_header;
-pub use index::Checkpoint;
-pub use index::OpenAnswer;
-pub use index::OpenOptions;
-pub use index::Opening;
-pub use index::RawSliceSource;
-pub use index::WordsOptions;
-pub use open::open;
-pub use open::open_words;
+pub use index_build::Checkpoint;
+pub use index_build::OpenAnswer;
+pub use index_build::OpenOptions;
+pub use index_build::Opening;
+pub use index_build::RawSliceSource;
+pub use index_build::WordsOptions;
+pub use index_open::open;
+pub use index_open::open_words;
 pub use read::LoadOptions;
 pub use read::ReadAnswer;
 pub use read::Reading;
 pub use read::decode_words;
 pub use read::read_raw;
-pub use sink::AppendAnswer;
-pub use sink::Appended;
-pub use sink::LastTime;
-pub use sink::RawEventSink;
-pub use sink::append;
 pub use slice::slice_index;
 pub use slice::slice_time;
 pub use slice_rules::SliceAnswer;
-pub use store::EncoderState;
+pub use write_append::AppendAnswer;
+pub use write_append::Appended;
+pub use write_append::LastTime;
+pub use write_append::RawEventSink;
+pub use write_append::append;
+pub use write_buffer::EncoderState;
 
 pub mod fixed;

@@ -1,7 +1,7 @@
 // The library for C and for Rust programs that link it: structs of numbers in, structs of numbers
 // out, and lent buffers. No exported function has a `requires`; a buffer that isn't there, or two that
 // overlap, lie outside of any contract (include/prophesee_raw.h). What each promises stands in the
-// specs of the crate `flat`, over the definitions that the library's own contracts cite.
+// specs of the crate `c_structs`, over the definitions that the library's own contracts cite.
 mod opening;
 mod reading;
 mod slices;

@@ -1,13 +1,13 @@
 // Opening a recording, or headerless words: the index's records are made into lent entries.
 ghost use Rattle.evt_types.specs.declared.Encoding.the-variants.{Evt2, Evt3};
-ghost use Rattle.flat.specs.Opening.{OpensRaw, OpensWords};
+ghost use Rattle.c_structs.specs.Opening.{OpensRaw, OpensWords};
+use c_structs::opening::PropheseeOpenOptions;
+use c_structs::opening::PropheseeOpening;
+use c_structs::opening::make_records;
+use c_structs::opening::opening_of;
+use c_structs::opening::options_of;
+use c_structs::opening::words_options_of;
 use evt_types::Encoding;
-use flat::opening::PropheseeOpenOptions;
-use flat::opening::PropheseeOpening;
-use flat::opening::make_records;
-use flat::opening::opening_of;
-use flat::opening::options_of;
-use flat::opening::words_options_of;
 
 // A recording. Entries of `records` behind the last whole record aren't used.
 #[no_mangle]
@@ -20,9 +20,9 @@ pub extern "C" fn prophesee_open(
 {
     let room = records.len() / 10;
     let o = options_of(options);
-    let run = index::prepare(recording, o, room);
+    let run = index_build::prepare(recording, o, room);
     let ran = make_records(recording, &mut *records, run);
-    opening_of(index::conclude(ran))
+    opening_of(index_build::conclude(ran))
 }
 
 // Headerless words.
@@ -36,9 +36,9 @@ fn open_words(
 {
     let room = records.len() / 10;
     let o = words_options_of(encoding, options);
-    let run = index::prepare_words(words, o, room);
+    let run = index_build::prepare_words(words, o, room);
     let ran = make_records(words, &mut *records, run);
-    opening_of(index::conclude(ran))
+    opening_of(index_build::conclude(ran))
 }
 
 #[no_mangle]

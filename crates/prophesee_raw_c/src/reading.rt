@@ -1,11 +1,11 @@
 // Reading a recording, or headerless words, into four lent columns.
 ghost use Rattle.evt_types.specs.declared.Encoding.the-variants.{Evt2, Evt3};
-ghost use Rattle.flat.specs.Reading.{DecodesWords, ReadsRaw};
+ghost use Rattle.c_structs.specs.Reading.{DecodesWords, ReadsRaw};
+use c_structs::options::PropheseeOptions;
+use c_structs::options::options_of;
+use c_structs::reading::PropheseeReading;
+use c_structs::reading::reading_of;
 use evt_types::Encoding;
-use flat::options::PropheseeOptions;
-use flat::options::options_of;
-use flat::reading::PropheseeReading;
-use flat::reading::reading_of;
 
 // A recording: its header, then its body.
 #[no_mangle]

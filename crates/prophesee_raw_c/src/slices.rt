@@ -1,13 +1,13 @@
 // Slices by number and by time, over records as entries.
 ghost use Rattle.evt_types.specs.declared.Encoding.the-variants.{Evt2, Evt3};
-ghost use Rattle.flat.specs.Slicing.{SlicesIndex, SlicesTime};
+ghost use Rattle.c_structs.specs.Slicing.{SlicesIndex, SlicesTime};
+use c_structs::opening::PropheseeSource;
+use c_structs::slices::PropheseeSlice;
+use c_structs::slices::choose_entries;
+use c_structs::slices::judge_entries;
+use c_structs::slices::slice_of;
+use c_structs::slices::source_of;
 use evt_types::Encoding;
-use flat::opening::PropheseeSource;
-use flat::slices::PropheseeSlice;
-use flat::slices::choose_entries;
-use flat::slices::judge_entries;
-use flat::slices::slice_of;
-use flat::slices::source_of;
 
 fn slice_index(
     encoding: Encoding,

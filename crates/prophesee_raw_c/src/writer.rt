@@ -1,17 +1,17 @@
 // The writer: fresh ones, and appending.
 ghost use mathlib.Core.Path.{_≡_};
 ghost use Rattle.evt_types.specs.declared.Encoding.the-variants.{Evt2, Evt3};
-ghost use Rattle.append_rules.specs.Rules.{freshSink};
-ghost use Rattle.flat.specs.Options.{flag};
-ghost use Rattle.flat.specs.Writer.{flatSink, Appends};
+ghost use Rattle.write_rules.specs.Rules.{freshSink};
+ghost use Rattle.c_structs.specs.Options.{flag};
+ghost use Rattle.c_structs.specs.Writer.{flatSink, Appends};
+use c_structs::options::is_set;
+use c_structs::writer::PropheseeAppended;
+use c_structs::writer::PropheseeSink;
+use c_structs::writer::appended_of;
+use c_structs::writer::flat_of;
+use c_structs::writer::sink_of;
 use evt_types::Encoding;
-use flat::options::is_set;
-use flat::writer::PropheseeAppended;
-use flat::writer::PropheseeSink;
-use flat::writer::appended_of;
-use flat::writer::flat_of;
-use flat::writer::sink_of;
-use sink::RawEventSink;
+use write_append::RawEventSink;
 
 // A fresh writer of EVT2; `header` 0: it sends no header, else one before its first words.
 #[no_mangle]
@@ -44,6 +44,6 @@ pub extern "C" fn prophesee_append(
     ensures { λ r. ⌜ Appends sink width height (now (xs .entry)) (now (ys .entry)) (now (ts .entry)) (now (ps .entry)) (now (output .entry)) r (now (output .exit)) ⌝ }
 {
     let s = sink_of(sink);
-    let a = sink::append(s, width, height, xs, ys, ts, ps, &mut *output);
+    let a = write_append::append(s, width, height, xs, ys, ts, ps, &mut *output);
     appended_of(sink, a)
 }

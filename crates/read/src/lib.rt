@@ -1,18 +1,18 @@
 // Reading a whole recording, or headerless words, into four lent columns. Both entries are total.
-// What they answer and hand over, by document 01's table, is in specs/Read.antt of `answer`, whose
+// What they answer and hand over, by document 01's table, is in specs/Read.antt of `read_rules`, whose
 // functions settle all that needs no column.
 ghost use Prim.Native.Nat.{_≤_, _^_};
 ghost use lib.ListN.{length};
-ghost use Rattle.answer.specs.Read.{bodyEvents, ReadsBody, DecodesWords, ReadsRaw};
-use answer::Judged;
-pub use answer::LoadOptions;
-pub use answer::ReadAnswer;
-pub use answer::Reading;
-use evt::Codec;
+ghost use Rattle.read_rules.specs.Read.{bodyEvents, ReadsBody, DecodesWords, ReadsRaw};
+use evt_codec::Codec;
 use evt_types::Encoding;
 use evt_types::Limit;
 use evt_types::SensorSize;
 use header::HeaderAnswer;
+use read_rules::Judged;
+pub use read_rules::LoadOptions;
+pub use read_rules::ReadAnswer;
+pub use read_rules::Reading;
 
 // A body of at most 2^30 bytes: 1 for no event, 5, or the reading. `requires`: both entries have
 // refused longer ones (4).
@@ -30,8 +30,8 @@ fn read_body(
     ensures { λ r. ⌜ ReadsBody encoding size (bodyEvents encoding size limit (now (body .entry))) r (now (xs .entry)) (now (ys .entry)) (now (ts .entry)) (now (ps .entry)) (now (xs .exit)) (now (ys .exit)) (now (ts .exit)) (now (ps .exit)) ⌝ }
 {
     let codec = Codec::new(encoding);
-    let window = answer::window_of(size, limit);
-    let d = deliver::deliver(
+    let window = read_rules::window_of(size, limit);
+    let d = read_deliver::deliver(
         body,
         codec,
         window,
@@ -41,7 +41,7 @@ fn read_body(
         &mut *ts,
         &mut *ps,
     );
-    answer::settle(encoding, size, d, xs, ys)
+    read_rules::settle(encoding, size, d, xs, ys)
 }
 
 // Headerless words: only the caller's encoding and size are used, and a first byte `%` is no header.
@@ -57,7 +57,7 @@ pub fn decode_words(
 ) -> ReadAnswer
     ensures { λ r. ⌜ DecodesWords (now (words .entry)) encoding size limit r (now (xs .entry)) (now (ys .entry)) (now (ts .entry)) (now (ps .entry)) (now (xs .exit)) (now (ys .exit)) (now (ts .exit)) (now (ps .exit)) ⌝ }
 {
-    let judged = answer::judge(words.len(), size);
+    let judged = read_rules::judge(words.len(), size);
     if let Judged::Unfit(r) = judged {
         return ReadAnswer::Refused(r);
     }
@@ -88,7 +88,7 @@ pub fn read_raw(
     let limit = options.max_events;
     let answer = header::parse_header(recording, size);
     let HeaderAnswer::Header(h) = answer else {
-        return answer::refusal_of(answer);
+        return read_rules::refusal_of(answer);
     };
     let at = h.data_offset;
     let encoding = h.encoding;

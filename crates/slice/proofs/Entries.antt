@@ -37,34 +37,34 @@ use denote.Triple.Clauses.{ensured, lasts, Lasts}
 use denote.Triple.Entry.{onEntry}
 use denote.Triple.Spec.{tripleOf}
 use denote.Triple.Walked.{says}
-use Rattle.window.specs.declared.Window.{Window}
-use Rattle.index.specs.declared.Checkpoint.{Checkpoint}
-use Rattle.checkpoints.specs.declared.Choice.{Choice}
-use Rattle.checkpoints.specs.declared.Judging.{Judging}
-use Rattle.index.specs.declared.RawSliceSource.{RawSliceSource}
-use Rattle.checkpoints.specs.Choose.{Chose}
-use Rattle.checkpoints.specs.Judge.{judgedAll}
+use Rattle.read_window.specs.declared.Window.{Window}
+use Rattle.index_build.specs.declared.Checkpoint.{Checkpoint}
+use Rattle.index_records.specs.declared.Choice.{Choice}
+use Rattle.index_records.specs.declared.Judging.{Judging}
+use Rattle.index_build.specs.declared.RawSliceSource.{RawSliceSource}
+use Rattle.index_records.specs.Choose.{Chose}
+use Rattle.index_records.specs.Judge.{judgedAll}
 use Rattle.slice_rules.specs.declared.Asked.{Asked}
 use Rattle.slice_rules.specs.declared.SliceAnswer.{SliceAnswer}
 use Rattle.slice_rules.specs.From.{passedFrom, SlicesFrom, Startable}
-use Rattle.index.proofs.RawSliceSource as R
-use Rattle.index.proofs.RawSliceSource.Laws as R′
-use Rattle.index.proofs.Checkpoint as T
-use Rattle.index.proofs.Checkpoint.Laws as T′
-use Rattle.checkpoints.proofs.Judging as J
-use Rattle.checkpoints.proofs.Judging.Laws as J′
-use Rattle.checkpoints.proofs.Choice as C
-use Rattle.checkpoints.proofs.Choice.Laws as C′
-use Rattle.window.proofs.Window as O
-use Rattle.window.proofs.Window.Laws as O′
+use Rattle.index_build.proofs.RawSliceSource as R
+use Rattle.index_build.proofs.RawSliceSource.Laws as R′
+use Rattle.index_build.proofs.Checkpoint as T
+use Rattle.index_build.proofs.Checkpoint.Laws as T′
+use Rattle.index_records.proofs.Judging as J
+use Rattle.index_records.proofs.Judging.Laws as J′
+use Rattle.index_records.proofs.Choice as C
+use Rattle.index_records.proofs.Choice.Laws as C′
+use Rattle.read_window.proofs.Window as O
+use Rattle.read_window.proofs.Window.Laws as O′
 use Rattle.slice_rules.proofs.Asked as K
 use Rattle.slice_rules.proofs.Asked.Laws as K′
 use Rattle.slice_rules.proofs.SliceAnswer as E
 use Rattle.slice_rules.proofs.SliceAnswer.Laws as E′
-use Rattle.checkpoints.proofs.judge_all as judge
-use Rattle.checkpoints.proofs.judge_all.Symbol.{name as #checkpoints·judges}
-use Rattle.checkpoints.proofs.choose as choose
-use Rattle.checkpoints.proofs.choose.Symbol.{name as #checkpoints·choose}
+use Rattle.index_records.proofs.judge_all as judge
+use Rattle.index_records.proofs.judge_all.Symbol.{name as #index_records·judges}
+use Rattle.index_records.proofs.choose as choose
+use Rattle.index_records.proofs.choose.Symbol.{name as #index_records·choose}
 use Rattle.slice.proofs.slice_from as slicing
 use Rattle.slice.proofs.slice_from.Symbol.{name as #slice·from}
 
@@ -90,8 +90,8 @@ lent w = sliceTy (pointer w)
 -- ---- the code
 abbrev rest : Body
 rest =
-    seq (call #checkpoints·judges (copy (place 3 []) ∷ copy (place 10 (field 0 ∷ [])) ∷ []) (place 11 []))
-    (seq (call #checkpoints·choose (copy (place 3 []) ∷ copy (place 10 (field 1 ∷ [])) ∷ []) (place 12 []))
+    seq (call #index_records·judges (copy (place 3 []) ∷ copy (place 10 (field 0 ∷ [])) ∷ []) (place 11 []))
+    (seq (call #index_records·choose (copy (place 3 []) ∷ copy (place 10 (field 1 ∷ [])) ∷ []) (place 12 []))
     (seq (assign (place 14 []) (addrOf (place 6 (field 0 ∷ deref (tyInt w16) ∷ []))))
     (seq (assign (place 15 []) (aggregate (copy (place 14 []) ∷ copy (place 6 (field 1 ∷ [])) ∷ [])))
     (seq (assign (place 16 []) (addrOf (place 7 (field 0 ∷ deref (tyInt w16) ∷ []))))
@@ -231,7 +231,7 @@ module _ {M : Type 1} (𝓤 : URA M) (H : Heap 𝓤) (A : Atoms 𝓤) (W : Given
   abbrev pub Sliced-from : Asked → Judging → Checkpoint → SliceAnswer → (xs ys : List ℕ) (ts : List ℤ) (ps : List ℕ) → Type 0
   Sliced-from a j c r = SlicesFrom (xb .now) s (j .ok) (passedFrom (xb .now) (a .window) c) r (xx .now) (xy .now) (xt .now) (xp .now)
 
-  module _ (𝓣 : Tables 𝓤 H) (known-judge : Triple 𝓤 (𝓣 .C #checkpoints·judges) (Judges 𝓤 H A at-mem run)) (known-choose : Triple 𝓤 (𝓣 .C #checkpoints·choose) (Chooses 𝓤 H A at-mem run))
+  module _ (𝓣 : Tables 𝓤 H) (known-judge : Triple 𝓤 (𝓣 .C #index_records·judges) (Judges 𝓤 H A at-mem run)) (known-choose : Triple 𝓤 (𝓣 .C #index_records·choose) (Chooses 𝓤 H A at-mem run))
       (known-from : Triple 𝓤 (𝓣 .C #slice·from) (Slicing 𝓤 H A at-mem run))
       (gs : Is R.the-row s (machR s ∷ [])) (g : Room T.the-row n) (gx : Room u16 (length (xx .now))) (gy : Room u16 (length (xy .now))) (gt : Room i64 (length (xt .now))) (gp : Room u8 (length (xp .now)))
       (a : Asked) (ga : Is K.the-row a (machK a ∷ [])) (u v : ℕ) (Post : Val → SProp 𝓤)

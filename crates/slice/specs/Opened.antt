@@ -9,8 +9,8 @@ use lib.IntN.{ℤ}
 use lib.ListN.{length, take, drop}
 use lib.Seq.{take-at}
 use borrow.Author.Tests.{ltb-false, le-ltb}
-use Rattle.stream.specs.Slice.{sift}
-use Rattle.stream.specs.Order.{greatest}
+use Rattle.laws_stream.specs.Slice.{sift}
+use Rattle.laws_stream.specs.Order.{greatest}
 use Rattle.evt_types.specs.declared.Encoding.{Encoding}
 use Rattle.evt_types.specs.declared.Refusal.{Refusal}
 use Rattle.evt_types.specs.declared.Refusal.the-variants.{InvalidSensorSize, TooLong, InvalidSpacing, TooFewRecords}
@@ -23,16 +23,16 @@ use Rattle.header.specs.declared.HeaderAnswer.{HeaderAnswer}
 use Rattle.header.specs.declared.HeaderAnswer.the-variants.{Header, Refused as NoHeader}
 use Rattle.header.specs.Header.{hasZero, headerOf}
 use Rattle.header.specs.Laws.{of-accepted}
-use Rattle.answer.specs.Read.{widthOf, heightOf, sizeless}
-use Rattle.index.specs.declared.Checkpoint.{Checkpoint}
-use Rattle.index.specs.declared.Opening.{Opening}
-use Rattle.index.specs.declared.OpenAnswer.{OpenAnswer}
-use Rattle.index.specs.declared.OpenAnswer.the-variants.{Opened, Refused}
-use Rattle.index.specs.declared.OpenOptions.{OpenOptions}
-use Rattle.index.specs.declared.WordsOptions.{WordsOptions}
-use Rattle.index.specs.Index.{keptEvents, recordCount, recordsOf, spacingOk, bodyAnswer, bodyMade, answerAfter, madeAfter, rawAnswer, rawMade, wordsAnswer, wordsMade, OpensRaw, OpensWords}
-use Rattle.checkpoints.specs.InRange.{indexInRange}
-use Rattle.index.specs.Laws.{length-firsts}
+use Rattle.read_rules.specs.Read.{widthOf, heightOf, sizeless}
+use Rattle.index_build.specs.declared.Checkpoint.{Checkpoint}
+use Rattle.index_build.specs.declared.Opening.{Opening}
+use Rattle.index_build.specs.declared.OpenAnswer.{OpenAnswer}
+use Rattle.index_build.specs.declared.OpenAnswer.the-variants.{Opened, Refused}
+use Rattle.index_build.specs.declared.OpenOptions.{OpenOptions}
+use Rattle.index_build.specs.declared.WordsOptions.{WordsOptions}
+use Rattle.index_build.specs.Index.{keptEvents, recordCount, recordsOf, spacingOk, bodyAnswer, bodyMade, answerAfter, madeAfter, rawAnswer, rawMade, wordsAnswer, wordsMade, OpensRaw, OpensWords}
+use Rattle.index_records.specs.InRange.{indexInRange}
+use Rattle.index_build.specs.Laws.{length-firsts}
 use Rattle.slice_rules.specs.Slice.{sizeOf, firstOf, endOf, indexEvents, isDuring, timeEvents, byRules}
 use Rattle.slice.specs.Own.{ownEvents, ownSource, ownRecords, OwnPast, own-in-range, own-number, own-time, own-rules}
 

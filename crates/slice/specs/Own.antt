@@ -11,31 +11,31 @@ use lib.ListN.{length, take, drop, length-append, length-drop, take-append-drop}
 use lib.Seq.{take-add, drop-drop, drop-append-seam, drop-append-add, length-take-le}
 use lib.Signed.{leZ, ltZ}
 use borrow.Author.Tests.{leb-true, ltb-true, lt-ltb, le-ltb, le-leb, eq-eqb}
-use Rattle.stream.specs.Machine.{All, all-append-left, all-drop}
-use Rattle.stream.specs.Order.{greatest, greatest-append, greatest-lt}
-use Rattle.stream.specs.Select.{byNumber}
-use Rattle.stream.specs.Slice.{sift, sift-all, sift-append, all-early}
+use Rattle.laws_stream.specs.Machine.{All, all-append-left, all-drop}
+use Rattle.laws_stream.specs.Order.{greatest, greatest-append, greatest-lt}
+use Rattle.laws_stream.specs.Select.{byNumber}
+use Rattle.laws_stream.specs.Slice.{sift, sift-all, sift-append, all-early}
 use Rattle.evt_types.specs.declared.Encoding.{Encoding}
 use Rattle.evt_types.specs.declared.Encoding.the-variants.{Evt2, Evt3}
 use Rattle.evt_types.specs.declared.SensorSize.{SensorSize}
 use Rattle.evt_types.specs.declared.SensorSize.the-variants.{Unknown, Known}
-use Rattle.evt.specs.Codec.{freshC, inRangeC, eventsFrom, codecAfter}
+use Rattle.evt_codec.specs.Codec.{freshC, inRangeC, eventsFrom, codecAfter}
 use Rattle.evt_types.specs.Columns.{colX, colY}
 use Rattle.evt_types.specs.Event.{Event}
-use Rattle.sensor.specs.Inside.{inside, clock}
-use Rattle.decode.specs.Laws.{events-append, events-nil, fresh-range, inside-bytes}
+use Rattle.read_columns.specs.Inside.{inside, clock}
+use Rattle.read_fill.specs.Laws.{events-append, events-nil, fresh-range, inside-bytes}
 use Rattle.header.specs.Header.{hasZero}
-use Rattle.window.specs.declared.Window.{Window}
-use Rattle.select.specs.Uses.{isTimely, numberedOver, PastOver}
-use Rattle.select.specs.Parts.{Whole, time-from}
-use Rattle.answer.specs.Read.{kept, widthOf, heightOf}
-use Rattle.index.specs.declared.Checkpoint.{Checkpoint}
-use Rattle.index.specs.declared.RawSliceSource.{RawSliceSource}
-use Rattle.index.specs.Index.{keptEvents, recordAt, firsts, recordCount, recordsOf, spacingOk, sourceOf}
-use Rattle.checkpoints.specs.InRange.{recordInRange, recordsInRange, indexInRange}
-use Rattle.checkpoints.specs.Judge.{isOther}
-use Rattle.index.specs.Open.{spaced, count-within, kept-inside}
-use Rattle.checkpoints.specs.JudgeLaws.{last-passes}
+use Rattle.read_window.specs.declared.Window.{Window}
+use Rattle.read_select.specs.Uses.{isTimely, numberedOver, PastOver}
+use Rattle.read_select.specs.Parts.{Whole, time-from}
+use Rattle.read_rules.specs.Read.{kept, widthOf, heightOf}
+use Rattle.index_build.specs.declared.Checkpoint.{Checkpoint}
+use Rattle.index_build.specs.declared.RawSliceSource.{RawSliceSource}
+use Rattle.index_build.specs.Index.{keptEvents, recordAt, firsts, recordCount, recordsOf, spacingOk, sourceOf}
+use Rattle.index_records.specs.InRange.{recordInRange, recordsInRange, indexInRange}
+use Rattle.index_records.specs.Judge.{isOther}
+use Rattle.index_build.specs.Open.{spaced, count-within, kept-inside}
+use Rattle.index_records.specs.JudgeLaws.{last-passes}
 use Rattle.slice_rules.specs.Slice.{startingAt, sizeOf, firstOf, endOf, indexEvents, isDuring, eventsUntil, timeEvents, byRules}
 use Rattle.slice_rules.specs.Times.{natural, before-natural, during-natural, timeWindow, time-over}
 

@@ -3,9 +3,9 @@
 // that is over an index that opening made.
 ghost use Rattle.slice_rules.specs.Slice.{SlicesIndex, SlicesTime};
 ghost use Rattle.slice_rules.specs.From.{passedFrom, SlicesFrom, Startable};
-use index::Checkpoint;
-use index::RawSliceSource;
-use select::Window;
+use index_build::Checkpoint;
+use index_build::RawSliceSource;
+use read_select::Window;
 use slice_rules::SliceAnswer;
 use slice_rules::Start;
 
@@ -30,7 +30,7 @@ pub fn slice_from(
         Start::At(at) => {
             let codec = start.codec;
             let number = start.event_index as u64;
-            let delivered = deliver::deliver(
+            let delivered = read_deliver::deliver(
                 &recording[at..],
                 codec,
                 window,
@@ -61,8 +61,8 @@ pub fn slice_index(
     ensures { λ r. ⌜ SlicesIndex (now (recording .entry)) source (now (records .entry)) i0 i1 r (now (xs .entry)) (now (ys .entry)) (now (ts .entry)) (now (ps .entry)) (now (xs .exit)) (now (ys .exit)) (now (ts .exit)) (now (ps .exit)) ⌝ }
 {
     let asked = slice_rules::by_number(source, records.len(), i0, i1);
-    let judged = checkpoints::judge_all(records, asked.judging);
-    let start = checkpoints::choose(records, asked.choice);
+    let judged = index_records::judge_all(records, asked.judging);
+    let start = index_records::choose(records, asked.choice);
     slice_from(
         recording,
         source,
@@ -91,8 +91,8 @@ pub fn slice_time(
     ensures { λ r. ⌜ SlicesTime (now (recording .entry)) source (now (records .entry)) t0 t1 r (now (xs .entry)) (now (ys .entry)) (now (ts .entry)) (now (ps .entry)) (now (xs .exit)) (now (ys .exit)) (now (ts .exit)) (now (ps .exit)) ⌝ }
 {
     let asked = slice_rules::by_time(source, records.len(), t0, t1);
-    let judged = checkpoints::judge_all(records, asked.judging);
-    let start = checkpoints::choose(records, asked.choice);
+    let judged = index_records::judge_all(records, asked.judging);
+    let start = index_records::choose(records, asked.choice);
     slice_from(
         recording,
         source,

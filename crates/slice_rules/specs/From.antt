@@ -7,18 +7,18 @@ use lib.Dec.{ltb}
 use lib.IntN.{ℤ, pos}
 use lib.ListN.{length, drop}
 use Rattle.evt_types.specs.declared.Refusal.the-variants.{InvalidSensorSize, TooLong, ColumnsTooShort, InvalidSpacing, StateOutOfRange}
-use Rattle.evt.specs.Codec.{inRangeC}
+use Rattle.evt_codec.specs.Codec.{inRangeC}
 use Rattle.evt_types.specs.Event.{Event}
 use Rattle.header.specs.Header.{hasZero}
-use Rattle.window.specs.declared.Window.{Window}
-use Rattle.select.specs.Pass.{handedOver}
-use Rattle.room.specs.declared.Delivered.{Delivered}
-use Rattle.room.specs.declared.Delivered.the-variants.{Written, Needed}
-use Rattle.room.specs.Deliver.{shortest, Handed}
-use Rattle.index.specs.declared.Checkpoint.{Checkpoint}
-use Rattle.index.specs.declared.RawSliceSource.{RawSliceSource}
-use Rattle.index.specs.Index.{spacingOk}
-use Rattle.checkpoints.specs.Judge.{firstJudging}
+use Rattle.read_window.specs.declared.Window.{Window}
+use Rattle.read_select.specs.Pass.{handedOver}
+use Rattle.read_capacity.specs.declared.Delivered.{Delivered}
+use Rattle.read_capacity.specs.declared.Delivered.the-variants.{Written, Needed}
+use Rattle.read_capacity.specs.Deliver.{shortest, Handed}
+use Rattle.index_build.specs.declared.Checkpoint.{Checkpoint}
+use Rattle.index_build.specs.declared.RawSliceSource.{RawSliceSource}
+use Rattle.index_build.specs.Index.{spacingOk}
+use Rattle.index_records.specs.Judge.{firstJudging}
 use Rattle.slice_rules.specs.declared.Asked.{Asked}
 use Rattle.slice_rules.specs.declared.Start.{Start}
 use Rattle.slice_rules.specs.declared.Start.the-variants.{At, Not}

@@ -9,41 +9,41 @@ use lib.IntN.{ℤ}
 use lib.Signed.{ltZ}
 use lib.ListN.{length, take, drop, length-drop, drop-of-length-le}
 use borrow.Author.Tests.{leb-true, leb-false, ltb-true, ltb-false, lt-ltb, le-ltb}
-use Rattle.stream.specs.Slice.{onto, sift}
-use Rattle.stream.specs.Select as Select
-use Rattle.stream.specs.Select.{byNumber}
-use Rattle.stream.specs.Words.{wordsOf}
+use Rattle.laws_stream.specs.Slice.{onto, sift}
+use Rattle.laws_stream.specs.Select as Select
+use Rattle.laws_stream.specs.Select.{byNumber}
+use Rattle.laws_stream.specs.Words.{wordsOf}
 use Rattle.evt_types.specs.declared.Refusal.the-variants.{InvalidSensorSize, TooLong, ColumnsTooShort, InvalidSpacing, StateOutOfRange}
-use Rattle.evt.specs.declared.codec.Codec.{Codec}
-use Rattle.evt.specs.declared.codec.Codec.the-variants.{Evt2, Evt3}
-use Rattle.evt.specs.Codec.{eventsFrom}
+use Rattle.evt_codec.specs.declared.codec.Codec.{Codec}
+use Rattle.evt_codec.specs.declared.codec.Codec.the-variants.{Evt2, Evt3}
+use Rattle.evt_codec.specs.Codec.{eventsFrom}
 use Rattle.evt_types.specs.Columns.{Wrote, Fits}
 use Rattle.evt_types.specs.Event.{Event}
 use Rattle.evt_types.specs.Told.{accepted, refused, short}
 use Rattle.header.specs.Header.{hasZero}
-use Rattle.decode.specs.Loops.{few2, few3}
-use Rattle.window.specs.declared.Window.{Window}
-use Rattle.window.specs.Window.{spanOf, reading2, reading3}
-use Rattle.select.specs.declared.Tally.{Tally}
-use Rattle.select.specs.declared.Filled.{Filled}
-use Rattle.select.specs.Pass.{Ready, Able, handedOver, surveyed, filled}
-use Rattle.select.specs.Uses.{able-range, numberedOver, over-few, over-by-number, over-by-time}
-use Rattle.answer.specs.Read.{kept}
-use Rattle.room.specs.declared.Delivered.{Delivered}
-use Rattle.room.specs.declared.Delivered.the-variants.{Written, Needed}
-use Rattle.room.specs.Deliver.{shortest, Handed, Delivers, mostFrom}
-use Rattle.room.specs.Laws.{numbered-most, handed-none}
-use Rattle.stream.specs.Part.{rest-of}
-use Rattle.index.specs.declared.Checkpoint.{Checkpoint}
-use Rattle.checkpoints.specs.declared.Judging.{Judging}
-use Rattle.index.specs.declared.RawSliceSource.{RawSliceSource}
-use Rattle.index.specs.Index.{spacingOk}
-use Rattle.checkpoints.specs.InRange.{indexInRange}
-use Rattle.checkpoints.specs.Choose.{passesOf, Chose}
-use Rattle.checkpoints.specs.Judge.{firstJudging, judgedAll}
-use Rattle.checkpoints.specs.JudgeLaws.{judged-in-range, Good, parted-passes, last-good}
-use Rattle.index.specs.Open.{spaced}
-use Rattle.checkpoints.specs.Start.{lastPassing}
+use Rattle.read_fill.specs.Loops.{few2, few3}
+use Rattle.read_window.specs.declared.Window.{Window}
+use Rattle.read_window.specs.Window.{spanOf, reading2, reading3}
+use Rattle.read_select.specs.declared.Tally.{Tally}
+use Rattle.read_select.specs.declared.Filled.{Filled}
+use Rattle.read_select.specs.Pass.{Ready, Able, handedOver, surveyed, filled}
+use Rattle.read_select.specs.Uses.{able-range, numberedOver, over-few, over-by-number, over-by-time}
+use Rattle.read_rules.specs.Read.{kept}
+use Rattle.read_capacity.specs.declared.Delivered.{Delivered}
+use Rattle.read_capacity.specs.declared.Delivered.the-variants.{Written, Needed}
+use Rattle.read_capacity.specs.Deliver.{shortest, Handed, Delivers, mostFrom}
+use Rattle.read_capacity.specs.Laws.{numbered-most, handed-none}
+use Rattle.laws_stream.specs.Part.{rest-of}
+use Rattle.index_build.specs.declared.Checkpoint.{Checkpoint}
+use Rattle.index_records.specs.declared.Judging.{Judging}
+use Rattle.index_build.specs.declared.RawSliceSource.{RawSliceSource}
+use Rattle.index_build.specs.Index.{spacingOk}
+use Rattle.index_records.specs.InRange.{indexInRange}
+use Rattle.index_records.specs.Choose.{passesOf, Chose}
+use Rattle.index_records.specs.Judge.{firstJudging, judgedAll}
+use Rattle.index_records.specs.JudgeLaws.{judged-in-range, Good, parted-passes, last-good}
+use Rattle.index_build.specs.Open.{spaced}
+use Rattle.index_records.specs.Start.{lastPassing}
 use Rattle.evt_types.specs.declared.Refusal.{Refusal}
 use Rattle.slice_rules.specs.declared.Start.{Start}
 use Rattle.slice_rules.specs.declared.Start.the-variants.{At, Not}

@@ -7,27 +7,27 @@ use lib.Dec.{leb, ltb}
 use lib.IntN.{ℤ, pos}
 use lib.ListN.{length, drop}
 use lib.Signed.{leZ, ltZ}
-use Rattle.stream.specs.Machine.{emits}
-use Rattle.stream.specs.Select.{byNumber}
-use Rattle.stream.specs.Slice.{sift, until}
-use Rattle.stream.specs.Words.{wordsOf}
+use Rattle.laws_stream.specs.Machine.{emits}
+use Rattle.laws_stream.specs.Select.{byNumber}
+use Rattle.laws_stream.specs.Slice.{sift, until}
+use Rattle.laws_stream.specs.Words.{wordsOf}
 use Rattle.evt_types.specs.declared.Refusal.the-variants.{InvalidSensorSize, TooLong, ColumnsTooShort, InvalidSpacing, StateOutOfRange}
 use Rattle.evt_types.specs.declared.SensorSize.{SensorSize}
 use Rattle.evt_types.specs.declared.SensorSize.the-variants.{Known}
-use Rattle.evt.specs.declared.codec.Codec.{Codec}
-use Rattle.evt.specs.declared.codec.Codec.the-variants.{Evt2, Evt3}
-use Rattle.evt.specs.Codec.{eventsFrom}
+use Rattle.evt_codec.specs.declared.codec.Codec.{Codec}
+use Rattle.evt_codec.specs.declared.codec.Codec.the-variants.{Evt2, Evt3}
+use Rattle.evt_codec.specs.Codec.{eventsFrom}
 use Rattle.evt_types.specs.Event.{Event}
 use Rattle.evt2_decoder.specs.Evt2.{reader2}
 use Rattle.evt3_decoder.specs.Evt3.{reader3}
 use Rattle.evt_types.specs.Told.{Told, told, accepted, refused, short}
 use Rattle.header.specs.Header.{hasZero}
-use Rattle.answer.specs.Read.{kept, shortest, Handed}
-use Rattle.index.specs.declared.Checkpoint.{Checkpoint}
-use Rattle.index.specs.declared.RawSliceSource.{RawSliceSource}
-use Rattle.index.specs.Index.{spacingOk}
-use Rattle.checkpoints.specs.InRange.{indexInRange}
-use Rattle.checkpoints.specs.Start.{lastPassing}
+use Rattle.read_rules.specs.Read.{kept, shortest, Handed}
+use Rattle.index_build.specs.declared.Checkpoint.{Checkpoint}
+use Rattle.index_build.specs.declared.RawSliceSource.{RawSliceSource}
+use Rattle.index_build.specs.Index.{spacingOk}
+use Rattle.index_records.specs.InRange.{indexInRange}
+use Rattle.index_records.specs.Start.{lastPassing}
 use Rattle.slice_rules.specs.declared.SliceAnswer.{SliceAnswer}
 use Rattle.slice_rules.specs.declared.SliceAnswer.the-variants.{Sliced, Refused}
 

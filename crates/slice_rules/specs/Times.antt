@@ -8,19 +8,19 @@ use lib.Dec.{leb, ltb, leb·zero}
 use lib.IntN.{ℤ, pos, negsuc}
 use lib.Signed.{leZ, ltZ}
 use borrow.Author.Tests.{le-ltb}
-use Rattle.stream.specs.Machine.{emits}
-use Rattle.stream.specs.Slice.{sift, until, within}
-use Rattle.stream.specs.Words.{wordsOf}
+use Rattle.laws_stream.specs.Machine.{emits}
+use Rattle.laws_stream.specs.Slice.{sift, until, within}
+use Rattle.laws_stream.specs.Words.{wordsOf}
 use Rattle.evt_types.specs.declared.SensorSize.the-variants.{Known}
-use Rattle.evt.specs.declared.codec.Codec.{Codec}
-use Rattle.evt.specs.declared.codec.Codec.the-variants.{Evt2, Evt3}
+use Rattle.evt_codec.specs.declared.codec.Codec.{Codec}
+use Rattle.evt_codec.specs.declared.codec.Codec.the-variants.{Evt2, Evt3}
 use Rattle.evt2_decoder.specs.Evt2.{reader2}
 use Rattle.evt3_decoder.specs.Evt3.{reader3}
-use Rattle.sensor.specs.Inside.{inside, clock}
-pub use Rattle.store.specs.Columns.{natural}
-use Rattle.window.specs.declared.Window.{Window}
-use Rattle.select.specs.Uses.{isTimely, untilOver}
-use Rattle.answer.specs.Read.{kept}
+use Rattle.read_columns.specs.Inside.{inside, clock}
+pub use Rattle.write_buffer.specs.Columns.{natural}
+use Rattle.read_window.specs.declared.Window.{Window}
+use Rattle.read_select.specs.Uses.{isTimely, untilOver}
+use Rattle.read_rules.specs.Read.{kept}
 use Rattle.slice_rules.specs.Slice.{isDuring, isAt, eventsUntil}
 
 from-natural : (z : ℤ) (t : ℕ) → leZ z (pos t) ≡ leb (natural z) t

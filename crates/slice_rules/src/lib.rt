@@ -3,15 +3,15 @@
 // the parts say, each proved; specs/Laws.antt that the parts come to it.
 ghost use mathlib.Core.Path.{_≡_};
 ghost use Prim.Native.Nat.{max};
-ghost use Rattle.checkpoints.specs.Judge.{firstJudging};
+ghost use Rattle.index_records.specs.Judge.{firstJudging};
 ghost use Rattle.slice_rules.specs.From.{askedByNumber, askedByTime, answerOf, startOf};
-use checkpoints::Choice;
-use checkpoints::Judging;
 use evt_types::Refusal;
 use evt_types::SensorSize;
-use index::RawSliceSource;
-use room::Delivered;
-use select::Window;
+use index_build::RawSliceSource;
+use index_records::Choice;
+use index_records::Judging;
+use read_capacity::Delivered;
+use read_select::Window;
 
 pub enum SliceAnswer {
     Sliced(usize),
@@ -59,8 +59,8 @@ fn first_judging(source: RawSliceSource, n: usize) -> Judging
 pub fn by_number(source: RawSliceSource, n: usize, i0: usize, i1: usize) -> Asked
     ensures { λ r. ⌜ r ≡ askedByNumber source n i0 i1 ⌝ }
 {
-    let first = room::less(i0, source.n_events);
-    let end = greater(first, room::less(i1, source.n_events));
+    let first = read_capacity::less(i0, source.n_events);
+    let end = greater(first, read_capacity::less(i1, source.n_events));
     let judging = first_judging(source, n);
     let choice = Choice {
         by_time: false,
@@ -97,8 +97,8 @@ pub fn by_time(source: RawSliceSource, n: usize, t0: i64, t1: i64) -> Asked
         height: source.height as u64,
         n0: 0,
         n1: 18446744073709551615,
-        t0: store::time_of(t0),
-        t1: store::time_of(t1),
+        t0: write_buffer::time_of(t0),
+        t1: write_buffer::time_of(t1),
     };
     Asked {
         judging,
@@ -128,9 +128,9 @@ pub fn start_of(len: usize, source: RawSliceSource, ok: bool, offset: usize) -> 
         return Start::Not(Refusal::InvalidSensorSize);
     }
     let encoding = source.encoding;
-    if index::spacing_ok(encoding, source.spacing) {
+    if index_build::spacing_ok(encoding, source.spacing) {
         if ok {
-            return Start::At(room::less(offset, len));
+            return Start::At(read_capacity::less(offset, len));
         }
         return Start::Not(Refusal::StateOutOfRange);
     }

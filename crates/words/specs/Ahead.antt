@@ -7,7 +7,7 @@ use native.Mathlib.Omega.{arith}
 use lib.Dec.{leb}
 use lib.ListN.{length, take, drop, getD}
 use borrow.Author.Tests.{le-leb, lt-leb}
-use Rattle.stream.specs.Words.{value, value-two, value-four}
+use Rattle.laws_stream.specs.Words.{value, value-two, value-four}
 
 abbrev pub ahead : ℕ → List ℕ → ℕ → ℕ
 ahead n l i = cond (leb (i + n) (length l)) (value (take n (drop i l))) 0

@@ -1,5 +1,5 @@
 // Words of bytes, the low byte first: two bytes or four of a slice in one call. It is proved that
-// they are the words of specs/Ahead.antt, 0 where none is whole; `Words` of the crate `stream` says
+// they are the words of specs/Ahead.antt, 0 where none is whole; `Words` of the crate `laws_stream` says
 // what the words of some bytes are.
 ghost use mathlib.Core.Path.{_≡_};
 ghost use Prim.Native.Nat.{_+_, _*_, _<_, _^_};

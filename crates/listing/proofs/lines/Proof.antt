@@ -1,5 +1,5 @@
 use lib.Seq.{length-take-le}
-use Rattle.texts.specs.Stored.{stored-length, stored-within}
+use Rattle.write_text.specs.Stored.{stored-length, stored-within}
 use mathlib.Core.Path.{_≡_, sym, _∙_}
 use Prim.Native.Nat.{_≤_, _-_}
 use native.Mathlib.Omega.{arith}

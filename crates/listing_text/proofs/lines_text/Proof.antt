@@ -5,7 +5,7 @@ use native.Mathlib.Omega.{arith}
 use borrow.Author.Needs.{needs}
 use lib.ListN.{getD}
 use lib.IntN.{pos}
-use Rattle.store.specs.Columns.{natural}
+use Rattle.write_buffer.specs.Columns.{natural}
 use Rattle.listing_text.specs.Laws.{Listing, listing-start, listing-turn, listing-end}
 use Rattle.listing_text.proofs.lines_text.Statement.{statement}
 use Rattle.listing_text.proofs.lines_text.Tie as tie

@@ -1,6 +1,6 @@
 use mathlib.Core.Path.{sym, _∙_}
 use lib.ListN.{length}
-use Rattle.answer.specs.Laws.{words-refused, words-read, fit-judged}
+use Rattle.read_rules.specs.Laws.{words-refused, words-read, fit-judged}
 use borrow.Author.Needs.{needs}
 use Rattle.read.proofs.decode_words.Statement.{statement}
 use Rattle.read.proofs.decode_words.Tie as tie

@@ -1,6 +1,6 @@
 use lib.ListN.{length}
-use Rattle.answer.specs.Read.{bodyEvents}
-use Rattle.answer.specs.Laws.{ready-new, delivers-body, holds-delivered, reads-body}
+use Rattle.read_rules.specs.Read.{bodyEvents}
+use Rattle.read_rules.specs.Laws.{ready-new, delivers-body, holds-delivered, reads-body}
 use borrow.Author.Needs.{needs}
 use Rattle.read.proofs.read_body.Statement.{statement}
 use Rattle.read.proofs.read_body.Tie as tie

@@ -1,9 +1,9 @@
 use native.Mathlib.Omega.{arith}
 use mathlib.Core.Path.{sym, _∙_}
 use lib.ListN.{length-drop}
-use Rattle.stream.specs.Part.{rest-of}
+use Rattle.laws_stream.specs.Part.{rest-of}
 use Rattle.header.specs.Laws.{of-accepted}
-use Rattle.answer.specs.Laws.{raw-refused, raw-read}
+use Rattle.read_rules.specs.Laws.{raw-refused, raw-read}
 use borrow.Author.Needs.{needs}
 use Rattle.read.proofs.read_raw.Statement.{statement}
 use Rattle.read.proofs.read_raw.Tie as tie

@@ -38,24 +38,24 @@ use denote.Triple.Spec.{Meets, tripleOf}
 use denote.Triple.Table.{entered, cited}
 use denote.Triple.Walked.{says, Stays, stay-dropped, gave-slice, walkOf, goes-dropped, goes-gave-slice, Walks, ends-at, walked, walk-meets}
 use denote.Exit.{yes}
-use Rattle.index.specs.declared.Checkpoint.{Checkpoint}
-use Rattle.checkpoints.specs.declared.Judging.{Judging}
-use Rattle.index.specs.declared.RawSliceSource.{RawSliceSource}
-use Rattle.checkpoints.specs.Choose.{Chose}
-use Rattle.checkpoints.specs.Judge.{judgedAll}
+use Rattle.index_build.specs.declared.Checkpoint.{Checkpoint}
+use Rattle.index_records.specs.declared.Judging.{Judging}
+use Rattle.index_build.specs.declared.RawSliceSource.{RawSliceSource}
+use Rattle.index_records.specs.Choose.{Chose}
+use Rattle.index_records.specs.Judge.{judgedAll}
 use Rattle.slice_rules.specs.declared.Asked.{Asked}
 use Rattle.slice_rules.specs.declared.SliceAnswer.{SliceAnswer}
 use Rattle.slice_rules.specs.From.{askedByNumber, Startable}
 use Rattle.slice_rules.specs.Laws.{startable, began-index, slices-index}
-use Rattle.index.proofs.RawSliceSource as R
-use Rattle.index.proofs.RawSliceSource.Laws as R′
-use Rattle.index.proofs.Checkpoint as T
-use Rattle.checkpoints.proofs.judge_all.Symbol as judge-def
-use Rattle.checkpoints.proofs.judge_all.Symbol.{name as #checkpoints·judges}
-use Rattle.checkpoints.proofs.judge_all.Met as judge-thm
-use Rattle.checkpoints.proofs.choose.Symbol as choose-def
-use Rattle.checkpoints.proofs.choose.Symbol.{name as #checkpoints·choose}
-use Rattle.checkpoints.proofs.choose.Met as choose-thm
+use Rattle.index_build.proofs.RawSliceSource as R
+use Rattle.index_build.proofs.RawSliceSource.Laws as R′
+use Rattle.index_build.proofs.Checkpoint as T
+use Rattle.index_records.proofs.judge_all.Symbol as judge-def
+use Rattle.index_records.proofs.judge_all.Symbol.{name as #index_records·judges}
+use Rattle.index_records.proofs.judge_all.Met as judge-thm
+use Rattle.index_records.proofs.choose.Symbol as choose-def
+use Rattle.index_records.proofs.choose.Symbol.{name as #index_records·choose}
+use Rattle.index_records.proofs.choose.Met as choose-thm
 use Rattle.slice_rules.proofs.Asked as K
 use Rattle.slice_rules.proofs.Asked.Laws as K′
 use Rattle.slice_rules.proofs.SliceAnswer as E
@@ -101,7 +101,7 @@ module _ {M : Type 1} (𝓤 : URA M) (H : Heap 𝓤) (A : Atoms 𝓤) (at-mem : 
 
   -- what the callees are known to meet
   abbrev Known : Tables 𝓤 H → Type 1
-  Known 𝓣 = Triple 𝓤 (𝓣 .C #slice·asks) Asks × (Triple 𝓤 (𝓣 .C #checkpoints·judges) (Judges 𝓤 H A at-mem run) × (Triple 𝓤 (𝓣 .C #checkpoints·choose) (Chooses 𝓤 H A at-mem run) × Triple 𝓤 (𝓣 .C #slice·from) (Slicing 𝓤 H A at-mem run)))
+  Known 𝓣 = Triple 𝓤 (𝓣 .C #slice·asks) Asks × (Triple 𝓤 (𝓣 .C #index_records·judges) (Judges 𝓤 H A at-mem run) × (Triple 𝓤 (𝓣 .C #index_records·choose) (Chooses 𝓤 H A at-mem run) × Triple 𝓤 (𝓣 .C #slice·from) (Slicing 𝓤 H A at-mem run)))
 
 module _ {M : Type 1} (𝓤 : URA M) (H : Heap 𝓤) (A : Atoms 𝓤) (W : Given 𝓤 H A) (at-mem : Memory → SProp 𝓤) (run : Routine → Fun 𝓤) (κ₀ κ₁ κ₂ κ₃ κ₄ κ₅ : Lft) (q₀ q₁ q₂ q₃ q₄ q₅ : Share)
     (xb : RefT (List ℕ)) (s : RawSliceSource) (xr : RefT (List Checkpoint)) (i0 i1 : ℕ) (xx xy : RefT (List ℕ)) (xt : RefT (List ℤ)) (xp : RefT (List ℕ)) where
@@ -248,9 +248,9 @@ slice-index-spec 𝓤 H 𝓜 𝓖 𝓡 =
     (f-meets 𝓤 H (𝓖 .A) (givenOf 𝓤 H 𝓜 𝓖) (𝓜 .mem) (𝓡 .run) (tablesOf 𝓤 H 𝓜 (tables 𝓤 H 𝓜 𝓡 code.env)) (
       cited 𝓤 H (Asks 𝓤 H (𝓖 .A) (𝓜 .mem) (𝓡 .run)) 𝓜 𝓡 code.env #slice·asks ask-def.routine code.calls-slice-rules·by-number (ask-thm.met 𝓤 H 𝓜 𝓖 𝓡),
       (
-        cited 𝓤 H (Judges 𝓤 H (𝓖 .A) (𝓜 .mem) (𝓡 .run)) 𝓜 𝓡 code.env #checkpoints·judges judge-def.routine code.calls-checkpoints·judge-all (judge-thm.met 𝓤 H 𝓜 𝓖 𝓡),
+        cited 𝓤 H (Judges 𝓤 H (𝓖 .A) (𝓜 .mem) (𝓡 .run)) 𝓜 𝓡 code.env #index_records·judges judge-def.routine code.calls-index-records·judge-all (judge-thm.met 𝓤 H 𝓜 𝓖 𝓡),
         (
-          cited 𝓤 H (Chooses 𝓤 H (𝓖 .A) (𝓜 .mem) (𝓡 .run)) 𝓜 𝓡 code.env #checkpoints·choose choose-def.routine code.calls-checkpoints·choose (choose-thm.met 𝓤 H 𝓜 𝓖 𝓡),
+          cited 𝓤 H (Chooses 𝓤 H (𝓖 .A) (𝓜 .mem) (𝓡 .run)) 𝓜 𝓡 code.env #index_records·choose choose-def.routine code.calls-index-records·choose (choose-thm.met 𝓤 H 𝓜 𝓖 𝓡),
           cited 𝓤 H (Slicing 𝓤 H (𝓖 .A) (𝓜 .mem) (𝓡 .run)) 𝓜 𝓡 code.env #slice·from from-def.routine code.calls-slice·slice-from (from-thm.met 𝓤 H 𝓜 𝓖 𝓡),
         ),
       ),

@@ -1,8 +1,8 @@
 use native.Mathlib.Omega.{arith}
 use borrow.Author.Tests.{le-ltb}
 use denote.Struct.Laws as LL
-use Rattle.index.proofs.RawSliceSource as P
-use Rattle.index.proofs.RawSliceSource.Laws as P′
+use Rattle.index_build.proofs.RawSliceSource as P
+use Rattle.index_build.proofs.RawSliceSource.Laws as P′
 use Rattle.slice_rules.proofs.first_judging.Statement.{statement}
 use Rattle.slice_rules.proofs.first_judging.Tie as tie
 

@@ -1,5 +1,5 @@
 use borrow.Author.Tests.{le-leb, lt-leb}
-use Rattle.stream.specs.Loop.{loopsAfter, timeAfter}
+use Rattle.laws_stream.specs.Loop.{loopsAfter, timeAfter}
 use borrow.Author.Needs.{needs}
 use native.Mathlib.Numerals.{add-one}
 use native.Mathlib.Nat.{suc-mul, add-assoc}

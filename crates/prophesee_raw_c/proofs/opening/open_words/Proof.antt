@@ -1,11 +1,11 @@
 use mathlib.Core.Path.{ap, _∙_}
-use Rattle.index.specs.declared.WordsOptions.{WordsOptions}
-use Rattle.index.specs.Build.{firstOf, wordsJob}
-use Rattle.index.specs.Begun.{begun}
-use Rattle.index.specs.Stage.{allowed-words}
-use Rattle.flat.specs.Making.{opens-words-entries}
-use Rattle.flat.specs.Opening.{wordsOptionsOf}
-use Rattle.flat.specs.Records.{roomOf}
+use Rattle.index_build.specs.declared.WordsOptions.{WordsOptions}
+use Rattle.index_build.specs.Build.{firstOf, wordsJob}
+use Rattle.index_build.specs.Begun.{begun}
+use Rattle.index_build.specs.Stage.{allowed-words}
+use Rattle.c_structs.specs.Making.{opens-words-entries}
+use Rattle.c_structs.specs.Opening.{wordsOptionsOf}
+use Rattle.c_structs.specs.Records.{roomOf}
 use borrow.Author.Needs.{needs}
 use Rattle.prophesee_raw_c.proofs.opening.open_words.Statement.{statement}
 use Rattle.prophesee_raw_c.proofs.opening.open_words.Tie as tie

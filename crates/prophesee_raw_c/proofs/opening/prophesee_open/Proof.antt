@@ -1,11 +1,11 @@
 use mathlib.Core.Path.{ap, _∙_}
-use Rattle.index.specs.declared.OpenOptions.{OpenOptions}
-use Rattle.index.specs.Build.{firstOf, rawJob}
-use Rattle.index.specs.Begun.{begun}
-use Rattle.index.specs.Stage.{allowed-raw}
-use Rattle.flat.specs.Making.{opens-raw-entries}
-use Rattle.flat.specs.Opening.{optionsOf}
-use Rattle.flat.specs.Records.{roomOf}
+use Rattle.index_build.specs.declared.OpenOptions.{OpenOptions}
+use Rattle.index_build.specs.Build.{firstOf, rawJob}
+use Rattle.index_build.specs.Begun.{begun}
+use Rattle.index_build.specs.Stage.{allowed-raw}
+use Rattle.c_structs.specs.Making.{opens-raw-entries}
+use Rattle.c_structs.specs.Opening.{optionsOf}
+use Rattle.c_structs.specs.Records.{roomOf}
 use borrow.Author.Needs.{needs}
 use Rattle.prophesee_raw_c.proofs.opening.prophesee_open.Statement.{statement}
 use Rattle.prophesee_raw_c.proofs.opening.prophesee_open.Tie as tie

@@ -1,4 +1,4 @@
-use Rattle.flat.specs.Laws.{reads-words}
+use Rattle.c_structs.specs.Laws.{reads-words}
 use borrow.Author.Needs.{needs}
 use Rattle.prophesee_raw_c.proofs.reading.decode.Statement.{statement}
 use Rattle.prophesee_raw_c.proofs.reading.decode.Tie as tie

@@ -1,4 +1,4 @@
-use Rattle.flat.specs.Laws.{start-number, slices-number}
+use Rattle.c_structs.specs.Laws.{start-number, slices-number}
 use borrow.Author.Needs.{needs}
 use Rattle.prophesee_raw_c.proofs.slices.slice_index.Statement.{statement}
 use Rattle.prophesee_raw_c.proofs.slices.slice_index.Tie as tie

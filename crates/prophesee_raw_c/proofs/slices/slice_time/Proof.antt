@@ -1,6 +1,6 @@
 use mir.Syntax.{w64}
 use mir.ValLaws.{toZ-ofZ}
-use Rattle.flat.specs.Laws.{start-during, slices-during}
+use Rattle.c_structs.specs.Laws.{start-during, slices-during}
 use borrow.Author.Needs.{needs}
 use Rattle.prophesee_raw_c.proofs.slices.slice_time.Statement.{statement}
 use Rattle.prophesee_raw_c.proofs.slices.slice_time.Tie as tie

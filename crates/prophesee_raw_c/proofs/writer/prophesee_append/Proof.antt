@@ -1,4 +1,4 @@
-use Rattle.flat.specs.Laws.{appends}
+use Rattle.c_structs.specs.Laws.{appends}
 use borrow.Author.Needs.{needs}
 use Rattle.prophesee_raw_c.proofs.writer.prophesee_append.Statement.{statement}
 use Rattle.prophesee_raw_c.proofs.writer.prophesee_append.Tie as tie

@@ -1,5 +1,5 @@
 use mathlib.Core.Path.{ap, _∙_}
-use Rattle.flat.specs.Writer.{flatSink}
+use Rattle.c_structs.specs.Writer.{flatSink}
 use borrow.Author.Needs.{needs}
 use Rattle.prophesee_raw_c.proofs.writer.prophesee_writer_evt2.Statement.{statement}
 use Rattle.prophesee_raw_c.proofs.writer.prophesee_writer_evt2.Tie as tie

@@ -1,0 +1,58 @@
+-- What opening returns, in numbers, and promises.
+use mathlib.Core.Path.{_≡_}
+use mathlib.Core.List.{List, _++_}
+use Prim.Native.Nat.{ℕ}
+use lib.ListN.{length, drop}
+use Rattle.evt_types.specs.declared.Encoding.{Encoding}
+use Rattle.evt_types.specs.Told.{Told}
+use Rattle.index_build.specs.declared.Checkpoint.{Checkpoint}
+use Rattle.index_build.specs.declared.OpenOptions.{OpenOptions}
+use Rattle.index_build.specs.declared.RawSliceSource.{RawSliceSource}
+use Rattle.index_build.specs.declared.WordsOptions.{WordsOptions}
+use Rattle.index_build.specs.Index.{rawVerdict, rawMade, wordsVerdict, wordsMade}
+use Rattle.c_structs.specs.declared.opening.PropheseeOpenOptions.{PropheseeOpenOptions}
+use Rattle.c_structs.specs.declared.opening.PropheseeOpening.{PropheseeOpening}
+use Rattle.c_structs.specs.declared.opening.PropheseeSource.{PropheseeSource}
+use Rattle.c_structs.specs.Options.{sizeOf}
+use Rattle.c_structs.specs.Reading.{valueOf, countOf}
+use Rattle.c_structs.specs.Records.{entriesAll, roomOf}
+
+abbrev pub optionsOf : PropheseeOpenOptions → OpenOptions
+optionsOf o = record { «sensor_size» = sizeOf (o .sized) (o .width) (o .height); spacing = o .spacing }
+
+abbrev pub wordsOptionsOf : Encoding → PropheseeOpenOptions → WordsOptions
+wordsOptionsOf e o = record { encoding = e; «sensor_size» = sizeOf (o .sized) (o .width) (o .height); spacing = o .spacing }
+
+-- an acceptance tells the encoding, the spacing, the body start, the length, the size, how many events there are, and how many records
+abbrev pub openingOf : Told → PropheseeOpening
+openingOf t = record {
+  refusal = t .number;
+  encoding = valueOf t 0;
+  told = countOf t;
+  records = valueOf t 7;
+  source = record { spacing = valueOf t 1; «data_offset» = valueOf t 2; len = valueOf t 3; width = valueOf t 4; height = valueOf t 5; «n_events» = valueOf t 6 };
+}
+
+-- the same numbers as an index of an encoding
+abbrev pub sourceOf : Encoding → PropheseeSource → RawSliceSource
+sourceOf e s = record {
+  encoding = e;
+  spacing = s .spacing;
+  «data_offset» = s .«data_offset»;
+  len = s .len;
+  width = s .width;
+  height = s .height;
+  «n_events» = s .«n_events»;
+}
+
+-- the records made stand in front, and behind them all is as it was
+pub record Opens (verdict : Told) (made : List Checkpoint) (r : PropheseeOpening) (records₀ records : List ℕ) : Type 0 where
+  pub is-answer : r ≡ openingOf verdict
+  pub is-records : records ≡ entriesAll made ++ drop (length (entriesAll made)) records₀
+
+-- `verdict` and `made` are those of the library's own contracts
+abbrev pub OpensRaw : List ℕ → PropheseeOpenOptions → PropheseeOpening → (records₀ records : List ℕ) → Type 0
+OpensRaw recording o r records₀ = Opens (rawVerdict recording (optionsOf o) (roomOf records₀)) (rawMade recording (optionsOf o) (roomOf records₀)) r records₀
+
+abbrev pub OpensWords : List ℕ → Encoding → PropheseeOpenOptions → PropheseeOpening → (records₀ records : List ℕ) → Type 0
+OpensWords words e o r records₀ = Opens (wordsVerdict words (wordsOptionsOf e o) (roomOf records₀)) (wordsMade words (wordsOptionsOf e o) (roomOf records₀)) r records₀

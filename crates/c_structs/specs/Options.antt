@@ -1,0 +1,23 @@
+-- What the numbers of an option mean.
+use mathlib.Core.Bool.{Bool, cond, not}
+use Prim.Native.Nat.{ℕ}
+use lib.Dec.{eqb}
+use Rattle.evt_types.specs.declared.Limit.{Limit}
+use Rattle.evt_types.specs.declared.Limit.the-variants.{Unlimited, AtMost}
+use Rattle.evt_types.specs.declared.SensorSize.{SensorSize}
+use Rattle.evt_types.specs.declared.SensorSize.the-variants.{Unknown, Known}
+use Rattle.read_rules.specs.declared.LoadOptions.{LoadOptions}
+use Rattle.c_structs.specs.declared.options.PropheseeOptions.{PropheseeOptions}
+
+-- a flag: any number but 0 is true
+abbrev pub flag : ℕ → Bool
+flag n = not (eqb n 0)
+
+abbrev pub sizeOf : (sized width height : ℕ) → SensorSize
+sizeOf sized width height = cond (flag sized) (Known width height) Unknown
+
+abbrev pub limitOf : (limited n : ℕ) → Limit
+limitOf limited n = cond (flag limited) (AtMost n) Unlimited
+
+abbrev pub optionsOf : PropheseeOptions → LoadOptions
+optionsOf o = record { «sensor_size» = sizeOf (o .sized) (o .width) (o .height); «max_events» = limitOf (o .limited) (o .«max_events») }

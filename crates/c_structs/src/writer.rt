@@ -1,0 +1,201 @@
+// The writer and what an append answers, in numbers.
+ghost use mathlib.Core.Path.{_≡_};
+ghost use Rattle.evt_types.specs.declared.Encoding.the-variants.{Evt2, Evt3};
+ghost use Rattle.write_append.specs.Append.{toldAppend};
+ghost use Rattle.c_structs.specs.Writer.{versionOf, sentOf, lastOf, stateOf, sinkOf, bit, evt3Of, hasSent, sentValue, hasLast, lastValue, flatSink, appendedOf};
+use crate::options::is_set;
+use crate::refusal::count_of;
+use evt_types::Encoding;
+use evt_types::Refusal;
+use evt_types::Sent;
+use evt_types::refusal_number;
+use write_append::AppendAnswer;
+use write_append::Appended;
+use write_append::LastTime;
+use write_append::RawEventSink;
+use write_buffer::EncoderState;
+
+// A writer. `evt3` 0: EVT2, else EVT3. `last_t`, `time_high`, `time_low` and `y` count only where the
+// flag `has_..` beside isn't 0. All zeros: a fresh writer of EVT2, its header due.
+#[repr(C)]
+pub struct PropheseeSink {
+    pub n_events: usize,
+    pub last_t: i64,
+    pub time_high: u64,
+    pub time_low: u64,
+    pub y: u64,
+    pub evt3: u8,
+    pub header_written: u8,
+    pub has_last_t: u8,
+    pub has_time_high: u8,
+    pub has_time_low: u8,
+    pub has_y: u8,
+}
+
+// `refusal` 0: `written` bytes were written. Else document 01's number, `told` being the count that an
+// 11 tells, and the sink is as it was.
+#[repr(C)]
+pub struct PropheseeAppended {
+    pub sink: PropheseeSink,
+    pub refusal: u32,
+    pub told: usize,
+    pub written: usize,
+}
+
+fn version_of(evt3: u8) -> Encoding
+    ensures { λ r. ⌜ r ≡ versionOf evt3 ⌝ }
+{
+    if is_set(evt3) {
+        return Encoding::Evt3;
+    }
+    Encoding::Evt2
+}
+
+fn sent_of(has: u8, value: u64) -> Sent
+    ensures { λ r. ⌜ r ≡ sentOf has value ⌝ }
+{
+    if is_set(has) {
+        return Sent::Value(value);
+    }
+    Sent::Nothing
+}
+
+fn last_of(has: u8, t: i64) -> LastTime
+    ensures { λ r. ⌜ r ≡ lastOf has t ⌝ }
+{
+    if is_set(has) {
+        return LastTime::At(t);
+    }
+    LastTime::Never
+}
+
+fn state_of(flat: PropheseeSink) -> EncoderState
+    ensures { λ r. ⌜ r ≡ stateOf flat ⌝ }
+{
+    let time_high = sent_of(flat.has_time_high, flat.time_high);
+    let time_low = sent_of(flat.has_time_low, flat.time_low);
+    let y = sent_of(flat.has_y, flat.y);
+    EncoderState {
+        time_high,
+        time_low,
+        y,
+    }
+}
+
+pub fn sink_of(flat: PropheseeSink) -> RawEventSink
+    ensures { λ r. ⌜ r ≡ sinkOf flat ⌝ }
+{
+    let version = version_of(flat.evt3);
+    let header_written = is_set(flat.header_written);
+    let last_t = last_of(flat.has_last_t, flat.last_t);
+    let state = state_of(flat);
+    RawEventSink {
+        version,
+        header_written,
+        n_events: flat.n_events,
+        last_t,
+        state,
+    }
+}
+
+pub fn bit_of(b: bool) -> u8
+    ensures { λ r. ⌜ r ≡ bit b ⌝ }
+{
+    if b { 1 } else { 0 }
+}
+
+fn evt3_of(version: Encoding) -> u8
+    ensures { λ r. ⌜ r ≡ evt3Of version ⌝ }
+{
+    match version {
+        Encoding::Evt2 => 0,
+        Encoding::Evt3 => 1,
+    }
+}
+
+fn has_sent(sent: Sent) -> u8
+    ensures { λ r. ⌜ r ≡ hasSent sent ⌝ }
+{
+    match sent {
+        Sent::Nothing => 0,
+        Sent::Value(_) => 1,
+    }
+}
+
+fn sent_value(sent: Sent) -> u64
+    ensures { λ r. ⌜ r ≡ sentValue sent ⌝ }
+{
+    match sent {
+        Sent::Nothing => 0,
+        Sent::Value(v) => v,
+    }
+}
+
+fn has_last(last: LastTime) -> u8
+    ensures { λ r. ⌜ r ≡ hasLast last ⌝ }
+{
+    match last {
+        LastTime::Never => 0,
+        LastTime::At(_) => 1,
+    }
+}
+
+fn last_value(last: LastTime) -> i64
+    ensures { λ r. ⌜ r ≡ lastValue last ⌝ }
+{
+    match last {
+        LastTime::Never => 0,
+        LastTime::At(t) => t,
+    }
+}
+
+pub fn flat_of(s: RawEventSink) -> PropheseeSink
+    ensures { λ r. ⌜ r ≡ flatSink s ⌝ }
+{
+    let version = s.version;
+    let last = s.last_t;
+    let state = s.state;
+    let high = state.time_high;
+    let low = state.time_low;
+    let row = state.y;
+    PropheseeSink {
+        n_events: s.n_events,
+        last_t: last_value(last),
+        time_high: sent_value(high),
+        time_low: sent_value(low),
+        y: sent_value(row),
+        evt3: evt3_of(version),
+        header_written: bit_of(s.header_written),
+        has_last_t: has_last(last),
+        has_time_high: has_sent(high),
+        has_time_low: has_sent(low),
+        has_y: has_sent(row),
+    }
+}
+
+pub fn refused_of(flat: PropheseeSink, next: RawEventSink, refusal: Refusal) -> PropheseeAppended
+    ensures { λ r. ⌜ r ≡ appendedOf flat (toldAppend (AppendAnswer.Refused refusal)) next ⌝ }
+{
+    PropheseeAppended {
+        sink: flat,
+        refusal: refusal_number(refusal),
+        told: count_of(refusal),
+        written: 0,
+    }
+}
+
+pub fn appended_of(flat: PropheseeSink, a: Appended) -> PropheseeAppended
+    ensures { λ r. ⌜ r ≡ appendedOf flat (toldAppend (a .answer)) (a .sink) ⌝ }
+{
+    let answer = a.answer;
+    let next = a.sink;
+    match answer {
+        AppendAnswer::Written(n) => PropheseeAppended {
+            sink: flat_of(next),
+            refusal: 0,
+            told: 0,
+            written: n,
+        },
+        AppendAnswer::Refused(r) => refused_of(flat, next, r),
+    }
+}

@@ -1,0 +1,111 @@
+// Printing what a call answered, behind the name of the example.
+use prophesee_raw::AppendAnswer;
+use prophesee_raw::Appended;
+use prophesee_raw::DecodeAnswer;
+use prophesee_raw::NextEvent;
+use prophesee_raw::OpenAnswer;
+use prophesee_raw::RawEventSink;
+use prophesee_raw::ReadAnswer;
+use prophesee_raw::Reading;
+use prophesee_raw::Refusal;
+use prophesee_raw::SliceAnswer;
+use test_text::columns;
+use test_text::show;
+use test_text::text;
+
+fn needed(why: Refusal) -> usize {
+    match why {
+        Refusal::ColumnsTooShort(n) => n,
+        Refusal::TooFewRecords(n) => n,
+        Refusal::OutputTooShort(n) => n,
+        _ => 0,
+    }
+}
+
+// The number, and the count that three of them tell.
+fn refusal(why: Refusal) {
+    show::text(b"refused");
+    show::next(b' ', prophesee_raw::refusal_number(why) as u64);
+    let n = needed(why);
+    if n > 0 {
+        show::next(b' ', n as u64);
+    }
+}
+
+// The first n events of the columns.
+pub fn events(n: usize, xs: [u16; 4], ys: [u16; 4], ts: [i64; 4], ps: [u8; 4]) {
+    columns::show_events(&xs, &ys, &ts, &ps, n);
+    show::text(b"\n");
+}
+
+// The encoding, the size, and how many events.
+fn read(r: Reading) -> usize {
+    let encoding = r.encoding;
+    show::encoding(encoding);
+    show::next(b' ', r.width as u64);
+    show::next(b' ', r.height as u64);
+    show::next(b' ', r.count as u64);
+    r.count
+}
+
+pub fn reading(name: &[u8], answer: ReadAnswer) -> usize {
+    show::text(name);
+    match answer {
+        ReadAnswer::Read(r) => read(r),
+        ReadAnswer::Refused(why) => {
+            refusal(why);
+            0
+        }
+    }
+}
+
+// How many events, and how many records.
+pub fn opening(name: &[u8], answer: OpenAnswer) {
+    show::text(name);
+    match answer {
+        OpenAnswer::Opened(o) => {
+            show::number(o.source.n_events as u64);
+            show::next(b' ', o.records as u64);
+        }
+        OpenAnswer::Refused(why) => refusal(why),
+    }
+    show::text(b"\n");
+}
+
+// How many events.
+pub fn slice(name: &[u8], answer: SliceAnswer) -> usize {
+    show::text(name);
+    match answer {
+        SliceAnswer::Sliced(n) => {
+            show::number(n as u64);
+            n
+        }
+        SliceAnswer::Refused(why) => {
+            refusal(why);
+            0
+        }
+    }
+}
+
+// The bytes written. Answers the writer to go on with.
+pub fn append(name: &[u8], appended: Appended, output: &[u8]) -> RawEventSink {
+    let answer = appended.answer;
+    show::text(name);
+    match answer {
+        AppendAnswer::Written(n) => show::hex(text::part(output, 0, n)),
+        AppendAnswer::Refused(why) => refusal(why),
+    }
+    show::text(b"\n");
+    appended.sink
+}
+
+// The first event of a word, if it has one.
+pub fn first(name: &[u8], answer: DecodeAnswer) {
+    show::text(name);
+    if let DecodeAnswer::Events(v) = answer {
+        if let NextEvent::Event(e, _) = v.next() {
+            show::event(e);
+        }
+    }
+    show::text(b"\n");
+}

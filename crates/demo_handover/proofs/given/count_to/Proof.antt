@@ -1,0 +1,62 @@
+-- `demo_handover::given::count_to` meets its contract. Assumes nothing.
+use mathlib.Core.Logic.{⊎-elim}
+use Prim.Native.Nat.{_-_}
+use native.Mathlib.Omega.{arith}
+use borrow.Author.Needs.{needs}
+use borrow.Author.Tests.{le-leb, lt-leb}
+use lib.Dec.{leb}
+use lib.ListN.{length}
+use Rattle.demo_handover.specs.Laws.{Counting, counting-start, counting-yes, counting-no, counting-end}
+use Rattle.demo_handover.proofs.given.count_to.Statement.{statement}
+use Rattle.demo_handover.proofs.given.count_to.Tie as tie
+
+abbrev Inv-loop : tie.InvT-loop
+Inv-loop ends cut n₀ i₀ n i = Counting (λ end. leb end cut) ends n i
+
+abbrev μ-loop : tie.MeasureT-loop
+μ-loop ends cut n₀ i₀ n i = length ends - i
+
+loop-holds : tie.Need-loop-holds Inv-loop μ-loop
+loop-holds c = counting-start _ _
+
+mul-if1 : tie.Need-mul-if1 Inv-loop μ-loop
+mul-if1 c = search needs
+
+shared-slice-read-if1 : tie.Need-shared-slice-read-if1 Inv-loop μ-loop
+shared-slice-read-if1 c = search needs
+
+add-n : tie.Need-add-n Inv-loop μ-loop
+add-n c = omega (arith, c .before .before .before .loop .inv .few)
+
+add-i : tie.Need-add-i Inv-loop μ-loop
+add-i c = omega arith
+
+loop-less : tie.Need-loop-less Inv-loop μ-loop
+loop-less c = omega arith
+
+loop-again : tie.Need-loop-again Inv-loop μ-loop
+loop-again c =
+    let inv = c .before .before .before .loop .inv in
+    let more = c .before .before .loop-test .taken in
+    ⊎-elim
+    (λ w. rw (w .1) (counting-yes _ _ 0 inv more (le-leb _ _ (w .0 .taken))))
+    (λ w. rw (w .1) (counting-no _ _ 0 inv more (lt-leb _ _ (w .0 .left))))
+    (c .if1 .came)
+
+returns : tie.Need-returns Inv-loop μ-loop
+returns c = counting-end _ _ (c .before .loop .inv) (c .loop-test .left)
+
+pub count-to-spec : {M : Type 1} → statement M
+count-to-spec =
+    tie.close
+    (tie.spec
+    Inv-loop
+    μ-loop
+    loop-holds
+    mul-if1
+    shared-slice-read-if1
+    add-n
+    add-i
+    loop-less
+    loop-again
+    returns)

@@ -1,0 +1,35 @@
+-- The events that are given, and where the event word of each ends in the stream.
+use mathlib.Core.List.{List, [], _∷_}
+use Prim.Native.Nat.{ℕ}
+use lib.Dec.{leb}
+use lib.IntN.{ℤ, pos}
+use lib.ListN.{length}
+use lib.Signed.{ltZ}
+use Rattle.laws_stream.specs.Slice.{sift}
+use Rattle.evt_types.specs.declared.Encoding.{Encoding}
+use Rattle.evt_types.specs.declared.Encoding.the-variants.{Evt2, Evt3}
+
+unfoldable pub givenXs : List ℕ
+givenXs = 10 ∷ 10 ∷ 20 ∷ 21 ∷ 23 ∷ 31 ∷ 31 ∷ 3 ∷ 100 ∷ 103 ∷ 111 ∷ 112 ∷ 119 ∷ 119 ∷ 5 ∷ 2047 ∷ []
+
+unfoldable pub givenYs : List ℕ
+givenYs = 7 ∷ 7 ∷ 7 ∷ 7 ∷ 7 ∷ 7 ∷ 6 ∷ 6 ∷ 9 ∷ 9 ∷ 9 ∷ 9 ∷ 9 ∷ 9 ∷ 9 ∷ 2047 ∷ []
+
+unfoldable pub givenTs : List ℤ
+givenTs =
+    pos 4030 ∷ pos 4030 ∷ pos 4095 ∷ pos 4095 ∷ pos 4095 ∷ pos 4095 ∷ pos 4095
+    ∷ pos 4096 ∷ pos 4100 ∷ pos 4100 ∷ pos 4100 ∷ pos 4100 ∷ pos 4100 ∷ pos 4100 ∷ pos 4101 ∷ pos 8200 ∷ []
+
+unfoldable pub givenPs : List ℕ
+givenPs = 1 ∷ 1 ∷ 0 ∷ 0 ∷ 0 ∷ 0 ∷ 0 ∷ 1 ∷ 1 ∷ 1 ∷ 1 ∷ 1 ∷ 1 ∷ 1 ∷ 0 ∷ 1 ∷ []
+
+unfoldable pub wordEnds : Encoding → List ℕ
+wordEnds Evt2 = 8 ∷ 12 ∷ 20 ∷ 24 ∷ 28 ∷ 32 ∷ 36 ∷ 44 ∷ 48 ∷ 52 ∷ 56 ∷ 60 ∷ 64 ∷ 68 ∷ 72 ∷ 80 ∷ []
+wordEnds Evt3 = 8 ∷ 10 ∷ 16 ∷ 16 ∷ 16 ∷ 16 ∷ 20 ∷ 24 ∷ 32 ∷ 32 ∷ 32 ∷ 34 ∷ 34 ∷ 36 ∷ 40 ∷ 48 ∷ []
+
+-- how many of some ends are at most `cut`, and of some times before t
+abbrev pub upTo : (cut : ℕ) → List ℕ → ℕ
+upTo cut ends = length (sift (λ end. leb end cut) ends)
+
+abbrev pub earlierThan : (t : ℤ) → List ℤ → ℕ
+earlierThan t ts = length (sift (λ u. ltZ u t) ts)

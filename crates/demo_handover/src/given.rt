@@ -1,0 +1,156 @@
+// What is appended: events 0 to 6 by the first append, 7 to 15 by the third; the second is refused,
+// since its times fall. They have a repeat, runs that become vectors of one and of two words,
+// several rows, and times on both sides of a multiple of 4,096.
+ghost use mathlib.Core.Path.{_≡_};
+ghost use Prim.Native.Nat.{_≤_};
+ghost use lib.ListN.{length, take};
+ghost use Rattle.demo_handover.specs.Given.{givenXs, givenYs, givenTs, givenPs, wordEnds, upTo, earlierThan};
+use prophesee_raw::Encoding;
+
+// Each `ensures` keeps the array itself out of its callers' proofs.
+pub fn columns() -> [u16; 16]
+    ensures { λ r. ⌜ (r ≡ givenXs) × (16 ≡ length r) ⌝ }
+{
+    [
+        10,
+        10,
+        20,
+        21,
+        23,
+        31,
+        31,
+        3,
+        100,
+        103,
+        111,
+        112,
+        119,
+        119,
+        5,
+        2047,
+    ]
+}
+
+pub fn rows() -> [u16; 16]
+    ensures { λ r. ⌜ (r ≡ givenYs) × (16 ≡ length r) ⌝ }
+{
+    [7, 7, 7, 7, 7, 7, 6, 6, 9, 9, 9, 9, 9, 9, 9, 2047]
+}
+
+pub fn times() -> [i64; 16]
+    ensures { λ r. ⌜ (r ≡ givenTs) × (16 ≡ length r) ⌝ }
+{
+    [
+        4030,
+        4030,
+        4095,
+        4095,
+        4095,
+        4095,
+        4095,
+        4096,
+        4100,
+        4100,
+        4100,
+        4100,
+        4100,
+        4100,
+        4101,
+        8200,
+    ]
+}
+
+pub fn polarities() -> [u8; 16]
+    ensures { λ r. ⌜ (r ≡ givenPs) × (16 ≡ length r) ⌝ }
+{
+    [1, 1, 0, 0, 0, 0, 0, 1, 1, 1, 1, 1, 1, 1, 0, 1]
+}
+
+// Where the event word of each event ends in the stream.
+fn word_ends(encoding: Encoding) -> [usize; 16]
+    ensures { λ r. ⌜ (r ≡ wordEnds encoding) × (16 ≡ length r) ⌝ }
+{
+    match encoding {
+        Encoding::Evt2 => [
+            8,
+            12,
+            20,
+            24,
+            28,
+            32,
+            36,
+            44,
+            48,
+            52,
+            56,
+            60,
+            64,
+            68,
+            72,
+            80,
+        ],
+        Encoding::Evt3 => [
+            8,
+            10,
+            16,
+            16,
+            16,
+            16,
+            20,
+            24,
+            32,
+            32,
+            32,
+            34,
+            34,
+            36,
+            40,
+            48,
+        ],
+    }
+}
+
+fn count_to(ends: &[usize], cut: usize) -> usize
+    ensures { λ r. ⌜ (r ≡ upTo cut (now (ends .entry))) × (r ≤ length (now (ends .entry))) ⌝ }
+{
+    let mut n = 0;
+    let mut i = 0;
+    while i < ends.len() {
+        if ends[i] <= cut {
+            n += 1;
+        }
+        i += 1;
+    }
+    n
+}
+
+// How many events have their event word whole before a cut.
+pub fn whole_before(encoding: Encoding, cut: usize) -> usize
+    ensures { λ r. ⌜ (r ≡ upTo cut (wordEnds encoding)) × (r ≤ 16) ⌝ }
+{
+    let ends = word_ends(encoding);
+    count_to(&ends, cut)
+}
+
+fn count_earlier(ts: &[i64], t: i64) -> usize
+    ensures { λ r. ⌜ (r ≡ earlierThan t (now (ts .entry))) × (r ≤ length (now (ts .entry))) ⌝ }
+{
+    let mut n = 0;
+    let mut i = 0;
+    while i < ts.len() {
+        if ts[i] < t {
+            n += 1;
+        }
+        i += 1;
+    }
+    n
+}
+
+// How many of the first `count` events are before a time.
+pub fn earlier(count: usize, t: i64) -> usize
+    requires { ⌜ count ≤ 16 ⌝ }
+    ensures { λ r. ⌜ (r ≡ earlierThan t (take count givenTs)) × (r ≤ count) ⌝ }
+{
+    let ts = times();
+    count_earlier(&ts[..count], t)
+}

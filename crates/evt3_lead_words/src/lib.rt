@@ -1,0 +1,44 @@
+// EVT3: the words of time and row that lead a run, stored or measured: `put_leads` is proved to
+// store those that are due. specs/Evt3.antt says which words a writer sends of a run, each with a
+// note of the events that it carries, specs/Leads.antt which bytes its leading words have.
+ghost use mathlib.Core.Path.{_≡_};
+ghost use mathlib.Core.Bool.{cond};
+ghost use Prim.Native.Nat.{_+_, _^_, _<_};
+ghost use lib.ListN.{length};
+ghost use lib.Seq.{sets};
+ghost use Rattle.laws_stream.specs.Words.{bytes};
+ghost use Rattle.write_buffer.specs.Storing.{Roomy};
+ghost use Rattle.evt3_lead_words.specs.Leads.{dueBytes, leadsBytes, Leads};
+
+// After a type 8 the low half counts as 0.
+fn low_kept(sent: bool, low: u64) -> u64
+    ensures { λ r. ⌜ r ≡ cond sent low 0 ⌝ }
+{
+    if sent { low } else { 0 }
+}
+
+// A word, and the place after it, which is `at` again where its content was sent: the next word
+// then takes its place.
+fn put_lead(sent: bool, w: u16, out: &mut [u8], at: usize) -> usize
+    requires { ⌜ (at < 2 ^ 61) × Roomy (now out) at 2 ⌝ }
+    ensures { λ r. ⌜ r ≡ at + length (dueBytes sent w) ⌝ ∗ ⌜ now (out .exit) ≡ sets (now (out .entry)) at (bytes 2 w) ⌝ }
+{
+    write_buffer::put16(&mut *out, at, w);
+    write_buffer::past(sent, 2, at)
+}
+
+// Time and row, where they changed: `high`, `low` and `row` were sent last. A word has to follow.
+pub fn put_leads(high: u64, low: u64, row: u64, t: u64, y: u16, out: &mut [u8], at: usize) -> usize
+    requires { ⌜ (at < 2 ^ 60) × Roomy (now out) at (length (leadsBytes high low row t y) + 2) ⌝ }
+    ensures { λ r. ⌜ Leads high low row t y at (now (out .entry)) r (now (out .exit)) ⌝ }
+{
+    let q = t / 4096;
+    let l = t % 4096;
+    let sent = high == q;
+    let kept = low_kept(sent, low);
+    let low_sent = kept == l;
+    let row_sent = row == y as u64;
+    let a = put_lead(sent, 32768 + (q % 4096) as u16, &mut *out, at);
+    let b = put_lead(low_sent, 24576 + l as u16, &mut *out, a);
+    put_lead(row_sent, y % 2048, &mut *out, b)
+}

@@ -1,0 +1,55 @@
+use native.Mathlib.Omega.{arith}
+use Prim.Native.Nat.{_-_}
+use denote.Ref.{now}
+use Rattle.evt3_run_flags.specs.Flags.{Packing, pack-start, pack-small, pack-turn, pack-end}
+use Rattle.evt3_run_flags.proofs.gather.Statement.{statement}
+use Rattle.evt3_run_flags.proofs.gather.Tie as tie
+
+abbrev Inv-loop : tie.InvT-loop
+Inv-loop flags mask₀ j₀ mask j = Packing flags mask j
+
+abbrev μ-loop : tie.MeasureT-loop
+μ-loop flags mask₀ j₀ mask j = j
+
+loop-holds : tie.Need-loop-holds Inv-loop μ-loop
+loop-holds c = pack-start (now (c .args .flags))
+
+sub-j : tie.Need-sub-j Inv-loop μ-loop
+sub-j c = omega (arith, c .loop-test .taken)
+
+mul-mask : tie.Need-mul-mask Inv-loop μ-loop
+mul-mask c = omega (arith, pack-small (now (c .before .before .args .flags)) (c .before .loop .inv) (c .before .before .pre))
+
+element-copy-out-mask : tie.Need-element-copy-out-mask Inv-loop μ-loop
+element-copy-out-mask c = omega (arith, c .before .loop .inv .below)
+
+cast-mask : tie.Need-cast-mask Inv-loop μ-loop
+cast-mask c = omega (arith, c .before .before .before .pre (c .before .before .loop .j - 1) (omega (arith, c .before .before .loop .inv .below)))
+
+add-mask : tie.Need-add-mask Inv-loop μ-loop
+add-mask c = omega (arith, pack-small (now (c .before .before .before .args .flags)) (c .before .before .loop .inv) (c .before .before .before .pre), c .before .before .before .pre (c .before .before .loop .j - 1) (omega (arith, c .before .before .loop .inv .below)))
+
+loop-less : tie.Need-loop-less Inv-loop μ-loop
+loop-less c = omega (arith, c .before .loop-test .taken)
+
+loop-again : tie.Need-loop-again Inv-loop μ-loop
+loop-again c = pack-turn (now (c .before .before .before .args .flags)) (c .before .before .loop .inv) (c .before .loop-test .taken)
+
+returns : tie.Need-returns Inv-loop μ-loop
+returns c = pack-end (now (c .before .before .args .flags)) (c .before .loop .inv) (c .loop-test .left)
+
+pub gather-spec : {M : Type 1} → statement M
+gather-spec =
+    tie.close
+    (tie.spec
+    Inv-loop
+    μ-loop
+    loop-holds
+    sub-j
+    mul-mask
+    element-copy-out-mask
+    cast-mask
+    add-mask
+    loop-less
+    loop-again
+    returns)

@@ -1,0 +1,201 @@
+-- The search by halves finds the record that a slice starts at.
+use mathlib.Core.Path.{_≡_, refl, sym, ap, _∙_, subst}
+use mathlib.Core.Bool.{Bool, true, false, cond, true≢false}
+use mathlib.Core.List.{List, [], _∷_}
+use Prim.Native.Nat.{ℕ, zero, suc, _+_, _-_, _≤_, _<_}
+use native.Mathlib.Nat.{not-suc-le-zero, le-of-suc-le-suc}
+use native.Mathlib.Omega.{arith}
+use lib.Dec.{ltb}
+use lib.ListN.{length}
+use borrow.Author.Tests.{ltb-true, ltb-false, lt-ltb, le-ltb}
+use Rattle.laws_stream.specs.Machine.{All}
+use Rattle.index_build.specs.declared.Checkpoint.{Checkpoint}
+use Rattle.index_records.specs.declared.Choice.{Choice}
+use Rattle.index_records.specs.declared.Search.{Search}
+use Rattle.index_build.specs.Nth.{nth, blank}
+use Rattle.index_records.specs.Start.{Parted, lastPassing}
+use Rattle.index_records.specs.Choose.{passesOf, Chose}
+use Rattle.index_records.specs.Halves.{middleOf, placeOf, bracketOf, narrowed}
+
+-- ---- by the outcome of each test
+
+pub place-between : (lo hi : ℕ) → lo < hi → placeOf lo hi ≡ middleOf lo hi
+place-between lo hi h = rw (lt-ltb lo hi h)
+
+pub place-met : (lo hi : ℕ) → hi ≤ lo → placeOf lo hi ≡ lo - 1
+place-met lo hi h = rw (le-ltb lo hi h)
+
+pub narrow-by : (s : Search) (c : Checkpoint) (v : Bool) (m : ℕ) (r : Search) → s .lo < s .hi → m ≡ middleOf (s .lo) (s .hi) → passesOf (s .asked) c ≡ v
+    → r ≡ cond v (bracketOf true (m + 1) (s .hi) (s .asked) c) (bracketOf true (s .lo) m (s .asked) c) → r ≡ narrowed s c
+narrow-by s c v m r h q e is = is ∙ rw (q, lt-ltb (s .lo) (s .hi) h, e)
+
+pub narrow-met : (s : Search) (c : Checkpoint) (r : Search) → s .hi ≤ s .lo → r ≡ bracketOf false (s .lo) (s .hi) (s .asked) c → r ≡ narrowed s c
+narrow-met s c r h is = is ∙ rw (le-ltb (s .lo) (s .hi) h)
+
+-- ---- records that are parted
+
+module _ (p : Checkpoint → Bool) where
+  all-at : (l : List Checkpoint) → All (λ d. p d ≡ false) l → (i : ℕ) → i < length l → p (nth l i) ≡ false
+  all-at [] a i h = absurd (not-suc-le-zero h)
+  all-at (c ∷ cs) a zero h = a .0
+  all-at (c ∷ cs) a (suc i) h = all-at cs (a .1) i (le-of-suc-le-suc h)
+
+  parted-at : (l : List Checkpoint) → Parted p l → (i j : ℕ) → i ≤ j → j < length l → p (nth l i) ≡ false → p (nth l j) ≡ false
+  parted-at [] a i j o h e = absurd (not-suc-le-zero h)
+  parted-at (c ∷ cs) a zero zero o h e = e
+  parted-at (c ∷ cs) a zero (suc j) o h e = all-at cs (a .0 e) j (le-of-suc-le-suc h)
+  parted-at (c ∷ cs) a (suc i) zero o h e = absurd (not-suc-le-zero o)
+  parted-at (c ∷ cs) a (suc i) (suc j) o h e = parted-at cs (a .1) i j (le-of-suc-le-suc o) (le-of-suc-le-suc h) e
+
+  -- the first k pass and no more
+  last-at : (c : Checkpoint) (l : List Checkpoint) (k : ℕ) → k ≤ length l → ((i : ℕ) → i < k → p (nth l i) ≡ true) → ((i : ℕ) → k ≤ i → i < length l → p (nth l i) ≡ false) → lastPassing p c l ≡ nth (c ∷ l) k
+  last-at c [] zero h f g = refl
+  last-at c [] (suc k) h f g = absurd (not-suc-le-zero h)
+  last-at c (d ∷ ds) zero h f g =
+      ap (λ (b : Bool). lastPassing p (cond b d c) ds) (g 0 (omega arith) (omega arith))
+      ∙ last-at c ds zero (omega arith) (λ i l. absurd (not-suc-le-zero l)) (λ i a b. g (suc i) (omega arith) (omega arith))
+  last-at c (d ∷ ds) (suc k) h f g =
+      ap (λ (b : Bool). lastPassing p (cond b d c) ds) (f 0 (omega arith))
+      ∙ last-at d ds k (le-of-suc-le-suc h) (λ i l. f (suc i) (omega arith)) (λ i a b. g (suc i) (omega arith) (omega arith))
+
+-- ---- between lo and hi it isn't known which pass
+
+pub record Bracket (p : Checkpoint → Bool) (l : List Checkpoint) (lo hi : ℕ) : Type 0 where
+  pub order : lo ≤ hi
+  pub within : hi ≤ length l
+  pub front : Parted p l → (i : ℕ) → i < lo → p (nth l i) ≡ true
+  pub back : Parted p l → (i : ℕ) → hi ≤ i → i < length l → p (nth l i) ≡ false
+
+module _ (p : Checkpoint → Bool) where
+  bracket-start : (l : List Checkpoint) → Bracket p l 0 (length l)
+  bracket-start l = record {
+    order = omega arith;
+    within = omega arith;
+    front = λ h i a. absurd (not-suc-le-zero a);
+    back = λ h i a b. absurd (none i a b);
+  }
+    where
+      none : (i : ℕ) → length l ≤ i → i < length l → ⊥
+      none i a b = omega arith
+
+  -- both ends have met
+  bracket-end : (c : Checkpoint) (cs : List Checkpoint) (lo hi : ℕ) → Bracket p (c ∷ cs) lo hi → hi ≤ lo → Parted p (c ∷ cs) → nth (c ∷ cs) (lo - 1) ≡ lastPassing p c cs
+  bracket-end c cs zero hi w m h =
+      sym (last-at p c cs zero (omega arith) (λ i l. absurd (not-suc-le-zero l)) (λ i a b. w .back h (suc i) (omega arith) (omega arith)))
+  bracket-end c cs (suc k) hi w m h =
+      let before : suc k - 1 ≡ k = omega arith in
+      ap (nth (c ∷ cs)) before
+      ∙ sym (last-at p c cs k (omega (arith, w .order, w .within)) (λ i l. w .front h (suc i) (omega arith)) (λ i a b. w .back h (suc i) (omega arith) (omega arith)))
+
+  module _ (l : List Checkpoint) (lo hi : ℕ) (w : Bracket p l lo hi) (some : lo < hi) where
+    bracket-up : p (nth l (middleOf lo hi)) ≡ true → Bracket p l (middleOf lo hi + 1) hi
+    bracket-up e = record {
+      order = omega arith;
+      within = w .within;
+      front = λ h i a. go h i a (p (nth l i)) refl;
+      back = w .back;
+    }
+      where
+        go : Parted p l → (i : ℕ) → i < middleOf lo hi + 1 → (b : Bool) → p (nth l i) ≡ b → p (nth l i) ≡ true
+        go h i a true q = q
+        go h i a false q = absurd (true≢false (sym e ∙ parted-at p l h i (middleOf lo hi) (omega arith) (omega (arith, w .within)) q))
+
+    bracket-down : p (nth l (middleOf lo hi)) ≡ false → Bracket p l lo (middleOf lo hi)
+    bracket-down e = record {
+      order = omega arith;
+      within = omega (arith, w .within);
+      front = w .front;
+      back = λ h i a b. parted-at p l h (middleOf lo hi) i a b e;
+    }
+
+-- ---- the search, with at most m turns left
+
+pub record Searching (asked : Choice) (l : List Checkpoint) (m : ℕ) (t : Search) : Type 0 where
+  pub is-asked : t .asked ≡ asked
+  pub is-at : t .at ≡ placeOf (t .lo) (t .hi)
+  pub parts : Bracket (passesOf asked) l (t .lo) (t .hi)
+  pub left : t .more ≡ true → t .hi - t .lo < m
+  pub some : t .more ≡ true → 0 < length l
+  pub found : t .more ≡ false → Chose asked l (t .best)
+
+module _ (asked : Choice) (l : List Checkpoint) where
+  abbrev ok : Checkpoint → Bool
+  ok = passesOf asked
+
+  pub search-start : (t : Search) → t ≡ bracketOf (ltb 0 (length l)) 0 (length l) asked blank → Searching asked l (suc (length l)) t
+  search-start t e = subst (Searching asked l (suc (length l))) (sym e) (record {
+    is-asked = refl;
+    is-at = refl;
+    parts = bracket-start ok l;
+    left = λ _. omega arith;
+    some = λ h. ltb-true 0 (length l) h;
+    found = λ h. none l h;
+  })
+    where
+      none : (k : List Checkpoint) → ltb 0 (length k) ≡ false → Chose asked k blank
+      none [] h = tt
+      none (c ∷ cs) h = absurd (not-suc-le-zero (ltb-false 0 (suc (length cs)) h))
+
+  pub search-stops : (t : Search) → Searching asked l zero t → t .more ≡ true → ⊥
+  search-stops t s e = not-suc-le-zero (s .left e)
+
+  module _ (m : ℕ) (t : Search) (s : Searching asked l m t) (e : t .more ≡ true) where
+    pub search-place : t .at < length l
+    search-place = subst (λ (k : ℕ). k < length l) (sym (s .is-at)) (go (ltb (t .lo) (t .hi)) refl)
+      where
+        go : (b : Bool) → ltb (t .lo) (t .hi) ≡ b → cond b (middleOf (t .lo) (t .hi)) (t .lo - 1) < length l
+        go true q = omega (arith, ltb-true (t .lo) (t .hi) q, s .parts .within)
+        go false q = omega (arith, s .parts .order, s .parts .within, s .some e)
+
+  found-at : (lo hi : ℕ) → Bracket ok l lo hi → hi ≤ lo → Chose asked l (nth l (lo - 1))
+  found-at lo hi = go l
+    where
+      go : (k : List Checkpoint) → Bracket ok k lo hi → hi ≤ lo → Chose asked k (nth k (lo - 1))
+      go [] w h = tt
+      go (c ∷ cs) w h = bracket-end ok c cs lo hi w h
+
+  -- a turn reads the record at `at`
+  module _ (m : ℕ) (t : Search) (s : Searching asked l (suc m) t) (e : t .more ≡ true) where
+    abbrev lo : ℕ
+    lo = t .lo
+
+    abbrev hi : ℕ
+    hi = t .hi
+
+    abbrev c : Checkpoint
+    c = nth l (t .at)
+
+    -- with any two ends that hold, fewer apart
+    halved : (a b : ℕ) → Bracket ok l a b → b - a < m → Searching asked l m (bracketOf true a b (t .asked) c)
+    halved a b w h = record {
+      is-asked = s .is-asked;
+      is-at = refl;
+      parts = w;
+      left = λ _. h;
+      some = λ _. s .some e;
+      found = λ h′. absurd (true≢false h′);
+    }
+
+    -- by whether the ends have met, and whether the record passes
+    turn-by : (b v : Bool) → ltb lo hi ≡ b → ok c ≡ v
+        → Searching asked l m (cond b (cond v (bracketOf true (middleOf lo hi + 1) hi (t .asked) c) (bracketOf true lo (middleOf lo hi) (t .asked) c)) (bracketOf false lo hi (t .asked) c))
+    turn-by true true q v =
+        let some : lo < hi = ltb-true lo hi q in
+        let apart : hi - lo < suc m = s .left e in
+        halved (middleOf lo hi + 1) hi (bracket-up ok l lo hi (s .parts) some (sym (ap (λ (i : ℕ). ok (nth l i)) (s .is-at ∙ place-between lo hi some)) ∙ v)) (omega arith)
+    turn-by true false q v =
+        let some : lo < hi = ltb-true lo hi q in
+        let apart : hi - lo < suc m = s .left e in
+        halved lo (middleOf lo hi) (bracket-down ok l lo hi (s .parts) some (sym (ap (λ (i : ℕ). ok (nth l i)) (s .is-at ∙ place-between lo hi some)) ∙ v)) (omega arith)
+    turn-by false v q _ = record {
+      is-asked = s .is-asked;
+      is-at = refl;
+      parts = s .parts;
+      left = λ h. absurd (true≢false (sym h));
+      some = λ _. s .some e;
+      found = λ _. subst (λ (i : ℕ). Chose asked l (nth l i)) (sym (s .is-at ∙ place-met lo hi (ltb-false lo hi q))) (found-at lo hi (s .parts) (ltb-false lo hi q));
+    }
+
+    pub search-turn : (r : Search) → r ≡ narrowed t c → Searching asked l m r
+    search-turn r is =
+        subst (Searching asked l m) (sym is) (turn-by (ltb lo hi) (passesOf (t .asked) c) refl (ap (λ (a : Choice). passesOf a c) (sym (s .is-asked))))

@@ -1,0 +1,240 @@
+// The records of an index: judging them (rule 10), and searching the one that a slice starts at.
+// specs/InRange.antt has when an index is in range, specs/Judge.antt the judging record by record, which
+// comes to it (specs/JudgeLaws.antt); specs/Choose.antt which record is looked for, specs/Halves.antt the
+// search by halves, which finds it (specs/Search.antt). The functions take a record by value, but for
+// `judge_all` and `choose`, which are lent records and proved by hand.
+ghost use mathlib.Core.Path.{_≡_};
+ghost use Prim.Native.Nat.{_<_};
+ghost use lib.Dec.{ltb};
+ghost use Rattle.index_build.specs.Nth.{blank};
+ghost use Rattle.index_records.specs.Choose.{passesOf, Chose};
+ghost use Rattle.index_records.specs.Halves.{middleOf, placeOf, bracketOf, narrowed};
+ghost use Rattle.index_records.specs.Judge.{isOther, standsOf, aheadOf, onwardOf, admitsOf, judgedOf, judgedAll};
+use evt_codec::Codec;
+use evt_types::Encoding;
+use index_build::Checkpoint;
+
+// What a slice asks of the record it starts at: a count at most `index`, or, by time, a time below
+// `time`.
+pub struct Choice {
+    pub by_time: bool,
+    pub index: usize,
+    pub time: i64,
+}
+
+// A search by halves: the records before `lo` pass, those from `hi` on don't. Record `at` is read
+// next, and `best` was read last.
+pub struct Search {
+    pub more: bool,
+    pub at: usize,
+    pub lo: usize,
+    pub hi: usize,
+    pub asked: Choice,
+    pub best: Checkpoint,
+}
+
+fn passes(asked: Choice, c: Checkpoint) -> bool
+    ensures { λ r. ⌜ r ≡ passesOf asked c ⌝ }
+{
+    if asked.by_time {
+        return c.time < asked.time;
+    }
+    c.event_index <= asked.index
+}
+
+fn middle(lo: usize, hi: usize) -> usize
+    requires { ⌜ lo < hi ⌝ }
+    ensures { λ r. ⌜ r ≡ middleOf lo hi ⌝ }
+{
+    lo + (hi - lo) / 2
+}
+
+// The record to read next: one in the middle, or, where `lo` and `hi` have met, the last that
+// passes, or else the first.
+fn place(lo: usize, hi: usize) -> usize
+    ensures { λ r. ⌜ r ≡ placeOf lo hi ⌝ }
+{
+    if lo < hi {
+        return middle(lo, hi);
+    }
+    if lo < 1 {
+        return 0;
+    }
+    lo - 1
+}
+
+fn bracket(more: bool, lo: usize, hi: usize, asked: Choice, best: Checkpoint) -> Search
+    ensures { λ r. ⌜ r ≡ bracketOf more lo hi asked best ⌝ }
+{
+    let at = place(lo, hi);
+    Search {
+        more,
+        at,
+        lo,
+        hi,
+        asked,
+        best,
+    }
+}
+
+// Before any of `n` records is read.
+pub fn first_search(n: usize, asked: Choice) -> Search
+    ensures { λ r. ⌜ r ≡ bracketOf (ltb 0 n) 0 n asked blank ⌝ }
+{
+    let codec = Codec::new(Encoding::Evt2);
+    let best = Checkpoint {
+        byte_offset: 0,
+        event_index: 0,
+        time: 0,
+        codec,
+    };
+    bracket(0 < n, 0, n, asked, best)
+}
+
+// Record `at` is read: one in the middle halves what is left, any other is the one looked for.
+pub fn narrow(s: Search, c: Checkpoint) -> Search
+    ensures { λ r. ⌜ r ≡ narrowed s c ⌝ }
+{
+    let asked = s.asked;
+    if s.lo < s.hi {
+        let half = middle(s.lo, s.hi);
+        if passes(asked, c) {
+            return bracket(true, half + 1, s.hi, asked, c);
+        }
+        return bracket(true, s.lo, half, asked, c);
+    }
+    bracket(false, s.lo, s.hi, asked, c)
+}
+
+// The last record that passes, or else the first, by halves. Without a record: a blank one.
+pub fn choose(records: &[Checkpoint], asked: Choice) -> Checkpoint
+    ensures { λ r. ⌜ Chose asked (now (records .entry)) r ⌝ }
+{
+    let n = records.len();
+    let mut t = first_search(n, asked);
+    while t.more {
+        let i = t.at;
+        let c = records[i];
+        t = narrow(t, c);
+    }
+    t.best
+}
+
+// The judging of records one after another (rule 10): record by record what the next one's offset
+// must be, and the last one's count and time. `past`: that offset passes 2^64.
+pub struct Judging {
+    pub ok: bool,
+    pub past: bool,
+    pub offset: usize,
+    pub spacing: usize,
+    pub encoding: Encoding,
+    pub total: usize,
+    pub count: usize,
+    pub time: i64,
+}
+
+fn is_other(codec: Codec, encoding: Encoding) -> bool
+    ensures { λ r. ⌜ r ≡ isOther codec encoding ⌝ }
+{
+    match codec {
+        Codec::Evt2(_) => match encoding {
+            Encoding::Evt2 => false,
+            Encoding::Evt3 => true,
+        },
+        Codec::Evt3(_) => match encoding {
+            Encoding::Evt2 => true,
+            Encoding::Evt3 => false,
+        },
+    }
+}
+
+// Whether a record may stand there, its decoder aside.
+fn stands(s: Judging, c: Checkpoint) -> bool
+    ensures { λ r. ⌜ r ≡ standsOf s c ⌝ }
+{
+    if s.past {
+        return false;
+    }
+    if c.byte_offset < s.offset {
+        return false;
+    }
+    if s.offset < c.byte_offset {
+        return false;
+    }
+    if c.event_index < s.count {
+        return false;
+    }
+    if 8589934592 < c.event_index {
+        return false;
+    }
+    if s.total < c.event_index {
+        return false;
+    }
+    s.time <= c.time
+}
+
+fn ahead(s: Judging, c: Checkpoint, ok: bool, past: bool, offset: usize) -> Judging
+    ensures { λ r. ⌜ r ≡ aheadOf s c ok past offset ⌝ }
+{
+    let encoding = s.encoding;
+    Judging {
+        ok,
+        past,
+        offset,
+        spacing: s.spacing,
+        encoding,
+        total: s.total,
+        count: c.event_index,
+        time: c.time,
+    }
+}
+
+// Goes on behind a record.
+fn onward(s: Judging, c: Checkpoint, ok: bool) -> Judging
+    ensures { λ r. ⌜ r ≡ onwardOf s c ok ⌝ }
+{
+    let most = 18446744073709551615 - s.spacing;
+    if most < s.offset {
+        return ahead(s, c, ok, true, 0);
+    }
+    ahead(s, c, ok, false, s.offset + s.spacing)
+}
+
+// Whether a record may stand there, and all before it might.
+fn admits(s: Judging, c: Checkpoint) -> bool
+    ensures { λ r. ⌜ r ≡ admitsOf s c ⌝ }
+{
+    let codec = c.codec;
+    let encoding = s.encoding;
+    if is_other(codec, encoding) {
+        return false;
+    }
+    if stands(s, c) {
+        if s.ok {
+            return codec.in_range();
+        }
+    }
+    false
+}
+
+// One record more.
+pub fn judge(s: Judging, c: Checkpoint) -> Judging
+    ensures { λ r. ⌜ r ≡ judgedOf s c ⌝ }
+{
+    let ok = admits(s, c);
+    onward(s, c, ok)
+}
+
+// All records, each read singly into a copy.
+pub fn judge_all(records: &[Checkpoint], s: Judging) -> Judging
+    ensures { λ r. ⌜ r ≡ judgedAll s (now (records .entry)) ⌝ }
+{
+    let mut t = s;
+    let mut i = 0;
+    while i < records.len() {
+        let c = records[i];
+        t = judge(t, c);
+        i += 1;
+    }
+    t
+}

@@ -1,0 +1,88 @@
+-- Document 01's bench values that are to be proved of the definitions: one statement over one list.
+use mathlib.Core.Path.{_≡_, refl}
+use mathlib.Core.List.{List, [], _∷_}
+use Prim.Native.Nat.{ℕ}
+use lib.ListN.{take}
+use Rattle.laws_stream.specs.Loop.{loopsAfter, timeAfter}
+use Rattle.laws_stream.specs.Machine.{All}
+use Rattle.laws_stream.specs.Mask.{bits}
+use Rattle.laws_stream.specs.Words.{stream}
+use Rattle.evt_types.specs.declared.Encoding.{Encoding}
+use Rattle.evt_types.specs.declared.Encoding.the-variants.{Evt2, Evt3}
+use Rattle.evt_codec.specs.Codec.{freshC, eventsFrom, codecAfter, timeC, loopsC}
+use Rattle.evt_types.specs.Event.{Event}
+use Rattle.evt2_decoder.specs.Evt2.{step2, vector2}
+use Rattle.evt3_decoder.specs.Evt3.{step3, vector3}
+use Rattle.write_words.specs.Encode.{encodeBytes}
+use Rattle.evt2_encoder.specs.Evt2.{encode2}
+use Rattle.evt3_lead_words.specs.Evt3.{encode3, leads3, body3, windows, vectored, nearby, beyond}
+use Rattle.write_buffer.specs.Sent.{freshState}
+
+abbrev ev : (t x y p : ℕ) → Event
+ev t x y p = record { t = t; x = x; y = y; p = p }
+
+pub data Value : Type 0 where
+  -- bytes read by a fresh decoder, the events that they give, and the decoder's time and loops after them
+  reads : Encoding → (bytes : List ℕ) → List Event → (time loops : ℕ) → Value
+  -- events written by a fresh writer without a header, and the bytes
+  writes : Encoding → List Event → (bytes : List ℕ) → Value
+  -- events written likewise, the bytes cut, and the events that a fresh decoder reads from what is left
+  cuts : Encoding → List Event → (at : ℕ) → List Event → Value
+
+unfoldable pub Right : Value → Type 0
+Right (reads e l es time loops) =
+    let c = codecAfter (freshC e) l in
+    (eventsFrom (freshC e) l ≡ es) × (timeC c ≡ time) × (loopsC c ≡ loops)
+Right (writes e es l) = encodeBytes e freshState es ≡ l
+Right (cuts e es at left) = eventsFrom (freshC e) (take at (encodeBytes e freshState es)) ≡ left
+
+-- 80000001 19002807
+abbrev one2 : List ℕ
+one2 = stream 4 (2147483649 ∷ 419440647 ∷ [])
+
+-- 8001 6001 0007 2805
+abbrev one3 : List ℕ
+one3 = stream 2 (32769 ∷ 24577 ∷ 7 ∷ 10245 ∷ [])
+
+-- 8001 6001 0007, and 300A 400B, 300A 4C01 or 200A 2014 2016
+abbrev near : List ℕ
+near = stream 2 (32769 ∷ 24577 ∷ 7 ∷ 12298 ∷ 16395 ∷ [])
+
+abbrev far : List ℕ
+far = stream 2 (32769 ∷ 24577 ∷ 7 ∷ 12298 ∷ 19457 ∷ [])
+
+abbrev apart : List ℕ
+apart = stream 2 (32769 ∷ 24577 ∷ 7 ∷ 8202 ∷ 8212 ∷ 8214 ∷ [])
+
+-- three events of t = 4097, y = 7, p = 0
+abbrev three : (a b c : ℕ) → List Event
+three a b c = ev 4097 a 7 0 ∷ ev 4097 b 7 0 ∷ ev 4097 c 7 0 ∷ []
+
+abbrev pub values : List Value
+values =
+    writes Evt2 (ev 100 5 7 1 ∷ []) one2
+    ∷ writes Evt3 (ev 4097 5 7 1 ∷ []) one3
+    ∷ writes Evt3 (three 10 11 13) near
+    ∷ cuts Evt3 (three 10 11 13) 9 []
+    ∷ cuts Evt3 (three 10 11 13) 10 (three 10 11 13)
+    ∷ writes Evt3 (three 10 20 21) far
+    ∷ writes Evt3 (three 10 20 22) apart
+    ∷ reads Evt2 one2 (ev 100 5 7 1 ∷ []) 100 0
+    ∷ reads Evt3 one3 (ev 4097 5 7 1 ∷ []) 4097 0
+    ∷ reads Evt3 near (three 10 11 13) 4097 0
+    ∷ reads Evt3 (take 9 near) [] 4097 0
+    ∷ reads Evt3 (take 10 near) (three 10 11 13) 4097 0
+    ∷ reads Evt3 far (three 10 20 21) 4097 0
+    ∷ reads Evt3 apart (three 10 20 22) 4097 0
+    -- 8FFF 800A, 8FFF 800B
+    ∷ reads Evt3 (stream 2 (36863 ∷ 32778 ∷ [])) [] 16818176 1
+    ∷ reads Evt3 (stream 2 (36863 ∷ 32779 ∷ [])) [] 45056 0
+    -- 8FFFFFFF 80FFFFFF, 8FFFFFFF 81000000
+    ∷ reads Evt2 (stream 4 (2415919103 ∷ 2164260863 ∷ [])) [] 18253610944 1
+    ∷ reads Evt2 (stream 4 (2415919103 ∷ 2164260864 ∷ [])) [] 1073741824 0
+    ∷ []
+
+pub bench : All Right values
+unfolding Right step2 vector2 step3 vector3 loopsAfter timeAfter bits encodeBytes encode2 encode3 leads3 body3 windows vectored nearby beyond
+bench =
+    (refl, (refl, (refl, (refl, (refl, (refl, (refl, ((refl, refl, refl), ((refl, refl, refl), ((refl, refl, refl), ((refl, refl, refl), ((refl, refl, refl), ((refl, refl, refl), ((refl, refl, refl), ((refl, refl, refl), ((refl, refl, refl), ((refl, refl, refl), ((refl, refl, refl), tt))))))))))))))))))

@@ -1,0 +1,125 @@
+-- Either encoding as a format whose writer is given an append's events at a time, over the definitions that contracts cite.
+use mathlib.Core.Path.{_≡_, refl, ap, _∙_}
+use mathlib.Core.Bool.{Bool}
+use mathlib.Core.List.{List, [], _∷_}
+use Prim.Native.Nat.{ℕ, _≤_}
+use native.Mathlib.Omega.{arith}
+use Rattle.laws_stream.specs.Machine.{Machine, Note, All, all-of}
+use Rattle.laws_stream.specs.Words.{wordsOf}
+use Rattle.laws_stream.specs.Format.{Format, Lawful, through, givens}
+use Rattle.laws_stream.specs.Stream.{decode, after}
+use Rattle.laws_stream.specs.Order.{Rise, rise-all}
+use Rattle.laws_stream.specs.Slice.{Past, reached, past-then}
+use Rattle.evt_types.specs.declared.Encoding.{Encoding}
+use Rattle.evt_types.specs.declared.Encoding.the-variants.{Evt2, Evt3}
+use Rattle.evt2_decoder.specs.declared.Evt2Decoder.{Evt2Decoder}
+use Rattle.evt3_decoder.specs.declared.Decoder.{Decoder}
+use Rattle.evt_codec.specs.declared.codec.Codec.{Codec}
+use Rattle.evt_codec.specs.declared.codec.Codec.the-variants as C
+use Rattle.evt_types.specs.Event.{Event}
+use Rattle.evt2_decoder.specs.Evt2.{fresh2, reader2}
+use Rattle.evt3_decoder.specs.Evt3.{fresh3, reader3}
+use Rattle.evt_codec.specs.Codec.{freshC, startedC, timeC, eventsFrom, codecAfter}
+use Rattle.read_columns.specs.Inside.{inside, clock}
+use Rattle.read_window.specs.declared.Window.{Window}
+use Rattle.read_select.specs.Uses.{isTimely, PastOver}
+use Rattle.write_buffer.specs.declared.EncoderState.{EncoderState}
+use Rattle.write_buffer.specs.Sent.{freshState}
+use Rattle.evt3_run_rules.specs.Runs.{Run, runs, runs-are, givenBy}
+use Rattle.write_words.specs.Encode.{encodeNotes, encodeState, encodeSize}
+use Rattle.laws_formats.specs.Ready.{limit, sayable}
+use Rattle.laws_formats.specs.Lawful2.{Ready2, format2, lawful2}
+use Rattle.laws_formats.specs.Lawful3.{Ready3, format3, lawful3}
+
+-- a decoder of the encoding
+abbrev pub StateOf : Encoding → Type 0
+StateOf Evt2 = Evt2Decoder
+StateOf Evt3 = Decoder
+
+abbrev pub codecOf : (e : Encoding) → StateOf e → Codec
+codecOf Evt2 d = C.Evt2 d
+codecOf Evt3 d = C.Evt3 d
+
+abbrev pub freshOf : (e : Encoding) → StateOf e
+freshOf Evt2 = fresh2
+freshOf Evt3 = fresh3
+
+abbrev pub readerOf : (e : Encoding) → Machine (StateOf e) ℕ Event
+readerOf Evt2 = reader2
+readerOf Evt3 = reader3
+
+-- a writer that is given the events of one append after another
+abbrev pub appender : Encoding → Machine EncoderState (List Event) (Note ℕ Event)
+appender e = record { step = encodeState e; emit = encodeNotes e }
+
+abbrev pub ReadyOf : (e : Encoding) → StateOf e → List Event → Type 0
+ReadyOf Evt2 d es = Ready2 d es
+ReadyOf Evt3 d es = Ready3 d es
+
+abbrev pub AgreeOf : (e : Encoding) → EncoderState → StateOf e → Type 0
+AgreeOf Evt2 v d = format2 .Agree v d
+AgreeOf Evt3 v d = format3 .Agree v d
+
+abbrev pub formatOf : (e : Encoding) → Format (StateOf e) EncoderState (List Event) Event
+formatOf e = record {
+  size = encodeSize e;
+  reader = readerOf e;
+  start = freshOf e;
+  writer = appender e;
+  fresh = freshState;
+  given = λ g. g;
+  Valid = λ g. Unit;
+  Ready = ReadyOf e;
+  Agree = AgreeOf e;
+}
+
+-- ---- both are lawful
+
+all-given2 : (g : List Event) → givens format2 g ≡ g
+all-given2 [] = refl
+all-given2 (a ∷ g) = ap {B = List Event} (λ (l : List Event). a ∷ l) (all-given2 g)
+
+all-given3 : (rs : List Run) → givens format3 rs ≡ givenBy rs
+all-given3 [] = refl
+all-given3 (r ∷ rs) = rw (all-given3 rs)
+
+pub lawfulOf : (e : Encoding) → Lawful (formatOf e)
+lawfulOf Evt2 = through format2 (λ g. g) (λ g. g) (λ g. Unit) lawful2 all-given2 (λ g va. all-of _ (λ a. tt) g)
+lawfulOf Evt3 = through format3 runs (λ g. g) (λ g. Unit) lawful3 (λ g. all-given3 (runs g) ∙ runs-are g .1) (λ g va. runs-are g .0)
+
+-- ---- in the words of a codec
+
+pub fresh-is : (e : Encoding) → freshC e ≡ codecOf e (freshOf e)
+fresh-is Evt2 = refl
+fresh-is Evt3 = refl
+
+pub events-are : (e : Encoding) (d : StateOf e) (l : List ℕ) → eventsFrom (codecOf e d) l ≡ decode (encodeSize e) (readerOf e) d l
+events-are Evt2 d l = refl
+events-are Evt3 d l = refl
+
+pub after-is : (e : Encoding) (d : StateOf e) (l : List ℕ) → codecAfter (codecOf e d) l ≡ codecOf e (after (encodeSize e) (readerOf e) d l)
+after-is Evt2 d l = refl
+after-is Evt3 d l = refl
+
+-- a fresh decoder is ready for all that can be said
+pub fresh-ready : (e : Encoding) (es : List Event) → Rise clock (sayable (limit e)) 0 es → ReadyOf e (freshOf e) es
+fresh-ready Evt2 es r = record { counted = omega arith; past = omega arith; rises = r }
+fresh-ready Evt3 es r = record { counted = omega arith; past = omega arith; rises = r }
+
+-- ---- time
+
+abbrev pub isStarted : (e : Encoding) → StateOf e → Bool
+isStarted e d = startedC (codecOf e d)
+
+abbrev pub timeOf : (e : Encoding) → StateOf e → ℕ
+timeOf e d = timeC (codecOf e d)
+
+-- no event to come is before the decoder's time
+pub ready-ahead : (e : Encoding) (d : StateOf e) (es : List Event) → ReadyOf e d es → All (λ a. timeOf e d ≤ clock a) es
+ready-ahead Evt2 d es rd = rise-all clock (sayable (limit Evt2)) (d .time) es (rd .rises)
+ready-ahead Evt3 d es rd = rise-all clock (sayable (limit Evt3)) (d .time) es (rd .rises)
+
+pub past-over : (e : Encoding) (win : Window) (d : StateOf e) (l : List ℕ)
+    → Past (readerOf e) (isTimely win) (reached (isStarted e) (timeOf e) (win .t1)) d (wordsOf (encodeSize e) l) → PastOver win (codecOf e d) l
+past-over Evt2 win d l p = past-then reader2 (inside (win .width) (win .height)) (isTimely win) (reached (isStarted Evt2) (timeOf Evt2) (win .t1)) d (wordsOf 4 l) p
+past-over Evt3 win d l p = past-then reader3 (inside (win .width) (win .height)) (isTimely win) (reached (isStarted Evt3) (timeOf Evt3) (win .t1)) d (wordsOf 2 l) p

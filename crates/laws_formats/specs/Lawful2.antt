@@ -1,0 +1,138 @@
+-- EVT2: the decoder understands the writer.
+use mathlib.Core.Path.{_≡_, refl, ap, _∙_}
+use mathlib.Core.Bool.{Bool, true, false}
+use mathlib.Core.List.{List, [], _∷_, _++_}
+use Prim.Native.Nat.{ℕ, _+_, _*_, _/_, _%_, _^_, _≤_, _<_}
+use native.Mathlib.Omega.{arith}
+use Rattle.laws_stream.specs.Machine.{run, words}
+use Rattle.laws_stream.specs.Format.{Format, Lawful, Good}
+use Rattle.laws_stream.specs.Loop.{tracks-same}
+use Rattle.laws_stream.specs.Order.{rise-first}
+use Rattle.evt_types.specs.declared.Encoding.the-variants.{Evt2}
+use Rattle.evt2_decoder.specs.declared.Evt2Decoder.{Evt2Decoder}
+use Rattle.evt_types.specs.Event.{Event, eventsOf}
+use Rattle.evt_types.specs.Layout.{type2, timeLow2, x2, y2, event-type2, event-low2, event-x2, event-y2, event-fits2, time-type2, time-high2, time-fits2}
+use Rattle.evt2_decoder.specs.Evt2 as Reader
+use Rattle.evt2_decoder.specs.Evt2.{fresh2, period2, threshold2, step2, vector2, reader2, time-word, event-word}
+use Rattle.read_columns.specs.Inside.{clock}
+use Rattle.write_buffer.specs.declared.EncoderState.{EncoderState}
+use Rattle.write_buffer.specs.Sent.{freshState, carries, due}
+use Rattle.evt2_encoder.specs.Evt2.{highWord2, wordOf2, highSent2, encode2, writer2, encode-notes2}
+use Rattle.laws_formats.specs.Ready.{limit, sayable, Ready, Holds, holds-sent, Sayable, sayable-true, no-event, one-event}
+
+abbrev pub Ready2 : Evt2Decoder → List Event → Type 0
+Ready2 d es = Ready period2 (limit Evt2) (d .«time_high») (d .time) (d .«high_loops») es
+
+-- the decoder has the coarse time of the half h
+abbrev pub High2 : Evt2Decoder → (h : ℕ) → Type 0
+High2 d h = (d .initialised ≡ true) × (d .«time_high» ≡ h * 64)
+
+abbrev pub format2 : Format Evt2Decoder EncoderState Event Event
+format2 = record {
+  size = 4;
+  reader = reader2;
+  start = fresh2;
+  writer = writer2;
+  fresh = freshState;
+  given = λ e. e ∷ [];
+  Valid = λ e. Unit;
+  Ready = Ready2;
+  Agree = λ v d. Holds (v .«time_high») (High2 d);
+}
+
+-- ---- an event's word, at the coarse time that the event has
+
+module _ (d : Evt2Decoder) (e : Event) (f : Sayable (limit Evt2) e) (on : d .initialised ≡ true) (at : d .«time_high» ≡ e .t / 64 * 64) where
+  abbrev w : ℕ
+  w = wordOf2 e
+
+  p<2 : e .p % 2 < 2
+  p<2 = omega arith
+
+  low< : e .t % 64 < 64
+  low< = omega arith
+
+  x<2048 : e .x % 2048 < 2048
+  x<2048 = omega arith
+
+  y<2048 : e .y % 2048 < 2048
+  y<2048 = omega arith
+
+  is-p : type2 w ≡ e .p
+  is-p = event-type2 (e .p % 2) (e .t % 64) (e .x % 2048) (e .y % 2048) p<2 low< x<2048 y<2048 ∙ omega (arith, f .p<)
+
+  is-x : x2 w ≡ e .x
+  is-x = event-x2 (e .p % 2) (e .t % 64) (e .x % 2048) (e .y % 2048) p<2 low< x<2048 y<2048 ∙ omega (arith, f .x<)
+
+  is-y : y2 w ≡ e .y
+  is-y = event-y2 (e .p % 2) (e .t % 64) (e .x % 2048) (e .y % 2048) p<2 low< x<2048 y<2048 ∙ omega (arith, f .y<)
+
+  is-t : d .«time_high» + timeLow2 w ≡ e .t
+  is-t = rw (event-low2 (e .p % 2) (e .t % 64) (e .x % 2048) (e .y % 2048) p<2 low< x<2048 y<2048, at) (omega arith)
+
+  by-event : (step2 d w ≡ Reader.stepAs Reader.event d w) × (vector2 d w ≡ Reader.vectorAs Reader.event d w)
+  by-event = event-word d w (type2 w) refl (omega (arith, is-p, f .p<)) on
+
+  pub event-emits : eventsOf (vector2 d w) ≡ e ∷ []
+  event-emits = ap eventsOf (by-event .1) ∙ one-event (x2 w) (y2 w) (d .«time_high» + timeLow2 w) (type2 w) (omega (arith, is-x, f .x<)) ∙ rw (is-x, is-y, is-t, is-p)
+
+  pub event-steps : step2 d w ≡ record { initialised = d .initialised; «time_high» = d .«time_high»; time = e .t; «high_loops» = d .«high_loops» }
+  event-steps = by-event .0 ∙ rw is-t
+
+  pub said-event : (more : List Event) → Ready2 d (e ∷ more) → Good format2 d (carries w e ∷ []) more × High2 (step2 d w) (e .t / 64)
+  said-event more rd = (
+    record {
+      ready = rd;
+      fits = event-fits2 (e .p % 2) (e .t % 64) (e .x % 2048) (e .y % 2048) p<2 low< x<2048 y<2048;
+      says = event-emits;
+      rest = rw event-steps (record { counted = rd .counted; past = omega (arith, at); rises = rd .rises .1 });
+    },
+    rw event-steps (on, at),
+  )
+
+-- ---- the word that sends the coarse half of t, where t is in the loop that the decoder counts
+
+module _ (d : Evt2Decoder) (t : ℕ) (low : d .«high_loops» * period2 ≤ t) (high : t < d .«high_loops» * period2 + period2) (le : d .«time_high» ≤ t) where
+  abbrev q : ℕ
+  q = t / 64 % 2 ^ 28
+
+  q< : q < 2 ^ 28
+  q< = omega arith
+
+  by-time : (step2 d (highWord2 t) ≡ Reader.stepAs Reader.timeHigh d (highWord2 t)) × (vector2 d (highWord2 t) ≡ Reader.vectorAs Reader.timeHigh d (highWord2 t))
+  by-time = time-word d (highWord2 t) (type2 (highWord2 t)) refl (time-type2 q q<)
+
+  pub high-fits : highWord2 t < 256 ^ 4
+  high-fits = time-fits2 q q<
+
+  pub high-emits : eventsOf (vector2 d (highWord2 t)) ≡ []
+  high-emits = ap eventsOf (by-time .1) ∙ no-event
+
+  pub high-steps : step2 d (highWord2 t) ≡ record { initialised = true; «time_high» = t / 64 * 64; time = t / 64 * 64; «high_loops» = d .«high_loops» }
+  high-steps =
+      let k = tracks-same period2 threshold2 (d .«time_high») (d .«high_loops») (q * 64) (t / 64 * 64) (omega arith) (omega arith) in
+      by-time .0 ∙ rw (time-high2 q q<, k .0, k .1)
+
+-- ---- the law
+
+group-as : (b : Bool) (d : Evt2Decoder) (e : Event) (more : List Event) → (b ≡ true → High2 d (e .t / 64)) → Ready2 d (e ∷ more)
+    → let ns = due b (highWord2 (e .t)) ++ (carries (wordOf2 e) e ∷ []) in Good format2 d ns more × High2 (run reader2 d (words ns)) (e .t / 64)
+group-as true d e more h rd = said-event d e (sayable-true (limit Evt2) e (rd .rises .0 .fine)) (h refl .0) (h refl .1) more rd
+group-as false d e more h rd =
+    let f = sayable-true (limit Evt2) e (rd .rises .0 .fine) in
+    let le : d .«time_high» ≤ e .t = omega (arith, rd .past, rd .rises .0 .rises) in
+    let low : d .«high_loops» * period2 ≤ e .t = omega (arith, rd .counted) in
+    let high : e .t < d .«high_loops» * period2 + period2 = omega (arith, f .t<) in
+    let next : Evt2Decoder = record { initialised = true; «time_high» = e .t / 64 * 64; time = e .t / 64 * 64; «high_loops» = d .«high_loops» } in
+    let up : step2 d (highWord2 (e .t)) ≡ next = high-steps d (e .t) low high le in
+    let r = said-event next e f refl refl more (record { counted = omega arith; past = omega arith; rises = rise-first clock (sayable (limit Evt2)) (d .time) (e .t / 64 * 64) e more (omega arith) (rd .rises) }) in
+    (record { ready = rd; fits = high-fits d (e .t) low high le; says = high-emits d (e .t) low high le; rest = rw up (r .0) }, rw up (r .1))
+
+pub lawful2 : Lawful format2
+unfolding encode2
+lawful2 = record {
+  sized = omega arith;
+  noted = λ v e va. encode-notes2 v e;
+  starts = λ d. tt;
+  group = λ v d e more va ag rd. group-as (highSent2 v e) d e more (holds-sent (v .«time_high») (High2 d) (e .t / 64) ag) rd;
+}

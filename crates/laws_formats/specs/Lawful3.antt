@@ -1,0 +1,290 @@
+-- EVT3: the decoder understands the writer.
+use mathlib.Core.Path.{_≡_, refl, sym, ap, _∙_, subst⁻¹}
+use mathlib.Core.Bool.{Bool, true, false, cond, true≢false}
+use mathlib.Core.List.{List, [], _∷_, _++_, append-assoc, map}
+use Prim.Native.Nat.{ℕ, zero, suc, _+_, _-_, _*_, _/_, _%_, _^_, _≤_, _<_, min}
+use native.Mathlib.Omega.{arith}
+use lib.Dec.{eqb}
+use lib.ListN.{length, getD}
+use borrow.Author.Tests.{eqb-true}
+use Rattle.laws_stream.specs.Machine.{Note, run, words, notes}
+use Rattle.laws_stream.specs.Format.{Format, Lawful, Good}
+use Rattle.laws_stream.specs.Loop.{tracks-same}
+use Rattle.laws_stream.specs.Mask.{Inc, mask, bits, bits-mask, mask-lt}
+use Rattle.laws_stream.specs.Order.{Rise, rise-from, rise-suffix}
+use Rattle.evt_types.specs.declared.Encoding.the-variants.{Evt3}
+use Rattle.evt3_decoder.specs.declared.Decoder.{Decoder}
+use Rattle.evt_types.specs.declared.Sent.{Sent}
+use Rattle.evt_types.specs.declared.vector.Vector.{Vector}
+use Rattle.evt_types.specs.Event.{Event, eventAt, eventsOf}
+use Rattle.evt_types.specs.Layout.{type3, x3, polarity3, mask12, time3, word-type3, word-time3, word-mask12, word-y3, word-fits3, column-type3, column-polarity3, column-x3, column-fits3}
+use Rattle.evt3_decoder.specs.Evt3.{fresh3, period3, threshold3, timed, past, number, step3, vector3, reader3, stepAs, vectorAs, kindOn, started-word, first-word}
+use Rattle.read_columns.specs.Inside.{clock}
+use Rattle.write_buffer.specs.declared.EncoderState.{EncoderState}
+use Rattle.write_buffer.specs.Columns.{event}
+use Rattle.write_buffer.specs.Sent.{freshState, sentIs, due}
+use Rattle.evt3_run_rules.specs.Runs.{Run, given, spread, Rising, Valid, firstX, lastX}
+use Rattle.evt3_lead_words.specs.Evt3.{highWord3, lowWord3, rowWord3, lowHeld, highSent3, lowSent3, rowSent3, leads3, singleWord3, baseWord3, maskWord3, nearby, beyond, windows, vectored, singles, masks, vectors, body3, encode3, encoded3, writer3}
+use Rattle.evt3_run_words.specs.Windows.{near-inc}
+use Rattle.write_words.specs.Laws.{reach, spread-is, none-left, singles-notes, masks-notes, body-notes, due-notes, encode-notes3}
+use Rattle.laws_formats.specs.Ready.{limit, sayable, Ready, Holds, holds-sent, Sayable, sayable-true, no-event, one-event}
+
+abbrev pub Ready3 : Decoder → List Event → Type 0
+Ready3 d es = Ready period3 (limit Evt3) (d .«time_base») (d .time) (d .«high_loops») es
+
+-- the decoder has the coarse time of the half h
+abbrev pub High3 : Decoder → (h : ℕ) → Type 0
+High3 d h = (d .initialised ≡ true) × (d .«time_base» ≡ h * 4096)
+
+-- what the writer takes for sent is what the decoder has
+pub record Agree3 (v : EncoderState) (d : Decoder) : Type 0 where
+  pub highs : Holds (v .«time_high») (High3 d)
+  pub lows : Holds (v .«time_low») (λ l. d .time ≡ d .«time_base» + l)
+  pub rows : Holds (v .y) (λ y. d .y ≡ y)
+
+abbrev pub format3 : Format Decoder EncoderState Run Event
+format3 = record {
+  size = 2;
+  reader = reader3;
+  start = fresh3;
+  writer = writer3;
+  fresh = freshState;
+  given = given;
+  Valid = Valid;
+  Ready = Ready3;
+  Agree = Agree3;
+}
+
+abbrev Rises : ℕ → List Event → Type 0
+Rises = Rise clock (sayable (limit Evt3))
+
+-- the decoder has the time t and the row y
+record Fixed (t y : ℕ) (d : Decoder) : Type 0 where
+  on : d .initialised ≡ true
+  counted : d .«high_loops» * period3 ≤ d .«time_base»
+  at-coarse : d .«time_base» ≡ t / 4096 * 4096
+  at-time : d .time ≡ t
+  at-row : d .y ≡ y
+
+fixed-ready : (t y : ℕ) (d : Decoder) (es : List Event) → Fixed t y d → Rises t es → Ready3 d es
+fixed-ready t y d es f r = record { counted = f .counted; past = omega (arith, f .at-coarse, f .at-time); rises = rw (f .at-time) r }
+
+-- what the decoder makes of some words, the last of which leave it at t and y
+abbrev Reads : (t y : ℕ) → Decoder → List (Note ℕ Event) → List Event → Type 0
+Reads t y d ns more = Good format3 d ns more × Fixed t y (run reader3 d (words ns))
+
+-- one word, and what follows it
+said-word : (t y : ℕ) (d d′ : Decoder) (w : ℕ) (es left : List Event) (ns : List (Note ℕ Event)) (more : List Event)
+    → step3 d w ≡ d′ → eventsOf (vector3 d w) ≡ es → w < 2 ^ 16 → notes ns ≡ left → Ready3 d (es ++ (left ++ more))
+    → Reads t y d′ ns more → Reads t y d (record { word = w; events = es } ∷ ns) more
+said-word t y d d′ w es left ns more st em fits nl rd next = (
+  record {
+    ready = subst⁻¹ (λ (l : List Event). Ready3 d (es ++ (l ++ more))) nl rd;
+    fits = fits;
+    says = em;
+    rest = subst⁻¹ (λ (z : Decoder). Good format3 z ns more) st (next .0);
+  },
+  subst⁻¹ (λ (z : Decoder). Fixed t y (run reader3 z (words ns))) st (next .1),
+)
+
+-- ---- events one by one
+
+said-singles : (t y p : ℕ) (xs : List ℕ) (d : Decoder) (more : List Event) → Fixed t y d → Rises t (spread t y p xs ++ more) → Reads t y d (singles t y p xs) more
+said-singles t y p [] d more f r = (fixed-ready t y d more f r, f)
+said-singles t y p (x ∷ xs) d more f r =
+    let g = sayable-true (limit Evt3) (event x y t p) (r .0 .fine) in
+    let w = singleWord3 p x in
+    let p2 : p % 2 < 2 = omega arith in
+    let xm : x % 2048 < 2048 = omega arith in
+    let is-x : x3 w ≡ x = column-x3 2 (p % 2) (x % 2048) (omega arith) p2 xm ∙ omega (arith, g .x<) in
+    let is-p : polarity3 w ≡ p = column-polarity3 2 (p % 2) (x % 2048) (omega arith) p2 xm ∙ omega (arith, g .p<) in
+    let by = started-word d w (type3 w) refl 2 (column-type3 2 (p % 2) (x % 2048) (omega arith) p2 xm) (f .on) in
+    said-word t y d d w (event x y t p ∷ []) (spread t y p xs) (singles t y p xs) more (by .0)
+    (ap eventsOf (by .1) ∙ one-event (x3 w) (d .y) (d .time) (polarity3 w) (omega (arith, is-x, g .x<)) ∙ rw (is-x, is-p, f .at-time, f .at-row))
+    (column-fits3 2 (p % 2) (x % 2048) (omega arith) p2 xm) (singles-notes t y p xs) (fixed-ready t y d (event x y t p ∷ (spread t y p xs ++ more)) f r)
+    (said-singles t y p xs d more f (r .1))
+
+-- ---- events by masks
+
+spread-at : (v : Vector) (b to : ℕ) (xs : List ℕ) → to ≤ 65536 → Inc b to xs → map (eventAt v) xs ≡ spread (v .t) (v .y) (v .p) xs
+spread-at v b to [] h i = refl
+spread-at v b to (x ∷ xs) h i =
+    let e : min x 65535 ≡ x = omega (arith, i .1) in
+    rw (e, spread-at v (suc x) to xs h (i .2))
+
+mask-events : (v : Vector) (xs : List ℕ) → v .x + 12 ≤ 65536 → v .mask ≡ mask (v .x) xs → Inc (v .x) (v .x + 12) xs → eventsOf v ≡ spread (v .t) (v .y) (v .p) xs
+mask-events v xs h e i =
+    ap (λ (m : ℕ). map (eventAt v) (bits 32 (v .x) m)) e
+    ∙ ap (map (eventAt v)) (bits-mask 32 (v .x) (v .x + 12) (v .x) xs (omega arith) (omega arith) i)
+    ∙ spread-at v (v .x) (v .x + 12) xs h i
+
+said-masks : (t y p k b : ℕ) (xs : List ℕ) (d : Decoder) (more : List Event) → Fixed t y d → d .«base_x» ≡ b → number (d .polarity) ≡ p → b + 12 * k ≤ 65535
+    → Inc b (b + 12 * k) xs → Rises t (spread t y p xs ++ more) → Reads t y d (masks t y p k b xs) more
+said-masks t y p zero b xs d more f eb ep fits i r = (fixed-ready t y d more f (rw (none-left b (b + 12 * 0) xs (omega arith) i) at r), f)
+said-masks t y p (suc k) b xs d more f eb ep fits i r =
+    let n = near-inc (b + 12) b (b + 12 * suc k) xs i in
+    let near = nearby (b + 12) xs in
+    let far = beyond (b + 12) xs in
+    let i′ : Inc (b + 12) (b + 12 + 12 * k) far = let e : b + 12 * suc k ≡ b + 12 + 12 * k = omega arith in rw e at (n .1) in
+    let lt : mask b near < 2 ^ 12 = mask-lt 12 b (b + 12) b near (omega arith) (omega arith) (n .0) in
+    let w = maskWord3 b near in
+    let m< : mask b near % 4096 < 4096 = omega arith in
+    let is-mask : mask12 w ≡ mask (d .«base_x») near = word-mask12 4 (mask b near % 4096) (omega arith) m< ∙ rw eb (omega arith) in
+    let r₁ : Rises t ((spread t y p near ++ spread t y p far) ++ more) = rw (spread-is t y p (b + 12) xs) r in
+    let r₂ : Rises t (spread t y p near ++ (spread t y p far ++ more)) = rw append-assoc at r₁ in
+    let by = started-word d w (type3 w) refl 4 (word-type3 4 (mask b near % 4096) (omega arith) m<) (f .on) in
+    let next : min (d .«base_x» + 12) 65535 ≡ b + 12 = omega arith in
+    let inc : Inc (d .«base_x») (d .«base_x» + 12) near = rw eb (n .0) in
+    said-word t y d (past 12 d) w (spread t y p near) (spread t y p far) (masks t y p k (b + 12) far) more (by .0)
+    (ap eventsOf (by .1) ∙ mask-events (vectorAs (kindOn 4) d w) near (omega arith) is-mask inc ∙ rw (f .at-time, f .at-row, ep))
+    (word-fits3 4 (mask b near % 4096) (omega arith) m<) (masks-notes t y p k (b + 12) far i′) (fixed-ready t y d (spread t y p near ++ (spread t y p far ++ more)) f r₂)
+    (said-masks t y p k (b + 12) far (past 12 d) more (record { on = f .on; counted = f .counted; at-coarse = f .at-coarse; at-time = f .at-time; at-row = f .at-row })
+    next ep (omega arith) i′ (rise-suffix clock (sayable (limit Evt3)) t (spread t y p near) (spread t y p far ++ more) r₂))
+
+-- ---- the columns of a run
+
+first-fine : (t y p : ℕ) (xs : List ℕ) (more : List Event) → 1 ≤ length xs → Rises t (spread t y p xs ++ more) → Sayable (limit Evt3) (event (firstX xs) y t p)
+first-fine t y p [] more h r = absurd (omega arith)
+first-fine t y p (x ∷ xs) more h r = sayable-true (limit Evt3) (event x y t p) (r .0 .fine)
+
+all-fine : (t y p : ℕ) (xs : List ℕ) (more : List Event) → Rises t (spread t y p xs ++ more) → (k : ℕ) → getD xs k 0 < 2048
+all-fine t y p [] more r k = omega arith
+all-fine t y p (x ∷ xs) more r zero = sayable-true (limit Evt3) (event x y t p) (r .0 .fine) .x<
+all-fine t y p (x ∷ xs) more r (suc k) = all-fine t y p xs more (r .1) k
+
+windows-few : (xs : List ℕ) → lastX xs < 2048 → windows xs ≤ 171
+unfolding windows
+windows-few xs h = omega arith
+
+number-is : (p : ℕ) → p < 2 → number (eqb p 1) ≡ p
+number-is zero h = refl
+number-is (suc zero) h = refl
+number-is (suc (suc p)) h = absurd (omega arith)
+
+module _ (t y p : ℕ) (xs : List ℕ) (v : Rising xs) (more : List Event) (r : Rises t (spread t y p xs ++ more)) where
+  fine : Sayable (limit Evt3) (event (firstX xs) y t p)
+  fine = first-fine t y p xs more (v .some) r
+
+  said-vectors : (d : Decoder) → Fixed t y d → Reads t y d (vectors t y p xs) more
+  said-vectors d f =
+      let x = firstX xs in
+      let w = baseWord3 p x in
+      let few = windows-few xs (all-fine t y p xs more r (length xs - 1)) in
+      let p2 : p % 2 < 2 = omega arith in
+      let xm : x % 2048 < 2048 = omega arith in
+      let is-x : x3 w ≡ x = column-x3 3 (p % 2) (x % 2048) (omega arith) p2 xm ∙ omega (arith, fine .x<) in
+      let is-p : polarity3 w ≡ p = column-polarity3 3 (p % 2) (x % 2048) (omega arith) p2 xm ∙ omega (arith, fine .p<) in
+      let by = started-word d w (type3 w) refl 3 (column-type3 3 (p % 2) (x % 2048) (omega arith) p2 xm) (f .on) in
+      said-word t y d (stepAs (kindOn 3) d w) w [] (spread t y p xs) (masks t y p (windows xs) x xs) more (by .0) (ap eventsOf (by .1) ∙ no-event)
+      (column-fits3 3 (p % 2) (x % 2048) (omega arith) p2 xm) (masks-notes t y p (windows xs) x xs (reach xs v)) (fixed-ready t y d (spread t y p xs ++ more) f r)
+      (said-masks t y p (windows xs) x xs (stepAs (kindOn 3) d w) more
+      (record { on = f .on; counted = f .counted; at-coarse = f .at-coarse; at-time = f .at-time; at-row = f .at-row })
+      is-x (ap (λ (q : ℕ). number (eqb q 1)) is-p ∙ number-is p (fine .p<)) (omega (arith, fine .x<)) (reach xs v) r)
+
+  said-body : (d : Decoder) → Fixed t y d → Reads t y d (body3 t y p xs) more
+  unfolding body3
+  said-body d f = go (vectored xs)
+    where
+      go : (b : Bool) → Reads t y d (cond b (vectors t y p xs) (singles t y p xs)) more
+      go true = said-vectors d f
+      go false = said-singles t y p xs d more f r
+
+  -- ---- row and time before them
+
+  abbrev here : List (Note ℕ Event)
+  here = body3 t y p xs
+
+  said-row : (ro : Bool) (d : Decoder) → Fixed t (d .y) d → (ro ≡ true → d .y ≡ y) → Reads t y d (due ro (rowWord3 y) ++ here) more
+  said-row true d f h = said-body d (record { on = f .on; counted = f .counted; at-coarse = f .at-coarse; at-time = f .at-time; at-row = h refl })
+  said-row false d f h =
+      let w = rowWord3 y in
+      let y< : y % 2048 < 2048 = omega arith in
+      let by = started-word d w (type3 w) refl 0 (word-type3 0 (y % 2048) (omega arith) (omega arith)) (f .on) in
+      said-word t y d (stepAs (kindOn 0) d w) w [] (spread t y p xs) here more (by .0) (ap eventsOf (by .1) ∙ no-event)
+      (word-fits3 0 (y % 2048) (omega arith) (omega arith)) (body-notes t y p xs v) (fixed-ready t (d .y) d (spread t y p xs ++ more) f r)
+      (said-body (stepAs (kindOn 0) d w) (record { on = f .on; counted = f .counted; at-coarse = f .at-coarse; at-time = f .at-time; at-row = word-y3 0 (y % 2048) (omega arith) y< .0 ∙ omega (arith, fine .y<) }))
+
+  said-low : (lo ro : Bool) (d : Decoder) → d .initialised ≡ true → d .«time_base» ≡ t / 4096 * 4096 → Ready3 d (spread t y p xs ++ more)
+      → (lo ≡ true → d .time ≡ t) → (ro ≡ true → d .y ≡ y) → Reads t y d (due lo (lowWord3 t) ++ (due ro (rowWord3 y) ++ here)) more
+  said-low true ro d o k rd ht hr = said-row ro d (record { on = o; counted = rd .counted; at-coarse = k; at-time = ht refl; at-row = refl }) hr
+  said-low false ro d o k rd ht hr =
+      let w = lowWord3 t in
+      let l< : t % 4096 < 4096 = omega arith in
+      let by = started-word d w (type3 w) refl 6 (word-type3 6 (t % 4096) (omega arith) l<) o in
+      let is-t : d .«time_base» + time3 w ≡ t = rw (word-time3 6 (t % 4096) (omega arith) l<, k) (omega arith) in
+      said-word t y d (stepAs (kindOn 6) d w) w [] (spread t y p xs) (due ro (rowWord3 y) ++ here) more (by .0) (ap eventsOf (by .1) ∙ no-event)
+      (word-fits3 6 (t % 4096) (omega arith) l<) (due-notes ro (rowWord3 y) here ∙ body-notes t y p xs v) rd
+      (said-row ro (stepAs (kindOn 6) d w) (record { on = o; counted = rd .counted; at-coarse = k; at-time = is-t; at-row = refl }) hr)
+
+  -- the first type 8, and each later one, takes the decoder to the coarse time of t
+  high-word : (on : Bool) (d : Decoder) → d .initialised ≡ on → d .«high_loops» * period3 ≤ t → d .«time_base» ≤ t
+      → (step3 d (highWord3 t) ≡ timed d (t / 4096 * 4096) (d .«high_loops»)) × (eventsOf (vector3 d (highWord3 t)) ≡ [])
+  high-word on d o low le =
+      let w = highWord3 t in
+      let t< = fine .t< in
+      let q< : t / 4096 % 4096 < 4096 = omega arith in
+      let is-raw : time3 w * 4096 ≡ t / 4096 * 4096 = rw (word-time3 8 (t / 4096 % 4096) (omega arith) q<) (omega arith) in
+      go on o (word-type3 8 (t / 4096 % 4096) (omega arith) q<) is-raw
+    where
+      go : (on : Bool) → d .initialised ≡ on → type3 (highWord3 t) ≡ 8 → time3 (highWord3 t) * 4096 ≡ t / 4096 * 4096
+          → (step3 d (highWord3 t) ≡ timed d (t / 4096 * 4096) (d .«high_loops»)) × (eventsOf (vector3 d (highWord3 t)) ≡ [])
+      go true o is-8 is-raw =
+          let w = highWord3 t in
+          let by = started-word d w (type3 w) refl 8 is-8 o in
+          let t< = fine .t< in
+          let q = tracks-same period3 threshold3 (d .«time_base») (d .«high_loops») (t / 4096 * 4096) (t / 4096 * 4096) (omega arith) (omega arith) in
+          (by .0 ∙ rw (is-raw, q .0, q .1), ap eventsOf (by .1) ∙ no-event)
+      go false o is-8 is-raw =
+          let w = highWord3 t in
+          let by = first-word d w (type3 w) refl is-8 o in
+          (by .0 ∙ rw is-raw, ap eventsOf (by .1) ∙ no-event)
+
+  said-high : (hi lo ro : Bool) (d : Decoder) → Ready3 d (spread t y p xs ++ more) → d .time ≤ t → (hi ≡ true → High3 d (t / 4096))
+      → (lo ≡ true → (hi ≡ true → d .time ≡ t) × (hi ≡ false → t % 4096 ≡ 0)) → (ro ≡ true → d .y ≡ y)
+      → Reads t y d (due hi (highWord3 t) ++ (due lo (lowWord3 t) ++ (due ro (rowWord3 y) ++ here))) more
+  said-high true lo ro d rd le hh ht hr = said-low lo ro d (hh refl .0) (hh refl .1) rd (λ e. ht e .0 refl) hr
+  said-high false lo ro d rd le hh ht hr =
+      let w = highWord3 t in
+      let d′ = timed d (t / 4096 * 4096) (d .«high_loops») in
+      let low : d .«high_loops» * period3 ≤ t = omega (arith, rd .counted, rd .past) in
+      let q = high-word (d .initialised) d refl low (omega (arith, rd .past)) in
+      said-word t y d d′ w [] (spread t y p xs) (due lo (lowWord3 t) ++ (due ro (rowWord3 y) ++ here)) more (q .0) (q .1)
+      (word-fits3 8 (t / 4096 % 4096) (omega arith) (omega arith)) (due-notes lo (lowWord3 t) (due ro (rowWord3 y) ++ here) ∙ due-notes ro (rowWord3 y) here ∙ body-notes t y p xs v) rd
+      (said-low lo ro d′ refl refl
+      (record { counted = omega arith; past = omega arith; rises = rise-from clock (sayable (limit Evt3)) (t / 4096 * 4096) t (spread t y p xs ++ more) (omega arith) r })
+      (λ e. omega (arith, ht e .1 refl)) hr)
+
+-- ---- the law
+
+rise-run : (t y p from : ℕ) (xs : List ℕ) (more : List Event) → 1 ≤ length xs → Rises from (spread t y p xs ++ more) → Rises t (spread t y p xs ++ more) × (from ≤ t)
+rise-run t y p from [] more h r = absurd (omega arith)
+rise-run t y p from (x ∷ xs) more h r = ((record { rises = omega arith; fine = r .0 .fine }, r .1), r .0 .rises)
+
+low-sent : (b : Bool) (l : Sent) (q : ℕ) → sentIs (lowHeld b l) q ≡ true → (b ≡ true → sentIs l q ≡ true) × (b ≡ false → q ≡ 0)
+low-sent true l q e = ((λ f. e), (λ f. absurd (true≢false f)))
+low-sent false l q e = ((λ f. absurd (true≢false (sym f))), (λ f. sym (eqb-true 0 q e)))
+
+encode-is : (v : EncoderState) (r : Run)
+    → encode3 v r ≡ due (highSent3 v (r .t)) (highWord3 (r .t)) ++ (due (lowSent3 v (r .t)) (lowWord3 (r .t)) ++ (due (rowSent3 v (r .y)) (rowWord3 (r .y)) ++ body3 (r .t) (r .y) (r .p) (r .xs)))
+unfolding encode3 leads3
+encode-is v r = simp append-assoc
+
+group3 : (v : EncoderState) (d : Decoder) (r : Run) (more : List Event) → Valid r → Agree3 v d → Ready3 d (given r ++ more)
+    → Good format3 d (encode3 v r) more × Agree3 (encoded3 v r) (run reader3 d (words (encode3 v r)))
+group3 v d r more va ag rd =
+    let rr = rise-run (r .t) (r .y) (r .p) (d .time) (r .xs) more (va .some) (rd .rises) in
+    let hi = highSent3 v (r .t) in
+    let high-held = holds-sent (v .«time_high») (High3 d) (r .t / 4096) (ag .highs) in
+    let g = said-high (r .t) (r .y) (r .p) (r .xs) va more (rr .0) hi (lowSent3 v (r .t)) (rowSent3 v (r .y)) d rd (rr .1) high-held
+    (λ e. let q = low-sent hi (v .«time_low») (r .t % 4096) e in
+    ((λ f. omega (arith, high-held f .1, holds-sent (v .«time_low») (λ l. d .time ≡ d .«time_base» + l) (r .t % 4096) (ag .lows) (q .0 f))), q .1))
+    (holds-sent (v .y) (λ y. d .y ≡ y) (r .y) (ag .rows)) in
+    rw (encode-is v r) (g .0, record { highs = (g .1 .on, g .1 .at-coarse); lows = omega (arith, g .1 .at-coarse, g .1 .at-time); rows = g .1 .at-row })
+
+pub lawful3 : Lawful format3
+lawful3 = record {
+  sized = omega arith;
+  noted = encode-notes3;
+  starts = λ d. record { highs = tt; lows = tt; rows = tt };
+  group = group3;
+}

@@ -1,0 +1,78 @@
+-- Events that an encoding can say, and a decoder that is ready for them.
+use mathlib.Core.Path.{_≡_, sym, subst}
+use mathlib.Core.Bool.{Bool, true, _&&_, true≢false}
+use mathlib.Core.List.{List, [], _∷_}
+use Prim.Native.Nat.{ℕ, _*_, _^_, _≤_, _<_, min}
+use native.Mathlib.Omega.{arith}
+use lib.Dec.{leb, ltb}
+use borrow.Author.Tests.{leb-true, ltb-true, eqb-true}
+use Rattle.laws_stream.specs.Machine.{and-both}
+use Rattle.laws_stream.specs.Mask.{bits-zero, bits-one}
+use Rattle.laws_stream.specs.Order.{Rise}
+use Rattle.evt_types.specs.declared.Encoding.{Encoding}
+use Rattle.evt_types.specs.declared.Encoding.the-variants.{Evt2, Evt3}
+use Rattle.evt_types.specs.declared.Sent.{Sent}
+use Rattle.evt_types.specs.declared.Sent.the-variants.{Nothing, Value}
+use Rattle.evt_types.specs.Event.{Event, eventsOf, noEvents}
+use Rattle.evt2_decoder.specs.Evt2.{period2}
+use Rattle.evt3_decoder.specs.Evt3.{period3}
+use Rattle.read_columns.specs.Inside.{clock}
+use Rattle.write_buffer.specs.Columns.{event}
+use Rattle.write_buffer.specs.Sent.{sentIs}
+
+-- the times that a writer's words can say, those of the first loop: rule 7's bound is not above it
+abbrev pub limit : Encoding → ℕ
+limit Evt2 = period2
+limit Evt3 = period3
+
+-- the events that a writer's words can say
+abbrev pub sayable : (limit : ℕ) → Event → Bool
+sayable limit e = leb (e .x) 2047 && (leb (e .y) 2047 && (leb (e .p) 1 && ltb (e .t) limit))
+
+-- a decoder with this clock, loops counted, can take these events next: they can be said, their times don't fall, and none is before the decoder's time
+pub record Ready (period limit coarse time loops : ℕ) (es : List Event) : Type 0 where
+  pub counted : loops * period ≤ coarse
+  pub past : coarse ≤ time
+  pub rises : Rise clock (sayable limit) time es
+
+-- what the writer takes for sent, if anything, is as P says
+abbrev pub Holds : Sent → (P : ℕ → Type 0) → Type 0
+Holds Nothing P = Unit
+Holds (Value q) P = P q
+
+-- ---- laws
+
+pub limit-le : (e : Encoding) → limit e ≤ 2 ^ 34
+limit-le Evt2 = omega arith
+limit-le Evt3 = omega arith
+
+pub holds-sent : (o : Sent) (P : ℕ → Type 0) (q : ℕ) → Holds o P → sentIs o q ≡ true → P q
+holds-sent Nothing P q h e = absurd (true≢false (sym e))
+holds-sent (Value g) P q h e = subst P (eqb-true g q e) h
+
+pub record Sayable (limit : ℕ) (e : Event) : Type 0 where
+  pub x< : e .x < 2048
+  pub y< : e .y < 2048
+  pub p< : e .p < 2
+  pub t< : e .t < limit
+
+pub sayable-true : (limit : ℕ) (e : Event) → sayable limit e ≡ true → Sayable limit e
+sayable-true limit e h =
+    let a = and-both (leb (e .x) 2047) (leb (e .y) 2047 && (leb (e .p) 1 && ltb (e .t) limit)) h in
+    let b = and-both (leb (e .y) 2047) (leb (e .p) 1 && ltb (e .t) limit) (a .1) in
+    let c = and-both (leb (e .p) 1) (ltb (e .t) limit) (b .1) in
+    record {
+      x< = omega (arith, leb-true (e .x) 2047 (a .0));
+      y< = omega (arith, leb-true (e .y) 2047 (b .0));
+      p< = omega (arith, leb-true (e .p) 1 (c .0));
+      t< = ltb-true (e .t) limit (c .1);
+    }
+
+-- the events of a word that has none, and of one that has one
+pub no-event : eventsOf noEvents ≡ []
+no-event = rw (bits-zero 32 0)
+
+pub one-event : (x y t p : ℕ) → x < 65536 → eventsOf (record { x = x; y = y; t = t; p = p; mask = 1 }) ≡ event x y t p ∷ []
+one-event x y t p h =
+    let e : min x 65535 ≡ x = omega arith in
+    rw (bits-one 31 x, e)

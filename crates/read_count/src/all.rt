@@ -1,0 +1,92 @@
+// Counting events and their greatest time: a loop for each encoding.
+ghost use mathlib.Core.Path.{_≡_};
+ghost use Prim.Native.Nat.{_/_};
+ghost use lib.ListN.{length};
+ghost use Rattle.laws_stream.specs.Order.{greatest};
+ghost use Rattle.laws_stream.specs.Stream.{after};
+ghost use Rattle.evt2_decoder.specs.Evt2.{reader2};
+ghost use Rattle.evt3_decoder.specs.Evt3.{reader3};
+ghost use Rattle.evt2_decoder.specs.Range.{Bounded2};
+ghost use Rattle.evt3_decoder.specs.Range.{Bounded3};
+ghost use Rattle.read_columns.specs.Inside.{clock};
+ghost use Rattle.read_fill.specs.Turn.{insideAll};
+use evt_types::fields::bits;
+use evt2_decoder::Evt2Decoder;
+use evt2_decoder::advance;
+use evt3_decoder::Decoder;
+use evt3_decoder::widen;
+use read_count_word::ones;
+use read_count_word::quick;
+
+pub struct Evt2Survey {
+    pub count: usize,
+    pub latest: u64,
+    pub decoder: Evt2Decoder,
+}
+
+pub struct Evt3Survey {
+    pub count: usize,
+    pub latest: u64,
+    pub decoder: Decoder,
+}
+
+pub fn evt2(bytes: &[u8], d: Evt2Decoder, width: u64, height: u64) -> Evt2Survey
+    requires { ⌜ Bounded2 (length (now bytes) / 4) d ⌝ }
+    ensures { λ r. ⌜ (r .count ≡ length (insideAll 4 reader2 width height d (now (bytes .entry)))) × (r .latest ≡ greatest clock (insideAll 4 reader2 width height d (now (bytes .entry)))) × (r .decoder ≡ after 4 reader2 d (now (bytes .entry))) ⌝ }
+{
+    let mut s = d;
+    let mut limit = quick::limit(s.initialised, width);
+    let mut n: usize = 0;
+    let mut top: u64 = 0;
+    let mut i: usize = 0;
+    let mut w = words::four_at(bytes, 0);
+    while i + 3 < bytes.len() {
+        if quick::seen(w, limit, height) {
+            let t = s.time_high + bits(w, 22, 6);
+            s.time = t;
+            n += 1;
+            top = read_columns::later(top, 1, t);
+        } else {
+            let step = advance(s, w);
+            s = step.next;
+            limit = quick::limit(s.initialised, width);
+        }
+        i += 4;
+        w = words::four_at(bytes, i);
+    }
+    Evt2Survey {
+        count: n,
+        latest: top,
+        decoder: s,
+    }
+}
+
+pub fn evt3(bytes: &[u8], d: Decoder, width: u64, height: u64) -> Evt3Survey
+    requires { ⌜ Bounded3 (length (now bytes) / 2) d ⌝ }
+    ensures { λ r. ⌜ (r .count ≡ length (insideAll 2 reader3 width height d (now (bytes .entry)))) × (r .latest ≡ greatest clock (insideAll 2 reader3 width height d (now (bytes .entry)))) × (r .decoder ≡ after 2 reader3 d (now (bytes .entry))) ⌝ }
+{
+    let spans = read_count_word::span_table();
+    let vects = read_count_word::vect_table();
+    let table = ones::table();
+    let wide = ones::wide(width);
+    let mut s = read_count_word::of(widen(d));
+    let mut n: usize = 0;
+    let mut top: u64 = 0;
+    let mut i: usize = 0;
+    let mut w = words::two_at(bytes, 0);
+    while i + 1 < bytes.len() {
+        let g = s.glance(w, &spans, &vects);
+        s = g.next;
+        let m = ones::count(g.x, s.y, g.mask, wide, height, &table);
+        n += m;
+        top = read_columns::later(top, m, s.time);
+        i += 2;
+        w = words::two_at(bytes, i);
+    }
+    let decoder = s.wide().slim();
+    Evt3Survey {
+        count: n,
+        latest: top,
+        decoder,
+    }
+}

@@ -1,0 +1,84 @@
+// The loops that count over the words of a part of a recording: all events inside a sensor, with their
+// greatest time, or words up to a number of events. They serve finding out how many places columns
+// need, the opening of an index, and the start of slices by number. specs/Count.antt says what they
+// tell, over the definitions of `Decode` of the crate `read_fill`.
+//
+// They keep a `requires`: no sum wraps. The caller has judged its decoder (10) before, and `Laws` of
+// the crate `read_fill` shows that this is enough.
+ghost use mathlib.Core.Path.{_≡_};
+ghost use lib.ListN.{length, drop};
+ghost use Rattle.read_fill.specs.Decode.{Bounded, Steady};
+ghost use Rattle.read_count.specs.Count.{surveyOf, passedOf};
+use evt_codec::Codec;
+
+pub mod all;
+pub mod to;
+
+// What counting leaves: how many events there are, their greatest time (0 of none), and the decoder.
+pub struct Survey {
+    pub count: usize,
+    pub latest: u64,
+    pub codec: Codec,
+}
+
+// What passing over leaves: how many bytes, how many events inside they have, and the decoder.
+pub struct Passed {
+    pub at: usize,
+    pub count: usize,
+    pub codec: Codec,
+}
+
+// Counts all events of the bytes inside the sensor.
+pub fn count_all(bytes: &[u8], codec: Codec, width: u64, height: u64) -> Survey
+    requires { ⌜ Bounded (length (now bytes)) codec ⌝ }
+    ensures { λ r. ⌜ r ≡ surveyOf width height codec (now (bytes .entry)) ⌝ }
+{
+    match codec {
+        Codec::Evt2(d) => {
+            let s = all::evt2(bytes, d, width, height);
+            let decoder = s.decoder;
+            Survey {
+                count: s.count,
+                latest: s.latest,
+                codec: Codec::Evt2(decoder),
+            }
+        }
+        Codec::Evt3(d) => {
+            let s = all::evt3(bytes, d, width, height);
+            let decoder = s.decoder;
+            Survey {
+                count: s.count,
+                latest: s.latest,
+                codec: Codec::Evt3(decoder),
+            }
+        }
+    }
+}
+
+// Passes over words as long as the events inside the sensor, those of the word with them, number at
+// most `most`. Slices by number start with it.
+pub fn count_to(bytes: &[u8], codec: Codec, width: u64, height: u64, most: usize) -> Passed
+    requires { ⌜ Steady (length (now bytes)) codec ⌝ }
+    ensures { λ r. ⌜ (r ≡ passedOf width height most codec (now (bytes .entry))) × Bounded (length (drop (r .at) (now (bytes .entry)))) (r .codec) ⌝ }
+{
+    match codec {
+        Codec::Evt2(d) => {
+            let s = to::evt2(bytes, d, width, height, most);
+            let decoder = s.decoder;
+            Passed {
+                at: s.at,
+                count: s.count,
+                codec: Codec::Evt2(decoder),
+            }
+        }
+        Codec::Evt3(d) => {
+            let s = to::evt3(bytes, d, width, height, most);
+            let decoder = s.decoder;
+            Passed {
+                at: s.at,
+                count: s.count,
+                codec: Codec::Evt3(decoder),
+            }
+        }
+    }
+}

@@ -1,0 +1,91 @@
+// Passing over words up to a number of events: a loop for each encoding.
+ghost use Prim.Native.Nat.{_+_, _*_, _/_, _≤_, _^_};
+ghost use lib.ListN.{length};
+ghost use Rattle.evt2_decoder.specs.Evt2.{reader2};
+ghost use Rattle.evt3_decoder.specs.Evt3.{reader3};
+ghost use Rattle.evt2_decoder.specs.Range.{Bounded2};
+ghost use Rattle.evt3_decoder.specs.Range.{Bounded3, Regular3};
+ghost use Rattle.read_count.specs.Passing.{Reached};
+use evt_types::fields::bits;
+use evt2_decoder::Evt2Decoder;
+use evt2_decoder::advance;
+use evt3_decoder::Decoder;
+use evt3_decoder::widen;
+use read_count_word::ones;
+use read_count_word::quick;
+
+pub struct Evt2Passed {
+    pub at: usize,
+    pub count: usize,
+    pub decoder: Evt2Decoder,
+}
+
+pub struct Evt3Passed {
+    pub at: usize,
+    pub count: usize,
+    pub decoder: Decoder,
+}
+
+pub fn evt2(bytes: &[u8], d: Evt2Decoder, width: u64, height: u64, most: usize) -> Evt2Passed
+    requires { ⌜ Bounded2 (length (now bytes) / 4) d ⌝ }
+    ensures { λ r. ⌜ Reached 4 reader2 Bounded2 width height most d (now (bytes .entry)) (r .at) (r .count) (r .decoder) ⌝ }
+{
+    let mut s = d;
+    let mut limit = quick::limit(s.initialised, width);
+    let mut n: usize = 0;
+    let mut i: usize = 0;
+    let mut w = words::four_at(bytes, 0);
+    while i + 3 < bytes.len() {
+        if quick::seen(w, limit, height) {
+            if most <= n {
+                break;
+            }
+            let t = s.time_high + bits(w, 22, 6);
+            s.time = t;
+            n += 1;
+        } else {
+            let step = advance(s, w);
+            s = step.next;
+            limit = quick::limit(s.initialised, width);
+        }
+        i += 4;
+        w = words::four_at(bytes, i);
+    }
+    Evt2Passed {
+        at: i,
+        count: n,
+        decoder: s,
+    }
+}
+
+pub fn evt3(bytes: &[u8], d: Decoder, width: u64, height: u64, most: usize) -> Evt3Passed
+    requires { ⌜ Regular3 d ⌝ ∗ ⌜ d .«high_loops» + length (now bytes) / 2 ≤ 3 * 2 ^ 28 ⌝ }
+    ensures { λ r. ⌜ Reached 2 reader3 Bounded3 width height most d (now (bytes .entry)) (r .at) (r .count) (r .decoder) ⌝ }
+{
+    let spans = read_count_word::span_table();
+    let vects = read_count_word::vect_table();
+    let table = ones::table();
+    let wide = ones::wide(width);
+    let mut s = read_count_word::of(widen(d));
+    let mut n: usize = 0;
+    let mut i: usize = 0;
+    let mut w = words::two_at(bytes, 0);
+    while i + 1 < bytes.len() {
+        let g = s.glance(w, &spans, &vects);
+        let next = g.next;
+        let m = ones::count(g.x, next.y, g.mask, wide, height, &table);
+        if most - n < m {
+            break;
+        }
+        n += m;
+        s = next;
+        i += 2;
+        w = words::two_at(bytes, i);
+    }
+    let decoder = s.wide().slim();
+    Evt3Passed {
+        at: i,
+        count: n,
+        decoder,
+    }
+}

@@ -1,0 +1,90 @@
+// Filling four columns: a loop for each encoding.
+ghost use mathlib.Core.Path.{_≡_};
+ghost use lib.ListN.{length};
+ghost use Rattle.evt_codec.specs.declared.codec.Codec.the-variants.{Evt2, Evt3};
+ghost use Rattle.evt_types.specs.Columns.{Wrote};
+ghost use Rattle.read_fill.specs.Turn.{Fits};
+ghost use Rattle.read_fill.specs.Decode.{Bounded, insideEvents, tallyOf};
+use crate::Tally;
+use evt_codec::Codec;
+use evt2_decoder::Evt2Decoder;
+use evt2_decoder::advance;
+use evt3_decoder::Decoder;
+use evt3_decoder::WideDecoder;
+use evt3_decoder::widen;
+
+pub fn evt2(
+    bytes: &[u8],
+    d: Evt2Decoder,
+    width: u64,
+    height: u64,
+    xs: &mut [u16],
+    ys: &mut [u16],
+    ts: &mut [i64],
+    ps: &mut [u8],
+) -> Tally
+    requires { ⌜ Bounded (length (now bytes)) (Evt2 d) ⌝ ∗ ⌜ Fits (length (insideEvents width height (Evt2 d) (now bytes))) (length (now xs)) (length (now ys)) (length (now ts)) (length (now ps)) ⌝ }
+    ensures { λ r. ⌜ r ≡ tallyOf width height (Evt2 d) (now (bytes .entry)) ⌝ ∗ ⌜ Wrote (insideEvents width height (Evt2 d) (now (bytes .entry))) 0 (now (xs .entry)) (now (ys .entry)) (now (ts .entry)) (now (ps .entry)) (now (xs .exit)) (now (ys .exit)) (now (ts .exit)) (now (ps .exit)) ⌝ }
+{
+    let mut s = d;
+    let mut n: usize = 0;
+    let mut i: usize = 0;
+    while i + 3 < bytes.len() {
+        let w = words::four_at(bytes, i);
+        let step = advance(s, w);
+        let v = step.events;
+        s = step.next;
+        i += 4;
+        n = read_columns::put1(v, width, height, n, &mut *xs, &mut *ys, &mut *ts, &mut *ps);
+    }
+    Tally {
+        count: n,
+        codec: Codec::Evt2(s),
+    }
+}
+
+pub fn evt3(
+    bytes: &[u8],
+    d: Decoder,
+    width: u64,
+    height: u64,
+    xs: &mut [u16],
+    ys: &mut [u16],
+    ts: &mut [i64],
+    ps: &mut [u8],
+) -> Tally
+    requires { ⌜ Bounded (length (now bytes)) (Evt3 d) ⌝ ∗ ⌜ Fits (length (insideEvents width height (Evt3 d) (now bytes))) (length (now xs)) (length (now ys)) (length (now ts)) (length (now ps)) ⌝ }
+    ensures { λ r. ⌜ r ≡ tallyOf width height (Evt3 d) (now (bytes .entry)) ⌝ ∗ ⌜ Wrote (insideEvents width height (Evt3 d) (now (bytes .entry))) 0 (now (xs .entry)) (now (ys .entry)) (now (ts .entry)) (now (ps .entry)) (now (xs .exit)) (now (ys .exit)) (now (ts .exit)) (now (ps .exit)) ⌝ }
+{
+    let mut s = widen(d);
+    let mut n: usize = 0;
+    let mut i: usize = 0;
+    while i + 1 < bytes.len() {
+        let w = words::two_at(bytes, i);
+        let step = s.advance(w);
+        let v = step.events;
+        s = clean(step.next);
+        i += 2;
+        n = read_columns::place(v, width, height, n, &mut *xs, &mut *ys, &mut *ts, &mut *ps);
+    }
+    let decoder = s.slim();
+    Tally {
+        count: n,
+        codec: Codec::Evt3(decoder),
+    }
+}
+
+// The same, field by field: a copy of a whole struct carries its padding through a loop.
+fn clean(d: WideDecoder) -> WideDecoder
+    ensures { λ r. ⌜ r ≡ d ⌝ }
+{
+    WideDecoder {
+        initialised: d.initialised,
+        time_base: d.time_base,
+        time: d.time,
+        y: d.y,
+        base_x: d.base_x,
+        polarity: d.polarity,
+        high_loops: d.high_loops,
+    }
+}

@@ -1,0 +1,267 @@
+-- What the parts of reading say, and that they come to what specs/Read.antt defines.
+use mathlib.Core.Path.{_≡_, refl, sym, ap, _∙_}
+use mathlib.Core.Bool.{Bool, true, false, cond}
+use mathlib.Core.List.{List, [], _∷_, _++_, map}
+use Prim.Native.Nat.{ℕ, _+_, _≤_, _<_, _^_}
+use native.Mathlib.Omega.{arith}
+use lib.Dec.{leb, ltb, eqb}
+use lib.IntN.{ℤ}
+use lib.ListN.{length, take, drop, length-map, length-append}
+use lib.Seq.{take-at, take-all}
+use native.Mathlib.Numerals.{add-one}
+use borrow.Author.Tests.{le-ltb, lt-ltb, leb-true, leb-false, ltb-true, ltb-false, ne-eqb}
+use Rattle.laws_stream.specs.Mask.{top}
+use Rattle.laws_stream.specs.Order.{greatest, greatest-map}
+use Rattle.laws_stream.specs.Slice.{sift}
+use Rattle.evt_types.specs.declared.Encoding.{Encoding}
+use Rattle.evt_types.specs.declared.Encoding.the-variants.{Evt2, Evt3}
+use Rattle.evt_types.specs.declared.Refusal.{Refusal}
+use Rattle.evt_types.specs.declared.Refusal.the-variants.{InvalidSensorSize, UnknownEncoding, TooLong, ColumnsTooShort}
+use Rattle.evt_types.specs.declared.Limit.{Limit}
+use Rattle.evt_types.specs.declared.Limit.the-variants.{Unlimited, AtMost}
+use Rattle.evt_types.specs.declared.SensorSize.{SensorSize}
+use Rattle.evt_types.specs.declared.SensorSize.the-variants.{Unknown, Known}
+use Rattle.evt_codec.specs.declared.codec.Codec.{Codec}
+use Rattle.evt_codec.specs.Codec.{freshC, eventsFrom}
+use Rattle.evt_types.specs.Columns.{colX, colY}
+use Rattle.evt_types.specs.Event.{Event}
+use Rattle.evt_types.specs.Told.{accepted, refused, short}
+use Rattle.read_fill.specs.Decode.{insideEvents}
+use Rattle.read_rules.specs.declared.Span.{Span}
+use Rattle.read_capacity.specs.declared.Delivered.{Delivered}
+use Rattle.read_capacity.specs.declared.Delivered.the-variants.{Written, Needed}
+use Rattle.read_capacity.specs.Deliver.{Delivers}
+pub use Rattle.read_capacity.specs.Laws.{handed-none, handed-wrote, fits-room}
+use Rattle.read_rules.specs.declared.Judged.{Judged}
+use Rattle.read_rules.specs.declared.Judged.the-variants.{Fit, Unfit}
+use Rattle.read_rules.specs.declared.ReadAnswer.{ReadAnswer}
+use Rattle.read_rules.specs.declared.ReadAnswer.the-variants.{Read, Refused}
+use Rattle.header.specs.declared.HeaderAnswer.{HeaderAnswer}
+use Rattle.header.specs.declared.HeaderAnswer.the-variants.{Header, Refused as NoHeader}
+use Rattle.read_fill.specs.Laws.{bounded-fresh, range-fresh, all-inside, inside-bytes}
+use Rattle.read_columns.specs.Inside.{inside}
+use Rattle.read_window.specs.declared.Window.{Window}
+use Rattle.read_select.specs.Pass.{Ready, handedOver}
+use Rattle.read_select.specs.Uses.{able-range, numberedOver, over-limit}
+use Rattle.header.specs.declared.Header as header
+use Rattle.header.specs.Header.{encodingNumber, hasZero, headerOf}
+use Rattle.read_rules.specs.declared.LoadOptions.{LoadOptions}
+use Rattle.read_rules.specs.Read.{kept, bodyEvents, widthOf, heightOf, sizeless, shortest, Handed, toldRead, verdictOf, answerOf, handedOf, Reads, ReadsBody, DecodesWords, ReadsRaw, wordsVerdict, wordsAnswer, wordsHanded, verdictAfter, answerAfter, handedAfter, rawVerdict, rawAnswer, rawHanded}
+
+abbrev pub spanOf : SensorSize → Span
+spanOf Unknown = record { width = 65536; height = 65536 }
+spanOf (Known w h) = record { width = w; height = h }
+
+abbrev pub sensorEvents : (width height : ℕ) → Encoding → List ℕ → List Event
+sensorEvents width height e body = insideEvents width height (freshC e) body
+
+-- ---- the first n events, as a window
+
+abbrev pub limitWindow : (width height n : ℕ) → Window
+limitWindow width height n = record { width = width; height = height; n0 = 0; n1 = n; t0 = 0; t1 = 18446744073709551615 }
+
+numbered-inside : (width height n : ℕ) (e : Encoding) (body : List ℕ) → numberedOver (limitWindow width height n) (freshC e) body ≡ sensorEvents width height e body
+numbered-inside width height n Evt2 body = refl
+numbered-inside width height n Evt3 body = refl
+
+pub ready-fresh : (e : Encoding) (n : ℕ) → n ≤ 2 ^ 30 → Ready (freshC e) 0 n
+ready-fresh e n h = record { able = able-range (freshC e) n (range-fresh e) h; long = h; low = omega arith }
+
+pub handed-limit : (width height n : ℕ) (e : Encoding) (body : List ℕ) → length body ≤ 2 ^ 30
+    → handedOver (limitWindow width height n) 0 (freshC e) body ≡ take n (sensorEvents width height e body)
+handed-limit width height n e body h =
+    over-limit (limitWindow width height n) (freshC e) body (ready-fresh e (length body) h .able) refl (omega arith) refl ∙ ap (take n) (numbered-inside width height n e body)
+
+-- ---- the events of a body
+
+-- with a size or without
+kept-inside : (size : SensorSize) (e : Encoding) (body : List ℕ) → length body ≤ 2 ^ 30
+    → kept size (eventsFrom (freshC e) body) ≡ sensorEvents (spanOf size .width) (spanOf size .height) e body
+kept-inside Unknown e body h = from e
+  where
+    from : (e : Encoding) → eventsFrom (freshC e) body ≡ sensorEvents 65536 65536 e body
+    from Evt2 = sym (all-inside (freshC Evt2) body (bounded-fresh Evt2 (length body) h))
+    from Evt3 = sym (all-inside (freshC Evt3) body (bounded-fresh Evt3 (length body) h))
+kept-inside (Known w k) e body h = from e
+  where
+    from : (e : Encoding) → sift (inside w k) (eventsFrom (freshC e) body) ≡ sensorEvents w k e body
+    from Evt2 = refl
+    from Evt3 = refl
+
+pub body-all : (size : SensorSize) (e : Encoding) (body : List ℕ) → length body ≤ 2 ^ 30
+    → bodyEvents e size Unlimited body ≡ sensorEvents (spanOf size .width) (spanOf size .height) e body
+unfolding bodyEvents
+body-all size e body h = kept-inside size e body h
+
+-- as many as may have a number: more than there are, where there is no limit
+abbrev pub mostOf : Limit → ℕ
+mostOf Unlimited = 18446744073709551615
+mostOf (AtMost n) = n
+
+abbrev pub windowOf : SensorSize → Limit → Window
+windowOf size limit = limitWindow (spanOf size .width) (spanOf size .height) (mostOf limit)
+
+pub window-parts : (size : SensorSize) (limit : Limit) (span : Span) (most : ℕ) → span ≡ spanOf size → most ≡ mostOf limit → limitWindow (span .width) (span .height) most ≡ windowOf size limit
+window-parts size limit span most s m = rw (s, m)
+
+body-most : (size : SensorSize) (e : Encoding) (limit : Limit) (body : List ℕ) → length body ≤ 2 ^ 30
+    → bodyEvents e size limit body ≡ take (mostOf limit) (sensorEvents (spanOf size .width) (spanOf size .height) e body)
+unfolding bodyEvents
+body-most size e Unlimited body h =
+    let es = sensorEvents (spanOf size .width) (spanOf size .height) e body in
+    kept-inside size e body h ∙ sym (take-all 18446744073709551615 es (omega (arith, inside-bytes (spanOf size .width) (spanOf size .height) (freshC e) body)))
+body-most size e (AtMost n) body h = ap (take n) (kept-inside size e body h)
+
+-- ---- the size
+
+abbrev pub sizedOf : Encoding → SensorSize → ℕ → List ℕ → List ℕ → ReadAnswer
+sizedOf e (Known w h) n xs ys = Read (record { encoding = e; width = w; height = h; count = n })
+sizedOf e Unknown n xs ys =
+    cond (eqb n 0) (Refused InvalidSensorSize) (Read (record { encoding = e; width = top (take n xs) + 1; height = top (take n ys) + 1; count = n }))
+
+-- what was written is there
+abbrev pub Holds : Delivered → ℕ → ℕ → Type 0
+Holds (Written n) xs ys = (n ≤ xs) × (n ≤ ys)
+Holds (Needed n) xs ys = Unit
+
+abbrev pub settledOf : Encoding → SensorSize → Delivered → List ℕ → List ℕ → ReadAnswer
+settledOf e size (Written n) xs ys = sizedOf e size n xs ys
+settledOf e size (Needed n) xs ys = Refused (ColumnsTooShort n)
+
+-- 4, then 1 for a zero size
+abbrev pub judgedOf : (n : ℕ) → SensorSize → Judged
+judgedOf n size = cond (ltb (2 ^ 30) n) (Unfit TooLong) (cond (hasZero size) (Unfit InvalidSensorSize) Fit)
+
+module _ (n : ℕ) (size : SensorSize) where
+  pub judged-long : 2 ^ 30 < n → Unfit TooLong ≡ judgedOf n size
+  judged-long h = rw (lt-ltb (2 ^ 30) n h)
+
+  pub judged-zero : n ≤ 2 ^ 30 → hasZero size ≡ true → Unfit InvalidSensorSize ≡ judgedOf n size
+  judged-zero h z = rw (le-ltb (2 ^ 30) n h, z)
+
+  pub judged-fit : n ≤ 2 ^ 30 → hasZero size ≡ false → Fit ≡ judgedOf n size
+  judged-fit h z = rw (le-ltb (2 ^ 30) n h, z)
+
+  pub fit-judged : judgedOf n size ≡ Fit → (n ≤ 2 ^ 30) × (hasZero size ≡ false)
+  fit-judged = go (ltb (2 ^ 30) n) refl (hasZero size) refl
+    where
+      go : (a : Bool) → ltb (2 ^ 30) n ≡ a → (b : Bool) → hasZero size ≡ b → cond a (Unfit TooLong) (cond b (Unfit InvalidSensorSize) Fit) ≡ Fit → (n ≤ 2 ^ 30) × (hasZero size ≡ false)
+      go true p b z j = let no : _≡_ {A = ℕ} 0 1 = cc in absurd (omega arith)
+      go false p true z j = let no : _≡_ {A = ℕ} 0 1 = cc in absurd (omega arith)
+      go false p false z j = (ltb-false (2 ^ 30) n p, z)
+
+abbrev pub refusalOf : HeaderAnswer → ReadAnswer
+refusalOf (NoHeader r) = Refused r
+refusalOf (Header h) = Refused UnknownEncoding
+
+module _ (size : SensorSize) (e : Encoding) (limit : Limit) (codec : Codec) (is-fresh : codec ≡ freshC e) where
+  pub delivers-body : (body : List ℕ) (win : Window) {r : Delivered} {xs₀ ys₀ : List ℕ} {ts₀ : List ℤ} {ps₀ xs ys : List ℕ} {ts : List ℤ} {ps : List ℕ}
+      → length body ≤ 2 ^ 30 → win ≡ windowOf size limit
+      → Delivers (handedOver win 0 codec body) r xs₀ ys₀ ts₀ ps₀ xs ys ts ps → Delivers (bodyEvents e size limit body) r xs₀ ys₀ ts₀ ps₀ xs ys ts ps
+  delivers-body body win h w d = rw (body-most size e limit body h, ← handed-limit (spanOf size .width) (spanOf size .height) (mostOf limit) e body h, ← w, ← is-fresh) d
+
+  pub ready-new : (n : ℕ) → n ≤ 2 ^ 30 → Ready codec 0 n
+  ready-new n h = rw is-fresh (ready-fresh e n h)
+
+-- ---- what was delivered comes to the answer
+
+length-handed : {E A : Type 0} (f : E → A) (es : List E) (old now : List A) → now ≡ map f es ++ drop (length es) old → length es ≤ length now
+length-handed f es old now e = omega (arith, ap length e ∙ length-append (map f es) (drop (length es) old), length-map es f)
+
+top-handed : (f : Event → ℕ) (es : List Event) (old now : List ℕ) → now ≡ map f es ++ drop (length es) old → top (take (length es) now) ≡ greatest f es
+top-handed f es old now e = ap (λ (l : List ℕ). top (take (length es) l)) e ∙ ap top (take-at (map f es) (drop (length es) old) (length es) (length-map es f)) ∙ greatest-map (λ x. x) f es
+
+-- what an answer tells is the verdict
+told-answer : (e : Encoding) (size : SensorSize) (es : List Event) (room : ℕ) → toldRead (answerOf e size Unlimited es room) ≡ verdictOf e size Unlimited es room
+told-answer e size es room = go (sizeless size es) (ltb room (length es))
+  where
+    go : (a b : Bool) → toldRead (cond a (Refused InvalidSensorSize) (cond b (Refused (ColumnsTooShort (length es))) (Read (record { encoding = e; width = widthOf size es; height = heightOf size es; count = length es }))))
+        ≡ cond a (refused 1) (cond b (short 5 (length es)) (accepted (encodingNumber e ∷ widthOf size es ∷ heightOf size es ∷ length es ∷ [])))
+    go true b = refl
+    go false true = refl
+    go false false = refl
+
+module _ {xs₀ ys₀ : List ℕ} {ts₀ : List ℤ} {ps₀ xs ys : List ℕ} {ts : List ℤ} {ps : List ℕ} (es : List Event) (r : Delivered) (d : Delivers es r xs₀ ys₀ ts₀ ps₀ xs ys ts ps) where
+  abbrev room : ℕ
+  room = shortest xs₀ ys₀ ts₀ ps₀
+
+  pub holds-delivered : Holds r (length xs) (length ys)
+  holds-delivered = rw (d .answer) (go (leb (length es) room) (d .columns))
+    where
+      go : (b : Bool) → Handed (cond b es []) xs₀ ys₀ ts₀ ps₀ xs ys ts ps → Holds (cond b (Written (length es)) (Needed (length es))) (length xs) (length ys)
+      go true h = (length-handed colX es xs₀ xs (h .column-x), length-handed colY es ys₀ ys (h .column-y))
+      go false h = tt
+
+  module _ (e : Encoding) where
+    fits-go : (size : SensorSize) (es′ : List Event) → es ≡ es′ → length es ≤ room → Handed es xs₀ ys₀ ts₀ ps₀ xs ys ts ps
+        → (sizedOf e size (length es′) xs ys ≡ answerOf e size Unlimited es′ room) × Handed (handedOf size Unlimited es′ room) xs₀ ys₀ ts₀ ps₀ xs ys ts ps
+    fits-go (Known w k) es′ q h c = let le : ltb room (length es′) ≡ false = le-ltb room (length es′) (rw (← q) h) in (rw le, rw (le, ← q) c)
+    fits-go Unknown [] q h c = (refl, rw q at c)
+    fits-go Unknown (a ∷ es′) q h c =
+        let le : ltb room (length (a ∷ es′)) ≡ false = le-ltb room (length (a ∷ es′)) (rw q at h) in
+        let c′ : Handed (a ∷ es′) xs₀ ys₀ ts₀ ps₀ xs ys ts ps = rw q at c in (
+          rw (ne-eqb (length (a ∷ es′)) 0 (omega arith), le, top-handed colX (a ∷ es′) xs₀ xs (c′ .column-x), top-handed colY (a ∷ es′) ys₀ ys (c′ .column-y), add-one, add-one),
+          rw le c′,
+        )
+
+    short-go : (size : SensorSize) (es′ : List Event) → room < length es′ → Handed [] xs₀ ys₀ ts₀ ps₀ xs ys ts ps
+        → (Refused (ColumnsTooShort (length es′)) ≡ answerOf e size Unlimited es′ room) × Handed (handedOf size Unlimited es′ room) xs₀ ys₀ ts₀ ps₀ xs ys ts ps
+    short-go (Known w k) es′ h c = let lt : ltb room (length es′) ≡ true = lt-ltb room (length es′) h in (rw lt, rw lt c)
+    short-go Unknown [] h c = absurd (omega arith)
+    short-go Unknown (a ∷ es′) h c = let lt : ltb room (length (a ∷ es′)) ≡ true = lt-ltb room (length (a ∷ es′)) h in (rw lt, rw lt c)
+
+    settles : (size : SensorSize) → (settledOf e size r xs ys ≡ answerOf e size Unlimited es room) × Handed (handedOf size Unlimited es room) xs₀ ys₀ ts₀ ps₀ xs ys ts ps
+    settles size = rw (d .answer) (go (leb (length es) room) refl (d .columns))
+      where
+        go : (b : Bool) → leb (length es) room ≡ b → Handed (cond b es []) xs₀ ys₀ ts₀ ps₀ xs ys ts ps
+            → (settledOf e size (cond b (Written (length es)) (Needed (length es))) xs ys ≡ answerOf e size Unlimited es room) × Handed (handedOf size Unlimited es room) xs₀ ys₀ ts₀ ps₀ xs ys ts ps
+        go true q h = fits-go size es refl (leb-true (length es) room q) h
+        go false q h = short-go size es (leb-false (length es) room q) h
+
+    pub reads-body : (size : SensorSize) (a : ReadAnswer) → a ≡ settledOf e size r xs ys → ReadsBody e size es a xs₀ ys₀ ts₀ ps₀ xs ys ts ps
+    reads-body size a is =
+        let s = settles size in
+        let is′ : a ≡ answerOf e size Unlimited es room = is ∙ s .0 in
+        record { is-told = ap toldRead is′ ∙ told-answer e size es room; is-answer = is′; columns = s .1 }
+
+-- ---- the two entries
+
+module _ {xs₀ ys₀ : List ℕ} {ts₀ : List ℤ} {ps₀ : List ℕ} where
+  module _ (words : List ℕ) (e : Encoding) (size : SensorSize) (limit : Limit) where
+    words-long : 2 ^ 30 < length words → DecodesWords words e size limit (Refused TooLong) xs₀ ys₀ ts₀ ps₀ xs₀ ys₀ ts₀ ps₀
+    unfolding wordsVerdict wordsAnswer wordsHanded
+    words-long h = rw (lt-ltb (2 ^ 30) (length words) h) (record { is-told = refl; is-answer = refl; columns = handed-none })
+
+    words-zero : length words ≤ 2 ^ 30 → hasZero size ≡ true → DecodesWords words e size limit (Refused InvalidSensorSize) xs₀ ys₀ ts₀ ps₀ xs₀ ys₀ ts₀ ps₀
+    unfolding wordsVerdict wordsAnswer wordsHanded
+    words-zero h z = rw (le-ltb (2 ^ 30) (length words) h, z) (record { is-told = refl; is-answer = refl; columns = handed-none })
+
+    pub words-read : {r : ReadAnswer} {xs ys : List ℕ} {ts : List ℤ} {ps : List ℕ} → length words ≤ 2 ^ 30 → hasZero size ≡ false
+        → ReadsBody e size (bodyEvents e size limit words) r xs₀ ys₀ ts₀ ps₀ xs ys ts ps → DecodesWords words e size limit r xs₀ ys₀ ts₀ ps₀ xs ys ts ps
+    unfolding wordsVerdict wordsAnswer wordsHanded bodyEvents
+    words-read h z b = rw (le-ltb (2 ^ 30) (length words) h, z) b
+
+    pub words-refused : (q : Refusal) → judgedOf (length words) size ≡ Unfit q → DecodesWords words e size limit (Refused q) xs₀ ys₀ ts₀ ps₀ xs₀ ys₀ ts₀ ps₀
+    words-refused q = go (ltb (2 ^ 30) (length words)) refl (hasZero size) refl
+      where
+        go : (a : Bool) → ltb (2 ^ 30) (length words) ≡ a → (b : Bool) → hasZero size ≡ b → cond a (Unfit TooLong) (cond b (Unfit InvalidSensorSize) Fit) ≡ Unfit q
+            → DecodesWords words e size limit (Refused q) xs₀ ys₀ ts₀ ps₀ xs₀ ys₀ ts₀ ps₀
+        go true p b z j = let is : TooLong ≡ q = cc in rw (← is) (words-long (ltb-true (2 ^ 30) (length words) p))
+        go false p true z j = let is : InvalidSensorSize ≡ q = cc in rw (← is) (words-zero (ltb-false (2 ^ 30) (length words) p) z)
+        go false p false z j = let no : _≡_ {A = ℕ} 0 1 = cc in absurd (omega arith)
+
+  module _ (recording : List ℕ) (o : LoadOptions) (a : HeaderAnswer) (is-header : a ≡ headerOf recording (o .«sensor_size»)) where
+    raw-from : {r : ReadAnswer} {xs ys : List ℕ} {ts : List ℤ} {ps : List ℕ}
+        → Reads (verdictAfter a recording (o .«max_events») (shortest xs₀ ys₀ ts₀ ps₀)) (answerAfter a recording (o .«max_events») (shortest xs₀ ys₀ ts₀ ps₀)) (handedAfter a recording (o .«max_events») (shortest xs₀ ys₀ ts₀ ps₀)) r xs₀ ys₀ ts₀ ps₀ xs ys ts ps
+        → ReadsRaw recording o r xs₀ ys₀ ts₀ ps₀ xs ys ts ps
+    unfolding rawVerdict rawAnswer rawHanded
+    raw-from b = rw (← is-header) b
+
+    pub raw-refused : (q : Refusal) → a ≡ NoHeader q → ReadsRaw recording o (Refused q) xs₀ ys₀ ts₀ ps₀ xs₀ ys₀ ts₀ ps₀
+    raw-refused q e = raw-from (rw e (record { is-told = refl; is-answer = refl; columns = handed-none }))
+
+    pub raw-read : (h : header.Header) → a ≡ Header h → {r : ReadAnswer} {xs ys : List ℕ} {ts : List ℤ} {ps : List ℕ}
+        → ReadsBody (h .encoding) (h .«sensor_size») (bodyEvents (h .encoding) (h .«sensor_size») (o .«max_events») (drop (h .«data_offset») recording)) r xs₀ ys₀ ts₀ ps₀ xs ys ts ps
+        → ReadsRaw recording o r xs₀ ys₀ ts₀ ps₀ xs ys ts ps
+    unfolding bodyEvents
+    raw-read h e b = raw-from (rw e b)

@@ -1,0 +1,66 @@
+-- What of an EVT3 decoder tells the time: what a word does to it, in the code's form, is what the step does.
+use mathlib.Core.Path.{_≡_, refl, ap}
+use mathlib.Core.Bool.{Bool, true, false, cond}
+use Prim.Native.Nat.{ℕ, _+_, _*_, _<_, _^_}
+use lib.Dec.{eqb}
+use borrow.Author.Tests.{eqb-true}
+use Rattle.laws_stream.specs.Loop.{loopsAfter, timeAfter}
+use Rattle.laws_stream.specs.Seek.{Reach}
+use Rattle.evt3_decoder.specs.declared.Decoder.{Decoder}
+use Rattle.evt_types.specs.Layout.{type3, time3}
+use Rattle.evt3_decoder.specs.Evt3.{kindOn, kindOf, stepAs, step3, period3, threshold3}
+pub use Rattle.read_seek.specs.Seek.{carriesAs}
+use Rattle.read_seek.specs.declared.times.Times.{Times}
+use Rattle.read_seek.specs.declared.evt3.Passed.{Passed}
+
+abbrev pub timesOf : Decoder → Times
+timesOf d = record { base = d .«time_base»; time = d .time; loops = d .«high_loops» }
+
+-- bounds under which no sum wraps
+pub record Slow (c : Times) : Type 0 where
+  pub loops : c .loops < 2 ^ 38
+  pub base : c .base < 2 ^ 62
+
+abbrev pub setTo : (coarse loops : ℕ) → Times
+setTo coarse loops = record { base = coarse; time = coarse; loops = loops }
+
+-- by the word's type k, to a started decoder
+abbrev pub tickedAs : ℕ → Times → ℕ → Times
+tickedAs k c w =
+    cond (eqb k 8)
+    (setTo (timeAfter period3 threshold3 (c .base) (c .loops) (time3 w * 4096)) (loopsAfter period3 threshold3 (c .base) (c .loops) (time3 w * 4096)))
+    (record { base = c .base; time = cond (eqb k 6) (c .base + time3 w) (c .time); loops = c .loops })
+
+abbrev pub ticked : Times → ℕ → Times
+ticked c w = tickedAs (type3 w) c w
+
+-- what the loop by times alone tells of where a seek ends
+abbrev pub passedOf : Reach Decoder → Passed
+passedOf r = record { at = r .words * 2; stray = r .stray; times = timesOf (r .state) }
+
+-- a type that has a rule, or none of these
+pub by-type : (P : ℕ → Type 0) (k : ℕ) → P 0 → P 2 → P 3 → P 4 → P 5 → P 6 → P 8
+    → (eqb k 0 ≡ false → eqb k 2 ≡ false → eqb k 3 ≡ false → eqb k 4 ≡ false → eqb k 5 ≡ false → eqb k 6 ≡ false → eqb k 8 ≡ false → P k) → P k
+by-type P k p0 p2 p3 p4 p5 p6 p8 other =
+    at 0 p0 (λ e0. at 2 p2 (λ e2. at 3 p3 (λ e3. at 4 p4 (λ e4. at 5 p5 (λ e5. at 6 p6 (λ e6. at 8 p8 (λ e8. other e0 e2 e3 e4 e5 e6 e8)))))))
+  where
+    at : (n : ℕ) → P n → (eqb k n ≡ false → P k) → P k
+    at n g f = go (eqb k n) refl
+      where
+        go : (t : Bool) → eqb k n ≡ t → P k
+        go true e = rw (eqb-true k n e) g
+        go false e = f e
+
+-- a started decoder goes by the type alone
+pub started-step : (d : Decoder) (w : ℕ) → d .initialised ≡ true → step3 d w ≡ stepAs (kindOn (type3 w)) d w
+unfolding step3
+started-step d w on = ap (λ (b : Bool). stepAs (kindOf (type3 w) b) d w) on
+
+module _ (d : Decoder) (w : ℕ) (on : d .initialised ≡ true) where
+  pub step-on : step3 d w .initialised ≡ true
+  step-on = rw (started-step d w on) (by-type (λ k. stepAs (kindOn k) d w .initialised ≡ true) (type3 w) on on on on on on refl
+      (λ e0 e2 e3 e4 e5 e6 e8. rw (e0, e2, e3, e4, e5, e6, e8) on))
+
+  pub step-times : timesOf (step3 d w) ≡ ticked (timesOf d) w
+  step-times = rw (started-step d w on) (by-type (λ k. timesOf (stepAs (kindOn k) d w) ≡ tickedAs k (timesOf d) w) (type3 w) refl refl refl refl refl refl refl
+      (λ e0 e2 e3 e4 e5 e6 e8. rw (e0, e2, e3, e4, e5, e6, e8)))

@@ -1,0 +1,34 @@
+-- `survey` goes by the encoding.
+use mathlib.Core.Path.{sym}
+use borrow.Author.Needs.{needs}
+use Rattle.read_select.proofs.survey.Statement.{statement}
+use Rattle.read_select.proofs.survey.Tie as tie
+
+enum-known-codec : tie.Need-enum-known-codec
+enum-known-codec c = search needs
+
+survey2-requires : tie.Need-survey2-requires
+survey2-requires c κs = rw (sym (c .before .codec .given .1)) (c .before .before .before .before .pre)
+
+enum-known-codec-2 : tie.Need-enum-known-codec-2
+enum-known-codec-2 c = search needs
+
+survey3-requires : tie.Need-survey3-requires
+survey3-requires c κs = rw (sym (c .before .codec2 .given .1)) (c .before .before .before .before .pre)
+
+returns : tie.Need-returns
+returns c = rw (c .before .before .codec .given .1) (c .survey2 .ensures)
+
+returns-2 : tie.Need-returns-2
+returns-2 c = rw (c .before .before .codec2 .given .1) (c .survey3 .ensures)
+
+pub survey-spec : {M : Type 1} → statement M
+survey-spec =
+    tie.close
+    (tie.spec
+    enum-known-codec
+    survey2-requires
+    enum-known-codec-2
+    survey3-requires
+    returns
+    returns-2)

@@ -1,0 +1,78 @@
+-- The two decoders as sources of a pass.
+use mathlib.Core.Path.{_≡_, refl, ap, _∙_}
+use mathlib.Core.List.{List}
+use Prim.Native.Nat.{ℕ, _+_, _≤_, _<_, _^_}
+use native.Mathlib.Omega.{arith}
+use lib.ListN.{length}
+use Rattle.laws_stream.specs.Words.{wordsOf, length-words}
+use Rattle.evt2_decoder.specs.declared.Evt2Decoder.{Evt2Decoder}
+use Rattle.evt3_decoder.specs.declared.Decoder.{Decoder}
+use Rattle.evt_codec.specs.declared.codec.Codec.the-variants.{Evt2, Evt3}
+use Rattle.evt_types.specs.Layout.{type2}
+use Rattle.evt_types.specs.declared.vector.Vector.{Vector}
+use Rattle.evt2_decoder.specs.Evt2.{step2, reader2, vector2, vectorAs, by-kinds}
+use Rattle.evt3_decoder.specs.Evt3.{step3, reader3, vector3}
+use Rattle.evt2_decoder.specs.Range.{Bounded2, bounded-step2, bounded-narrow2}
+use Rattle.evt3_decoder.specs.Range.{Bounded3, bounded-step3, bounded-narrow3}
+use Rattle.words.specs.Ahead.{ahead, ahead-some}
+use Rattle.read_select.specs.Pass.{Ready}
+use Rattle.read_select.specs.Turn.{Source, Laws, Turned}
+
+abbrev pub source2 : Source
+source2 = record {
+  State = Evt2Decoder;
+  size = 4;
+  machine = reader2;
+  live = λ d. d .initialised;
+  time = λ d. d .time;
+  vector = vector2;
+  codec = Evt2;
+  Inv = Bounded2;
+}
+
+abbrev pub source3 : Source
+source3 = record {
+  State = Decoder;
+  size = 2;
+  machine = reader3;
+  live = λ d. d .initialised;
+  time = λ d. d .time;
+  vector = vector3;
+  codec = Evt3;
+  Inv = Bounded3;
+}
+
+pub laws2 : Laws source2
+laws2 = record { some = omega arith; emits = λ d w. refl; steps = bounded-step2; narrow = λ n d w b. bounded-narrow2 w b }
+
+pub laws3 : Laws source3
+laws3 = record { some = omega arith; emits = λ d w. refl; steps = bounded-step3; narrow = λ n d w b. bounded-narrow3 w b }
+
+-- a pass that is asked for what it may be
+pub inv2 : {number : ℕ} (d : Evt2Decoder) (l : List ℕ) → Ready (Evt2 d) number (length l) → Bounded2 (length (wordsOf 4 l)) d
+inv2 d l r = rw (length-words 4 l) (r .able)
+
+pub inv3 : {number : ℕ} (d : Decoder) (l : List ℕ) → Ready (Evt3 d) number (length l) → d .«base_x» < 2 ^ 16 → Bounded3 (length (wordsOf 2 l)) d
+inv3 d l r x = rw (length-words 2 l) (record { regular = r .able .regular; loops = r .able .loops; column = x })
+
+-- an EVT2 word has one event at most
+mask2 : (d : Evt2Decoder) (w : ℕ) → vector2 d w .mask ≤ 1
+unfolding vector2
+mask2 d w = by-kinds (λ k. vectorAs k d w .mask ≤ 1) (type2 w) (d .initialised) (omega arith) (λ on q. omega arith) (omega arith)
+
+-- ---- a word as the loops read it, and its step
+
+pub turned2 : {l : List ℕ} {i w : ℕ} {s s′ : Evt2Decoder} {v : Vector} → i + 3 < length l → w ≡ ahead 4 l i → s′ ≡ step2 s w → v ≡ vector2 s w → Turned source2 l i s s′ v
+turned2 {l = l} {i = i} {s = s} h e n m =
+    let whole : i + 4 ≤ length l = omega arith in
+    let is = e ∙ ahead-some 4 l i whole in
+    record { h = whole; is-next = n ∙ ap (step2 s) is; is-events = m ∙ ap (vector2 s) is }
+
+pub turned3 : {l : List ℕ} {i w : ℕ} {s s′ : Decoder} {v : Vector} → i + 1 < length l → w ≡ ahead 2 l i → s′ ≡ step3 s w → v ≡ vector3 s w → Turned source3 l i s s′ v
+turned3 {l = l} {i = i} {s = s} h e n m =
+    let whole : i + 2 ≤ length l = omega arith in
+    let is = e ∙ ahead-some 2 l i whole in
+    record { h = whole; is-next = n ∙ ap (step3 s) is; is-events = m ∙ ap (vector3 s) is }
+
+pub mask-here : {l : List ℕ} {i : ℕ} {s s′ : Evt2Decoder} {v : Vector} → Turned source2 l i s s′ v → v .mask ≤ 1
+mask-here {s = s} o = rw (o .is-events) (mask2 s _)

@@ -1,0 +1,93 @@
+// The passes over EVT2 words, for `survey` and `fill` alone, which say what is required and why.
+ghost use mathlib.Core.Path.{_≡_};
+ghost use lib.ListN.{length};
+ghost use Rattle.evt_codec.specs.declared.codec.Codec.the-variants.{Evt2};
+ghost use Rattle.evt_types.specs.Columns.{Wrote};
+ghost use Rattle.read_select.specs.Pass.{Ready, Fits, handedOver, surveyed, filled};
+use crate::Filled;
+use crate::Tally;
+use crate::word;
+use crate::word::Notes;
+use evt_codec::Codec;
+use evt2_decoder::Evt2Decoder;
+use evt2_decoder::advance;
+use read_window::Window;
+use read_window::trim;
+
+// Counts the events that the window leaves of each word.
+pub fn survey2(bytes: &[u8], d: Evt2Decoder, win: Window, number: u64) -> Tally
+    requires { ⌜ Ready (Evt2 d) number (length (now bytes)) ⌝ }
+    ensures { λ r. ⌜ r ≡ surveyed win number (Evt2 d) (now (bytes .entry)) ⌝ }
+{
+    let mut s = d;
+    let mut t = Notes {
+        number,
+        count: 0,
+        latest: 0,
+        width: 0,
+        height: 0,
+    };
+    let mut i: usize = 0;
+    while i + 3 < bytes.len() {
+        let w = words::four_at(bytes, i);
+        let step = advance(s, w);
+        let v = step.events;
+        s = step.next;
+        i += 4;
+        let r = word::cut2(v, win, t.number);
+        t = word::note(t, v, r);
+        if trim::stopped(win, t.number, s.initialised, s.time) {
+            break;
+        }
+    }
+    Tally {
+        number: t.number,
+        count: t.count,
+        latest: t.latest,
+        width: t.width,
+        height: t.height,
+        consumed: i / 4,
+        codec: Codec::Evt2(s),
+    }
+}
+
+// Writes them.
+pub fn fill2(
+    bytes: &[u8],
+    d: Evt2Decoder,
+    win: Window,
+    number: u64,
+    xs: &mut [u16],
+    ys: &mut [u16],
+    ts: &mut [i64],
+    ps: &mut [u8],
+) -> Filled
+    requires { ⌜ Ready (Evt2 d) number (length (now bytes)) ⌝ ∗ ⌜ Fits (length (handedOver win number (Evt2 d) (now bytes))) (length (now xs)) (length (now ys)) (length (now ts)) (length (now ps)) ⌝ }
+    ensures { λ r. ⌜ r ≡ filled win number (Evt2 d) (now (bytes .entry)) ⌝ ∗ ⌜ Wrote (handedOver win number (Evt2 d) (now (bytes .entry))) 0 (now (xs .entry)) (now (ys .entry)) (now (ts .entry)) (now (ps .entry)) (now (xs .exit)) (now (ys .exit)) (now (ts .exit)) (now (ps .exit)) ⌝ }
+{
+    let mut s = d;
+    let mut k = number;
+    let mut n: usize = 0;
+    let mut i: usize = 0;
+    while i + 3 < bytes.len() {
+        let w = words::four_at(bytes, i);
+        let step = advance(s, w);
+        let v = step.events;
+        s = step.next;
+        i += 4;
+        let r = word::cut2(v, win, k);
+        let kept = word::masked(v, r.mask);
+        let was = n;
+        n = read_columns::put_all(kept, was, &mut *xs, &mut *ys, &mut *ts, &mut *ps);
+        k = word::after(k, was, n, r.extra);
+        if trim::stopped(win, k, s.initialised, s.time) {
+            break;
+        }
+    }
+    Filled {
+        number: k,
+        count: n,
+        consumed: i / 4,
+        codec: Codec::Evt2(s),
+    }
+}

@@ -1,0 +1,95 @@
+// The passes over EVT3 words, for `survey` and `fill` alone, which say what is required and why.
+ghost use mathlib.Core.Path.{_≡_};
+ghost use lib.ListN.{length};
+ghost use Rattle.evt_codec.specs.declared.codec.Codec.the-variants.{Evt3};
+ghost use Rattle.evt_types.specs.Columns.{Wrote};
+ghost use Rattle.read_select.specs.Pass.{Ready, Fits, handedOver, surveyed, filled};
+use crate::Filled;
+use crate::Tally;
+use crate::word;
+use crate::word::Notes;
+use evt_codec::Codec;
+use evt3_decoder::Decoder;
+use evt3_decoder::widen;
+use read_window::Window;
+use read_window::trim;
+
+// Counts the events that the window leaves of each word.
+pub fn survey3(bytes: &[u8], d: Decoder, win: Window, number: u64) -> Tally
+    requires { ⌜ Ready (Evt3 d) number (length (now bytes)) ⌝ }
+    ensures { λ r. ⌜ r ≡ surveyed win number (Evt3 d) (now (bytes .entry)) ⌝ }
+{
+    let mut s = widen(d);
+    let mut t = Notes {
+        number,
+        count: 0,
+        latest: 0,
+        width: 0,
+        height: 0,
+    };
+    let mut i: usize = 0;
+    while i + 1 < bytes.len() {
+        let w = words::two_at(bytes, i);
+        let step = s.advance(w);
+        let v = step.events;
+        s = step.next;
+        i += 2;
+        let r = word::cut3(v, win, t.number);
+        t = word::note(t, v, r);
+        if trim::stopped(win, t.number, s.initialised, s.time) {
+            break;
+        }
+    }
+    let decoder = s.slim();
+    Tally {
+        number: t.number,
+        count: t.count,
+        latest: t.latest,
+        width: t.width,
+        height: t.height,
+        consumed: i / 2,
+        codec: Codec::Evt3(decoder),
+    }
+}
+
+// Writes them.
+pub fn fill3(
+    bytes: &[u8],
+    d: Decoder,
+    win: Window,
+    number: u64,
+    xs: &mut [u16],
+    ys: &mut [u16],
+    ts: &mut [i64],
+    ps: &mut [u8],
+) -> Filled
+    requires { ⌜ Ready (Evt3 d) number (length (now bytes)) ⌝ ∗ ⌜ Fits (length (handedOver win number (Evt3 d) (now bytes))) (length (now xs)) (length (now ys)) (length (now ts)) (length (now ps)) ⌝ }
+    ensures { λ r. ⌜ r ≡ filled win number (Evt3 d) (now (bytes .entry)) ⌝ ∗ ⌜ Wrote (handedOver win number (Evt3 d) (now (bytes .entry))) 0 (now (xs .entry)) (now (ys .entry)) (now (ts .entry)) (now (ps .entry)) (now (xs .exit)) (now (ys .exit)) (now (ts .exit)) (now (ps .exit)) ⌝ }
+{
+    let mut s = widen(d);
+    let mut k = number;
+    let mut n: usize = 0;
+    let mut i: usize = 0;
+    while i + 1 < bytes.len() {
+        let w = words::two_at(bytes, i);
+        let step = s.advance(w);
+        let v = step.events;
+        s = step.next;
+        i += 2;
+        let r = word::keep3(v, win, k);
+        let kept = word::masked(v, r.mask);
+        let was = n;
+        n = read_columns::put_all(kept, was, &mut *xs, &mut *ys, &mut *ts, &mut *ps);
+        k = word::after(k, was, n, r.extra);
+        if trim::stopped(win, k, s.initialised, s.time) {
+            break;
+        }
+    }
+    let decoder = s.slim();
+    Filled {
+        number: k,
+        count: n,
+        consumed: i / 2,
+        codec: Codec::Evt3(decoder),
+    }
+}

@@ -1,0 +1,52 @@
+use mathlib.Core.Path.{_≡_, ap, _∙_}
+use native.Mathlib.Omega.{arith}
+use denote.Ref.{now}
+use lib.ListN.{length}
+use Rattle.write_buffer.specs.declared.Put.{Put}
+use Rattle.write_append.specs.Append.{sends}
+use Rattle.write_append.specs.Ends.{sends-few, short-fits, short-lacks}
+use borrow.Author.Needs.{needs}
+use Rattle.write_append.proofs.shortfall.Statement.{statement}
+use Rattle.write_append.proofs.shortfall.Tie as tie
+
+-- src/lib.rt:95:13
+mul-if1 : tie.Need-mul-if1
+mul-if1 c = search needs
+
+-- src/lib.rt:95:8
+add-if1 : tie.Need-add-if1
+add-if1 c = search needs
+
+-- src/lib.rt:96:9
+returns : tie.Need-returns
+returns c =
+    let a = c .before .before .before .before .args in
+    let few = sends-few (a .sink) (a .width) (a .height) (now (a .xs)) (now (a .ys)) (now (a .ts)) (now (a .ps)) (c .before .before .before .before .pre .0) (omega arith) (omega arith) in
+    short-fits (length (sends (a .sink) (a .width) (a .height) (now (a .xs)) (now (a .ys)) (now (a .ts)) (now (a .ps)))) (a .room) (omega (arith, few, c .if1 .taken))
+
+-- src/lib.rt:99:58
+slice-aggregate-write : tie.Need-slice-aggregate-write
+slice-aggregate-write c = search needs
+
+-- src/lib.rt:99:9
+write-requires : tie.Need-write-requires
+write-requires c κs = search needs
+
+-- src/lib.rt:82:1
+returns-2 : tie.Need-returns-2
+returns-2 c =
+    let a = c .before .before .before .before .before .before .before .before .args in
+    let n : c .before .before .write .result .at ≡ length (sends (a .sink) (a .width) (a .height) (now (a .xs)) (now (a .ys)) (now (a .ts)) (now (a .ps))) = ap (λ (p : Put). p .at) (c .before .before .write .ensures .0) in
+    short-fits (length (sends (a .sink) (a .width) (a .height) (now (a .xs)) (now (a .ys)) (now (a .ts)) (now (a .ps)))) (a .room) (omega (arith, n, c .if2 .taken))
+
+-- src/lib.rt:82:1
+returns-3 : tie.Need-returns-3
+returns-3 c =
+    let a = c .before .before .before .before .before .before .before .before .args in
+    let n : c .before .before .write .result .at ≡ length (sends (a .sink) (a .width) (a .height) (now (a .xs)) (now (a .ys)) (now (a .ts)) (now (a .ps))) = ap (λ (p : Put). p .at) (c .before .before .write .ensures .0) in
+    n ∙ short-lacks (length (sends (a .sink) (a .width) (a .height) (now (a .xs)) (now (a .ys)) (now (a .ts)) (now (a .ps)))) (a .room) (omega (arith, n, c .if2 .left))
+
+pub shortfall-spec : {M : Type 1} → statement M
+shortfall-spec =
+    tie.close
+    (tie.spec mul-if1 add-if1 returns slice-aggregate-write write-requires returns-2 returns-3)

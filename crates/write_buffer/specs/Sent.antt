@@ -1,0 +1,44 @@
+-- What a writer has sent, and the words that are due where it changes.
+use mathlib.Core.Path.{_≡_, refl}
+use mathlib.Core.Bool.{Bool, true, false}
+use mathlib.Core.List.{List, [], _∷_}
+use Prim.Native.Nat.{ℕ, _-_, _^_, _<_}
+use native.Mathlib.Omega.{arith}
+use borrow.Author.Tests.{ne-eqb}
+use lib.Dec.{eqb}
+use Rattle.laws_stream.specs.Machine.{Note}
+use Rattle.evt_types.specs.Event.{Event}
+use Rattle.evt_types.specs.declared.Sent.{Sent}
+use Rattle.evt_types.specs.declared.Sent.the-variants.{Nothing, Value}
+use Rattle.write_buffer.specs.declared.EncoderState.{EncoderState}
+
+-- a fresh writer has sent no half and no row
+abbrev pub freshState : EncoderState
+freshState = record { «time_high» = Nothing; «time_low» = Nothing; y = Nothing }
+
+abbrev pub sentIs : Sent → ℕ → Bool
+sentIs Nothing q = false
+sentIs (Value g) q = eqb g q
+
+-- a word that carries no event
+abbrev pub quiet : ℕ → Note ℕ Event
+quiet w = record { word = w; events = [] }
+
+-- the event word of one event
+abbrev pub carries : ℕ → Event → Note ℕ Event
+carries w e = record { word = w; events = e ∷ [] }
+
+-- a word that is due unless its content was sent
+abbrev pub due : (sent : Bool) → ℕ → List (Note ℕ Event)
+due true w = []
+due false w = quiet w ∷ []
+
+-- ---- inside a loop what was sent is one number: nothing is 2^64 - 1, which no half and no row is
+
+abbrev pub held : Sent → ℕ
+held Nothing = 2 ^ 64 - 1
+held (Value g) = g
+
+pub held-is : (s : Sent) (q : ℕ) → q < 2 ^ 60 → eqb (held s) q ≡ sentIs s q
+held-is Nothing q h = ne-eqb (2 ^ 64 - 1) q (λ e. omega arith)
+held-is (Value g) q h = refl

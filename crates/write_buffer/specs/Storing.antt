@@ -1,0 +1,101 @@
+-- Bytes stored piece by piece, as far as a list reaches; and a loop that gives a writer its input piece by piece, and stores the bytes of its words.
+use mathlib.Core.Path.{_≡_, refl, sym, ap, _∙_}
+use mathlib.Core.List.{List, [], _∷_, _++_}
+use Prim.Native.Nat.{ℕ, suc, _+_, _≤_, _<_}
+use native.Mathlib.Omega.{arith}
+use native.Mathlib.Nat.{add-zero}
+use lib.ListN.{length, set, length-append}
+use lib.Seq.{sets, length-sets, set-out, set-set, set-comm}
+use Rattle.laws_stream.specs.Columns.{sets-append}
+use Rattle.laws_stream.specs.Machine.{Machine, Note, run, emits, words, words-append}
+use Rattle.laws_stream.specs.Words.{stream, stream-append}
+
+-- nothing is stored past the end
+pub sets-out : (l : List ℕ) (i : ℕ) (vs : List ℕ) → length l ≤ i → sets l i vs ≡ l
+sets-out l i [] h = refl
+sets-out l i (v ∷ vs) h = ap (λ (k : List ℕ). sets k (suc i) vs) (set-out l i v h) ∙ sets-out l (suc i) vs (omega arith)
+
+-- n bytes have room from `at` on, or there is no byte at all: then nothing is stored
+abbrev pub Roomy : (out : List ℕ) (at n : ℕ) → Type 0
+Roomy out at n = 0 < length out → at + n ≤ length out
+
+-- what is stored after some bytes has room where both have
+pub roomy-rest : (out o : List ℕ) (at : ℕ) {r : ℕ} (w rest : List ℕ) → r ≡ at + length w → length o ≡ length out → Roomy out at (length (w ++ rest)) → Roomy o r (length rest)
+roomy-rest out o at w rest e n r h = omega (arith, r (omega arith), length-append w rest)
+
+pub sets-empty : (l : List ℕ) (i : ℕ) (vs : List ℕ) → length l ≤ 0 → l ≡ sets l i vs
+sets-empty l i vs h = sym (sets-out l i vs (omega arith))
+
+set-sets : (l : List ℕ) (i a j : ℕ) (vs : List ℕ) → i < j → set (sets l j vs) i a ≡ sets (set l i a) j vs
+set-sets l i a j [] h = refl
+set-sets l i a j (v ∷ vs) h = set-sets (set l j v) i a (suc j) vs (omega arith) ∙ ap (λ (k : List ℕ). sets k (suc j) vs) (set-comm l j i v a (λ e. omega arith))
+
+-- what is stored is lost where as much is stored again
+pub sets-over : (l : List ℕ) (i : ℕ) (us vs : List ℕ) → length us ≤ length vs → sets (sets l i us) i vs ≡ sets l i vs
+sets-over l i [] vs h = refl
+sets-over l i (u ∷ us) [] h = absurd (omega arith)
+sets-over l i (u ∷ us) (v ∷ vs) h =
+    rw (set-sets (set l i u) i v (suc i) us (omega arith), set-set l i u v) (sets-over (set l i v) (suc i) us vs (omega arith))
+
+-- On the way to `all` stored from at₀ on: `left` is to be stored from `at` on.
+pub record Storing (all : List ℕ) (at₀ : ℕ) (out₀ : List ℕ) (left : List ℕ) (at : ℕ) (out : List ℕ) : Type 0 where
+  pub long : length out ≡ length out₀
+  pub count : at + length left ≡ at₀ + length all
+  pub stores : sets out at left ≡ sets out₀ at₀ all
+
+module _ {all : List ℕ} {at₀ : ℕ} {out₀ : List ℕ} where
+  pub storing-start : Storing all at₀ out₀ all at₀ out₀
+  storing-start = record { long = refl; count = refl; stores = refl }
+
+  pub storing-turn : {left : List ℕ} {at : ℕ} {out out′ : List ℕ} (w rest : List ℕ) → left ≡ w ++ rest → out′ ≡ sets out at w → Storing all at₀ out₀ left at out
+      → Storing all at₀ out₀ rest (at + length w) out′
+  storing-turn {left} {at} {out} {out′} w rest e o s = record {
+    long = ap length o ∙ length-sets out at w ∙ s .long;
+    count = omega (arith, ap length e, length-append w rest, s .count);
+    stores = rw o (sym (sets-append out at w rest) ∙ ap (sets out at) (sym e) ∙ s .stores);
+  }
+
+  -- what comes next has room where all has
+  pub storing-room : {left : List ℕ} {at : ℕ} {out : List ℕ} (w rest : List ℕ) → left ≡ w ++ rest → Storing all at₀ out₀ left at out → Roomy out₀ at₀ (length all) → Roomy out at (length w)
+  storing-room {left} {at} {out} w rest e s r h = omega (arith, r (omega (arith, s .long)), ap length e, length-append w rest, s .count, s .long)
+
+  pub storing-end : {at : ℕ} {out : List ℕ} → Storing all at₀ out₀ [] at out → (at ≡ at₀ + length all) × (out ≡ sets out₀ at₀ all)
+  storing-end {at} s = (sym (add-zero at) ∙ s .count, s .stores)
+
+-- one store after another
+pub stored-both : (out : List ℕ) (at : ℕ) {o₁ o₂ : List ℕ} {r₁ r₂ : ℕ} (a b : List ℕ) → r₁ ≡ at + length a → o₁ ≡ sets out at a → r₂ ≡ r₁ + length b → o₂ ≡ sets o₁ r₁ b
+    → (r₂ ≡ at + length (a ++ b)) × (o₂ ≡ sets out at (a ++ b))
+stored-both out at a b e o f p = (omega (arith, length-append a b), p ∙ rw (o, e) (sym (sets-append out at a b)))
+
+module _ {Q I E : Type 0} (size : ℕ) (W : Machine Q I (Note ℕ E)) where
+  -- the bytes of the words that one piece of the input makes, and those of all
+  abbrev pub piece : Q → I → List ℕ
+  piece v a = stream size (words (W .emit v a))
+
+  unfoldable pub bytesFrom : Q → List I → List ℕ
+  bytesFrom v l = stream size (words (emits W v l))
+
+  pub bytes-cons : (v : Q) (a : I) (l : List I) → bytesFrom v (a ∷ l) ≡ piece v a ++ bytesFrom (W .step v a) l
+  unfolding bytesFrom
+  bytes-cons v a l = ap (stream size) (words-append (W .emit v a) (emits W (W .step v a) l)) ∙ stream-append size (words (W .emit v a)) (words (emits W (W .step v a) l))
+
+  -- On the way: from the state v, `left` of the input is to come, and the bytes before `at` are stored.
+  pub record Going (v₀ : Q) (all : List I) (at₀ : ℕ) (out₀ : List ℕ) (left : List I) (v : Q) (at : ℕ) (out : List ℕ) : Type 0 where
+    pub state : run W v left ≡ run W v₀ all
+    pub storing : Storing (bytesFrom v₀ all) at₀ out₀ (bytesFrom v left) at out
+
+  module _ {v₀ : Q} {all : List I} {at₀ : ℕ} {out₀ : List ℕ} where
+    pub going-start : Going v₀ all at₀ out₀ all v₀ at₀ out₀
+    going-start = record { state = refl; storing = storing-start }
+
+    pub going-turn : {v : Q} {at : ℕ} {out out′ : List ℕ} (a : I) (l : List I) → out′ ≡ sets out at (piece v a) → Going v₀ all at₀ out₀ (a ∷ l) v at out
+        → Going v₀ all at₀ out₀ l (W .step v a) (at + length (piece v a)) out′
+    going-turn {v} a l e g = record { state = g .state; storing = storing-turn (piece v a) (bytesFrom (W .step v a) l) (bytes-cons v a l) e (g .storing) }
+
+    pub going-room : {v : Q} {at : ℕ} {out : List ℕ} (a : I) (l : List I) → Going v₀ all at₀ out₀ (a ∷ l) v at out → Roomy out₀ at₀ (length (bytesFrom v₀ all)) → Roomy out at (length (piece v a))
+    going-room {v} a l g r = storing-room (piece v a) (bytesFrom (W .step v a) l) (bytes-cons v a l) (g .storing) r
+
+    pub going-end : {v : Q} {at : ℕ} {out : List ℕ} → Going v₀ all at₀ out₀ [] v at out
+        → (v ≡ run W v₀ all) × (at ≡ at₀ + length (bytesFrom v₀ all)) × (out ≡ sets out₀ at₀ (bytesFrom v₀ all))
+    unfolding bytesFrom
+    going-end g = let s = storing-end (g .storing) in (g .state, s .0, s .1)

@@ -1,0 +1,259 @@
+-- What the loops of a check keep, and what a check that is passed says.
+use mathlib.Core.Path.{_≡_, refl, sym, ap, _∙_}
+use mathlib.Core.Bool.{Bool, true, false, cond, _&&_, _||_, true≢false, and-true, and-assoc}
+use mathlib.Core.List.{List, [], _∷_}
+use Prim.Native.Nat.{ℕ, zero, suc, _+_, _-_, _^_, _≤_, _<_}
+use native.Mathlib.Omega.{arith}
+use native.Mathlib.Numerals.{add-one}
+use lib.Bits.{bitOr, or-lt, or-add-and, and-le-l, and-le-r}
+use lib.Dec.{eqb, ltb, leb}
+use lib.ListN.{length, getD, drop, drop-of-length-le}
+use lib.Seq.{drop-cons}
+use lib.IntN.{ℤ, pos, negsuc}
+use lib.Signed.{ltZ, nonNeg}
+use borrow.Author.Tests.{eqb-true, leb-true, leb-false, ltb-true, ltb-false, le-leb, lt-leb, lt-ltb, le-ltb}
+use Rattle.laws_stream.specs.Machine.{and-both}
+use Rattle.evt_types.specs.declared.Encoding.{Encoding}
+use Rattle.evt_types.specs.declared.Encoding.the-variants.{Evt2, Evt3}
+use Rattle.evt_types.specs.declared.Refusal.{Refusal}
+use Rattle.evt_types.specs.declared.Refusal.the-variants.{TooLong, TimeOrder, EventOutOfRange, StateOutOfRange, ColumnLengths}
+use Rattle.write_buffer.specs.declared.EncoderState.{EncoderState}
+use Rattle.write_buffer.specs.Columns.{natural, Sized, Whole}
+use Rattle.write_rules.specs.declared.Check.{Check}
+use Rattle.write_rules.specs.declared.Check.the-variants.{Passed, Failed}
+use Rattle.write_rules.specs.declared.LastTime.{LastTime}
+use Rattle.write_rules.specs.declared.LastTime.the-variants.{Never, At}
+use Rattle.write_rules.specs.declared.RawEventSink.{RawEventSink}
+use Rattle.write_rules.specs.Range.{timeBound, timeInRange, every, atMost, eventsInRange, falls, fallsAfter, sameLengths, isNothing, sentInRange, lastInRange, sinkInRange}
+use Rattle.write_rules.specs.Rules.{lengthsOf, checkOf}
+
+pub or-neither : (a b : Bool) → (a || b) ≡ false → (a ≡ false) × (b ≡ false)
+or-neither true b h = absurd (true≢false h)
+or-neither false b h = (refl, h)
+
+-- ---- a column whose elements are gathered by `|`: all are below a power of two where that is
+
+or-as : (c d : Bool) (k most a b : ℕ) → suc most ≡ 2 ^ k → leb a most ≡ c → leb b most ≡ d → leb (bitOr a b) most ≡ (c && d)
+or-as true true k most a b e p q =
+    let lt = or-lt k a b (omega (arith, leb-true a most p)) (omega (arith, leb-true b most q)) in
+    le-leb (bitOr a b) most (omega arith)
+or-as true false k most a b e p q = lt-leb (bitOr a b) most (omega (arith, leb-true a most p, leb-false b most q, or-add-and a b, and-le-l a b))
+or-as false d k most a b e p q = lt-leb (bitOr a b) most (omega (arith, leb-false a most p, or-add-and a b, and-le-r a b))
+
+pub or-most : (k most a b : ℕ) → suc most ≡ 2 ^ k → leb (bitOr a b) most ≡ (leb a most && leb b most)
+or-most k most a b e = or-as (leb a most) (leb b most) k most a b e refl refl
+
+module _ (k most : ℕ) (e : suc most ≡ 2 ^ k) (xs : List ℕ) where
+  -- at index i
+  abbrev pub Gathered : (all i : ℕ) → Type 0
+  Gathered all i = (i ≤ length xs) × ((leb all most && every (atMost most) (drop i xs)) ≡ every (atMost most) xs)
+
+  pub gathered-start : Gathered 0 0
+  gathered-start = (omega arith, rw (le-leb 0 most (omega arith)))
+
+  pub gathered-turn : (all i : ℕ) → i < length xs → Gathered all i → Gathered (bitOr all (getD xs i 0)) (i + 1)
+  unfolding every
+  gathered-turn all i h g =
+      let x = getD xs i 0 in
+      (omega arith, rw (add-one, or-most k most all x e, and-assoc) (sym (rw (drop-cons xs i 0 h) refl) ∙ g .1))
+
+  pub gathered-end : (all i : ℕ) → length xs ≤ i → Gathered all i → leb all most ≡ every (atMost most) xs
+  unfolding every
+  gathered-end all i h g = sym (and-true (leb all most)) ∙ (rw (drop-of-length-le xs h) at (g .1))
+
+-- ---- times that don't fall
+
+module _ (ts : List ℤ) where
+  falls-at : (from : ℤ) (i : ℕ) → i < length ts → falls from (drop i ts) ≡ (ltZ (getD ts i (pos 0)) from || falls (getD ts i (pos 0)) (drop (i + 1) ts))
+  unfolding falls
+  falls-at from i h = rw (add-one, drop-cons ts i (pos 0) h)
+
+  pub falls-yes : (from : ℤ) (i : ℕ) → i < length ts → ltZ (getD ts i (pos 0)) from ≡ true → falls from (drop i ts) ≡ true
+  falls-yes from i h e = falls-at from i h ∙ rw e
+
+  pub falls-no : (from : ℤ) (i : ℕ) → i < length ts → ltZ (getD ts i (pos 0)) from ≡ false → falls from (drop i ts) ≡ falls (getD ts i (pos 0)) (drop (i + 1) ts)
+  falls-no from i h e = falls-at from i h ∙ rw e
+
+  pub falls-end : (from : ℤ) (i : ℕ) → length ts ≤ i → falls from (drop i ts) ≡ false
+  unfolding falls
+  falls-end from i h = rw (drop-of-length-le ts h)
+
+ltZ-self : (t : ℤ) → ltZ t t ≡ false
+ltZ-self (pos n) = le-ltb n n (omega arith)
+ltZ-self (negsuc n) = le-ltb n n (omega arith)
+
+-- the first is never before itself
+pub falls-first : (ts : List ℤ) → falls (getD ts 0 (pos 0)) ts ≡ fallsAfter Never ts
+unfolding falls
+falls-first [] = refl
+falls-first (t ∷ ts) = rw (ltZ-self t)
+
+pub falls-never : (l : LastTime) (ts : List ℤ) → fallsAfter l ts ≡ false → fallsAfter Never ts ≡ false
+unfolding falls
+falls-never Never ts h = h
+falls-never (At t) [] h = refl
+falls-never (At t) (u ∷ ts) h = or-neither (ltZ u t) (falls u ts) h .1
+
+abbrev pub lastOf : ℤ → List ℤ → ℤ
+lastOf t ts = getD (t ∷ ts) (length ts) (pos 0)
+
+-- the last is not before the first
+last-late : (b : ℕ) (ts : List ℤ) → falls (pos b) ts ≡ false → b ≤ natural (lastOf (pos b) ts)
+unfolding falls
+last-late b [] h = omega arith
+last-late b (pos m ∷ ts) h =
+    let g = or-neither (ltb m b) (falls (pos m) ts) h in
+    omega (arith, ltb-false m b (g .0), last-late m ts (g .1))
+last-late b (negsuc m ∷ ts) h = absurd (true≢false h)
+
+module _ (e : Encoding) where
+  between-fine : (t u : ℤ) (ts : List ℤ) → ltZ u t ≡ false → falls u ts ≡ false → timeInRange e t ≡ true → timeInRange e (lastOf u ts) ≡ true → timeInRange e u ≡ true
+  between-fine (negsuc a) u ts h f p q = absurd (true≢false (sym p))
+  between-fine (pos a) (negsuc b) ts h f p q = absurd (true≢false h)
+  between-fine (pos a) (pos b) ts h f p q =
+      let last = and-both (nonNeg (lastOf (pos b) ts)) (ltb (natural (lastOf (pos b) ts)) (timeBound e)) q in
+      lt-ltb b (timeBound e) (omega (arith, last-late b ts f, ltb-true (natural (lastOf (pos b) ts)) (timeBound e) (last .1)))
+
+  middle : (a b c : Bool) → (a ≡ true → c ≡ true → b ≡ true) → (a && (b && c)) ≡ (a && c)
+  middle false b c h = refl
+  middle true b true h = rw (h refl refl)
+  middle true true false h = refl
+  middle true false false h = refl
+
+  twice : (a : Bool) → (a && true) ≡ (a && a)
+  twice true = refl
+  twice false = refl
+
+  ends-go : (t : ℤ) (ts : List ℤ) → falls t ts ≡ false → every (timeInRange e) (t ∷ ts) ≡ (timeInRange e t && timeInRange e (lastOf t ts))
+  unfolding falls every
+  ends-go t [] h = twice (timeInRange e t)
+  ends-go t (u ∷ ts) h =
+      let g = or-neither (ltZ u t) (falls u ts) h in
+      ap (λ (b : Bool). timeInRange e t && b) (ends-go u ts (g .1))
+      ∙ middle (timeInRange e t) (timeInRange e u) (timeInRange e (lastOf u ts)) (between-fine t u ts (g .0) (g .1))
+
+  -- of times in order the first and the last tell
+  pub times-ends : (ts : List ℤ) → 0 < length ts → fallsAfter Never ts ≡ false
+      → (timeInRange e (getD ts 0 (pos 0)) && timeInRange e (getD ts (length ts - 1) (pos 0))) ≡ every (timeInRange e) ts
+  times-ends [] h f = absurd (omega arith)
+  times-ends (t ∷ ts) h f = let n : suc (length ts) - 1 ≡ length ts = omega arith in rw n (sym (ends-go t ts f))
+
+pub every-none : {A : Type 0} (f : A → Bool) (l : List A) → length l ≤ 0 → every f l ≡ true
+unfolding every
+every-none f [] h = refl
+every-none f (a ∷ l) h = absurd (omega arith)
+
+every-at : {A : Type 0} (f : A → Bool) (d : A) (l : List A) → f d ≡ true → every f l ≡ true → (i : ℕ) → f (getD l i d) ≡ true
+unfolding every
+every-at f d [] e h i = e
+every-at f d (a ∷ l) e h zero = and-both (f a) (every f l) h .0
+every-at f d (a ∷ l) e h (suc i) = every-at f d l e (and-both (f a) (every f l) h .1) i
+
+zero-in-range : (e : Encoding) → timeInRange e (pos 0) ≡ true
+zero-in-range Evt2 = refl
+zero-in-range Evt3 = refl
+
+-- rule 7 for one event
+pub record EventFine (e : Encoding) (x y : ℕ) (t : ℤ) (p : ℕ) : Type 0 where
+  pub fine-x : x ≤ 2047
+  pub fine-y : y ≤ 2047
+  pub fine-p : p ≤ 1
+  pub whole : nonNeg t ≡ true
+  pub fine-t : natural t < timeBound e
+
+pub event-fine : (e : Encoding) (xs ys : List ℕ) (ts : List ℤ) (ps : List ℕ) → eventsInRange e xs ys ts ps ≡ true → (i : ℕ) → EventFine e (getD xs i 0) (getD ys i 0) (getD ts i (pos 0)) (getD ps i 0)
+event-fine e xs ys ts ps h i =
+    let a = and-both (every (atMost 2047) xs) _ h in
+    let b = and-both (every (atMost 2047) ys) _ (a .1) in
+    let c = and-both (every (atMost 1) ps) _ (b .1) in
+    let t = getD ts i (pos 0) in
+    let d = and-both (nonNeg t) (ltb (natural t) (timeBound e)) (every-at (timeInRange e) (pos 0) ts (zero-in-range e) (c .1) i) in
+    record {
+      fine-x = leb-true (getD xs i 0) 2047 (every-at (atMost 2047) 0 xs refl (a .0) i);
+      fine-y = leb-true (getD ys i 0) 2047 (every-at (atMost 2047) 0 ys refl (b .0) i);
+      fine-p = leb-true (getD ps i 0) 1 (every-at (atMost 1) 0 ps refl (c .0) i);
+      whole = d .0;
+      fine-t = ltb-true (natural t) (timeBound e) (d .1);
+    }
+
+-- ---- what the check of the lengths says
+
+module _ (xs ys : List ℕ) (ts : List ℤ) (ps : List ℕ) (c : Check) (is : c ≡ lengthsOf (length xs) (length ys) (length ts) (length ps)) where
+  pub lengths-passed : c ≡ Passed → (sameLengths (length xs) (length ys) (length ts) (length ps) ≡ true) × (leb (length xs) (2 ^ 28) ≡ true)
+  lengths-passed h = go (sameLengths (length xs) (length ys) (length ts) (length ps)) (leb (length xs) (2 ^ 28)) (sym is ∙ h)
+    where
+      go : (a b : Bool) → cond a (cond b Passed (Failed TooLong)) (Failed ColumnLengths) ≡ Passed → (a ≡ true) × (b ≡ true)
+      go true true e = (refl, refl)
+      go true false e = absurd (let z : _≡_ {A = ℕ} 0 1 = cc in omega arith)
+      go false b e = absurd (let z : _≡_ {A = ℕ} 0 1 = cc in omega arith)
+
+  -- what they refuse is refused
+  pub lengths-failed : (s : RawEventSink) → sinkInRange s ≡ true → (why : Refusal) → c ≡ Failed why → c ≡ checkOf s xs ys ts ps
+  lengths-failed s r why h = rw r (go (sameLengths (length xs) (length ys) (length ts) (length ps)) (leb (length xs) (2 ^ 28)) is)
+    where
+      more : Check
+      more = cond (fallsAfter (s .«last_t») ts) (Failed TimeOrder) (cond (eventsInRange (s .version) xs ys ts ps) Passed (Failed EventOutOfRange))
+
+      go : (a b : Bool) → c ≡ cond a (cond b Passed (Failed TooLong)) (Failed ColumnLengths) → c ≡ cond a (cond b more (Failed TooLong)) (Failed ColumnLengths)
+      go true true e = absurd (let z : _≡_ {A = ℕ} 0 1 = cc in omega arith)
+      go true false e = e
+      go false b e = e
+
+-- ---- what a check that is passed says
+
+pub sized-of : (xs ys : List ℕ) (ts : List ℤ) (ps : List ℕ) → sameLengths (length xs) (length ys) (length ts) (length ps) ≡ true → length xs ≤ 2 ^ 28 → Sized xs ys ts ps
+sized-of xs ys ts ps h f =
+    let a = and-both _ _ h in
+    let b = and-both _ _ (a .1) in
+    record { few = f; same-y = eqb-true (length ys) (length xs) (a .0); same-t = eqb-true (length ts) (length xs) (b .0); same-p = eqb-true (length ps) (length xs) (b .1) }
+
+count-as : (e : Encoding) (v : EncoderState) (n : ℕ) (l : LastTime) → lastInRange e v n l ≡ true → n ≤ 2 ^ 62
+count-as e v n Never h =
+    let a = and-both (isNothing (v .«time_high»)) (isNothing (v .«time_low») && (isNothing (v .y) && eqb n 0)) h in
+    let b = and-both (isNothing (v .«time_low»)) (isNothing (v .y) && eqb n 0) (a .1) in
+    let c = and-both (isNothing (v .y)) (eqb n 0) (b .1) in
+    omega (arith, eqb-true n 0 (c .1))
+count-as e v n (At t) h =
+    let a = and-both (timeInRange e t) (leb n (2 ^ 62) && sentInRange e v (natural t)) h in
+    let b = and-both (leb n (2 ^ 62)) (sentInRange e v (natural t)) (a .1) in
+    leb-true n (2 ^ 62) (b .0)
+
+-- a writer in range, and columns that it can be given
+pub record Checked (s : RawEventSink) (xs ys : List ℕ) (ts : List ℤ) (ps : List ℕ) : Type 0 where
+  pub in-range : sinkInRange s ≡ true
+  pub count : s .«n_events» ≤ 2 ^ 62
+  pub sized : Sized xs ys ts ps
+  pub whole : Whole ts
+  pub rising : fallsAfter (s .«last_t») ts ≡ false
+  pub events : eventsInRange (s .version) xs ys ts ps ≡ true
+
+checked-as : (a b c d e : Bool) (s : RawEventSink) (xs ys : List ℕ) (ts : List ℤ) (ps : List ℕ)
+    → sinkInRange s ≡ a → sameLengths (length xs) (length ys) (length ts) (length ps) ≡ b → leb (length xs) (2 ^ 28) ≡ c → fallsAfter (s .«last_t») ts ≡ d → eventsInRange (s .version) xs ys ts ps ≡ e
+    → cond a (cond b (cond c (cond d (Failed TimeOrder) (cond e Passed (Failed EventOutOfRange))) (Failed TooLong)) (Failed ColumnLengths)) (Failed StateOutOfRange) ≡ Passed → Checked s xs ys ts ps
+checked-as true true true false true s xs ys ts ps ha hb hc hd he q = record {
+  in-range = ha;
+  count = count-as (s .version) (s .state) (s .«n_events») (s .«last_t») ha;
+  sized = sized-of xs ys ts ps hb (leb-true (length xs) (2 ^ 28) hc);
+  whole = λ i. event-fine (s .version) xs ys ts ps he i .whole;
+  rising = hd;
+  events = he;
+}
+checked-as true true true false false s xs ys ts ps ha hb hc hd he q = absurd (let z : _≡_ {A = ℕ} 0 1 = cc in omega arith)
+checked-as true true true true e s xs ys ts ps ha hb hc hd he q = absurd (let z : _≡_ {A = ℕ} 0 1 = cc in omega arith)
+checked-as true true false d e s xs ys ts ps ha hb hc hd he q = absurd (let z : _≡_ {A = ℕ} 0 1 = cc in omega arith)
+checked-as true false c d e s xs ys ts ps ha hb hc hd he q = absurd (let z : _≡_ {A = ℕ} 0 1 = cc in omega arith)
+checked-as false b c d e s xs ys ts ps ha hb hc hd he q = absurd (let z : _≡_ {A = ℕ} 0 1 = cc in omega arith)
+
+pub checked-of : (s : RawEventSink) (xs ys : List ℕ) (ts : List ℤ) (ps : List ℕ) → checkOf s xs ys ts ps ≡ Passed → Checked s xs ys ts ps
+checked-of s xs ys ts ps =
+    checked-as (sinkInRange s) (sameLengths (length xs) (length ys) (length ts) (length ps)) (leb (length xs) (2 ^ 28)) (fallsAfter (s .«last_t») ts) (eventsInRange (s .version) xs ys ts ps) s xs ys ts ps refl refl refl refl refl
+
+-- ---- a time, by its sign
+
+pub time-early : (e : Encoding) (t : ℤ) → ltZ t (pos 0) ≡ true → false ≡ timeInRange e t
+time-early e (pos n) h = absurd (omega (arith, ltb-true n 0 h))
+time-early e (negsuc n) h = refl
+
+pub time-late : (e : Encoding) (t : ℤ) → ltZ t (pos 0) ≡ false → ltb (natural t) (timeBound e) ≡ timeInRange e t
+time-late e (pos n) h = refl
+time-late e (negsuc n) h = absurd (true≢false h)

@@ -1,0 +1,80 @@
+-- What an append is judged by: rules 10, 12, 6 and 7.
+use mathlib.Core.Bool.{Bool, true, false, _&&_, _||_}
+use mathlib.Core.List.{List, [], _∷_}
+use Prim.Native.Nat.{ℕ, _/_, _%_, _^_}
+use lib.Dec.{eqb, ltb, leb}
+use lib.ListN.{length}
+use lib.IntN.{ℤ, pos}
+use lib.Signed.{ltZ, nonNeg}
+use Rattle.evt_types.specs.declared.Encoding.{Encoding}
+use Rattle.evt_types.specs.declared.Encoding.the-variants.{Evt2, Evt3}
+use Rattle.evt_types.specs.declared.Sent.{Sent}
+use Rattle.evt_types.specs.declared.Sent.the-variants.{Nothing, Value}
+use Rattle.write_buffer.specs.declared.EncoderState.{EncoderState}
+use Rattle.write_buffer.specs.Columns.{natural}
+use Rattle.write_rules.specs.declared.LastTime.{LastTime}
+use Rattle.write_rules.specs.declared.LastTime.the-variants.{Never, At}
+use Rattle.write_rules.specs.declared.RawEventSink.{RawEventSink}
+
+-- ---- 7: x or y > 2047, p > 1, t < 0, or t not below the encoding's bound
+
+abbrev pub timeBound : Encoding → ℕ
+timeBound Evt2 = 2 ^ 34
+timeBound Evt3 = 2 ^ 24
+
+abbrev pub timeInRange : Encoding → ℤ → Bool
+timeInRange e t = nonNeg t && ltb (natural t) (timeBound e)
+
+unfoldable pub every : {A : Type 0} → (A → Bool) → List A → Bool
+every f [] = true
+every f (a ∷ l) = f a && every f l
+
+abbrev pub atMost : ℕ → ℕ → Bool
+atMost most n = leb n most
+
+abbrev pub eventsInRange : Encoding → List ℕ → List ℕ → List ℤ → List ℕ → Bool
+eventsInRange e xs ys ts ps = every (atMost 2047) xs && (every (atMost 2047) ys && (every (atMost 1) ps && every (timeInRange e) ts))
+
+-- ---- 6: a time below the one before, or below the last append's
+
+unfoldable pub falls : (from : ℤ) → List ℤ → Bool
+falls from [] = false
+falls from (t ∷ ts) = ltZ t from || falls t ts
+
+abbrev pub fallsAfter : LastTime → List ℤ → Bool
+fallsAfter Never [] = false
+fallsAfter Never (t ∷ ts) = falls t ts
+fallsAfter (At last) ts = falls last ts
+
+-- ---- 12: columns of several lengths
+
+abbrev pub sameLengths : (a b c d : ℕ) → Bool
+sameLengths a b c d = eqb b a && (eqb c a && eqb d a)
+
+-- ---- 10: a writer out of range
+
+abbrev pub isNothing : Sent → Bool
+isNothing Nothing = true
+isNothing (Value g) = false
+
+-- sent as q, or not at all
+abbrev pub belongs : Sent → (q : ℕ) → Bool
+belongs Nothing q = true
+belongs (Value g) q = eqb g q
+
+abbrev pub sentAtMost : Sent → (most : ℕ) → Bool
+sentAtMost Nothing most = true
+sentAtMost (Value g) most = leb g most
+
+-- the halves are those of the last time; EVT3 alone has a low half and a row
+abbrev pub sentInRange : Encoding → EncoderState → (last : ℕ) → Bool
+sentInRange Evt2 v t = belongs (v .«time_high») (t / 64) && (isNothing (v .«time_low») && isNothing (v .y))
+sentInRange Evt3 v t = belongs (v .«time_high») (t / 4096) && (belongs (v .«time_low») (t % 4096) && sentAtMost (v .y) 2047)
+
+-- without a last time nothing was sent and none counted
+abbrev pub lastInRange : Encoding → EncoderState → (count : ℕ) → LastTime → Bool
+lastInRange e v n Never = isNothing (v .«time_high») && (isNothing (v .«time_low») && (isNothing (v .y) && eqb n 0))
+lastInRange e v n (At t) = timeInRange e t && (leb n (2 ^ 62) && sentInRange e v (natural t))
+
+abbrev pub sinkInRange : RawEventSink → Bool
+sinkInRange s = lastInRange (s .version) (s .state) (s .«n_events») (s .«last_t»)

@@ -1,0 +1,43 @@
+-- The words of events in either encoding: what the writer's contracts cite.
+use mathlib.Core.List.{List}
+use Prim.Native.Nat.{ℕ, _+_}
+use lib.IntN.{ℤ}
+use lib.ListN.{length}
+use Rattle.laws_stream.specs.Machine.{Note, run, emits, words}
+use Rattle.laws_stream.specs.Words.{stream}
+use Rattle.evt_types.specs.Event.{Event}
+use Rattle.evt_types.specs.declared.Encoding.{Encoding}
+use Rattle.evt_types.specs.declared.Encoding.the-variants.{Evt2, Evt3}
+use Rattle.write_buffer.specs.declared.EncoderState.{EncoderState}
+use Rattle.write_buffer.specs.declared.Put.{Put}
+use Rattle.evt2_encoder.specs.Evt2.{writer2}
+use Rattle.evt2_encoder.specs.Pass2.{Fitting2}
+use Rattle.evt3_run_rules.specs.Runs.{runs}
+use Rattle.evt3_lead_words.specs.Evt3.{writer3}
+
+-- the words of events, each with a note of those that it carries
+abbrev pub encodeNotes : Encoding → EncoderState → List Event → List (Note ℕ Event)
+encodeNotes Evt2 v es = emits writer2 v es
+encodeNotes Evt3 v es = emits writer3 v (runs es)
+
+-- what has been sent after them
+abbrev pub encodeState : Encoding → EncoderState → List Event → EncoderState
+encodeState Evt2 v es = run writer2 v es
+encodeState Evt3 v es = run writer3 v (runs es)
+
+-- the bytes of a word
+abbrev pub encodeSize : Encoding → ℕ
+encodeSize Evt2 = 4
+encodeSize Evt3 = 2
+
+unfoldable pub encodeBytes : Encoding → EncoderState → List Event → List ℕ
+encodeBytes e v es = stream (encodeSize e) (words (encodeNotes e v es))
+
+-- after a pass whose words go from `at` on
+abbrev pub passed : Encoding → EncoderState → List Event → (at : ℕ) → Put
+passed e v es at = record { state = encodeState e v es; at = at + length (encodeBytes e v es) }
+
+-- columns whose events a pass can be given: EVT2's cuts none off
+abbrev pub Fitting : Encoding → List ℕ → List ℕ → List ℤ → List ℕ → Type 0
+Fitting Evt2 xs ys ts ps = Fitting2 xs ys ts ps
+Fitting Evt3 xs ys ts ps = Unit

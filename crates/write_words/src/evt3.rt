@@ -1,0 +1,68 @@
+// EVT3: the words of all events, run by run, stored or measured.
+ghost use mathlib.Core.Path.{_≡_};
+ghost use Prim.Native.Nat.{_^_, _≤_};
+ghost use lib.ListN.{length};
+ghost use lib.Seq.{sets};
+ghost use Rattle.write_buffer.specs.Columns.{Sized, Whole, eventsIn};
+ghost use Rattle.write_buffer.specs.Storing.{Roomy};
+ghost use Rattle.write_words.specs.Pass3.{stateAt3, stream3, passed3};
+use evt_types::Sent;
+use evt3_run_ends::run_at;
+use evt3_run_words::put_run;
+use write_buffer::EncoderState;
+use write_buffer::Put;
+use write_buffer::held_of;
+use write_buffer::time_at;
+
+// What has been sent after n events, where `high`, `low` and `row` were sent last.
+fn sent_after(state: EncoderState, n: usize, high: u64, low: u64, row: u64) -> EncoderState
+    ensures { λ r. ⌜ r ≡ stateAt3 state n high low row ⌝ }
+{
+    if 0 < n {
+        EncoderState {
+            time_high: Sent::Value(high),
+            time_low: Sent::Value(low),
+            y: Sent::Value(row),
+        }
+    } else {
+        state
+    }
+}
+
+// The words of all events, from `start` on. The bounds keep `at` from wrapping.
+pub fn pass(
+    state: EncoderState,
+    xs: &[u16],
+    ys: &[u16],
+    ts: &[i64],
+    ps: &[u8],
+    out: &mut [u8],
+    start: usize,
+) -> Put
+    requires { ⌜ Sized (now xs) (now ys) (now ts) (now ps) × (start ≤ 2 ^ 32) × Whole (now ts) × Roomy (now out) start (length (stream3 state (eventsIn (now xs) (now ys) (now ts) (now ps)))) ⌝ }
+    ensures { λ r. ⌜ r ≡ passed3 state (eventsIn (now (xs .entry)) (now (ys .entry)) (now (ts .entry)) (now (ps .entry))) start ⌝ ∗ ⌜ now (out .exit) ≡ sets (now (out .entry)) start (stream3 state (eventsIn (now (xs .entry)) (now (ys .entry)) (now (ts .entry)) (now (ps .entry)))) ⌝ }
+{
+    let sent_high = state.time_high;
+    let sent_low = state.time_low;
+    let sent_row = state.y;
+    let mut high = held_of(sent_high);
+    let mut low = held_of(sent_low);
+    let mut row = held_of(sent_row);
+    let mut at = start;
+    let mut i: usize = 0;
+    let mut mask: u64 = 0;
+    while i < xs.len() {
+        let t = time_at(ts, i);
+        let y = ys[i];
+        let run = run_at(mask, xs, ys, ts, ps, i);
+        let end = run.end;
+        at = put_run(high, low, row, t, y, ps[i], xs, i, end, &mut *out, at);
+        high = t / 4096;
+        low = t % 4096;
+        row = y as u64;
+        i = end;
+        mask = run.mask;
+    }
+    let after = sent_after(state, xs.len(), high, low, row);
+    Put { state: after, at }
+}

@@ -1,0 +1,37 @@
+// The words of events, stored in a buffer that the caller lends: a pass into no bytes measures, and
+// a pass into enough writes. Which words a writer sends, each with a note of the events that it
+// carries, is defined in crates/evt2_encoder/specs/Evt2.antt and crates/evt3_lead_words/specs/Evt3.antt;
+// specs/Encode.antt says which bytes they have, for either encoding.
+ghost use mathlib.Core.Path.{_≡_};
+ghost use Prim.Native.Nat.{_^_, _≤_};
+ghost use lib.ListN.{length};
+ghost use lib.Seq.{sets};
+ghost use Rattle.write_buffer.specs.Columns.{Sized, Whole, eventsIn};
+ghost use Rattle.write_buffer.specs.Storing.{Roomy};
+ghost use Rattle.write_words.specs.Encode.{encodeBytes, passed, Fitting};
+use evt_types::Encoding;
+use write_buffer::EncoderState;
+use write_buffer::Put;
+
+pub mod evt3;
+
+// The words of all events, from `start` on, where they have room or there is no byte. The bounds
+// keep the place from wrapping.
+pub fn pass(
+    version: Encoding,
+    state: EncoderState,
+    xs: &[u16],
+    ys: &[u16],
+    ts: &[i64],
+    ps: &[u8],
+    out: &mut [u8],
+    start: usize,
+) -> Put
+    requires { ⌜ Sized (now xs) (now ys) (now ts) (now ps) × (start ≤ 2 ^ 32) × Whole (now ts) × Roomy (now out) start (length (encodeBytes version state (eventsIn (now xs) (now ys) (now ts) (now ps)))) × Fitting version (now xs) (now ys) (now ts) (now ps) ⌝ }
+    ensures { λ r. ⌜ r ≡ passed version state (eventsIn (now (xs .entry)) (now (ys .entry)) (now (ts .entry)) (now (ps .entry))) start ⌝ ∗ ⌜ now (out .exit) ≡ sets (now (out .entry)) start (encodeBytes version state (eventsIn (now (xs .entry)) (now (ys .entry)) (now (ts .entry)) (now (ps .entry)))) ⌝ }
+{
+    match version {
+        Encoding::Evt2 => evt2_encoder::pass(state, xs, ys, ts, ps, &mut *out, start),
+        Encoding::Evt3 => evt3::pass(state, xs, ys, ts, ps, &mut *out, start),
+    }
+}

@@ -37,7 +37,8 @@ module _ (D B : Datum) (S : Answered D B) (w : Width) (Owes : D .row .Denot → 
 
   abbrev pub caller : Ended
   caller = record {
-    signature = record { lifetimes = 1; outlives = []; params = mutRefTo (0 ∷ []) tt (plain (λ κs. D .row)) ∷ plain (λ κs. UInt w) ∷ []; result = plain (λ κs. B .row) };
+    signature = record
+        { lifetimes = 1; outlives = []; params = mutRefTo (0 ∷ []) tt (plain (λ κs. D .row)) ∷ plain (λ κs. UInt w) ∷ []; result = plain (λ κs. B .row) };
     kept = (yes, (yes, tt));
   }
 
@@ -69,28 +70,40 @@ module _ (D B : Datum) (S : Answered D B) (w : Width) (Owes : D .row .Denot → 
         abbrev Ensured : S .row .Denot → SProp 𝓤
         Ensured r = ensured 𝓤 H A callee calleeSays tt (x .now, (k, tt)) tt r
 
-        exits : (r : S .row .Denot) → Said r → Is (B .row) (S .answer r) (B .val (S .answer r) ∷ []) → ent 𝓤 (⋆ 𝓤 H A (After 𝓤 H A W D B S κ q (x .ptr .0) (x .ptr .1) (x .name) (x .now) Word (‵ ftrue) (‵ ftrue) Ensured (S .next r))) (Post (B .val (S .answer r)))
+        exits : (r : S .row .Denot) → Said r → Is (B .row) (S .answer r) (B .val (S .answer r) ∷ []) → ent 𝓤
+            (⋆ 𝓤 H A (After 𝓤 H A W D B S κ q (x .ptr .0) (x .ptr .1) (x .name) (x .now) Word (‵ ftrue) (‵ ftrue) Ensured (S .next r)))
+            (Post (B .val (S .answer r)))
         exits r e is =
             qed W (After 𝓤 H A W D B S κ q (x .ptr .0) (x .ptr .1) (x .name) (x .now) Word (‵ ftrue) (‵ ftrue) Ensured (S .next r)) ∵
-            suffices ! _ (ends-at 𝓤 H A caller stayed c W (((κ, tt), (q, tt), tt, (x, (k, tt)), (vptr (x .ptr .0) (x .ptr .1) ∷ [], (vint w k ∷ [], tt))), g) (B .val (S .answer r)) (S .answer r) (S .next r, (tt, tt)) (tt, (tt, tt))) $
+            suffices ! _ (ends-at 𝓤 H A caller stayed c W
+            (((κ, tt), (q, tt), tt, (x, (k, tt)), (vptr (x .ptr .0) (x .ptr .1) ∷ [], (vint w k ∷ [], tt))), g) (B .val (S .answer r))
+            (S .answer r) (S .next r, (tt, tt)) (tt, (tt, tt))) $
             besides ! (shown (κ, tt) (x, (k, tt)) g (S .next r) (S .answer r) e) $ keep ! (0 ∷ 1 ∷ 2 ∷ []) $ nothing ! $ move ! (3 ∷ 0 ∷ []) $ join ! $
-            frame ! $ feqI ! (List Val) (vptr (x .ptr .0) (x .ptr .1) ∷ []) (vptr (x .ptr .0) (x .ptr .1) ∷ []) refl $ fjoin3 ! $ nothing ! $ owned ! (UInt w) (Is (UInt w)) (uint-makes 𝓤 H A W w) k _ (refl, is-k) $ fjoin ! $ move ! (1 ∷ 0 ∷ []) $ fjoin ! $
+            frame ! $ feqI ! (List Val) (vptr (x .ptr .0) (x .ptr .1) ∷ []) (vptr (x .ptr .0) (x .ptr .1) ∷ []) refl $ fjoin3 ! $
+            nothing ! $ owned ! (UInt w) (Is (UInt w)) (uint-makes 𝓤 H A W w) k _ (refl, is-k) $ fjoin ! $ move ! (1 ∷ 0 ∷ []) $
+            fjoin ! $
             owned ! (B .row) (Is (B .row)) (B .makes 𝓤 H A) (S .answer r) _ is $ move ! (1 ∷ 0 ∷ []) $ done !
 
         abbrev asks : Callee .Ghost
         asks = ((tt, tt, tt, (x .now, (k, tt)), (D .val (x .now) ∷ [], (vint w k ∷ [], tt))), tt)
 
         asked : ent 𝓤 (mean 𝓤 H A (Word ⊛ ‵ (D .row .own (x .now) (D .val (x .now) ∷ [])))) (Callee .pre asks)
-        asked = qed W ((Word ⊛ ‵ (D .row .own (x .now) (D .val (x .now) ∷ []))) ∷ []) ∵ split ! $ nothing ! $ move ! (1 ∷ 0 ∷ []) $ fjoin ! $ move ! (1 ∷ 0 ∷ []) $ fjoin ! $ nothing ! $ join ! $ frame ! $ done !
+        asked =
+            qed W ((Word ⊛ ‵ (D .row .own (x .now) (D .val (x .now) ∷ []))) ∷ []) ∵ split ! $ nothing ! $ move ! (1 ∷ 0 ∷ []) $ fjoin ! $
+            move ! (1 ∷ 0 ∷ []) $ fjoin ! $ nothing ! $ join ! $ frame ! $ done !
 
         module _ (ω : Ty) (f : Name) (C : Calls 𝓤 H) (Λ : Loops 𝓤 H) (fm : FmC 𝓤 H (W .laws) C) (known : Triple 𝓤 (C f) Callee) where
           walk-word : ent 𝓤 (onEntry 𝓤 H A (caller .signature) (κ, tt) (q, tt) (x, (k, tt)) (vptr (x .ptr .0) (x .ptr .1) ∷ [], (vint w k ∷ [], tt)))
               (WpFn 𝓤 H C Λ (lent D B S ω (tyInt w) 1 f) (vptr (x .ptr .0) (x .ptr .1) ∷ vint w k ∷ []) Post)
           walk-word =
-              qed W ((‵ (flft κ q) ⊛ ‵ ftrue) ∷ ‵ (owns (MutRef (named 0) κ (D .row) ∷ UInt w ∷ []) (x, (k, tt)) (vptr (x .ptr .0) (x .ptr .1) ∷ [], (vint w k ∷ [], tt))) ∷ []) ∵ split ! $ move ! (2 ∷ []) $ fsplit ! $ move ! (1 ∷ []) $ fsplit ! $
+              qed W ((‵ (flft κ q) ⊛ ‵ ftrue)
+              ∷ ‵ (owns (MutRef (named 0) κ (D .row) ∷ UInt w ∷ []) (x, (k, tt)) (vptr (x .ptr .0) (x .ptr .1) ∷ [], (vint w k ∷ [], tt)))
+              ∷ []) ∵ split ! $ move ! (2 ∷ []) $ fsplit ! $ move ! (1 ∷ []) $ fsplit ! $
               move ! (2 ∷ []) $ fsplit3 ! $ drop ! $ keep ! (0 ∷ 1 ∷ 4 ∷ 2 ∷ 3 ∷ []) $
-              by ! (walk 𝓤 H A W D B S κ q (x .ptr .0) (x .ptr .1) (x .name) (x .now) Word (‵ ftrue) (‵ ftrue) Ensured ω (tyInt w) 1 f (vint w k) (fits 𝓤 H A W (UInt w) (tyInt w) refl (uint-lawful 𝓤 H A W w) k _ (refl, is-k)) C Λ fm Said Post
-              (via 𝓤 (Callee .pre asks) asked (known asks)) (λ r. exE 𝓤 _ (λ ws. snd∗ 𝓤 (sem 𝓤 H A (lasts callee tt (x .now, (k, tt)) ws)) (fact 𝓤 (Said r)))) exits)
+              by ! (walk 𝓤 H A W D B S κ q (x .ptr .0) (x .ptr .1) (x .name) (x .now) Word (‵ ftrue) (‵ ftrue) Ensured ω (tyInt w) 1 f
+              (vint w k) (fits 𝓤 H A W (UInt w) (tyInt w) refl (uint-lawful 𝓤 H A W w) k _ (refl, is-k)) C Λ fm Said Post
+              (via 𝓤 (Callee .pre asks) asked (known asks))
+              (λ r. exE 𝓤 _ (λ ws. snd∗ 𝓤 (sem 𝓤 H A (lasts callee tt (x .now, (k, tt)) ws)) (fact 𝓤 (Said r)))) exits)
 
       module _ (ω : Ty) (f : Name) (𝓣 : Tables 𝓤 H) (known : Triple 𝓤 (𝓣 .C f) Callee) where
         abbrev run : Fun 𝓤
@@ -98,6 +111,9 @@ module _ (D B : Datum) (S : Answered D B) (w : Width) (Owes : D .row .Denot → 
 
         pub lent-word : Meets 𝓤 H A (caller .signature) run (closing 𝓤 H A caller c)
         lent-word =
-            walk-meets 𝓤 H A caller stayed W (goes-ref 𝓤 H A W 1 0 tt (plain (λ κs. D .row)), (goes-none 𝓤 H A W 1 (λ κs. UInt w) yes (λ κs x f. refl), tt)) c run (WpFn-mono 𝓤 H (W .laws) 𝓣 (lent D B S ω (tyInt w) 1 f))
+            walk-meets 𝓤 H A caller stayed W
+            (goes-ref 𝓤 H A W 1 0 tt (plain (λ κs. D .row)), (goes-none 𝓤 H A W 1 (λ κs. UInt w) yes (λ κs x f. refl), tt)) c run
+            (WpFn-mono 𝓤 H (W .laws) 𝓣 (lent D B S ω (tyInt w) 1 f))
             (walked 𝓤 H A caller stayed c run (λ κs. (ptr-vals, (uint-vals w, tt))) (λ κs. (mut-tells (named 0) (κs .0) (D .row), (uint-tells w, tt)))
-            (λ κs qs bounds a g are. via 𝓤 _ (fst∗ 𝓤 _ (c κs a .requires g)) (walk-word (κs .0) (qs .0) (a .0) (a .1 .0) (are .1 .0 .1) g ω f (𝓣 .C) (𝓣 .Λ) (fmOf 𝓤 H (W .laws) 𝓣) known)))
+            (λ κs qs bounds a g are. via 𝓤 _ (fst∗ 𝓤 _ (c κs a .requires g))
+            (walk-word (κs .0) (qs .0) (a .0) (a .1 .0) (are .1 .0 .1) g ω f (𝓣 .C) (𝓣 .Λ) (fmOf 𝓤 H (W .laws) 𝓣) known)))

@@ -17,7 +17,8 @@ use Rattle.header.specs.declared.HeaderAnswer.{HeaderAnswer}
 use Rattle.header.specs.declared.HeaderAnswer.the-variants.{Header, Refused}
 use Rattle.header_text.specs.Text.{notAscii, any, begins, same}
 use Rattle.header.specs.Lines.{headerLines, headerBytes, bodyStart, keyOf}
-use Rattle.header.specs.Header.{geometryName, formatName, evtName, evt2, evt3, two, three, Said, readLine, readAll, nothing, saidBy, encodingOf, sizeThatHolds, hasZero, withEncoding, toldHeader, headerOf, Parsed}
+use Rattle.header.specs.Header.{geometryName, formatName, evtName, evt2, evt3, two, three, Said, readLine, readAll, nothing, saidBy, encodingOf}
+use Rattle.header.specs.Header.{sizeThatHolds, hasZero, withEncoding, toldHeader, headerOf, Parsed}
 use Rattle.header.specs.Notes.{versionOf, seenOf, noteLine, noteAll, blankNote, scanOf, nameOf}
 use Rattle.header_text.specs.Cases.{by-bool}
 use Rattle.header.specs.Laws.{header-part, body-within, verdict-of}
@@ -39,7 +40,8 @@ unfolding versionOf begins
 note-start ls = note-all nothing ls
 
 named-by : (a b c d : Bool)
-    → cond (eqb (cond a 3 (cond b 2 0)) 3 || eqb (cond c 3 (cond d 2 0)) 3) (As Evt3) (cond (eqb (cond a 3 (cond b 2 0)) 2 || eqb (cond c 3 (cond d 2 0)) 2) (As Evt2) Nothing)
+    → cond (eqb (cond a 3 (cond b 2 0)) 3 || eqb (cond c 3 (cond d 2 0)) 3) (As Evt3)
+    (cond (eqb (cond a 3 (cond b 2 0)) 2 || eqb (cond c 3 (cond d 2 0)) 2) (As Evt2) Nothing)
     ≡ cond (a || c) (As Evt3) (cond (b || d) (As Evt2) Nothing)
 named-by true b c d = refl
 named-by false true true d = refl

@@ -73,7 +73,8 @@ pub record Parts (l key value : List ℕ) : Type 0 where
   pub key-is : key ≡ keyOf l
   pub value-is : value ≡ valueOf l
 
-pub parts : (l body value : List ℕ) (n : ℕ) → body ≡ bodyOf l → n ≡ length (upTo isBlank body) → value ≡ trimOf (take (length body - n) (drop n body)) → Parts l (take n body) value
+pub parts : (l body value : List ℕ) (n : ℕ) → body ≡ bodyOf l → n ≡ length (upTo isBlank body)
+    → value ≡ trimOf (take (length body - n) (drop n body)) → Parts l (take n body) value
 unfolding keyOf valueOf
 parts l body value n b k v =
     record { key-is = count-take isBlank body n k ∙ ap (upTo isBlank) b; value-is = v ∙ ap trimOf (count-drop isBlank body n k ∙ ap (from isBlank) b) }

@@ -103,7 +103,8 @@ module _ (n : ℕ) (s : List ℕ) where
   pub wide-is : (v m : Number) (part : List ℕ) → v ≡ numberOf part → part ≡ trimOf (take n s) → v ≡ m → wide ≡ m
   wide-is v m part a b e = sym (a ∙ ap numberOf b) ∙ e
 
-  pub high-is : n < length s → (v m : Number) (part : List ℕ) → v ≡ numberOf part → part ≡ trimOf (take (length s - (n + 1)) (drop (n + 1) s)) → v ≡ m → high ≡ m
+  pub high-is : n < length s → (v m : Number) (part : List ℕ) → v ≡ numberOf part
+      → part ≡ trimOf (take (length s - (n + 1)) (drop (n + 1) s)) → v ≡ m → high ≡ m
   high-is h v m part a b e = sym (a ∙ ap numberOf (b ∙ ap trimOf (tail-part s (n + 1) (omega arith)))) ∙ e
 
   pub size-no-width : wide ≡ Invalid → Unknown ≡ halvesAt n s

@@ -14,56 +14,44 @@ Inv-loop state xs ys ts ps out₀ start high₀ at₀ i₀ out high at i = Under
 abbrev μ-loop : tie.MeasureT-loop
 μ-loop state xs ys ts ps out₀ start high₀ at₀ i₀ out high at i = length xs - i
 
-held-of-requires : tie.Need-held-of-requires Inv-loop μ-loop
-held-of-requires c κs = search needs
-
 loop-holds : tie.Need-loop-holds Inv-loop μ-loop
 loop-holds c = under-start2 (c .before .before .before .before .before .pre .0) _ (c .held-of .ensures)
 
-add-loop : tie.Need-add-loop Inv-loop μ-loop
-add-loop c = omega (arith, c .before .before .before .before .before .before .pre .0 .few, c .loop .inv .within)
-
 time-at-requires : tie.Need-time-at-requires Inv-loop μ-loop
-time-at-requires c κs = let s = c .before .before .before .before .before .before .before .pre in time-asks2 (s .0) (s .2) (omega (arith, c .loop-test .taken))
-
-add-time-at : tie.Need-add-time-at Inv-loop μ-loop
-add-time-at c = omega (arith, c .before .before .before .before .before .before .before .before .pre .0 .few, c .before .loop-test .taken)
+time-at-requires c κs = let s = c .before .before .before .before .before .before .before .pre in time-asks2 (s .0) (s .2) (omega arith)
 
 time-at-requires-2 : tie.Need-time-at-requires-2 Inv-loop μ-loop
-time-at-requires-2 c κs = let s = c .before .before .before .before .before .before .before .before .pre in time-asks2 (s .0) (s .2) (c .before .loop-test .taken)
+time-at-requires-2 c κs =
+    let s = c .before .before .before .before .before .before .before .before .pre in time-asks2 (s .0) (s .2) (c .before .loop-test .taken)
 
 put-at-requires : tie.Need-put-at-requires Inv-loop μ-loop
 put-at-requires c κs =
     let s = c .before .before .before .before .before .before .before .before .before .before .pre in
-    under-next2 (s .0) (c .before .before .before .before .loop .inv) (omega (arith, c .before .before .before .loop-test .taken)) (s .1) (s .4) (s .3) (c .before .before .time-at .result) (c .before .before .time-at .ensures)
-
-add-put-at : tie.Need-add-put-at Inv-loop μ-loop
-add-put-at c = omega (arith, c .before .before .before .before .before .before .before .before .before .before .before .before .before .pre .0 .few, c .before .before .before .before .before .before .loop-test .taken)
+    under-next2 (s .0) (c .before .before .before .before .loop .inv) (omega arith) (s .1) (s .4) (s .3)
+    (c .before .before .time-at .result) (c .before .before .time-at .ensures)
 
 put-at-requires-2 : tie.Need-put-at-requires-2 Inv-loop μ-loop
 put-at-requires-2 c κs =
+    let time-at = c .before .before .before .before .before .before .time-at in
+    let time-at2 = c .before .before .before .before .before .time-at2 in
     let s = c .before .before .before .before .before .before .before .before .before .before .before .before .before .before .pre in
     let l = c .before .before .before .before .before .before .before .before .loop in
     let put = c .before .before .before .put-at in
     let h = c .before .before .before .before .before .before .before .loop-test .taken in
-    let u = under-turn2 (s .0) (l .inv) (omega (arith, h)) (s .4) (c .before .before .before .before .before .before .time-at .result) (c .before .before .before .before .before .before .time-at .ensures) (put .result) _ (put .ensures .0) (put .ensures .1) in
-    under-next2 (s .0) u h (s .1) (s .4) (s .3) (c .before .before .before .before .before .time-at2 .result) (c .before .before .before .before .before .time-at2 .ensures)
-
-add-i : tie.Need-add-i Inv-loop μ-loop
-add-i c = omega (arith, c .before .before .before .before .before .before .before .before .before .before .before .before .before .before .before .before .before .pre .0 .few, c .before .before .before .before .before .before .before .before .before .before .loop-test .taken)
-
-loop-less : tie.Need-loop-less Inv-loop μ-loop
-loop-less c = omega (arith, c .before .before .before .before .before .before .before .before .before .before .loop-test .taken)
+    let u = under-turn2 (s .0) (l .inv) (omega arith) (s .4) (time-at .result) (time-at .ensures) (put .result) _ (put .ensures .0) (put .ensures .1) in
+    under-next2 (s .0) u h (s .1) (s .4) (s .3) (time-at2 .result) (time-at2 .ensures)
 
 loop-again : tie.Need-loop-again Inv-loop μ-loop
 loop-again c =
+    let time-at = c .before .before .before .before .before .before .before .before .before .time-at in
+    let time-at2 = c .before .before .before .before .before .before .before .before .time-at2 in
     let s = c .before .before .before .before .before .before .before .before .before .before .before .before .before .before .before .before .before .pre in
     let l = c .before .before .before .before .before .before .before .before .before .before .before .loop in
     let put = c .before .before .before .before .before .before .put-at in
     let put2 = c .before .before .put-at2 in
     let h = c .before .before .before .before .before .before .before .before .before .before .loop-test .taken in
-    let u = under-turn2 (s .0) (l .inv) (omega (arith, h)) (s .4) (c .before .before .before .before .before .before .before .before .before .time-at .result) (c .before .before .before .before .before .before .before .before .before .time-at .ensures) (put .result) _ (put .ensures .0) (put .ensures .1) in
-    let u2 = under-turn2 (s .0) u h (s .4) (c .before .before .before .before .before .before .before .before .time-at2 .result) (c .before .before .before .before .before .before .before .before .time-at2 .ensures) (put2 .result) _ (put2 .ensures .0) (put2 .ensures .1) in
+    let u = under-turn2 (s .0) (l .inv) (omega arith) (s .4) (time-at .result) (time-at .ensures) (put .result) _ (put .ensures .0) (put .ensures .1) in
+    let u2 = under-turn2 (s .0) u h (s .4) (time-at2 .result) (time-at2 .ensures) (put2 .result) _ (put2 .ensures .0) (put2 .ensures .1) in
     under-same2 (s .0) u2 (l .i + 2) refl refl refl (omega arith)
 
 time-at-requires-3 : tie.Need-time-at-requires-3 Inv-loop μ-loop
@@ -72,10 +60,8 @@ time-at-requires-3 c κs = let s = c .before .before .before .before .before .be
 put-at-requires-3 : tie.Need-put-at-requires-3 Inv-loop μ-loop
 put-at-requires-3 c κs =
     let s = c .before .before .before .before .before .before .before .before .before .before .pre in
-    under-next2 (s .0) (c .before .before .before .before .loop .inv) (c .before .before .if1 .taken) (s .1) (s .4) (s .3) (c .before .time-at3 .result) (c .before .time-at3 .ensures)
-
-sent-after-requires : tie.Need-sent-after-requires Inv-loop μ-loop
-sent-after-requires c κs = search needs
+    under-next2 (s .0) (c .before .before .before .before .loop .inv) (c .before .before .if1 .taken) (s .1) (s .4) (s .3)
+    (c .before .time-at3 .result) (c .before .time-at3 .ensures)
 
 same-length : tie.Need-same-length Inv-loop μ-loop
 same-length c =
@@ -100,20 +86,19 @@ pass-spec =
     (tie.spec
     Inv-loop
     μ-loop
-    held-of-requires
+    (λ c κs. search needs)
     loop-holds
-    add-loop
+    (λ c. omega arith)
     time-at-requires
-    add-time-at
+    (λ c. omega arith)
     time-at-requires-2
     put-at-requires
-    add-put-at
+    (λ c. omega arith)
     put-at-requires-2
-    add-i
-    loop-less
+    (λ c. omega arith) (λ c. omega arith)
     loop-again
     time-at-requires-3
     put-at-requires-3
-    sent-after-requires
+    (λ c κs. search needs)
     same-length
     returns)

@@ -3,11 +3,9 @@ use Rattle.evt2_encoder.specs.Pass2.{state-some2, state-none2}
 use Rattle.evt2_encoder.proofs.sent_after.Statement.{statement}
 use Rattle.evt2_encoder.proofs.sent_after.Tie as tie
 
--- src/evt2.rt:49:1
 returns : tie.Need-returns
 returns c = sym (state-some2 (c .before .args .state) (c .before .args .n) (c .before .args .high) (c .if1 .taken))
 
--- src/evt2.rt:49:1
 returns-2 : tie.Need-returns-2
 returns-2 c = sym (state-none2 (c .before .args .state) (c .before .args .n) (c .before .args .high) (c .if1 .left))
 

@@ -10,48 +10,34 @@ use borrow.Author.Needs.{needs}
 use Rattle.evt3_run_blocks.proofs.block_goes_on.Statement.{statement}
 use Rattle.evt3_run_blocks.proofs.block_goes_on.Tie as tie
 
-add-from : tie.Need-add-from
-add-from c = search needs
-
-mul-rows-are : tie.Need-mul-rows-are
-mul-rows-are c = search needs
-
-shared-slice-read-rows-are : tie.Need-shared-slice-read-rows-are
-shared-slice-read-rows-are c = search needs
-
-rows-are-requires : tie.Need-rows-are-requires
-rows-are-requires c κs = search needs
-
-shared-slice-read-signs-are : tie.Need-shared-slice-read-signs-are
-shared-slice-read-signs-are c = search needs
-
-signs-are-requires : tie.Need-signs-are-requires
-signs-are-requires c κs = search needs
-
-columns-rise-requires : tie.Need-columns-rise-requires
-columns-rise-requires c κs = search needs
-
 time-at-requires : tie.Need-time-at-requires
-time-at-requires c κs = (omega (arith, c .before .before .before .before .before .before .before .before .before .before .before .pre .0 .same-t, c .before .before .before .before .before .before .before .before .before .before .before .pre .1), omega (arith, c .before .before .before .before .before .before .before .before .before .before .before .pre .0 .same-t, c .before .before .before .before .before .before .before .before .before .before .before .pre .0 .few), c .before .before .before .before .before .before .before .before .before .before .before .pre .2)
-
-times-are-requires : tie.Need-times-are-requires
-times-are-requires c κs = search needs
+time-at-requires c κs = (omega arith, omega arith, c .before .before .before .before .before .before .before .before .before .before .before .pre .2)
 
 returns : tie.Need-returns
 returns c =
-    let a = c .before .before .before .before .before .before .before .before .before .before .before .before .before .args in
-    let t : c .times-are .result ≡ every (isTime (now (a .ts)) (timeAt (now (a .ts)) (a .i))) 64 (a .i + 1) = rw (c .before .time-at .ensures) at (c .times-are .ensures) in
-    block-told (now (a .xs)) (now (a .ys)) (now (a .ts)) (now (a .ps)) 64 (a .i) true true true _ (sym (c .before .before .before .before .before .before .before .before .rows-are .ensures) ∙ c .before .before .before .before .before .before .before .if1 .taken) (sym (c .before .before .before .before .before .signs-are .ensures) ∙ c .before .before .before .before .if2 .taken) (sym (c .before .before .before .columns-rise .ensures) ∙ c .before .before .if3 .taken) (sym t)
+    let b = c .before .before .before .before in
+    let a = b .before .before .before .before .before .before .before .before .before .args in
+    let t : c .times-are .result ≡ every (isTime (now (a .ts)) (timeAt (now (a .ts)) (a .i))) 64 (a .i + 1) =
+    rw (c .before .time-at .ensures) at (c .times-are .ensures) in
+    block-told (now (a .xs)) (now (a .ys)) (now (a .ts)) (now (a .ps)) 64 (a .i) true true true _
+    (sym (b .before .before .before .before .rows-are .ensures) ∙ b .before .before .before .if1 .taken)
+    (sym (b .before .signs-are .ensures) ∙ b .if2 .taken)
+    (sym (c .before .before .before .columns-rise .ensures) ∙ c .before .before .if3 .taken) (sym t)
 
 returns-2 : tie.Need-returns-2
 returns-2 c =
     let a = c .before .before .before .before .before .before .before .before .before .before .before .args in
-    block-told (now (a .xs)) (now (a .ys)) (now (a .ts)) (now (a .ps)) 64 (a .i) true true false _ (sym (c .before .before .before .before .before .before .rows-are .ensures) ∙ c .before .before .before .before .before .if1 .taken) (sym (c .before .before .before .signs-are .ensures) ∙ c .before .before .if2 .taken) (sym (c .before .columns-rise .ensures) ∙ c .if3 .left) refl
+    block-told (now (a .xs)) (now (a .ys)) (now (a .ts)) (now (a .ps)) 64 (a .i) true true false _
+    (sym (c .before .before .before .before .before .before .rows-are .ensures) ∙ c .before .before .before .before .before .if1 .taken)
+    (sym (c .before .before .before .signs-are .ensures) ∙ c .before .before .if2 .taken)
+    (sym (c .before .columns-rise .ensures) ∙ c .if3 .left) refl
 
 returns-3 : tie.Need-returns-3
 returns-3 c =
     let a = c .before .before .before .before .before .before .before .before .before .args in
-    block-told (now (a .xs)) (now (a .ys)) (now (a .ts)) (now (a .ps)) 64 (a .i) true false _ _ (sym (c .before .before .before .before .rows-are .ensures) ∙ c .before .before .before .if1 .taken) (sym (c .before .signs-are .ensures) ∙ c .if2 .left) refl refl
+    block-told (now (a .xs)) (now (a .ys)) (now (a .ts)) (now (a .ps)) 64 (a .i) true false _ _
+    (sym (c .before .before .before .before .rows-are .ensures) ∙ c .before .before .before .if1 .taken)
+    (sym (c .before .signs-are .ensures) ∙ c .if2 .left) refl refl
 
 returns-4 : tie.Need-returns-4
 returns-4 c =
@@ -62,15 +48,10 @@ pub block-goes-on-spec : {M : Type 1} → statement M
 block-goes-on-spec =
     tie.close
     (tie.spec
-    add-from
-    mul-rows-are
-    shared-slice-read-rows-are
-    rows-are-requires
-    shared-slice-read-signs-are
-    signs-are-requires
-    columns-rise-requires
+    (λ c. search needs) (λ c. search needs) (λ c. search needs) (λ c κs. search needs) (λ c. search needs)
+    (λ c κs. search needs) (λ c κs. search needs)
     time-at-requires
-    times-are-requires
+    (λ c κs. search needs)
     returns
     returns-2
     returns-3

@@ -16,21 +16,6 @@ abbrev μ-loop : tie.MeasureT-loop
 loop-holds : tie.Need-loop-holds Inv-loop μ-loop
 loop-holds c = gathered-start (isAt (now (c .args .ys)) (c .args .y)) (c .args .i)
 
-add-other : tie.Need-add-other Inv-loop μ-loop
-add-other c = omega (arith, c .before .before .pre .0, c .before .before .pre .1, c .loop-test .taken)
-
-mul-other : tie.Need-mul-other Inv-loop μ-loop
-mul-other c = omega (arith, c .before .before .pre .0, c .before .before .pre .1, c .loop-test .taken)
-
-shared-slice-read-other : tie.Need-shared-slice-read-other Inv-loop μ-loop
-shared-slice-read-other c = omega (arith, c .before .before .before .pre .0, c .before .loop-test .taken)
-
-add-j : tie.Need-add-j Inv-loop μ-loop
-add-j c = omega (arith, c .before .loop-test .taken)
-
-loop-less : tie.Need-loop-less Inv-loop μ-loop
-loop-less c = omega (arith, c .before .loop-test .taken)
-
 loop-again : tie.Need-loop-again Inv-loop μ-loop
 loop-again c =
     let a = c .before .before .before .args in
@@ -38,7 +23,9 @@ loop-again c =
     gathered-turn (isAt (now (a .ys)) (a .y)) (a .i) (s .inv) (c .before .loop-test .taken) _ (xor-none (getD (now (a .ys)) (a .i + s .j) 0) (a .y))
 
 returns : tie.Need-returns Inv-loop μ-loop
-returns c = gathered-end (isAt (now (c .before .before .args .ys)) (c .before .before .args .y)) (c .before .before .args .i) (c .before .loop .inv) (c .loop-test .left)
+returns c =
+    gathered-end (isAt (now (c .before .before .args .ys)) (c .before .before .args .y)) (c .before .before .args .i) (c .before .loop .inv)
+    (c .loop-test .left)
 
 pub rows-are-spec : {M : Type 1} → statement M
 rows-are-spec =
@@ -47,10 +34,6 @@ rows-are-spec =
     Inv-loop
     μ-loop
     loop-holds
-    add-other
-    mul-other
-    shared-slice-read-other
-    add-j
-    loop-less
+    (λ c. omega arith) (λ c. omega arith) (λ c. omega arith) (λ c. omega arith) (λ c. omega arith)
     loop-again
     returns)

@@ -15,30 +15,20 @@ abbrev μ-loop : tie.MeasureT-loop
 μ-loop xs ys ts ps i j₀ j = length xs - j
 
 loop-holds : tie.Need-loop-holds Inv-loop μ-loop
-loop-holds c = let a = c .before .before .before .args in along-start (now (a .xs)) (now (a .ys)) (now (a .ts)) (now (a .ps)) (a .i) (c .before .before .before .pre .1)
-
-sub-loop : tie.Need-sub-loop Inv-loop μ-loop
-sub-loop c = omega (arith, c .loop .inv .inside)
+loop-holds c =
+    let a = c .before .before .before .args in along-start (now (a .xs)) (now (a .ys)) (now (a .ts)) (now (a .ps)) (a .i) (c .before .before .before .pre .1)
 
 block-goes-on-requires : tie.Need-block-goes-on-requires Inv-loop μ-loop
-block-goes-on-requires c κs = (c .before .before .before .before .before .pre .0, omega (arith, c .loop-test .taken), c .before .before .before .before .before .pre .2)
-
-add-j : tie.Need-add-j Inv-loop μ-loop
-add-j c = omega (arith, c .before .before .before .before .before .before .before .pre .0 .few, c .before .before .loop-test .taken)
-
-loop-less : tie.Need-loop-less Inv-loop μ-loop
-loop-less c = omega (arith, c .before .before .loop-test .taken)
+block-goes-on-requires c κs =
+    let p = c .before .before .before .before .before .pre in
+    (p .0, omega arith, p .2)
 
 loop-again : tie.Need-loop-again Inv-loop μ-loop
 loop-again c =
-    let a = c .before .before .before .before .before .before .before .args in
-    along-block (now (a .xs)) (now (a .ys)) (now (a .ts)) (now (a .ps)) (c .before .before .before .before .before .before .before .pre .0) (c .before .before .before .loop .inv) (omega (arith, c .before .before .loop-test .taken)) (sym (c .before .block-goes-on .ensures) ∙ c .if1 .taken)
-
-returns : tie.Need-returns Inv-loop μ-loop
-returns c = c .before .before .before .loop .inv
-
-returns-2 : tie.Need-returns-2 Inv-loop μ-loop
-returns-2 c = c .before .loop .inv
+    let s = c .before .before .before .before .before .before .before in
+    let a = s .args in
+    along-block (now (a .xs)) (now (a .ys)) (now (a .ts)) (now (a .ps)) (s .pre .0) (c .before .before .before .loop .inv) (omega arith)
+    (sym (c .before .block-goes-on .ensures) ∙ c .if1 .taken)
 
 pub skip-blocks-spec : {M : Type 1} → statement M
 skip-blocks-spec =
@@ -47,10 +37,8 @@ skip-blocks-spec =
     Inv-loop
     μ-loop
     loop-holds
-    sub-loop
+    (λ c. omega arith)
     block-goes-on-requires
-    add-j
-    loop-less
+    (λ c. omega arith) (λ c. omega arith)
     loop-again
-    returns
-    returns-2)
+    (λ c. c .before .before .before .loop .inv) (λ c. c .before .loop .inv))

@@ -16,26 +16,20 @@ abbrev μ-loop : tie.MeasureT-loop
 loop-holds : tie.Need-loop-holds Inv-loop μ-loop
 loop-holds c = gathered-start (isTime (now (c .args .ts)) (c .args .t)) (c .args .i)
 
-add-time-at : tie.Need-add-time-at Inv-loop μ-loop
-add-time-at c = omega (arith, c .before .before .pre .0, c .before .before .pre .1, c .loop-test .taken)
-
 time-at-requires : tie.Need-time-at-requires Inv-loop μ-loop
-time-at-requires c κs = (omega (arith, c .before .before .pre .0, c .loop-test .taken), c .before .before .pre .1, c .before .before .pre .2)
-
-add-j : tie.Need-add-j Inv-loop μ-loop
-add-j c = omega (arith, c .before .loop-test .taken)
-
-loop-less : tie.Need-loop-less Inv-loop μ-loop
-loop-less c = omega (arith, c .before .loop-test .taken)
+time-at-requires c κs = (omega arith, c .before .before .pre .1, c .before .before .pre .2)
 
 loop-again : tie.Need-loop-again Inv-loop μ-loop
 loop-again c =
     let a = c .before .before .before .args in
     let s = c .before .before .loop in
-    gathered-turn (isTime (now (a .ts)) (a .t)) (a .i) (s .inv) (c .before .loop-test .taken) _ (rw (c .time-at .ensures) (xor-none (timeAt (now (a .ts)) (a .i + s .j)) (a .t)))
+    gathered-turn (isTime (now (a .ts)) (a .t)) (a .i) (s .inv) (c .before .loop-test .taken) _
+    (rw (c .time-at .ensures) (xor-none (timeAt (now (a .ts)) (a .i + s .j)) (a .t)))
 
 returns : tie.Need-returns Inv-loop μ-loop
-returns c = gathered-end (isTime (now (c .before .before .args .ts)) (c .before .before .args .t)) (c .before .before .args .i) (c .before .loop .inv) (c .loop-test .left)
+returns c =
+    gathered-end (isTime (now (c .before .before .args .ts)) (c .before .before .args .t)) (c .before .before .args .i)
+    (c .before .loop .inv) (c .loop-test .left)
 
 pub times-are-spec : {M : Type 1} → statement M
 times-are-spec =
@@ -44,9 +38,8 @@ times-are-spec =
     Inv-loop
     μ-loop
     loop-holds
-    add-time-at
+    (λ c. omega arith)
     time-at-requires
-    add-j
-    loop-less
+    (λ c. omega arith) (λ c. omega arith)
     loop-again
     returns)

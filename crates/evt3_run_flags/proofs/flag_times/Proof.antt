@@ -17,42 +17,25 @@ abbrev μ-loop : tie.MeasureT-loop
 loop-holds : tie.Need-loop-holds Inv-loop μ-loop
 loop-holds c = let a = c .args in fill-start (λ k. bitOr (flagAt (now (a .flags)) k) (timeEnds (now (a .ts)) (a .i + k))) (now (a .flags)) (c .pre .3)
 
-add-k : tie.Need-add-k Inv-loop μ-loop
-add-k c = omega (arith, c .before .before .pre .0, c .before .before .pre .1, c .loop-test .taken)
-
 time-at-requires : tie.Need-time-at-requires Inv-loop μ-loop
-time-at-requires c κs = (omega (arith, c .before .before .pre .0, c .loop-test .taken), c .before .before .pre .1, c .before .before .pre .2)
-
-add-time-at : tie.Need-add-time-at Inv-loop μ-loop
-add-time-at c = omega (arith, c .before .before .before .pre .0, c .before .before .before .pre .1, c .before .loop-test .taken)
+time-at-requires c κs = (omega arith, c .before .before .pre .1, c .before .before .pre .2)
 
 time-at-requires-2 : tie.Need-time-at-requires-2 Inv-loop μ-loop
-time-at-requires-2 c κs = (omega (arith, c .before .before .before .pre .0, c .before .loop-test .taken), c .before .before .before .pre .1, c .before .before .before .pre .2)
-
-element-copy-out-flags : tie.Need-element-copy-out-flags Inv-loop μ-loop
-element-copy-out-flags c = c .before .before .loop-test .taken
-
-time-ends-requires : tie.Need-time-ends-requires Inv-loop μ-loop
-time-ends-requires c κs = search needs
-
-element-write-flags : tie.Need-element-write-flags Inv-loop μ-loop
-element-write-flags c = c .before .before .before .before .loop-test .taken
-
-add-j : tie.Need-add-j Inv-loop μ-loop
-add-j c = omega (arith, c .before .before .before .before .loop-test .taken)
-
-loop-less : tie.Need-loop-less Inv-loop μ-loop
-loop-less c = omega (arith, c .before .before .before .before .loop-test .taken)
+time-at-requires-2 c κs = (omega arith, c .before .before .before .pre .1, c .before .before .before .pre .2)
 
 loop-again : tie.Need-loop-again Inv-loop μ-loop
 loop-again c =
     let a = c .before .before .before .before .before .before .args in
     let s = c .before .before .before .before .before .loop in
-    let e : c .time-ends .result ≡ timeEnds (now (a .ts)) (a .i + s .j) = c .time-ends .ensures ∙ rw (c .before .before .before .time-at .ensures, c .before .before .time-at2 .ensures) in
-    fill-turn (λ k. bitOr (flagAt (now (a .flags)) k) (timeEnds (now (a .ts)) (a .i + k))) (now (a .flags)) (s .inv) (c .before .before .before .before .loop-test .taken) _ (rw (s .inv .left (s .j) (omega arith), e))
+    let e : c .time-ends .result ≡ timeEnds (now (a .ts)) (a .i + s .j) =
+    c .time-ends .ensures ∙ rw (c .before .before .before .time-at .ensures, c .before .before .time-at2 .ensures) in
+    fill-turn (λ k. bitOr (flagAt (now (a .flags)) k) (timeEnds (now (a .ts)) (a .i + k))) (now (a .flags)) (s .inv)
+    (c .before .before .before .before .loop-test .taken) _ (rw (s .inv .left (s .j) (omega arith), e))
 
 returns : tie.Need-returns Inv-loop μ-loop
-returns c = let a = c .before .before .args in fill-end (λ k. bitOr (flagAt (now (a .flags)) k) (timeEnds (now (a .ts)) (a .i + k))) (now (a .flags)) (c .before .loop .inv) (c .loop-test .left)
+returns c =
+    let a = c .before .before .args in
+    fill-end (λ k. bitOr (flagAt (now (a .flags)) k) (timeEnds (now (a .ts)) (a .i + k))) (now (a .flags)) (c .before .loop .inv) (c .loop-test .left)
 
 pub flag-times-spec : {M : Type 1} → statement M
 flag-times-spec =
@@ -61,14 +44,11 @@ flag-times-spec =
     Inv-loop
     μ-loop
     loop-holds
-    add-k
+    (λ c. omega arith)
     time-at-requires
-    add-time-at
+    (λ c. omega arith)
     time-at-requires-2
-    element-copy-out-flags
-    time-ends-requires
-    element-write-flags
-    add-j
-    loop-less
+    (λ c. c .before .before .loop-test .taken) (λ c κs. search needs)
+    (λ c. c .before .before .before .before .loop-test .taken) (λ c. omega arith) (λ c. omega arith)
     loop-again
     returns)

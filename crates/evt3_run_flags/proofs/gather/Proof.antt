@@ -11,26 +11,19 @@ Inv-loop flags mask₀ j₀ mask j = Packing flags mask j
 abbrev μ-loop : tie.MeasureT-loop
 μ-loop flags mask₀ j₀ mask j = j
 
-loop-holds : tie.Need-loop-holds Inv-loop μ-loop
-loop-holds c = pack-start (now (c .args .flags))
-
-sub-j : tie.Need-sub-j Inv-loop μ-loop
-sub-j c = omega (arith, c .loop-test .taken)
-
 mul-mask : tie.Need-mul-mask Inv-loop μ-loop
 mul-mask c = omega (arith, pack-small (now (c .before .before .args .flags)) (c .before .loop .inv) (c .before .before .pre))
 
-element-copy-out-mask : tie.Need-element-copy-out-mask Inv-loop μ-loop
-element-copy-out-mask c = omega (arith, c .before .loop .inv .below)
-
 cast-mask : tie.Need-cast-mask Inv-loop μ-loop
-cast-mask c = omega (arith, c .before .before .before .pre (c .before .before .loop .j - 1) (omega (arith, c .before .before .loop .inv .below)))
+cast-mask c = omega (arith, c .before .before .before .pre (c .before .before .loop .j - 1) (omega arith))
 
 add-mask : tie.Need-add-mask Inv-loop μ-loop
-add-mask c = omega (arith, pack-small (now (c .before .before .before .args .flags)) (c .before .before .loop .inv) (c .before .before .before .pre), c .before .before .before .pre (c .before .before .loop .j - 1) (omega (arith, c .before .before .loop .inv .below)))
-
-loop-less : tie.Need-loop-less Inv-loop μ-loop
-loop-less c = omega (arith, c .before .loop-test .taken)
+add-mask c =
+    omega (
+      arith,
+      pack-small (now (c .before .before .before .args .flags)) (c .before .before .loop .inv) (c .before .before .before .pre),
+      c .before .before .before .pre (c .before .before .loop .j - 1) (omega arith),
+    )
 
 loop-again : tie.Need-loop-again Inv-loop μ-loop
 loop-again c = pack-turn (now (c .before .before .before .args .flags)) (c .before .before .loop .inv) (c .before .loop-test .taken)
@@ -44,12 +37,11 @@ gather-spec =
     (tie.spec
     Inv-loop
     μ-loop
-    loop-holds
-    sub-j
+    (λ c. pack-start (now (c .args .flags))) (λ c. omega arith)
     mul-mask
-    element-copy-out-mask
+    (λ c. omega arith)
     cast-mask
     add-mask
-    loop-less
+    (λ c. omega arith)
     loop-again
     returns)

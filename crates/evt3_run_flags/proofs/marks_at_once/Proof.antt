@@ -5,18 +5,24 @@ use borrow.Author.Needs.{needs}
 use Rattle.evt3_run_flags.proofs.marks_at_once.Statement.{statement}
 use Rattle.evt3_run_flags.proofs.marks_at_once.Tie as tie
 
-flag-places-requires : tie.Need-flag-places-requires
-flag-places-requires c κs = search needs
-
-flag-times-requires : tie.Need-flag-times-requires
-flag-times-requires c κs = search needs
-
 gather-requires : tie.Need-gather-requires
-gather-requires c κs = let a = c .before .before .before .before .before .before .before .before .args in flags-small (now (a .xs)) (now (a .ys)) (now (a .ts)) (now (a .ps)) (a .i) (c .before .before .before .before .before .before .before .before .pre .1) (c .before .before .before .flag-places .ensures) (c .before .flag-times .ensures)
+gather-requires c κs =
+    let s = c .before .before .before .before .before .before .before .before in
+    let a = s .args in
+    flags-small (now (a .xs)) (now (a .ys)) (now (a .ts)) (now (a .ps)) (a .i) (s .pre .1)
+    (c .before .before .before .flag-places .ensures) (c .before .flag-times .ensures)
 
 returns : tie.Need-returns
-returns c = let a = c .before .before .before .before .before .before .before .before .before .args in c .gather .ensures ∙ flags-marks (now (a .xs)) (now (a .ys)) (now (a .ts)) (now (a .ps)) (a .i) (c .before .before .before .before .before .before .before .before .before .pre .1) (c .before .before .before .before .flag-places .ensures) (c .before .before .flag-times .ensures)
+returns c =
+    let s = c .before .before .before .before .before .before .before .before .before in
+    let a = s .args in
+    c .gather .ensures ∙ flags-marks (now (a .xs)) (now (a .ys)) (now (a .ts)) (now (a .ps)) (a .i) (s .pre .1)
+    (c .before .before .before .before .flag-places .ensures) (c .before .before .flag-times .ensures)
 
 pub marks-at-once-spec : {M : Type 1} → statement M
 marks-at-once-spec =
-    tie.close (tie.spec flag-places-requires flag-times-requires gather-requires returns)
+    tie.close
+    (tie.spec
+    (λ c κs. search needs) (λ c κs. search needs)
+    gather-requires
+    returns)

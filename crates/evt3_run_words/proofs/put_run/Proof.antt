@@ -12,64 +12,44 @@ use borrow.Author.Needs.{needs}
 use Rattle.evt3_run_words.proofs.put_run.Statement.{statement}
 use Rattle.evt3_run_words.proofs.put_run.Tie as tie
 
--- src/evt3.rt:309:9
 put-leads-requires : tie.Need-put-leads-requires
 put-leads-requires c κs =
     let s = c .before .before .before in
     let a = s .args in
-    let some = body-some (a .p) (now (a .xs)) (a .i) (a .end) _ (s .pre .1) (s .pre .0 .high) refl in
-    (omega (arith, s .pre .0 .place), λ h. omega (arith, s .pre .3 h, some, length-append (leadsBytes (a .high) (a .low) (a .row) (a .t) (a .y)) (stream 2 (bodyWords (a .p) (between (now (a .xs)) (a .i) (a .end))))))
+    let some = body-some (a .p) (now (a .xs)) (a .i) (a .end) _ (s .pre .1) (s .pre .0 .high) refl in (
+      omega arith,
+      λ h. omega (
+        arith,
+        s .pre .3 h,
+        length-append (leadsBytes (a .high) (a .low) (a .row) (a .t) (a .y)) (stream 2 (bodyWords (a .p) (between (now (a .xs)) (a .i) (a .end)))),
+      ),
+    )
 
--- src/evt3.rt:311:9
 put-body-requires : tie.Need-put-body-requires
 put-body-requires c κs =
+    let put-leads = c .before .before .before .before .put-leads in
     let s = c .before .before .before .before .before .before .before .before in
     let a = s .args in
     let p = s .pre .0 in
     let few = leads-few (a .high) (a .low) (a .row) (a .t) (a .y) in (
-      record { low = p .low; high = p .high; few = p .few; place = omega (arith, few, c .before .before .before .before .put-leads .ensures .place, p .place) },
+      record { low = p .low; high = p .high; few = p .few; place = omega arith },
       s .pre .1,
       s .pre .2,
-      roomy-rest (now (a .out)) (c .before .before .before .before .put-leads .last .1 .1 .1 .1 .1 .0) (a .at) (leadsBytes (a .high) (a .low) (a .row) (a .t) (a .y)) (stream 2 (bodyWords (a .p) (between (now (a .xs)) (a .i) (a .end)))) (c .before .before .before .before .put-leads .ensures .place) (c .before .before .before .out .given) (s .pre .3),
+      roomy-rest (now (a .out)) (put-leads .last .1 .1 .1 .1 .1 .0) (a .at) (leadsBytes (a .high) (a .low) (a .row) (a .t) (a .y))
+          (stream 2 (bodyWords (a .p) (between (now (a .xs)) (a .i) (a .end)))) (put-leads .ensures .place)
+          (c .before .before .before .out .given) (s .pre .3),
     )
 
--- src/evt3.rt:313:24
-sub-body-size : tie.Need-sub-body-size
-sub-body-size c = search needs
-
--- src/evt3.rt:313:41
-mul-body-size : tie.Need-mul-body-size
-mul-body-size c = search needs
-
--- src/evt3.rt:313:41
-shared-slice-read-body-size : tie.Need-shared-slice-read-body-size
-shared-slice-read-body-size c = search needs
-
--- src/evt3.rt:313:41
 cast-body-size : tie.Need-cast-body-size
 cast-body-size c = omega (arith, c .shared-slice-known2 .given (c .before .before .before .before .before .before .before .before .args .i))
 
--- src/evt3.rt:313:58
-sub-body-size-2 : tie.Need-sub-body-size-2
-sub-body-size-2 c = search needs
-
--- src/evt3.rt:313:55
-mul-body-size-2 : tie.Need-mul-body-size-2
-mul-body-size-2 c = search needs
-
--- src/evt3.rt:313:55
-shared-slice-read-body-size-2 : tie.Need-shared-slice-read-body-size-2
-shared-slice-read-body-size-2 c = search needs
-
--- src/evt3.rt:313:55
 cast-body-size-2 : tie.Need-cast-body-size-2
 cast-body-size-2 c = omega (arith, c .shared-slice-known3 .given (c .before .before .before .before .before .before .before .before .before .args .end - 1))
 
--- src/evt3.rt:313:13
 body-size-requires : tie.Need-body-size-requires
-body-size-requires c κs = (omega (arith, c .shared-slice-known3 .given (c .before .before .before .before .before .before .before .before .before .args .end - 1)), omega (arith, c .before .before .before .before .before .before .before .before .before .pre .0 .high, c .before .before .before .before .before .before .before .before .before .pre .0 .few))
+body-size-requires c κs =
+    (omega (arith, c .shared-slice-known3 .given (c .before .before .before .before .before .before .before .before .before .args .end - 1)), omega arith)
 
--- src/evt3.rt:313:9
 add-result : tie.Need-add-result
 add-result c =
     let s = c .before .before .before .before .before .before .before .before .before .before in
@@ -77,13 +57,8 @@ add-result c =
     let few = leads-few (a .high) (a .low) (a .row) (a .t) (a .y) in
     let body = body-few (a .p) (now (a .xs)) (a .i) (a .end) _ (s .pre .1) (s .pre .0 .high) refl in
     let is = body-length (a .p) (now (a .xs)) (a .i) (a .end) _ (s .pre .1) (s .pre .0 .high) refl in
-    omega (arith, few, body, is, c .body-size .ensures, c .before .before .before .before .before .before .put-leads .ensures .place, s .pre .0 .place, s .pre .0 .high, s .pre .0 .few)
+    omega arith
 
--- src/evt3.rt:293:1
-same-length : tie.Need-same-length
-same-length c = search needs
-
--- src/evt3.rt:293:1
 returns : tie.Need-returns
 returns c =
     let s = c .before .before .before .before .before .before .before .before .before .before .before in
@@ -93,23 +68,21 @@ returns c =
     let one = c .before .before .before .before .before .before .before .put-leads .ensures in
     let two = c .before .before .put-body .ensures in
     let some = body-some (a .p) (now (a .xs)) (a .i) (a .end) _ (s .pre .1) (s .pre .0 .high) refl in
-    (omega (arith, two .0, one .place, length-append leads body), two .1 ∙ one .next body some)
+    (omega (arith, length-append leads body), two .1 ∙ one .next body some)
 
--- src/evt3.rt:293:1
-same-length-2 : tie.Need-same-length-2
-same-length-2 c = search needs
-
--- src/evt3.rt:293:1
 returns-2 : tie.Need-returns-2
 returns-2 c =
+    let put-leads = c .before .before .before .before .before .before .put-leads in
     let s = c .before .before .before .before .before .before .before .before .before .before in
     let a = s .args in
     let leads = leadsBytes (a .high) (a .low) (a .row) (a .t) (a .y) in
     let body = stream 2 (bodyWords (a .p) (between (now (a .xs)) (a .i) (a .end))) in
-    let one = c .before .before .before .before .before .before .put-leads .ensures in
+    let one = put-leads .ensures in
     let some = body-some (a .p) (now (a .xs)) (a .i) (a .end) _ (s .pre .1) (s .pre .0 .high) refl in
-    let is = body-length (a .p) (now (a .xs)) (a .i) (a .end) _ (s .pre .1) (s .pre .0 .high) refl in
-    (omega (arith, one .place, is, c .body-size .ensures, length-append leads body), sets-empty (c .before .before .before .before .before .before .put-leads .last .1 .1 .1 .1 .1 .0) (c .before .before .before .before .before .before .put-leads .result) body (c .before .before .before .if1 .left) ∙ one .next body some)
+    let is = body-length (a .p) (now (a .xs)) (a .i) (a .end) _ (s .pre .1) (s .pre .0 .high) refl in (
+      omega (arith, length-append leads body),
+      sets-empty (put-leads .last .1 .1 .1 .1 .1 .0) (put-leads .result) body (c .before .before .before .if1 .left) ∙ one .next body some,
+    )
 
 pub put-run-spec : {M : Type 1} → statement M
 put-run-spec =
@@ -117,17 +90,13 @@ put-run-spec =
     (tie.spec
     put-leads-requires
     put-body-requires
-    sub-body-size
-    mul-body-size
-    shared-slice-read-body-size
+    (λ c. search needs) (λ c. search needs) (λ c. search needs)
     cast-body-size
-    sub-body-size-2
-    mul-body-size-2
-    shared-slice-read-body-size-2
+    (λ c. search needs) (λ c. search needs) (λ c. search needs)
     cast-body-size-2
     body-size-requires
     add-result
-    same-length
+    (λ c. search needs)
     returns
-    same-length-2
+    (λ c. search needs)
     returns-2)

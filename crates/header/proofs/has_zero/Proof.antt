@@ -5,12 +5,6 @@ use Rattle.header.specs.Header.{hasZero}
 use Rattle.header.proofs.has_zero.Statement.{statement}
 use Rattle.header.proofs.has_zero.Tie as tie
 
-enum-known-size : tie.Need-enum-known-size
-enum-known-size c = search needs
-
-enum-told : tie.Need-enum-told
-enum-told c = search needs
-
 returns : tie.Need-returns
 unfolding hasZero
 returns c = simp (c .enum-told .given .1)
@@ -24,4 +18,4 @@ unfolding hasZero
 returns-3 c = simp (c .before .before .size .given .1, ne-eqb _ _ (c .if1 .left))
 
 pub has-zero-spec : {M : Type 1} → statement M
-has-zero-spec = tie.close (tie.spec enum-known-size enum-told returns returns-2 returns-3)
+has-zero-spec = tie.close (tie.spec (λ c. search needs) (λ c. search needs) returns returns-2 returns-3)

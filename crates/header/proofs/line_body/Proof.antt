@@ -6,18 +6,13 @@ use Rattle.header.specs.Lines.{bodyOf}
 use Rattle.header.proofs.line_body.Statement.{statement}
 use Rattle.header.proofs.line_body.Tie as tie
 
-trim-requires : tie.Need-trim-requires
-trim-requires c κs = search needs
-
-tail-from-requires : tie.Need-tail-from-requires
-tail-from-requires c κs = search needs
-
-trim-requires-2 : tie.Need-trim-requires-2
-trim-requires-2 c κs = search needs
-
 returns : tie.Need-returns
 unfolding bodyOf
 returns c = c .trim2 .ensures ∙ ap trimOf (c .before .tail-from .ensures ∙ ap (from notPercent) (c .before .before .trim .ensures))
 
 pub line-body-spec : {M : Type 1} → statement M
-line-body-spec = tie.close (tie.spec trim-requires tail-from-requires trim-requires-2 returns)
+line-body-spec =
+    tie.close
+    (tie.spec
+    (λ c κs. search needs) (λ c κs. search needs) (λ c κs. search needs)
+    returns)

@@ -17,41 +17,45 @@ Inv-loop s seen₀ at₀ seen at = (at ≤ length s) × (laws.resume at seen (dr
 abbrev μ-loop : tie.MeasureT-loop
 μ-loop s seen₀ at₀ seen at = length s - at
 
-loop-holds : tie.Need-loop-holds Inv-loop μ-loop
-loop-holds c = (omega arith, laws.scan-start _)
-
-shared-slice-read-if1 : tie.Need-shared-slice-read-if1 Inv-loop μ-loop
-shared-slice-read-if1 c = search needs
-
 returns : tie.Need-returns Inv-loop μ-loop
 returns c = laws.scan-stop _ _ _ (c .before .before .before .loop .inv .1) (c .before .before .loop-test .taken) (c .if1 .taken)
 
-sub-left : tie.Need-sub-left Inv-loop μ-loop
-sub-left c = search needs
-
-part-left-start : tie.Need-part-left-start Inv-loop μ-loop
-part-left-start c = search needs
-
-part-left-end : tie.Need-part-left-end Inv-loop μ-loop
-part-left-end c = search needs
-
-line-length-requires : tie.Need-line-length-requires Inv-loop μ-loop
-line-length-requires c κs = search needs
-
 slice-aggregate-read-line : tie.Need-slice-aggregate-read-line Inv-loop μ-loop
-slice-aggregate-read-line c = sym (length-take-le _ _ (laws.line-at (c .before .before .before .before .before .before .before .before .args .s .now) _ (c .before .before .before .before .before .loop-test .taken) _ (tail-part _ _ (c .before .before .before .before .before .before .loop .inv .0)) _ (c .before .line-length .ensures) .within))
-
-read-line-requires : tie.Need-read-line-requires Inv-loop μ-loop
-read-line-requires c κs = search needs
+slice-aggregate-read-line c =
+    sym (length-take-le _ _ (laws.line-at (c .before .before .before .before .before .before .before .before .args .s .now) _
+    (c .before .before .before .before .before .loop-test .taken) _
+    (tail-part _ _ (c .before .before .before .before .before .before .loop .inv .0)) _ (c .before .line-length .ensures) .within))
 
 add-at : tie.Need-add-at Inv-loop μ-loop
-add-at c = omega (arith, laws.line-at (c .before .before .before .before .before .before .before .before .before .args .s .now) _ (c .before .before .before .before .before .before .loop-test .taken) _ (tail-part _ _ (c .before .before .before .before .before .before .before .loop .inv .0)) _ (c .before .before .line-length .ensures))
+add-at c =
+    omega (
+      arith,
+      laws.line-at (c .before .before .before .before .before .before .before .before .before .args .s .now) _
+          (c .before .before .before .before .before .before .loop-test .taken) _
+          (tail-part _ _ (c .before .before .before .before .before .before .before .loop .inv .0)) _ (c .before .before .line-length .ensures),
+    )
 
 loop-less : tie.Need-loop-less Inv-loop μ-loop
-loop-less c = omega (arith, laws.line-at (c .before .before .before .before .before .before .before .before .before .args .s .now) _ (c .before .before .before .before .before .before .loop-test .taken) _ (tail-part _ _ (c .before .before .before .before .before .before .before .loop .inv .0)) _ (c .before .before .line-length .ensures))
+loop-less c =
+    omega (
+      arith,
+      laws.line-at (c .before .before .before .before .before .before .before .before .before .args .s .now) _
+          (c .before .before .before .before .before .before .loop-test .taken) _
+          (tail-part _ _ (c .before .before .before .before .before .before .before .loop .inv .0)) _ (c .before .before .line-length .ensures),
+    )
 
 loop-again : tie.Need-loop-again Inv-loop μ-loop
-loop-again c = (omega (arith, laws.line-at (c .before .before .before .before .before .before .before .before .before .args .s .now) _ (c .before .before .before .before .before .before .loop-test .taken) _ (tail-part _ _ (c .before .before .before .before .before .before .before .loop .inv .0)) _ (c .before .before .line-length .ensures)), laws.scan-next _ _ _ (c .before .before .before .before .before .before .before .loop .inv .1) (c .before .before .before .before .before .before .loop-test .taken) _ (tail-part _ _ (c .before .before .before .before .before .before .before .loop .inv .0)) _ (c .before .before .line-length .ensures) _ (c .before .before .before .before .if1 .left) (c .read-line .ensures))
+loop-again c =
+    let inv = c .before .before .before .before .before .before .before .loop .inv in
+    let t = c .before .before .before .before .before .before .loop-test .taken in (
+      omega (
+        arith,
+        laws.line-at (c .before .before .before .before .before .before .before .before .before .args .s .now) _ t _
+            (tail-part _ _ (inv .0)) _ (c .before .before .line-length .ensures),
+      ),
+      laws.scan-next _ _ _ (inv .1) t _ (tail-part _ _ (inv .0)) _ (c .before .before .line-length .ensures) _
+          (c .before .before .before .before .if1 .left) (c .read-line .ensures),
+    )
 
 returns-2 : tie.Need-returns-2 Inv-loop μ-loop
 returns-2 c = laws.scan-end _ _ _ (c .before .loop .inv .1) (c .loop-test .left)
@@ -62,15 +66,11 @@ scan-lines-spec =
     (tie.spec
     Inv-loop
     μ-loop
-    loop-holds
-    shared-slice-read-if1
+    (λ c. (omega arith, laws.scan-start _)) (λ c. search needs)
     returns
-    sub-left
-    part-left-start
-    part-left-end
-    line-length-requires
+    (λ c. search needs) (λ c. search needs) (λ c. search needs) (λ c κs. search needs)
     slice-aggregate-read-line
-    read-line-requires
+    (λ c κs. search needs)
     add-at
     loop-less
     loop-again

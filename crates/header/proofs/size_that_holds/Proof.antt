@@ -4,12 +4,6 @@ use Rattle.header.specs.Header.{sizeThatHolds}
 use Rattle.header.proofs.size_that_holds.Statement.{statement}
 use Rattle.header.proofs.size_that_holds.Tie as tie
 
-enum-told : tie.Need-enum-told
-enum-told c = search needs
-
-enum-told-2 : tie.Need-enum-told-2
-enum-told-2 c = search needs
-
 returns : tie.Need-returns
 unfolding sizeThatHolds
 returns c = simp (c .enum-told .given .1)
@@ -19,4 +13,4 @@ unfolding sizeThatHolds
 returns-2 c = simp (c .enum-told2 .given .1)
 
 pub size-that-holds-spec : {M : Type 1} → statement M
-size-that-holds-spec = tie.close (tie.spec enum-told enum-told-2 returns returns-2)
+size-that-holds-spec = tie.close (tie.spec (λ c. search needs) (λ c. search needs) returns returns-2)

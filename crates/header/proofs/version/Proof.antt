@@ -5,15 +5,9 @@ use Rattle.header.specs.Notes.{versionOf}
 use Rattle.header.proofs.version.Statement.{statement}
 use Rattle.header.proofs.version.Tie as tie
 
-begins-with-requires : tie.Need-begins-with-requires
-begins-with-requires c κs = search needs
-
 returns : tie.Need-returns
 unfolding versionOf
 returns c = rw (sym (c .before .begins-with .ensures) ∙ c .if1 .taken)
-
-begins-with-requires-2 : tie.Need-begins-with-requires-2
-begins-with-requires-2 c κs = search needs
 
 returns-2 : tie.Need-returns-2
 unfolding versionOf
@@ -24,5 +18,4 @@ unfolding versionOf
 returns-3 c = rw (sym (c .before .before .before .begins-with .ensures) ∙ c .before .before .if1 .left, sym (c .before .begins-with2 .ensures) ∙ c .if2 .left)
 
 pub version-spec : {M : Type 1} → statement M
-version-spec =
-    tie.close (tie.spec begins-with-requires returns begins-with-requires-2 returns-2 returns-3)
+version-spec = tie.close (tie.spec (λ c κs. search needs) returns (λ c κs. search needs) returns-2 returns-3)

@@ -7,20 +7,13 @@ use Rattle.index_fixed.specs.Laws.{opens-at}
 use Rattle.index_fixed.proofs.open.Statement.{statement}
 use Rattle.index_fixed.proofs.open.Tie as tie
 
-clamp-requires : tie.Need-clamp-requires
-clamp-requires c κs = search needs
-
-blank-requires : tie.Need-blank-requires
-blank-requires c κs = search needs
-
-open-into-requires : tie.Need-open-into-requires
-open-into-requires c κs = search needs
-
 returns : tie.Need-returns
 returns c =
-    opens-at (rawVerdict (now (c .before .before .before .before .args .recording)) (c .before .before .before .before .args .options)) (rawAnswer (now (c .before .before .before .before .args .recording)) (c .before .before .before .before .args .options))
-    (rawMade (now (c .before .before .before .before .args .recording)) (c .before .before .before .before .args .options))
-    (c .open-into .result .answer) 64 (c .open-into .result .records) (c .before .before .clamp .result) (min (c .before .before .before .before .args .room) 64) (c .before .blank .result) blank (c .before .before .clamp .ensures) (c .before .blank .ensures) (c .open-into .ensures)
+    let a = c .before .before .before .before .args in
+    opens-at (rawVerdict (now (a .recording)) (a .options)) (rawAnswer (now (a .recording)) (a .options))
+    (rawMade (now (a .recording)) (a .options))
+    (c .open-into .result .answer) 64 (c .open-into .result .records) (c .before .before .clamp .result) (min (a .room) 64)
+    (c .before .blank .result) blank (c .before .before .clamp .ensures) (c .before .blank .ensures) (c .open-into .ensures)
 
 pub open-spec : {M : Type 1} → statement M
-open-spec = tie.close (tie.spec clamp-requires blank-requires open-into-requires returns)
+open-spec = tie.close (tie.spec (λ c κs. search needs) (λ c κs. search needs) (λ c κs. search needs) returns)

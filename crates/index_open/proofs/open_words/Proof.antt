@@ -40,5 +40,6 @@ open-words-spec 𝓤 H 𝓜 𝓖 𝓡 =
     entered 𝓤 H (tripleOf 𝓤 H (𝓖 .A) f.signature (f.spec 𝓤 H (𝓖 .A) (𝓜 .mem) (𝓡 .run)))
     (tables 𝓤 H 𝓜 𝓡 code.env .C) (tables 𝓤 H 𝓜 𝓡 code.env .Λ) #index_open·open_words code.function (code.unfolded 𝓤 H 𝓜 𝓡)
     (meets entry 𝓤 H (𝓖 .A) (givenOf 𝓤 H 𝓜 𝓖) (𝓜 .mem) (𝓡 .run) (tablesOf 𝓤 H 𝓜 (tables 𝓤 H 𝓜 𝓡 code.env))
-    (cited 𝓤 H (Prepare entry 𝓤 H (𝓖 .A)) 𝓜 𝓡 code.env #index_build·prepare_words prepare-def.routine code.calls-index-build·prepare-words (prepare-thm.met 𝓤 H 𝓜 𝓖 𝓡))
+    (cited 𝓤 H (Prepare entry 𝓤 H (𝓖 .A)) 𝓜 𝓡 code.env #index_build·prepare_words prepare-def.routine code.calls-index-build·prepare-words
+    (prepare-thm.met 𝓤 H 𝓜 𝓖 𝓡))
     (cited 𝓤 H (Make entry 𝓤 H (𝓖 .A) (𝓜 .mem) (𝓡 .run)) 𝓜 𝓡 code.env #index_open·make make-def.routine code.calls-index-open·make (make-thm.met 𝓤 H 𝓜 𝓖 𝓡)))

@@ -20,9 +20,11 @@ use prog.Wp.{Heap, Out, Env, afterSeq, afterBlock, afterTurn, Calls, Loops, Wp, 
 use ghost.Atoms.{Atoms, sem}
 use contract.Monad.{Fun, fact}
 use contract.Running.{givenOf, tables, tablesOf}
-use types.Kit.{Given, Item, Sq, runs, ‵, raw, _⊛_, some, later, ⋆, anyQ, atRet, _$_, _∵_, !, qed, by, move, keep, drop, use1, use2, split, join, pick, rewrite, fsplit, fjoin, suffices, frame, await, done}
+use types.Kit.{Given, Item, Sq, runs, ‵, raw, _⊛_, some, later, ⋆, anyQ, atRet, _$_, _∵_, !, qed, by, move, keep, drop, use1, use2, split, join, pick, rewrite}
+use types.Kit.{fsplit, fjoin, suffices, frame, await, done}
 use types.Part.{whole, sub, look-in}
-use types.Run.{look, look-raw, store, init, forget, stop, hop, fld, from, load, lit, of-opd, bin, and-then, no-more, land, assigns, assigns-last, stays, leaves-loop, returns, enter, alloc1, alloc0, params1, pass1, pass0, free1, free0, exec}
+use types.Run.{look, look-raw, store, init, forget, stop, hop, fld, from, load, lit, of-opd, bin, and-then, no-more, land, assigns, assigns-last, stays}
+use types.Run.{leaves-loop, returns, enter, alloc1, alloc0, params1, pass1, pass0, free1, free0, exec}
 use types.Share.{arr-parts}
 use sound.Loop.{loop-rule}
 use sound.WpLaws.{fmOf, WpFn-mono}
@@ -120,10 +122,12 @@ module _ {M : Type 1} (𝓤 : URA M) (H : Heap 𝓤) (A : Atoms 𝓤) (at-mem : 
   abbrev Feed : Contract 𝓤
   Feed = tripleOf 𝓤 H A feed.signature (feed.spec 𝓤 H A at-mem run)
 
-  feed-of : (t : Judging) (c : Checkpoint) (r : Judging) → ent 𝓤 (ensured 𝓤 H A feed.ended (feed.clauses 𝓤 H A at-mem run) tt (t, (c, tt)) tt r) (fact 𝓤 (r ≡ judgedOf t c))
+  feed-of : (t : Judging) (c : Checkpoint) (r : Judging)
+      → ent 𝓤 (ensured 𝓤 H A feed.ended (feed.clauses 𝓤 H A at-mem run) tt (t, (c, tt)) tt r) (fact 𝓤 (r ≡ judgedOf t c))
   feed-of t c r = exE 𝓤 _ (λ ws. snd∗ 𝓤 (sem 𝓤 H A (lasts feed.ended tt (t, (c, tt)) ws)) (fact 𝓤 (r ≡ judgedOf t c)))
 
-module _ {M : Type 1} (𝓤 : URA M) (H : Heap 𝓤) (A : Atoms 𝓤) (W : Given 𝓤 H A) (at-mem : Memory → SProp 𝓤) (run : Routine → Fun 𝓤) (κ : Lft) (q : Share) (b o : ℕ) (γ : GName) (ys : List Checkpoint) (s : Judging) where
+module _ {M : Type 1} (𝓤 : URA M) (H : Heap 𝓤) (A : Atoms 𝓤) (W : Given 𝓤 H A) (at-mem : Memory → SProp 𝓤) (run : Routine → Fun 𝓤) (κ : Lft)
+    (q : Share) (b o : ℕ) (γ : GName) (ys : List Checkpoint) (s : Judging) where
   abbrev n : ℕ
   n = length ys
 
@@ -136,20 +140,28 @@ module _ {M : Type 1} (𝓤 : URA M) (H : Heap 𝓤) (A : Atoms 𝓤) (W : Given
   abbrev Post : Val → SProp 𝓤
   Post = walkOf 𝓤 H A f.ended stayed (f.clauses 𝓤 H A at-mem run) .post (((κ, tt), (q, tt), tt, x, at), tt)
 
-  exits : (t : Judging) → t ≡ judgedAll s ys → IsS s → IsS t → ent 𝓤 (⋆ 𝓤 H A (‵ (flft κ q) ∷ ‵ (ShrSlice (named 0) κ T.the-row .own (x .0) (at .0)) ∷ [])) (Post (machS t))
+  exits : (t : Judging) → t ≡ judgedAll s ys → IsS s → IsS t
+      → ent 𝓤 (⋆ 𝓤 H A (‵ (flft κ q) ∷ ‵ (ShrSlice (named 0) κ T.the-row .own (x .0) (at .0)) ∷ [])) (Post (machS t))
   exits t e gs gt =
       qed W (‵ (flft κ q) ∷ ‵ (ShrSlice (named 0) κ T.the-row .own (x .0) (at .0)) ∷ []) ∵
-      suffices ! _ (ends-at 𝓤 H A f.ended stayed (f.clauses 𝓤 H A at-mem run) W (((κ, tt), (q, tt), tt, x, at), tt) (machS t) t (tt, (tt, tt)) (tt, (tt, tt))) $ says ! e $
-      nothing ! $ move ! (1 ∷ 0 ∷ []) $ join ! $ owned ! S.the-row (Is S.the-row) (LL.makes S.the-type S′.the-plain 𝓤 H A) s _ gs $ nothing ! $ move ! (1 ∷ 0 ∷ []) $ fjoin ! $ move ! (2 ∷ 0 ∷ []) $ fjoin ! $ move ! (1 ∷ 0 ∷ []) $
+      suffices ! _
+      (ends-at 𝓤 H A f.ended stayed (f.clauses 𝓤 H A at-mem run) W (((κ, tt), (q, tt), tt, x, at), tt) (machS t) t (tt, (tt, tt)) (tt, (tt, tt))) $
+      says ! e $
+      nothing ! $ move ! (1 ∷ 0 ∷ []) $ join ! $ owned ! S.the-row (Is S.the-row) (LL.makes S.the-type S′.the-plain 𝓤 H A) s _ gs $
+      nothing ! $ move ! (1 ∷ 0 ∷ []) $ fjoin ! $ move ! (2 ∷ 0 ∷ []) $ fjoin ! $ move ! (1 ∷ 0 ∷ []) $
       frame ! $ frame ! $ owned ! S.the-row (Is S.the-row) (LL.makes S.the-type S′.the-plain 𝓤 H A) t _ gt $ done !
 
   abbrev to-feed : Judging → Checkpoint → Feed 𝓤 H A at-mem run .Ghost
   to-feed t c = ((tt, tt, tt, (t, (c, tt)), (machS t ∷ [], (mach c ∷ [], tt))), tt)
 
-  goes-feed : (t : Judging) (c : Checkpoint) → ent 𝓤 (sep 𝓤 (sem 𝓤 H A (T.the-row .own c (mach c ∷ []))) (sem 𝓤 H A (S.the-row .own t (machS t ∷ [])))) (Feed 𝓤 H A at-mem run .pre (to-feed t c))
-  goes-feed t c = qed W (‵ (T.the-row .own c (mach c ∷ [])) ∷ ‵ (S.the-row .own t (machS t ∷ [])) ∷ []) ∵ nothing ! $ move ! (1 ∷ 0 ∷ []) $ fjoin ! $ move ! (1 ∷ 0 ∷ []) $ fjoin ! $ nothing ! $ join ! $ frame ! $ done !
+  goes-feed : (t : Judging) (c : Checkpoint)
+      → ent 𝓤 (sep 𝓤 (sem 𝓤 H A (T.the-row .own c (mach c ∷ []))) (sem 𝓤 H A (S.the-row .own t (machS t ∷ [])))) (Feed 𝓤 H A at-mem run .pre (to-feed t c))
+  goes-feed t c =
+      qed W (‵ (T.the-row .own c (mach c ∷ [])) ∷ ‵ (S.the-row .own t (machS t ∷ [])) ∷ []) ∵ nothing ! $ move ! (1 ∷ 0 ∷ []) $ fjoin ! $
+      move ! (1 ∷ 0 ∷ []) $ fjoin ! $ nothing ! $ join ! $ frame ! $ done !
 
-  module _ (𝓣 : Tables 𝓤 H) (known-feed : Triple 𝓤 (𝓣 .C #index_records·judge) (Feed 𝓤 H A at-mem run)) (g : Room T.the-row n) (gs : IsS s) (q′ : Share) (l₀ l₁ l₂ l₃ l₄ l₅ l₆ l₇ l₈ l₉ : ℕ) where
+  module _ (𝓣 : Tables 𝓤 H) (known-feed : Triple 𝓤 (𝓣 .C #index_records·judge) (Feed 𝓤 H A at-mem run)) (g : Room T.the-row n) (gs : IsS s)
+      (q′ : Share) (l₀ l₁ l₂ l₃ l₄ l₅ l₆ l₇ l₈ l₉ : ℕ) where
     abbrev C : Calls 𝓤 H
     C = 𝓣 .C
 
@@ -162,12 +174,17 @@ module _ {M : Type 1} (𝓤 : URA M) (H : Heap 𝓤) (A : Atoms 𝓤) (W : Given
     -- what no turn touches
     abbrev Frame : List (Item 𝓤)
     Frame = ‵ (fat fullShare slice l₁ 0 (sliceVal (b, o) n)) ∷ ‵ (fat fullShare S′.mir l₂ 0 (machS s)) ∷ ‵ (froom S′.mir l₀ 0)
-        ∷ ‵ (fobor κ q (arr-parts (shares T.the-row) n .part q′ ys b o)) ∷ ‵ (fshr-bor κ (λ u. arr-parts (shares T.the-row) n .part u ys b o)) ∷ ‵ (fres γ (codedHoleys T.the-row .code (heres T.the-row ys))) ∷ ‵ (at-slice T.the-row (x .0) (at .0))
-        ∷ ‵ (fdies S′.mir l₀) ∷ ‵ (fdies slice l₁) ∷ ‵ (fdies S′.mir l₂) ∷ ‵ (fdies S′.mir l₃) ∷ ‵ (fdies word l₄) ∷ ‵ (fdies T′.mir l₅) ∷ ‵ (fdies word l₆) ∷ ‵ (fdies tyBool l₇) ∷ ‵ (fdies tyPtr l₈) ∷ ‵ (fdies T′.mir l₉) ∷ []
+        ∷ ‵ (fobor κ q (arr-parts (shares T.the-row) n .part q′ ys b o))
+        ∷ ‵ (fshr-bor κ (λ u. arr-parts (shares T.the-row) n .part u ys b o))
+        ∷ ‵ (fres γ (codedHoleys T.the-row .code (heres T.the-row ys))) ∷ ‵ (at-slice T.the-row (x .0) (at .0))
+        ∷ ‵ (fdies S′.mir l₀) ∷ ‵ (fdies slice l₁) ∷ ‵ (fdies S′.mir l₂) ∷ ‵ (fdies S′.mir l₃) ∷ ‵ (fdies word l₄) ∷ ‵ (fdies T′.mir l₅)
+        ∷ ‵ (fdies word l₆) ∷ ‵ (fdies tyBool l₇) ∷ ‵ (fdies tyPtr l₈) ∷ ‵ (fdies T′.mir l₉) ∷ []
 
     -- the scan stands at t, and i records are read
     abbrev At : ℕ → Judging → List (Item 𝓤)
-    At i t = ‵ (row T.the-row q′ ys b o) ∷ ‵ (fat fullShare S′.mir l₃ 0 (machS t)) ∷ ‵ (fat fullShare word l₄ 0 (vint w64 i)) ∷ ‵ (froom T′.mir l₅ 0) ∷ ‵ (froom word l₆ 0) ∷ ‵ (froom tyBool l₇ 0) ∷ ‵ (froom tyPtr l₈ 0) ∷ ‵ (froom T′.mir l₉ 0) ∷ Frame
+    At i t =
+        ‵ (row T.the-row q′ ys b o) ∷ ‵ (fat fullShare S′.mir l₃ 0 (machS t)) ∷ ‵ (fat fullShare word l₄ 0 (vint w64 i))
+        ∷ ‵ (froom T′.mir l₅ 0) ∷ ‵ (froom word l₆ 0) ∷ ‵ (froom tyBool l₇ 0) ∷ ‵ (froom tyPtr l₈ 0) ∷ ‵ (froom T′.mir l₉ 0) ∷ Frame
 
     abbrev Facts : ℕ → ℕ → Judging → Type 0
     Facts m i t = (i + m ≡ n) × ((judgedAll t (drop′ i ys) ≡ judgedAll s ys) × IsS t)
@@ -189,50 +206,73 @@ module _ {M : Type 1} (𝓤 : URA M) (H : Heap 𝓤) (A : Atoms 𝓤) (W : Given
     Left = afterBlock 𝓤 H (afterSeq 𝓤 H (Wp 𝓤 H C Λ En mir.t-4 (atReturn 𝓤 H En Post)) (atReturn 𝓤 H En Post))
 
     -- a turn that reads one record
-    more : (i : ℕ) (t : Judging) (X : SProp 𝓤) → i < n → IsS t → ((r : Judging) → r ≡ judgedOf t (nth ys i) → IsS r → ent 𝓤 (⋆ 𝓤 H A (At (suc i) r)) X) → ent 𝓤 (⋆ 𝓤 H A (At i t)) (Wp 𝓤 H C Λ En mir.turn-1 (afterTurn 𝓤 H X Left))
+    more : (i : ℕ) (t : Judging) (X : SProp 𝓤) → i < n → IsS t
+        → ((r : Judging) → r ≡ judgedOf t (nth ys i) → IsS r → ent 𝓤 (⋆ 𝓤 H A (At (suc i) r)) X)
+        → ent 𝓤 (⋆ 𝓤 H A (At i t)) (Wp 𝓤 H C Λ En mir.turn-1 (afterTurn 𝓤 H X Left))
     unfolding afterTurn
     more i t X small gt k =
         qed W (At i t) ∵ exec ! C Λ En mir.turn-1 (anyQ (afterTurn 𝓤 H X Left)) $
-        assigns ! (of-opd ! (load ! (from ! (fld ! refl (stop !))) (look-in ! 8 (sub ! 1 refl (whole !))))) (from ! (stop !)) (init ! 4 refl (tt, record { fits = g .0 })) $
+        assigns ! (of-opd ! (load ! (from ! (fld ! refl (stop !))) (look-in ! 8 (sub ! 1 refl (whole !))))) (from ! (stop !))
+        (init ! 4 refl (tt, record { fits = g .0 })) $
         assigns ! (bin ! (load ! (from ! (stop !)) (look ! 2 refl)) (load ! (from ! (stop !)) (look ! 4 refl)) tt) (from ! (stop !)) (init ! 5 refl (tt, tt)) $
         rewrite ! 5 (λ (u : Bool). ‵ (fat fullShare tyBool l₇ 0 (vbool u))) (holds (ltb i n) (lt→ltb i n small)) refl $
         stays ! (load ! (from ! (stop !)) (look ! 5 refl)) $
-        assigns ! (bin ! (load ! (from ! (stop !)) (look ! 2 refl)) (lit ! tt) (record { fits = far i n small (g .1) })) (from ! (stop !)) (store ! 4 refl (tt, record { fits = far i n small (g .1) })) $
-        assigns ! (bin ! (load ! (from ! (fld ! refl (stop !))) (look-in ! 8 (sub ! 0 refl (whole !)))) (load ! (from ! (stop !)) (look ! 4 refl)) tt) (from ! (stop !)) (init ! 6 refl (tt, tt)) $
+        assigns ! (bin ! (load ! (from ! (stop !)) (look ! 2 refl)) (lit ! tt) (record { fits = far i n small (g .1) })) (from ! (stop !))
+        (store ! 4 refl (tt, record { fits = far i n small (g .1) })) $
+        assigns !
+        (bin ! (load ! (from ! (fld ! refl (stop !))) (look-in ! 8 (sub ! 0 refl (whole !)))) (load ! (from ! (stop !)) (look ! 4 refl)) tt)
+        (from ! (stop !)) (init ! 6 refl (tt, tt)) $
         rewrite ! 6 (λ (p : ℕ). ‵ (fat fullShare tyPtr l₈ 0 (vptr b p))) (sym (place-is 72 o i)) refl $
         -- the record at i is taken out, copied, and put back
-        elem-out ! T.the-row (Is T.the-row) (shows 𝓤 H A T.the-row) (LL.vals T.the-type T′.the-laws) (LL.tells T.the-type T′.the-laws) q′ ys i blank b o small (λ ge.
-        assigns ! (of-opd ! (load ! (from ! (hop ! (look ! 8 refl) (stop !))) (look-raw ! 0 refl))) (from ! (stop !)) (init ! 9 refl (LL.lawful T.the-type T′.the-laws 𝓤 H A W .typed (nth ys i) _ ge .0)) $
-        assigns ! (of-opd ! (load ! (from ! (stop !)) (look ! 9 refl))) (from ! (stop !)) (init ! 5 refl (LL.lawful T.the-type T′.the-laws 𝓤 H A W .typed (nth ys i) _ ge .0)) $
+        elem-out ! T.the-row (Is T.the-row) (shows 𝓤 H A T.the-row) (LL.vals T.the-type T′.the-laws) (LL.tells T.the-type T′.the-laws) q′ ys
+        i blank b o small (λ ge.
+        assigns ! (of-opd ! (load ! (from ! (hop ! (look ! 8 refl) (stop !))) (look-raw ! 0 refl))) (from ! (stop !))
+        (init ! 9 refl (LL.lawful T.the-type T′.the-laws 𝓤 H A W .typed (nth ys i) _ ge .0)) $
+        assigns ! (of-opd ! (load ! (from ! (stop !)) (look ! 9 refl))) (from ! (stop !))
+        (init ! 5 refl (LL.lawful T.the-type T′.the-laws 𝓤 H A W .typed (nth ys i) _ ge .0)) $
         elem-back ! T.the-row q′ ys i blank (mach (nth ys i) ∷ []) b o small $
         -- [the row; _3; _4; _5; …]: the call
-        owned ! S.the-row (Is S.the-row) (LL.makes S.the-type S′.the-plain 𝓤 H A) t _ gt $ owned ! T.the-row (Is T.the-row) (LL.makes T.the-type T′.the-plain 𝓤 H A) (nth ys i) _ ge $
+        owned ! S.the-row (Is S.the-row) (LL.makes S.the-type S′.the-plain 𝓤 H A) t _ gt $
+        owned ! T.the-row (Is T.the-row) (LL.makes T.the-type T′.the-plain 𝓤 H A) (nth ys i) _ ge $
         use2 W (raw (Feed 𝓤 H A at-mem run .pre (to-feed t (nth ys i)))) (goes-feed t (nth ys i)) $
-        calls-at ! (fmOf 𝓤 H (W .laws) 𝓣) (Feed 𝓤 H A at-mem run) known-feed (to-feed t (nth ys i)) (and-then ! (load ! (from ! (stop !)) (look ! 2 refl)) (and-then ! (load ! (from ! (stop !)) (look ! 4 refl)) (no-more !))) (λ v.
-        use1 W (later (some (λ (r : Judging). (‵ ftrue ⊛ ‵ (S.the-row .own r (v ∷ []))) ⊛ raw (ensured 𝓤 H A feed.ended (feed.clauses 𝓤 H A at-mem run) tt (t, (nth ys i, tt)) tt r)))) (id⊢ 𝓤 _) $ await ! tt $ pick ! (λ r.
-        split ! $ move ! (1 ∷ []) $ use1 W (raw (fact 𝓤 (r ≡ judgedOf t (nth ys i)))) (feed-of 𝓤 H A at-mem run t (nth ys i) r) $ heard ! (r ≡ judgedOf t (nth ys i)) (λ e. split ! $ drop ! $
+        calls-at ! (fmOf 𝓤 H (W .laws) 𝓣) (Feed 𝓤 H A at-mem run) known-feed (to-feed t (nth ys i))
+        (and-then ! (load ! (from ! (stop !)) (look ! 2 refl)) (and-then ! (load ! (from ! (stop !)) (look ! 4 refl)) (no-more !)))
+        (λ v.
+        use1 W (later (some (λ (r : Judging). (‵ ftrue ⊛ ‵ (S.the-row .own r (v ∷ [])))
+        ⊛ raw (ensured 𝓤 H A feed.ended (feed.clauses 𝓤 H A at-mem run) tt (t, (nth ys i, tt)) tt r)))) (id⊢ 𝓤 _) $ await ! tt $
+        pick ! (λ r.
+        split ! $ move ! (1 ∷ []) $ use1 W (raw (fact 𝓤 (r ≡ judgedOf t (nth ys i)))) (feed-of 𝓤 H A at-mem run t (nth ys i) r) $
+        heard ! (r ≡ judgedOf t (nth ys i)) (λ e. split ! $ drop ! $
         peeks ! S.the-row (Is S.the-row) (shows 𝓤 H A S.the-row) r (v ∷ []) (λ is.
         land ! (from ! (stop !)) (store ! 2 refl (LL.lawful S.the-type S′.the-laws 𝓤 H A W .typed r _ is .0)) $
         rewrite ! 2 (λ (u : Val). ‵ (fat fullShare S′.mir l₃ 0 u)) (ap only (LL.tells S.the-type S′.the-laws r _ is)) refl $ drop ! $
-        assigns-last ! (bin ! (load ! (from ! (stop !)) (look ! 2 refl)) (lit ! tt) (record { fits = next-fits i n small (g .0) })) (from ! (stop !)) (store ! 2 refl (tt, record { fits = next-fits i n small (g .0) })) $
+        assigns-last ! (bin ! (load ! (from ! (stop !)) (look ! 2 refl)) (lit ! tt) (record { fits = next-fits i n small (g .0) }))
+        (from ! (stop !)) (store ! 2 refl (tt, record { fits = next-fits i n small (g .0) })) $
         forget ! 3 refl $ forget ! 4 refl $ forget ! 5 refl $ forget ! 6 refl $ forget ! 7 refl $
-        rewrite ! 2 (λ (j : ℕ). ‵ (fat fullShare word l₄ 0 (vint w64 j))) (one-more i) refl $ by ! (k r e (subst (Is S.the-row r) (LL.tells S.the-type S′.the-laws r _ is) is)))))))
+        rewrite ! 2 (λ (j : ℕ). ‵ (fat fullShare word l₄ 0 (vint w64 j))) (one-more i) refl $
+        by ! (k r e (subst (Is S.the-row r) (LL.tells S.the-type S′.the-laws r _ is) is)))))))
 
     -- the turn that leaves the loop, and the rest of the body
     ends : (i : ℕ) (t : Judging) (X : SProp 𝓤) → i ≡ n → t ≡ judgedAll s ys → IsS t → ent 𝓤 (⋆ 𝓤 H A (At i t)) (Wp 𝓤 H C Λ En mir.turn-1 (afterTurn 𝓤 H X Left))
     unfolding afterTurn
     ends i t X e is gt =
         qed W (At i t) ∵ exec ! C Λ En mir.turn-1 (anyQ (afterTurn 𝓤 H X Left)) $
-        assigns ! (of-opd ! (load ! (from ! (fld ! refl (stop !))) (look-in ! 8 (sub ! 1 refl (whole !))))) (from ! (stop !)) (init ! 4 refl (tt, record { fits = g .0 })) $
+        assigns ! (of-opd ! (load ! (from ! (fld ! refl (stop !))) (look-in ! 8 (sub ! 1 refl (whole !))))) (from ! (stop !))
+        (init ! 4 refl (tt, record { fits = g .0 })) $
         assigns ! (bin ! (load ! (from ! (stop !)) (look ! 2 refl)) (load ! (from ! (stop !)) (look ! 4 refl)) tt) (from ! (stop !)) (init ! 5 refl (tt, tt)) $
-        rewrite ! 5 (λ (u : Bool). ‵ (fat fullShare tyBool l₇ 0 (vbool u))) (fails (ltb i n) (λ a. lt-irrefl n (subst (λ (j : ℕ). j < n) e (ltb→lt i n a)))) refl $
+        rewrite ! 5 (λ (u : Bool). ‵ (fat fullShare tyBool l₇ 0 (vbool u)))
+        (fails (ltb i n) (λ a. lt-irrefl n (subst (λ (j : ℕ). j < n) e (ltb→lt i n a)))) refl $
         leaves-loop ! (load ! (from ! (stop !)) (look ! 5 refl)) $ exec ! C Λ En mir.t-4 (atRet En Post) $
-        assigns ! (of-opd ! (load ! (from ! (stop !)) (look ! 1 refl))) (from ! (stop !)) (init ! 10 refl (LL.lawful S.the-type S′.the-laws 𝓤 H A W .typed t _ gt .0)) $
+        assigns ! (of-opd ! (load ! (from ! (stop !)) (look ! 1 refl))) (from ! (stop !))
+        (init ! 10 refl (LL.lawful S.the-type S′.the-laws 𝓤 H A W .typed t _ gt .0)) $
         move ! (0 ∷ 11 ∷ []) $ shuts-slice ! tt T.the-row q′ ys b o $
         -- [the token; _3 to _9; _1; _2; _0; the fractured borrow; res; the fact; and that each local dies]
-        returns ! (look ! 10 refl) $ forget ! 1 refl $ forget ! 2 refl $ forget ! 4 refl $ forget ! 5 refl $ forget ! 8 refl $ forget ! 9 refl $ forget ! 10 refl $
-        move ! (10 ∷ 14 ∷ []) $ free1 ! $ move ! (8 ∷ 13 ∷ []) $ free1 ! $ move ! (8 ∷ 12 ∷ []) $ free1 ! $ move ! (1 ∷ 11 ∷ []) $ free1 ! $ move ! (1 ∷ 10 ∷ []) $ free1 ! $
-        move ! (1 ∷ 9 ∷ []) $ free1 ! $ move ! (1 ∷ 8 ∷ []) $ free1 ! $ move ! (1 ∷ 7 ∷ []) $ free1 ! $ move ! (1 ∷ 6 ∷ []) $ free1 ! $ move ! (1 ∷ 5 ∷ []) $ free1 ! $ free0 ! $
+        returns ! (look ! 10 refl) $ forget ! 1 refl $ forget ! 2 refl $ forget ! 4 refl $ forget ! 5 refl $ forget ! 8 refl $
+        forget ! 9 refl $ forget ! 10 refl $
+        move ! (10 ∷ 14 ∷ []) $ free1 ! $ move ! (8 ∷ 13 ∷ []) $ free1 ! $ move ! (8 ∷ 12 ∷ []) $ free1 ! $ move ! (1 ∷ 11 ∷ []) $ free1 ! $
+        move ! (1 ∷ 10 ∷ []) $ free1 ! $
+        move ! (1 ∷ 9 ∷ []) $ free1 ! $ move ! (1 ∷ 8 ∷ []) $ free1 ! $ move ! (1 ∷ 7 ∷ []) $ free1 ! $ move ! (1 ∷ 6 ∷ []) $ free1 ! $
+        move ! (1 ∷ 5 ∷ []) $ free1 ! $ free0 ! $
         move ! (2 ∷ 1 ∷ []) $ fjoin ! $ move ! (2 ∷ 0 ∷ []) $ fjoin ! $ keep ! (1 ∷ 0 ∷ []) $ by ! (exits t is gs gt)
 
     turn-at : (m i : ℕ) (t : Judging) → Facts m i t → ent 𝓤 (⋆ 𝓤 H A (At i t)) (Wp 𝓤 H C Λ En mir.turn-1 (afterTurn 𝓤 H (Below m) Left))
@@ -241,7 +281,8 @@ module _ {M : Type 1} (𝓤 : URA M) (H : Heap 𝓤) (A : Atoms 𝓤) (W : Given
         none : drop′ i ys ≡ []
         none = drop-of-length-le ys {i = i} (subst (λ (j : ℕ). n ≤ j) (sym (at-end i n (fs .0))) (le-refl n))
     turn-at (suc m) i t fs = more i t (Below (suc m)) small (fs .1 .1) (λ r e gr.
-        via 𝓤 (Inv m) (inv-in m (suc i) r (onward i m n (fs .0), (ap (λ (u : Judging). judgedAll u (drop′ (suc i) ys)) e ∙ ap (judgedAll t) (sym (drop-step ys i small)) ∙ fs .1 .0, gr)))
+        via 𝓤 (Inv m) (inv-in m (suc i) r
+        (onward i m n (fs .0), (ap (λ (u : Judging). judgedAll u (drop′ (suc i) ys)) e ∙ ap (judgedAll t) (sym (drop-step ys i small)) ∙ fs .1 .0, gr)))
         (via 𝓤 (guard 𝓤 (m < suc m) (Inv m)) (guardI 𝓤 (m < suc m) (Inv m) (lt-suc-self m)) (exI 𝓤 (λ (u : ℕ). guard 𝓤 (u < suc m) (Inv u)) m)))
       where
         small : i < n
@@ -258,26 +299,42 @@ module _ {M : Type 1} (𝓤 : URA M) (H : Heap 𝓤) (A : Atoms 𝓤) (W : Given
     starts = by ! loops
 
   -- the MIR, up to the loop: the slice is looked into once, before it
-  walk : (𝓣 : Tables 𝓤 H) → Triple 𝓤 (𝓣 .C #index_records·judge) (Feed 𝓤 H A at-mem run) → Room T.the-row n → IsS s → ent 𝓤 (onEntry 𝓤 H A f.signature (κ, tt) (q, tt) x at) (WpFn 𝓤 H (𝓣 .C) (𝓣 .Λ) code.function (sliceVal (b, o) n ∷ machS s ∷ []) Post)
+  walk : (𝓣 : Tables 𝓤 H) → Triple 𝓤 (𝓣 .C #index_records·judge) (Feed 𝓤 H A at-mem run) → Room T.the-row n → IsS s
+      → ent 𝓤 (onEntry 𝓤 H A f.signature (κ, tt) (q, tt) x at) (WpFn 𝓤 H (𝓣 .C) (𝓣 .Λ) code.function (sliceVal (b, o) n ∷ machS s ∷ []) Post)
   walk 𝓣 known-feed g gs =
-      qed W ((‵ (flft κ q) ⊛ ‵ ftrue) ∷ ‵ (owns (ShrSlice (named 0) κ T.the-row ∷ S.the-row ∷ []) x at) ∷ []) ∵ enter ! (𝓣 .C) (𝓣 .Λ) code.function (sliceVal (b, o) n ∷ machS s ∷ []) _ $
-      alloc1 ! (λ l₀. alloc1 ! (λ l₁. alloc1 ! (λ l₂. alloc1 ! (λ l₃. alloc1 ! (λ l₄. alloc1 ! (λ l₅. alloc1 ! (λ l₆. alloc1 ! (λ l₇. alloc1 ! (λ l₈. alloc1 ! (λ l₉. alloc0 ! $ params1 ! $
-      pass1 ! (init ! 16 refl (tt, (tt, (record { fits = g .0 }, tt)))) $ pass1 ! (init ! 14 refl (LL.lawful S.the-type S′.the-laws 𝓤 H A W .typed s _ gs .0)) $ pass0 ! $
-      assigns ! (of-opd ! (load ! (from ! (stop !)) (look ! 14 refl))) (from ! (stop !)) (init ! 12 refl (LL.lawful S.the-type S′.the-laws 𝓤 H A W .typed s _ gs .0)) $
+      qed W ((‵ (flft κ q) ⊛ ‵ ftrue) ∷ ‵ (owns (ShrSlice (named 0) κ T.the-row ∷ S.the-row ∷ []) x at) ∷ []) ∵
+      enter ! (𝓣 .C) (𝓣 .Λ) code.function (sliceVal (b, o) n ∷ machS s ∷ []) _ $
+      alloc1 ! (λ l₀. alloc1 ! (λ l₁. alloc1 !
+      (λ l₂. alloc1 ! (λ l₃. alloc1 ! (λ l₄. alloc1 ! (λ l₅. alloc1 ! (λ l₆. alloc1 ! (λ l₇. alloc1 ! (λ l₈. alloc1 ! (λ l₉. alloc0 ! $ params1 ! $
+      pass1 ! (init ! 16 refl (tt, (tt, (record { fits = g .0 }, tt)))) $
+      pass1 ! (init ! 14 refl (LL.lawful S.the-type S′.the-laws 𝓤 H A W .typed s _ gs .0)) $ pass0 ! $
+      assigns ! (of-opd ! (load ! (from ! (stop !)) (look ! 14 refl))) (from ! (stop !))
+      (init ! 12 refl (LL.lawful S.the-type S′.the-laws 𝓤 H A W .typed s _ gs .0)) $
       assigns ! (of-opd ! (lit ! tt)) (from ! (stop !)) (init ! 10 refl (tt, record { fits = lit< tt })) $
       move ! (21 ∷ []) $ fsplit ! $ fsplit ! $ move ! (1 ∷ []) $ fsplit ! $ move ! (24 ∷ []) $ split ! $ move ! (3 ∷ 0 ∷ []) $
-      looks-slice ! tt T.the-row (Is T.the-row) (shows 𝓤 H A T.the-row) (LL.vals T.the-type T′.the-laws) (LL.tells T.the-type T′.the-laws) (LL.copy T.the-type T′.the-copy 𝓤 H A W) ys b o (λ q′.
+      looks-slice ! tt T.the-row (Is T.the-row) (shows 𝓤 H A T.the-row) (LL.vals T.the-type T′.the-laws) (LL.tells T.the-type T′.the-laws)
+      (LL.copy T.the-type T′.the-copy 𝓤 H A W) ys b o (λ q′.
       -- [the row; what shuts; the fractured borrow; true; res; the fact; what s owns; _9; …; _8; …; … ; _0; …]
-      keep ! (0 ∷ 19 ∷ 17 ∷ 15 ∷ 13 ∷ 11 ∷ 9 ∷ 7 ∷ 23 ∷ 21 ∷ 25 ∷ 1 ∷ 2 ∷ 4 ∷ 5 ∷ 26 ∷ 24 ∷ 22 ∷ 20 ∷ 18 ∷ 16 ∷ 14 ∷ 12 ∷ 10 ∷ 8 ∷ []) $ starts 𝓣 known-feed g gs q′ l₀ l₁ l₂ l₃ l₄ l₅ l₆ l₇ l₈ l₉)))))))))))
+      keep ! (0 ∷ 19 ∷ 17 ∷ 15 ∷ 13 ∷ 11 ∷ 9 ∷ 7 ∷ 23 ∷ 21 ∷ 25 ∷ 1 ∷ 2 ∷ 4 ∷ 5 ∷ 26 ∷ 24 ∷ 22 ∷ 20 ∷ 18 ∷ 16 ∷ 14 ∷ 12 ∷ 10 ∷ 8 ∷ []) $
+      starts 𝓣 known-feed g gs q′ l₀ l₁ l₂ l₃ l₄ l₅ l₆ l₇ l₈ l₉)))))))))))
 
 module _ {M : Type 1} (𝓤 : URA M) (H : Heap 𝓤) (A : Atoms 𝓤) (W : Given 𝓤 H A) (at-mem : Memory → SProp 𝓤) (run : Routine → Fun 𝓤) where
-  f-walks : (𝓣 : Tables 𝓤 H) → Triple 𝓤 (𝓣 .C #index_records·judge) (Feed 𝓤 H A at-mem run) → Walks 𝓤 H A f.ended stayed (WpFn 𝓤 H (𝓣 .C) (𝓣 .Λ) code.function) (f.clauses 𝓤 H A at-mem run)
-  f-walks 𝓣 known-feed = walked 𝓤 H A f.ended stayed (f.clauses 𝓤 H A at-mem run) (WpFn 𝓤 H (𝓣 .C) (𝓣 .Λ) code.function) (λ κs. (slice-vals, (LL.vals S.the-type S′.the-laws, tt))) (λ κs. (shr-slice-tells (named 0) (κs .0) T.the-row, (LL.tells S.the-type S′.the-laws, tt)))
-      (λ κs qs bounds a _ are. via 𝓤 _ (fst∗ 𝓤 _ (emp 𝓤)) (walk 𝓤 H A W at-mem run (κs .0) (qs .0) (a .0 .ptr .0) (a .0 .ptr .1) (a .0 .name) (a .0 .now) (a .1 .0) 𝓣 known-feed (are .0 .0 .1) (are .1 .0)))
+  f-walks : (𝓣 : Tables 𝓤 H) → Triple 𝓤 (𝓣 .C #index_records·judge) (Feed 𝓤 H A at-mem run)
+      → Walks 𝓤 H A f.ended stayed (WpFn 𝓤 H (𝓣 .C) (𝓣 .Λ) code.function) (f.clauses 𝓤 H A at-mem run)
+  f-walks 𝓣 known-feed =
+      walked 𝓤 H A f.ended stayed (f.clauses 𝓤 H A at-mem run) (WpFn 𝓤 H (𝓣 .C) (𝓣 .Λ) code.function)
+      (λ κs. (slice-vals, (LL.vals S.the-type S′.the-laws, tt)))
+      (λ κs. (shr-slice-tells (named 0) (κs .0) T.the-row, (LL.tells S.the-type S′.the-laws, tt)))
+      (λ κs qs bounds a _ are. via 𝓤 _ (fst∗ 𝓤 _ (emp 𝓤))
+      (walk 𝓤 H A W at-mem run (κs .0) (qs .0) (a .0 .ptr .0) (a .0 .ptr .1) (a .0 .name) (a .0 .now) (a .1 .0) 𝓣 known-feed (are .0 .0 .1) (are .1 .0)))
 
-f-meets : {M : Type 1} (𝓤 : URA M) (H : Heap 𝓤) (A : Atoms 𝓤) (W : Given 𝓤 H A) (at-mem : Memory → SProp 𝓤) (run : Routine → Fun 𝓤) (𝓣 : Tables 𝓤 H) → Triple 𝓤 (𝓣 .C #index_records·judge) (Feed 𝓤 H A at-mem run)
+f-meets : {M : Type 1} (𝓤 : URA M) (H : Heap 𝓤) (A : Atoms 𝓤) (W : Given 𝓤 H A) (at-mem : Memory → SProp 𝓤) (run : Routine → Fun 𝓤)
+    (𝓣 : Tables 𝓤 H) → Triple 𝓤 (𝓣 .C #index_records·judge) (Feed 𝓤 H A at-mem run)
     → Meets 𝓤 H A f.signature (WpFn 𝓤 H (𝓣 .C) (𝓣 .Λ) code.function) (f.spec 𝓤 H A at-mem run)
-f-meets 𝓤 H A W at-mem run 𝓣 known-feed = walk-meets 𝓤 H A f.ended stayed W (goes-none-slice 𝓤 H A W 1 (0 ∷ []) tt (plain (λ _. T.the-row)) yes, (goes-none 𝓤 H A W 1 (λ _. S.the-row) yes (λ κs x f. refl), tt)) (f.clauses 𝓤 H A at-mem run)
+f-meets 𝓤 H A W at-mem run 𝓣 known-feed =
+    walk-meets 𝓤 H A f.ended stayed W
+    (goes-none-slice 𝓤 H A W 1 (0 ∷ []) tt (plain (λ _. T.the-row)) yes, (goes-none 𝓤 H A W 1 (λ _. S.the-row) yes (λ κs x f. refl), tt))
+    (f.clauses 𝓤 H A at-mem run)
     (WpFn 𝓤 H (𝓣 .C) (𝓣 .Λ) code.function) (WpFn-mono 𝓤 H (W .laws) 𝓣 code.function) (f-walks 𝓤 H A W at-mem run 𝓣 known-feed)
 
 pub judge-all-spec : {M : Type 1} → stated.statement M

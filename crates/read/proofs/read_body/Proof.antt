@@ -5,52 +5,34 @@ use borrow.Author.Needs.{needs}
 use Rattle.read.proofs.read_body.Statement.{statement}
 use Rattle.read.proofs.read_body.Tie as tie
 
--- src/lib.rt:34:9
-new-requires : tie.Need-new-requires
-new-requires c κs = search needs
-
--- src/lib.rt:35:9
-window-of-requires : tie.Need-window-of-requires
-window-of-requires c κs = search needs
-
--- src/lib.rt:36:9
 deliver-requires : tie.Need-deliver-requires
-deliver-requires c κs = ready-new (c .before .before .before .before .before .before .before .before .before .before .args .size) (c .before .before .before .before .before .before .before .before .before .before .args .encoding) (c .before .before .before .before .before .before .before .before .before .before .args .limit) (c .before .before .before .before .before .new .result) (c .before .before .before .before .before .new .ensures) (length (c .before .before .before .before .before .before .before .before .before .before .args .body .now)) (c .before .before .before .before .before .before .before .before .before .before .pre)
+deliver-requires c κs =
+    let s = c .before .before .before .before .before .before .before .before .before .before in
+    let new = c .before .before .before .before .before .new in
+    let a = s .args in
+    ready-new (a .size) (a .encoding) (a .limit) (new .result) (new .ensures) (length (a .body .now)) (s .pre)
 
--- src/lib.rt:46:5
 settle-requires : tie.Need-settle-requires
-settle-requires c κs = holds-delivered _ (c .before .before .before .before .before .before .before .before .before .deliver .result) (c .before .before .before .before .before .before .before .before .before .deliver .ensures)
+settle-requires c κs =
+    let deliver = c .before .before .before .before .before .before .before .before .before .deliver in
+    holds-delivered _ (deliver .result) (deliver .ensures)
 
--- src/lib.rt:21:1
-same-length : tie.Need-same-length
-same-length c = search needs
-
--- src/lib.rt:21:1
-same-length-2 : tie.Need-same-length-2
-same-length-2 c = search needs
-
--- src/lib.rt:21:1
-same-length-3 : tie.Need-same-length-3
-same-length-3 c = search needs
-
--- src/lib.rt:21:1
-same-length-4 : tie.Need-same-length-4
-same-length-4 c = search needs
-
--- src/lib.rt:21:1
 returns : tie.Need-returns
-returns c = reads-body (bodyEvents (c .before .before .before .before .before .before .before .before .before .before .before .before .before .before .before .before .before .before .before .before .before .args .encoding) (c .before .before .before .before .before .before .before .before .before .before .before .before .before .before .before .before .before .before .before .before .before .args .size) (c .before .before .before .before .before .before .before .before .before .before .before .before .before .before .before .before .before .before .before .before .before .args .limit) (c .before .before .before .before .before .before .before .before .before .before .before .before .before .before .before .before .before .before .before .before .before .args .body .now)) (c .before .before .before .before .before .before .before .before .before .before .deliver .result) (delivers-body (c .before .before .before .before .before .before .before .before .before .before .before .before .before .before .before .before .before .before .before .before .before .args .size) (c .before .before .before .before .before .before .before .before .before .before .before .before .before .before .before .before .before .before .before .before .before .args .encoding) (c .before .before .before .before .before .before .before .before .before .before .before .before .before .before .before .before .before .before .before .before .before .args .limit) (c .before .before .before .before .before .before .before .before .before .before .before .before .before .before .before .before .new .result) (c .before .before .before .before .before .before .before .before .before .before .before .before .before .before .before .before .new .ensures) (c .before .before .before .before .before .before .before .before .before .before .before .before .before .before .before .before .before .before .before .before .before .args .body .now) (c .before .before .before .before .before .before .before .before .before .before .before .before .before .before .before .window-of .result) (c .before .before .before .before .before .before .before .before .before .before .before .before .before .before .before .before .before .before .before .before .before .pre) (c .before .before .before .before .before .before .before .before .before .before .before .before .before .before .before .window-of .ensures) (c .before .before .before .before .before .before .before .before .before .before .deliver .ensures)) (c .before .before .before .before .before .before .before .before .before .before .before .before .before .before .before .before .before .before .before .before .before .args .encoding) (c .before .before .before .before .before .before .before .before .before .before .before .before .before .before .before .before .before .before .before .before .before .args .size) (c .settle .result) (c .settle .ensures)
+returns c =
+    let b′ = c .before .before .before .before .before .before .before .before .before .before in
+    let b = b′ .before .before .before .before .before in
+    let s = b .before .before .before .before .before .before in
+    let a = s .args in
+    reads-body (bodyEvents (a .encoding) (a .size) (a .limit) (a .body .now)) (b′ .deliver .result) (delivers-body (a .size) (a .encoding)
+    (a .limit) (b .before .new .result) (b .before .new .ensures) (a .body .now) (b .window-of .result) (s .pre) (b .window-of .ensures)
+    (b′ .deliver .ensures)) (a .encoding) (a .size) (c .settle .result) (c .settle .ensures)
 
 pub read-body-spec : {M : Type 1} → statement M
 read-body-spec =
     tie.close
     (tie.spec
-    new-requires
-    window-of-requires
+    (λ c κs. search needs) (λ c κs. search needs)
     deliver-requires
     settle-requires
-    same-length
-    same-length-2
-    same-length-3
-    same-length-4
+    (λ c. search needs) (λ c. search needs) (λ c. search needs) (λ c. search needs)
     returns)

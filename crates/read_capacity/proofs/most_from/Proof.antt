@@ -5,25 +5,16 @@ use borrow.Author.Needs.{needs}
 use Rattle.read_capacity.proofs.most_from.Statement.{statement}
 use Rattle.read_capacity.proofs.most_from.Tie as tie
 
--- src/lib.rt:37:27
-enum-told : tie.Need-enum-told
-enum-told c = search needs
-
--- src/lib.rt:38:27
-enum-told-2 : tie.Need-enum-told-2
-enum-told-2 c = search needs
-
--- src/lib.rt:38:27
-mul-result : tie.Need-mul-result
-mul-result c = search needs
-
--- src/lib.rt:32:1
 returns : tie.Need-returns
 returns c = sym (ap (λ (d : Codec). mostFrom d (c .before .before .args .n)) (c .enum-told .given .1))
 
--- src/lib.rt:32:1
 returns-2 : tie.Need-returns-2
 returns-2 c = sym (ap (λ (d : Codec). mostFrom d (c .before .before .args .n)) (c .enum-told2 .given .1))
 
 pub most-from-spec : {M : Type 1} → statement M
-most-from-spec = tie.close (tie.spec enum-told enum-told-2 mul-result returns returns-2)
+most-from-spec =
+    tie.close
+    (tie.spec
+    (λ c. search needs) (λ c. search needs) (λ c. search needs)
+    returns
+    returns-2)

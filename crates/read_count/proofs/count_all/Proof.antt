@@ -3,14 +3,8 @@ use borrow.Author.Needs.{needs}
 use Rattle.read_count.proofs.count_all.Statement.{statement}
 use Rattle.read_count.proofs.count_all.Tie as tie
 
-enum-known-codec : tie.Need-enum-known-codec
-enum-known-codec c = search needs
-
 evt2-requires : tie.Need-evt2-requires
 evt2-requires c κs = rw (c .before .codec .given .1) at (c .before .before .before .before .pre)
-
-enum-known-codec-2 : tie.Need-enum-known-codec-2
-enum-known-codec-2 c = search needs
 
 evt3-requires : tie.Need-evt3-requires
 evt3-requires c κs = rw (c .before .codec2 .given .1) at (c .before .before .before .before .pre)
@@ -24,4 +18,10 @@ returns-2 c = let e = c .before .evt3 .ensures in rw (c .before .before .before 
 pub count-all-spec : {M : Type 1} → statement M
 count-all-spec =
     tie.close
-    (tie.spec enum-known-codec evt2-requires enum-known-codec-2 evt3-requires returns returns-2)
+    (tie.spec
+    (λ c. search needs)
+    evt2-requires
+    (λ c. search needs)
+    evt3-requires
+    returns
+    returns-2)

@@ -4,11 +4,8 @@ use borrow.Author.Needs.{needs}
 use Rattle.read_count_word.proofs.of.Statement.{statement}
 use Rattle.read_count_word.proofs.of.Tie as tie
 
-choose-requires : tie.Need-choose-requires
-choose-requires c κs = search needs
-
 returns : tie.Need-returns
 returns c = rw (c .choose .ensures, mark-sign (c .before .args .d .polarity))
 
 pub of-spec : {M : Type 1} → statement M
-of-spec = tie.close (tie.spec choose-requires returns)
+of-spec = tie.close (tie.spec (λ c κs. search needs) returns)

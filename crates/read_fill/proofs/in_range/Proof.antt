@@ -4,18 +4,6 @@ use borrow.Author.Needs.{needs}
 use Rattle.read_fill.proofs.in_range.Statement.{statement}
 use Rattle.read_fill.proofs.in_range.Tie as tie
 
-enum-known-codec : tie.Need-enum-known-codec
-enum-known-codec c = search needs
-
-in-range-requires : tie.Need-in-range-requires
-in-range-requires c κs = search needs
-
-enum-known-codec-2 : tie.Need-enum-known-codec-2
-enum-known-codec-2 c = search needs
-
-in-range-requires-2 : tie.Need-in-range-requires-2
-in-range-requires-2 c κs = search needs
-
 returns : tie.Need-returns
 returns c = rw (c .before .before .codec .given .1) (c .in-range .ensures, tt)
 
@@ -26,9 +14,6 @@ pub in-range-spec : {M : Type 1} → statement M
 in-range-spec =
     tie.close
     (tie.spec
-    enum-known-codec
-    in-range-requires
-    enum-known-codec-2
-    in-range-requires-2
+    (λ c. search needs) (λ c κs. search needs) (λ c. search needs) (λ c κs. search needs)
     returns
     returns-2)

@@ -3,17 +3,10 @@ use borrow.Author.Needs.{needs}
 use Rattle.read_rules.proofs.window_of.Statement.{statement}
 use Rattle.read_rules.proofs.window_of.Tie as tie
 
--- src/lib.rt:97:9
-span-of-requires : tie.Need-span-of-requires
-span-of-requires c κs = search needs
-
--- src/lib.rt:98:9
-most-of-requires : tie.Need-most-of-requires
-most-of-requires c κs = search needs
-
--- src/lib.rt:94:1
 returns : tie.Need-returns
-returns c = window-parts (c .before .before .args .size) (c .before .before .args .limit) (c .before .span-of .result) (c .most-of .result) (c .before .span-of .ensures) (c .most-of .ensures)
+returns c =
+    window-parts (c .before .before .args .size) (c .before .before .args .limit) (c .before .span-of .result) (c .most-of .result)
+    (c .before .span-of .ensures) (c .most-of .ensures)
 
 pub window-of-spec : {M : Type 1} → statement M
-window-of-spec = tie.close (tie.spec span-of-requires most-of-requires returns)
+window-of-spec = tie.close (tie.spec (λ c κs. search needs) (λ c κs. search needs) returns)

@@ -7,35 +7,37 @@ use borrow.Author.Needs.{needs}
 use Rattle.read_seek.proofs.seek.Statement.{statement}
 use Rattle.read_seek.proofs.seek.Tie as tie
 
--- src/lib.rt:40:9
-skip-requires : tie.Need-skip-requires
-skip-requires c κs = search needs
-
--- src/lib.rt:43:18
-sub-span : tie.Need-sub-span
-sub-span c = search needs
-
--- src/lib.rt:43:18
-part-span-start : tie.Need-part-span-start
-part-span-start c = search needs
-
--- src/lib.rt:43:18
-part-span-end : tie.Need-part-span-end
-part-span-end c = search needs
-
--- src/lib.rt:43:9
 span-requires : tie.Need-span-requires
-span-requires c κs = rw (rest-of (now (c .before .before .before .args .bytes)) (c .before .skip .result .at)) (able-bounded (c .before .skip .result .codec) (length (drop (c .before .skip .result .at) (now (c .before .before .before .args .bytes)))) (c .before .skip .ensures .able), omega (arith, length-drop (c .before .skip .result .at) (now (c .before .before .before .args .bytes)), c .before .before .before .pre .1))
+span-requires c κs =
+    let a = c .before .before .before .args in
+    rw (rest-of (now (a .bytes)) (c .before .skip .result .at)) (
+      able-bounded (c .before .skip .result .codec) (length (drop (c .before .skip .result .at) (now (a .bytes)))) (c .before .skip .ensures .able),
+      omega (arith, length-drop (c .before .skip .result .at) (now (a .bytes))),
+    )
 
--- src/lib.rt:46:13
 add-t10 : tie.Need-add-t10
-add-t10 c = omega (arith, midway-within (c .before .before .before .before .before .args .t) (c .before .before .before .before .before .args .codec) (now (c .before .before .before .before .before .args .bytes)) (c .before .before .before .skip .result .at) (c .before .before .before .skip .result .codec) (c .before .before .before .skip .ensures) (c .before .span .result) (rw (rest-of (now (c .before .before .before .before .before .args .bytes)) (c .before .before .before .skip .result .at)) at (c .before .span .ensures .0)), c .before .before .before .before .before .pre .1)
+add-t10 c =
+    let a = c .before .before .before .before .before .args in
+    let skip = c .before .before .before .skip in
+    omega (
+      arith,
+      midway-within (a .t) (a .codec) (now (a .bytes)) (skip .result .at) (skip .result .codec) (skip .ensures)
+          (c .before .span .result) (rw (rest-of (now (a .bytes)) (skip .result .at)) at (c .before .span .ensures .0)),
+    )
 
--- src/lib.rt:36:1
 returns : tie.Need-returns
-returns c = midway-found (c .before .before .before .before .before .args .t) (c .before .before .before .before .before .args .codec) (now (c .before .before .before .before .before .args .bytes)) (c .before .before .before .skip .result .at) (c .before .before .before .skip .result .codec) (c .before .before .before .skip .ensures) (c .before .span .result) (rw (rest-of (now (c .before .before .before .before .before .args .bytes)) (c .before .before .before .skip .result .at)) at (c .before .span .ensures .0)) (rw (rest-of (now (c .before .before .before .before .before .args .bytes)) (c .before .before .before .skip .result .at)) at (c .before .span .ensures .1))
+returns c =
+    let b = c .before .before .before in
+    let a = b .before .before .args in
+    midway-found (a .t) (a .codec) (now (a .bytes)) (b .skip .result .at) (b .skip .result .codec) (b .skip .ensures)
+    (c .before .span .result) (rw (rest-of (now (a .bytes)) (b .skip .result .at)) at (c .before .span .ensures .0))
+    (rw (rest-of (now (a .bytes)) (b .skip .result .at)) at (c .before .span .ensures .1))
 
 pub seek-spec : {M : Type 1} → statement M
 seek-spec =
     tie.close
-    (tie.spec skip-requires sub-span part-span-start part-span-end span-requires add-t10 returns)
+    (tie.spec
+    (λ c κs. search needs) (λ c. search needs) (λ c. search needs) (λ c. search needs)
+    span-requires
+    add-t10
+    returns)

@@ -5,15 +5,15 @@ use borrow.Author.Tests.{lt-ltb, le-ltb}
 use Rattle.read_seek.proofs.strays.Statement.{statement}
 use Rattle.read_seek.proofs.strays.Tie as tie
 
--- src/lib.rt:46:13
 returns : tie.Need-returns
 returns c = rw (lt-ltb _ _ (c .before .if1 .taken), c .if2 .taken) (sym (or-true (c .before .before .args .was)))
 
--- src/lib.rt:41:1
 returns-2 : tie.Need-returns-2
-returns-2 c = rw (c .if2 .left) (sym (ap (λ (b : Bool). c .before .before .args .was || b) (and-false (ltb (c .before .before .args .time) (c .before .before .args .t0))) ∙ or-false (c .before .before .args .was)))
+returns-2 c =
+    rw (c .if2 .left) (sym
+    (ap (λ (b : Bool). c .before .before .args .was || b) (and-false (ltb (c .before .before .args .time) (c .before .before .args .t0)))
+    ∙ or-false (c .before .before .args .was)))
 
--- src/lib.rt:41:1
 returns-3 : tie.Need-returns-3
 returns-3 c = rw (le-ltb _ _ (c .if1 .left)) (sym (or-false (c .before .args .was)))
 

@@ -4,14 +4,8 @@ use borrow.Author.Needs.{needs}
 use Rattle.read_select.proofs.survey.Statement.{statement}
 use Rattle.read_select.proofs.survey.Tie as tie
 
-enum-known-codec : tie.Need-enum-known-codec
-enum-known-codec c = search needs
-
 survey2-requires : tie.Need-survey2-requires
 survey2-requires c κs = rw (sym (c .before .codec .given .1)) (c .before .before .before .before .pre)
-
-enum-known-codec-2 : tie.Need-enum-known-codec-2
-enum-known-codec-2 c = search needs
 
 survey3-requires : tie.Need-survey3-requires
 survey3-requires c κs = rw (sym (c .before .codec2 .given .1)) (c .before .before .before .before .pre)
@@ -26,9 +20,9 @@ pub survey-spec : {M : Type 1} → statement M
 survey-spec =
     tie.close
     (tie.spec
-    enum-known-codec
+    (λ c. search needs)
     survey2-requires
-    enum-known-codec-2
+    (λ c. search needs)
     survey3-requires
     returns
     returns-2)

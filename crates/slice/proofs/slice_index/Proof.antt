@@ -16,7 +16,8 @@ use prog.Wp.{Heap, WpFn, Tables}
 use ghost.Atoms.{Atoms, sem}
 use contract.Monad.{Fun, fact}
 use contract.Running.{givenOf, tables, tablesOf}
-use types.Kit.{Given, ‵, raw, _⊛_, some, later, ⋆, _$_, _∵_, !, qed, move, keep, drop, use0, use1, split, join, pick, rewrite, fsplit, fjoin, suffices, frame, await, done}
+use types.Kit.{Given, ‵, raw, _⊛_, some, later, ⋆, _$_, _∵_, !, qed, move, keep, drop, use0, use1, split, join, pick, rewrite, fsplit, fjoin, suffices, frame}
+use types.Kit.{await, done}
 use types.Part.{whole, sub, look-in}
 use types.Run.{look, init, stop, fld, from, load, of-opd, and-then, no-more, land, assigns, enter, alloc1, alloc0, params1, pass1, pass0}
 use sound.WpLaws.{fmOf, WpFn-mono}
@@ -96,14 +97,18 @@ module _ {M : Type 1} (𝓤 : URA M) (H : Heap 𝓤) (A : Atoms 𝓤) (at-mem : 
   abbrev Asks : Contract 𝓤
   Asks = tripleOf 𝓤 H A ask.signature (ask.spec 𝓤 H A at-mem run)
 
-  ask-of : (s : RawSliceSource) (n : ℕ) (i0 i1 : ℕ) (r : Asked) → ent 𝓤 (ensured 𝓤 H A ask.ended (ask.clauses 𝓤 H A at-mem run) tt (s, (n, (i0, (i1, tt)))) tt r) (fact 𝓤 (r ≡ askedByNumber s n i0 i1))
+  ask-of : (s : RawSliceSource) (n : ℕ) (i0 i1 : ℕ) (r : Asked)
+      → ent 𝓤 (ensured 𝓤 H A ask.ended (ask.clauses 𝓤 H A at-mem run) tt (s, (n, (i0, (i1, tt)))) tt r) (fact 𝓤 (r ≡ askedByNumber s n i0 i1))
   ask-of s n i0 i1 r = exE 𝓤 _ (λ ws. snd∗ 𝓤 (sem 𝓤 H A (lasts ask.ended tt (s, (n, (i0, (i1, tt)))) ws)) (fact 𝓤 (r ≡ askedByNumber s n i0 i1)))
 
   -- what the callees are known to meet
   abbrev Known : Tables 𝓤 H → Type 1
-  Known 𝓣 = Triple 𝓤 (𝓣 .C #slice·asks) Asks × (Triple 𝓤 (𝓣 .C #index_records·judges) (Judges 𝓤 H A at-mem run) × (Triple 𝓤 (𝓣 .C #index_records·choose) (Chooses 𝓤 H A at-mem run) × Triple 𝓤 (𝓣 .C #slice·from) (Slicing 𝓤 H A at-mem run)))
+  Known 𝓣 =
+      Triple 𝓤 (𝓣 .C #slice·asks) Asks × (Triple 𝓤 (𝓣 .C #index_records·judges) (Judges 𝓤 H A at-mem run)
+      × (Triple 𝓤 (𝓣 .C #index_records·choose) (Chooses 𝓤 H A at-mem run) × Triple 𝓤 (𝓣 .C #slice·from) (Slicing 𝓤 H A at-mem run)))
 
-module _ {M : Type 1} (𝓤 : URA M) (H : Heap 𝓤) (A : Atoms 𝓤) (W : Given 𝓤 H A) (at-mem : Memory → SProp 𝓤) (run : Routine → Fun 𝓤) (κ₀ κ₁ κ₂ κ₃ κ₄ κ₅ : Lft) (q₀ q₁ q₂ q₃ q₄ q₅ : Share)
+module _ {M : Type 1} (𝓤 : URA M) (H : Heap 𝓤) (A : Atoms 𝓤) (W : Given 𝓤 H A) (at-mem : Memory → SProp 𝓤) (run : Routine → Fun 𝓤)
+    (κ₀ κ₁ κ₂ κ₃ κ₄ κ₅ : Lft) (q₀ q₁ q₂ q₃ q₄ q₅ : Share)
     (xb : RefT (List ℕ)) (s : RawSliceSource) (xr : RefT (List Checkpoint)) (i0 i1 : ℕ) (xx xy : RefT (List ℕ)) (xt : RefT (List ℤ)) (xp : RefT (List ℕ)) where
   abbrev n : ℕ
   n = length (xr .now)
@@ -127,7 +132,8 @@ module _ {M : Type 1} (𝓤 : URA M) (H : Heap 𝓤) (A : Atoms 𝓤) (W : Given
   pval = sliceVal (xp .ptr) (length (xp .now))
 
   abbrev Args : Type 0
-  Args = RefT (List ℕ) × (RawSliceSource × (RefT (List Checkpoint) × (ℕ × (ℕ × (RefT (List ℕ) × (RefT (List ℕ) × (RefT (List ℤ) × (RefT (List ℕ) × Unit {0}))))))))
+  Args =
+      RefT (List ℕ) × (RawSliceSource × (RefT (List Checkpoint) × (ℕ × (ℕ × (RefT (List ℕ) × (RefT (List ℕ) × (RefT (List ℤ) × (RefT (List ℕ) × Unit {0}))))))))
 
   abbrev x : Args
   x = (xb, (s, (xr, (i0, (i1, (xx, (xy, (xt, (xp, tt)))))))))
@@ -144,18 +150,22 @@ module _ {M : Type 1} (𝓤 : URA M) (H : Heap 𝓤) (A : Atoms 𝓤) (W : Given
   abbrev Post : Val → SProp 𝓤
   Post = walkOf 𝓤 H A f.ended stayed (f.clauses 𝓤 H A at-mem run) .post bound
 
-  able : (a : Asked) → a ≡ askedByNumber s n i0 i1 → (j : Judging) (c : Checkpoint) → j ≡ judgedAll (a .judging) (xr .now) → Chose (a .choice) (xr .now) c → Startable s (j .ok) c
+  able : (a : Asked) → a ≡ askedByNumber s n i0 i1 → (j : Judging) (c : Checkpoint) → j ≡ judgedAll (a .judging) (xr .now)
+      → Chose (a .choice) (xr .now) c → Startable s (j .ok) c
   able a e j c ej ec = startable s (xr .now) a j c (began-index (xb .now) s (xr .now) a j c i0 i1 e ej ec)
 
-  exits : (a : Asked) → a ≡ askedByNumber s n i0 i1 → (j : Judging) (c : Checkpoint) → j ≡ judgedAll (a .judging) (xr .now) → Chose (a .choice) (xr .now) c → (r : SliceAnswer) (xs ys : List ℕ) (ts : List ℤ) (ps : List ℕ)
+  exits : (a : Asked) → a ≡ askedByNumber s n i0 i1 → (j : Judging) (c : Checkpoint) → j ≡ judgedAll (a .judging) (xr .now)
+      → Chose (a .choice) (xr .now) c → (r : SliceAnswer) (xs ys : List ℕ) (ts : List ℤ) (ps : List ℕ)
       → length xs ≡ length (xx .now) → length ys ≡ length (xy .now) → length ts ≡ length (xt .now) → length ps ≡ length (xp .now)
       → Sliced-from 𝓤 H A W at-mem run κ₀ κ₁ κ₂ κ₃ κ₄ κ₅ q₀ q₁ q₂ q₃ q₄ q₅ xb s xr xx xy xt xp a j c r xs ys ts ps → Is E.the-row r (machE r ∷ [])
       → ent 𝓤 (⋆ 𝓤 H A (Had 𝓤 H A W at-mem run κ₀ κ₁ κ₂ κ₃ κ₄ κ₅ q₀ q₁ q₂ q₃ q₄ q₅ xb s xr xx xy xt xp xs ys ts ps)) (Post (machE r))
   exits a e j c ej ec r xs ys ts ps e-xs e-ys e-ts e-ps er gr =
       qed W (Had 𝓤 H A W at-mem run κ₀ κ₁ κ₂ κ₃ κ₄ κ₅ q₀ q₁ q₂ q₃ q₄ q₅ xb s xr xx xy xt xp xs ys ts ps) ∵
-      suffices ! _ (ends-at 𝓤 H A f.ended stayed (f.clauses 𝓤 H A at-mem run) W bound (machE r) r (tt, (tt, (tt, (tt, (tt, (xs, (ys, (ts, (ps, tt))))))))) (tt, (tt, (tt, (tt, (tt, (e-xs, (e-ys, (e-ts, (e-ps, tt)))))))))) $
+      suffices ! _ (ends-at 𝓤 H A f.ended stayed (f.clauses 𝓤 H A at-mem run) W bound (machE r) r
+      (tt, (tt, (tt, (tt, (tt, (xs, (ys, (ts, (ps, tt))))))))) (tt, (tt, (tt, (tt, (tt, (e-xs, (e-ys, (e-ts, (e-ps, tt)))))))))) $
       says ! (slices-index (xb .now) s (xr .now) a j c i0 i1 e ej ec er) $
-      nothing ! $ move ! (10 ∷ 0 ∷ []) $ join ! $ move ! (9 ∷ 0 ∷ []) $ join ! $ move ! (8 ∷ 0 ∷ []) $ join ! $ move ! (7 ∷ 0 ∷ []) $ join ! $ move ! (6 ∷ 0 ∷ []) $ join ! $ move ! (5 ∷ 0 ∷ []) $ join ! $ frame ! $
+      nothing ! $ move ! (10 ∷ 0 ∷ []) $ join ! $ move ! (9 ∷ 0 ∷ []) $ join ! $ move ! (8 ∷ 0 ∷ []) $ join ! $ move ! (7 ∷ 0 ∷ []) $
+      join ! $ move ! (6 ∷ 0 ∷ []) $ join ! $ move ! (5 ∷ 0 ∷ []) $ join ! $ frame ! $
       nothing ! $ move ! (4 ∷ 0 ∷ []) $ fjoin ! $ move ! (3 ∷ 0 ∷ []) $ fjoin ! $ move ! (2 ∷ 0 ∷ []) $ fjoin ! $ move ! (1 ∷ 0 ∷ []) $ fjoin ! $
       nothing ! $ fjoin ! $ nothing ! $ fjoin ! $ nothing ! $ fjoin ! $ nothing ! $ fjoin ! $ nothing ! $ fjoin ! $ frame ! $
       owned ! E.the-row (Is E.the-row) (EL.makes E.the-type E′.the-plain 𝓤 H A) r _ gr $ done !
@@ -163,41 +173,64 @@ module _ {M : Type 1} (𝓤 : URA M) (H : Heap 𝓤) (A : Atoms 𝓤) (W : Given
   abbrev to-ask : Asks 𝓤 H A at-mem run .Ghost
   to-ask = ((tt, tt, tt, (s, (n, (i0, (i1, tt)))), (machR s ∷ [], (vint w64 n ∷ [], (vint w64 i0 ∷ [], (vint w64 i1 ∷ [], tt))))), tt)
 
-  goes-ask : Is R.the-row s (machR s ∷ []) → n < 2 ^ 64 → Is u64 i0 (vint w64 i0 ∷ []) → Is u64 i1 (vint w64 i1 ∷ []) → ent 𝓤 (emp 𝓤) (Asks 𝓤 H A at-mem run .pre to-ask)
-  goes-ask gs gn gi gj = qed W [] ∵ nothing ! $ owned ! u64 (Is u64) (uint-makes 𝓤 H A W w64) i1 _ gj $ fjoin ! $ owned ! u64 (Is u64) (uint-makes 𝓤 H A W w64) i0 _ gi $ fjoin ! $
-      owned ! u64 (Is u64) (uint-makes 𝓤 H A W w64) n _ (refl, gn) $ fjoin ! $ owned ! R.the-row (Is R.the-row) (LL.makes R.the-type R′.the-plain 𝓤 H A) s _ gs $ fjoin ! $ nothing ! $ join ! $ frame ! $ done !
+  goes-ask : Is R.the-row s (machR s ∷ []) → n < 2 ^ 64 → Is u64 i0 (vint w64 i0 ∷ []) → Is u64 i1 (vint w64 i1 ∷ [])
+      → ent 𝓤 (emp 𝓤) (Asks 𝓤 H A at-mem run .pre to-ask)
+  goes-ask gs gn gi gj =
+      qed W [] ∵ nothing ! $ owned ! u64 (Is u64) (uint-makes 𝓤 H A W w64) i1 _ gj $ fjoin ! $ owned ! u64 (Is u64) (uint-makes 𝓤 H A W w64) i0 _ gi $ fjoin ! $
+      owned ! u64 (Is u64) (uint-makes 𝓤 H A W w64) n _ (refl, gn) $ fjoin ! $
+      owned ! R.the-row (Is R.the-row) (LL.makes R.the-type R′.the-plain 𝓤 H A) s _ gs $ fjoin ! $ nothing ! $ join ! $ frame ! $ done !
 
   walk : (𝓣 : Tables 𝓤 H) → Known 𝓤 H A at-mem run 𝓣
       → Room u8 (length (xb .now)) → Is R.the-row s (machR s ∷ []) → Room T.the-row n → Is u64 i0 (vint w64 i0 ∷ []) → Is u64 i1 (vint w64 i1 ∷ [])
       → Room u16 (length (xx .now)) → Room u16 (length (xy .now)) → Room i64 (length (xt .now)) → Room u8 (length (xp .now))
-      → ent 𝓤 (onEntry 𝓤 H A f.signature (κ₀, (κ₁, (κ₂, (κ₃, (κ₄, (κ₅, tt)))))) (q₀, (q₁, (q₂, (q₃, (q₄, (q₅, tt)))))) x at) (WpFn 𝓤 H (𝓣 .C) (𝓣 .Λ) code.function (bval ∷ machR s ∷ rval ∷ vint w64 i0 ∷ vint w64 i1 ∷ xval ∷ yval ∷ tval ∷ pval ∷ []) Post)
+      → ent 𝓤 (onEntry 𝓤 H A f.signature (κ₀, (κ₁, (κ₂, (κ₃, (κ₄, (κ₅, tt)))))) (q₀, (q₁, (q₂, (q₃, (q₄, (q₅, tt)))))) x at)
+      (WpFn 𝓤 H (𝓣 .C) (𝓣 .Λ) code.function (bval ∷ machR s ∷ rval ∷ vint w64 i0 ∷ vint w64 i1 ∷ xval ∷ yval ∷ tval ∷ pval ∷ []) Post)
   walk 𝓣 (known, (known-judge, (known-choose, known-from))) gb gs g gi gj gx gy gt gp =
       qed W ((‵ (flft κ₀ q₀) ⊛ (‵ (flft κ₁ q₁) ⊛ (‵ (flft κ₂ q₂) ⊛ (‵ (flft κ₃ q₃) ⊛ (‵ (flft κ₄ q₄) ⊛ (‵ (flft κ₅ q₅) ⊛ ‵ ftrue))))))
-      ∷ ‵ (owns (ShrSlice (named 0) κ₀ u8 ∷ R.the-row ∷ ShrSlice (named 1) κ₁ T.the-row ∷ u64 ∷ u64 ∷ MutSlice (named 2) κ₂ u16 ∷ MutSlice (named 3) κ₃ u16 ∷ MutSlice (named 4) κ₄ i64 ∷ MutSlice (named 5) κ₅ u8 ∷ []) x at) ∷ []) ∵
+      ∷ ‵ (owns (ShrSlice (named 0) κ₀ u8 ∷ R.the-row ∷ ShrSlice (named 1) κ₁ T.the-row ∷ u64 ∷ u64 ∷ MutSlice (named 2) κ₂ u16
+      ∷ MutSlice (named 3) κ₃ u16 ∷ MutSlice (named 4) κ₄ i64 ∷ MutSlice (named 5) κ₅ u8 ∷ []) x at) ∷ []) ∵
       enter ! (𝓣 .C) (𝓣 .Λ) code.function (bval ∷ machR s ∷ rval ∷ vint w64 i0 ∷ vint w64 i1 ∷ xval ∷ yval ∷ tval ∷ pval ∷ []) _ $
-      alloc1 ! (λ l₀. alloc1 ! (λ l₁. alloc1 ! (λ l₂. alloc1 ! (λ l₃. alloc1 ! (λ l₄. alloc1 ! (λ l₅. alloc1 ! (λ l₆. alloc1 ! (λ l₇. alloc1 ! (λ l₈. alloc1 ! (λ l₉. alloc1 ! (λ l₁₀. alloc1 ! (λ l₁₁. alloc1 ! (λ l₁₂. alloc1 ! (λ l₁₃. alloc1 ! (λ l₁₄. alloc1 ! (λ l₁₅. alloc1 ! (λ l₁₆. alloc1 ! (λ l₁₇. alloc1 ! (λ l₁₈. alloc1 ! (λ l₁₉. alloc1 ! (λ l₂₀. alloc1 ! (λ l₂₁.
-      alloc0 ! $ params1 ! $ pass1 ! (init ! 40 refl (tt, (tt, (record { fits = gb .0 }, tt)))) $ pass1 ! (init ! 38 refl (LL.lawful R.the-type R′.the-laws 𝓤 H A W .typed s _ gs .0)) $
+      alloc1 ! (λ l₀. alloc1 ! (λ l₁. alloc1 ! (λ l₂. alloc1 ! (λ l₃. alloc1 ! (λ l₄. alloc1 ! (λ l₅. alloc1 ! (λ l₆. alloc1 ! (λ l₇.
+      alloc1 ! (λ l₈. alloc1 ! (λ l₉. alloc1 ! (λ l₁₀. alloc1 ! (λ l₁₁. alloc1 ! (λ l₁₂. alloc1 !
+      (λ l₁₃. alloc1 ! (λ l₁₄. alloc1 ! (λ l₁₅. alloc1 ! (λ l₁₆. alloc1 ! (λ l₁₇. alloc1 ! (λ l₁₈. alloc1 ! (λ l₁₉. alloc1 ! (λ l₂₀. alloc1 ! (λ l₂₁.
+      alloc0 ! $ params1 ! $ pass1 ! (init ! 40 refl (tt, (tt, (record { fits = gb .0 }, tt)))) $
+      pass1 ! (init ! 38 refl (LL.lawful R.the-type R′.the-laws 𝓤 H A W .typed s _ gs .0)) $
       pass1 ! (init ! 36 refl (tt, (tt, (record { fits = g .0 }, tt)))) $ pass1 ! (init ! 34 refl (uint-lawful 𝓤 H A W w64 .typed i0 _ gi .0)) $
       pass1 ! (init ! 32 refl (uint-lawful 𝓤 H A W w64 .typed i1 _ gj .0)) $ pass1 ! (init ! 30 refl (tt, (tt, (record { fits = gx .0 }, tt)))) $
       pass1 ! (init ! 28 refl (tt, (tt, (record { fits = gy .0 }, tt)))) $ pass1 ! (init ! 26 refl (tt, (tt, (record { fits = gt .0 }, tt)))) $
-      pass1 ! (init ! 24 refl (tt, (tt, (record { fits = gp .0 }, tt)))) $ pass0 ! $ move ! (45 ∷ []) $ fsplit ! $ move ! (1 ∷ []) $ fsplit ! $ move ! (1 ∷ []) $ fsplit ! $ move ! (1 ∷ []) $
-      fsplit ! $ move ! (1 ∷ []) $ fsplit ! $ move ! (1 ∷ []) $ fsplit ! $ move ! (1 ∷ []) $ fsplit ! $ move ! (1 ∷ []) $ fsplit ! $ move ! (1 ∷ []) $ fsplit ! $ move ! (54 ∷ []) $ split ! $
+      pass1 ! (init ! 24 refl (tt, (tt, (record { fits = gp .0 }, tt)))) $ pass0 ! $ move ! (45 ∷ []) $ fsplit ! $ move ! (1 ∷ []) $
+      fsplit ! $ move ! (1 ∷ []) $ fsplit ! $ move ! (1 ∷ []) $
+      fsplit ! $ move ! (1 ∷ []) $ fsplit ! $ move ! (1 ∷ []) $ fsplit ! $ move ! (1 ∷ []) $ fsplit ! $ move ! (1 ∷ []) $ fsplit ! $
+      move ! (1 ∷ []) $ fsplit ! $ move ! (54 ∷ []) $ split ! $
       move ! (1 ∷ []) $ split ! $ move ! (1 ∷ []) $ split ! $ move ! (1 ∷ []) $ split ! $ move ! (1 ∷ []) $ split ! $ move ! (1 ∷ []) $ split ! $
       -- the locals, what the references own, the tokens, and that each local dies
-      keep ! (59 ∷ 57 ∷ 55 ∷ 53 ∷ 51 ∷ 49 ∷ 47 ∷ 45 ∷ 43 ∷ 41 ∷ 39 ∷ 37 ∷ 35 ∷ 33 ∷ 31 ∷ 29 ∷ 27 ∷ 25 ∷ 23 ∷ 21 ∷ 19 ∷ 17 ∷ 16 ∷ 14 ∷ 11 ∷ 10 ∷ 9 ∷ 7 ∷ 6 ∷ 5 ∷ 4 ∷ 3 ∷ 2 ∷ 0 ∷ 60 ∷ 58 ∷ 56 ∷ 54 ∷ 52 ∷ 50 ∷ 48 ∷ 46 ∷ 44 ∷ 42 ∷ 40 ∷ 38 ∷ 36 ∷ 34 ∷ 32 ∷ 30 ∷ 28 ∷ 26 ∷ 24 ∷ 22 ∷ 20 ∷ 18 ∷ []) $
-      assigns ! (of-opd ! (load ! (from ! (fld ! refl (stop !))) (look-in ! 3 (sub ! 1 refl (whole !))))) (from ! (stop !)) (init ! 13 refl (tt, record { fits = g .0 })) $
+      keep ! (59 ∷ 57 ∷ 55 ∷ 53 ∷ 51 ∷ 49 ∷ 47 ∷ 45 ∷ 43 ∷ 41 ∷ 39 ∷ 37 ∷ 35 ∷ 33 ∷ 31 ∷ 29 ∷ 27 ∷ 25 ∷ 23 ∷ 21 ∷ 19 ∷ 17 ∷ 16 ∷ 14 ∷ 11
+      ∷ 10 ∷ 9 ∷ 7 ∷ 6 ∷ 5 ∷ 4 ∷ 3 ∷ 2 ∷ 0 ∷ 60 ∷ 58 ∷ 56 ∷ 54 ∷ 52 ∷ 50 ∷ 48 ∷ 46 ∷ 44 ∷ 42 ∷ 40 ∷ 38 ∷ 36 ∷ 34 ∷ 32 ∷ 30 ∷ 28 ∷ 26
+      ∷ 24 ∷ 22 ∷ 20 ∷ 18 ∷ []) $
+      assigns ! (of-opd ! (load ! (from ! (fld ! refl (stop !))) (look-in ! 3 (sub ! 1 refl (whole !))))) (from ! (stop !))
+      (init ! 13 refl (tt, record { fits = g .0 })) $
       use0 W (raw (Asks 𝓤 H A at-mem run .pre to-ask)) (goes-ask gs (g .0) gi gj) $
-      calls-at ! (fmOf 𝓤 H (W .laws) 𝓣) (Asks 𝓤 H A at-mem run) known to-ask (and-then ! (load ! (from ! (stop !)) (look ! 3 refl)) (and-then ! (load ! (from ! (stop !)) (look ! 14 refl)) (and-then ! (load ! (from ! (stop !)) (look ! 5 refl)) (and-then ! (load ! (from ! (stop !)) (look ! 6 refl)) (no-more !))))) (λ v.
-      use1 W (later (some (λ (r : Asked). (‵ ftrue ⊛ ‵ (K.the-row .own r (v ∷ []))) ⊛ raw (ensured 𝓤 H A ask.ended (ask.clauses 𝓤 H A at-mem run) tt (s, (n, (i0, (i1, tt)))) tt r)))) (id⊢ 𝓤 _) $ await ! tt $ pick ! (λ a.
-      split ! $ move ! (1 ∷ []) $ use1 W (raw (fact 𝓤 (a ≡ askedByNumber s n i0 i1))) (ask-of 𝓤 H A at-mem run s n i0 i1 a) $ heard ! (a ≡ askedByNumber s n i0 i1) (λ e. split ! $ drop ! $
-      peeks ! K.the-row (Is K.the-row) (shows 𝓤 H A K.the-row) a (v ∷ []) (λ ia. land ! (from ! (stop !)) (init ! 11 refl (LL.lawful K.the-type K′.the-laws 𝓤 H A W .typed a _ ia .0)) $
+      calls-at ! (fmOf 𝓤 H (W .laws) 𝓣) (Asks 𝓤 H A at-mem run) known to-ask (and-then ! (load ! (from ! (stop !)) (look ! 3 refl))
+      (and-then ! (load ! (from ! (stop !)) (look ! 14 refl))
+      (and-then ! (load ! (from ! (stop !)) (look ! 5 refl)) (and-then ! (load ! (from ! (stop !)) (look ! 6 refl)) (no-more !)))))
+      (λ v.
+      use1 W (later (some (λ (r : Asked). (‵ ftrue ⊛ ‵ (K.the-row .own r (v ∷ [])))
+      ⊛ raw (ensured 𝓤 H A ask.ended (ask.clauses 𝓤 H A at-mem run) tt (s, (n, (i0, (i1, tt)))) tt r)))) (id⊢ 𝓤 _) $ await ! tt $
+      pick ! (λ a.
+      split ! $ move ! (1 ∷ []) $ use1 W (raw (fact 𝓤 (a ≡ askedByNumber s n i0 i1))) (ask-of 𝓤 H A at-mem run s n i0 i1 a) $
+      heard ! (a ≡ askedByNumber s n i0 i1) (λ e. split ! $ drop ! $
+      peeks ! K.the-row (Is K.the-row) (shows 𝓤 H A K.the-row) a (v ∷ [])
+      (λ ia. land ! (from ! (stop !)) (init ! 11 refl (LL.lawful K.the-type K′.the-laws 𝓤 H A W .typed a _ ia .0)) $
       rewrite ! 11 (λ (u : Val). ‵ (fat fullShare K′.mir l₁₀ 0 u)) (ap only (LL.tells K.the-type K′.the-laws a _ ia)) refl $ drop ! $
-      onward 𝓤 H A W at-mem run κ₀ κ₁ κ₂ κ₃ κ₄ κ₅ q₀ q₁ q₂ q₃ q₄ q₅ xb s xr xx xy xt xp 𝓣 known-judge known-choose known-from gs g gx gy gt gp a (subst (λ (u : Val). Is K.the-row a (u ∷ [])) (ap only (LL.tells K.the-type K′.the-laws a _ ia)) ia) i0 i1 Post (able a e) (exits a e) l₀ l₁ l₂ l₃ l₄ l₅ l₆ l₇ l₈ l₉ l₁₀ l₁₁ l₁₂ l₁₃ l₁₄ l₁₅ l₁₆ l₁₇ l₁₈ l₁₉ l₂₀ l₂₁))))))))))))))))))))))))))
+      onward 𝓤 H A W at-mem run κ₀ κ₁ κ₂ κ₃ κ₄ κ₅ q₀ q₁ q₂ q₃ q₄ q₅ xb s xr xx xy xt xp 𝓣 known-judge known-choose known-from gs g gx gy gt
+      gp a (subst (λ (u : Val). Is K.the-row a (u ∷ [])) (ap only (LL.tells K.the-type K′.the-laws a _ ia)) ia) i0 i1 Post (able a e)
+      (exits a e) l₀ l₁ l₂ l₃ l₄ l₅ l₆ l₇ l₈ l₉ l₁₀ l₁₁ l₁₂ l₁₃ l₁₄ l₁₅ l₁₆ l₁₇ l₁₈ l₁₉ l₂₀ l₂₁))))))))))))))))))))))))))
 
 module _ {M : Type 1} (𝓤 : URA M) (H : Heap 𝓤) (A : Atoms 𝓤) (W : Given 𝓤 H A) (at-mem : Memory → SProp 𝓤) (run : Routine → Fun 𝓤) where
   f-walks : (𝓣 : Tables 𝓤 H) → Known 𝓤 H A at-mem run 𝓣 → Walks 𝓤 H A f.ended stayed (WpFn 𝓤 H (𝓣 .C) (𝓣 .Λ) code.function) (f.clauses 𝓤 H A at-mem run)
   f-walks 𝓣 known = walked 𝓤 H A f.ended stayed (f.clauses 𝓤 H A at-mem run) (WpFn 𝓤 H (𝓣 .C) (𝓣 .Λ) code.function)
-      (λ κs. (slice-vals, (LL.vals R.the-type R′.the-laws, (slice-vals, (uint-vals w64, (uint-vals w64, (slice-vals, (slice-vals, (slice-vals, (slice-vals, tt))))))))))
+      (λ κs.
+      (slice-vals, (LL.vals R.the-type R′.the-laws, (slice-vals, (uint-vals w64, (uint-vals w64, (slice-vals, (slice-vals, (slice-vals, (slice-vals, tt))))))))))
       (λ κs. (
         shr-slice-tells (named 0) (κs .0) u8,
         (
@@ -215,12 +248,15 @@ module _ {M : Type 1} (𝓤 : URA M) (H : Heap 𝓤) (A : Atoms 𝓤) (W : Given
         ),
       ))
       (λ κs qs bounds a _ are. via 𝓤 _ (fst∗ 𝓤 _ (emp 𝓤))
-      (walk 𝓤 H A W at-mem run (κs .0) (κs .1 .0) (κs .1 .1 .0) (κs .1 .1 .1 .0) (κs .1 .1 .1 .1 .0) (κs .1 .1 .1 .1 .1 .0) (qs .0) (qs .1 .0) (qs .1 .1 .0) (qs .1 .1 .1 .0) (qs .1 .1 .1 .1 .0) (qs .1 .1 .1 .1 .1 .0)
-      (a .0) (a .1 .0) (a .1 .1 .0) (a .1 .1 .1 .0) (a .1 .1 .1 .1 .0) (a .1 .1 .1 .1 .1 .0) (a .1 .1 .1 .1 .1 .1 .0) (a .1 .1 .1 .1 .1 .1 .1 .0) (a .1 .1 .1 .1 .1 .1 .1 .1 .0) 𝓣 known
+      (walk 𝓤 H A W at-mem run (κs .0) (κs .1 .0) (κs .1 .1 .0) (κs .1 .1 .1 .0) (κs .1 .1 .1 .1 .0) (κs .1 .1 .1 .1 .1 .0) (qs .0)
+      (qs .1 .0) (qs .1 .1 .0) (qs .1 .1 .1 .0) (qs .1 .1 .1 .1 .0) (qs .1 .1 .1 .1 .1 .0)
+      (a .0) (a .1 .0) (a .1 .1 .0) (a .1 .1 .1 .0) (a .1 .1 .1 .1 .0) (a .1 .1 .1 .1 .1 .0) (a .1 .1 .1 .1 .1 .1 .0)
+      (a .1 .1 .1 .1 .1 .1 .1 .0) (a .1 .1 .1 .1 .1 .1 .1 .1 .0) 𝓣 known
       (are .0 .0 .1) (are .1 .0) (are .1 .1 .0 .0 .1) (are .1 .1 .1 .0) (are .1 .1 .1 .1 .0)
       (are .1 .1 .1 .1 .1 .0 .0 .1) (are .1 .1 .1 .1 .1 .1 .0 .0 .1) (are .1 .1 .1 .1 .1 .1 .1 .0 .0 .1) (are .1 .1 .1 .1 .1 .1 .1 .1 .0 .0 .1)))
 
-f-meets : {M : Type 1} (𝓤 : URA M) (H : Heap 𝓤) (A : Atoms 𝓤) (W : Given 𝓤 H A) (at-mem : Memory → SProp 𝓤) (run : Routine → Fun 𝓤) (𝓣 : Tables 𝓤 H) → Known 𝓤 H A at-mem run 𝓣 → Meets 𝓤 H A f.signature (WpFn 𝓤 H (𝓣 .C) (𝓣 .Λ) code.function) (f.spec 𝓤 H A at-mem run)
+f-meets : {M : Type 1} (𝓤 : URA M) (H : Heap 𝓤) (A : Atoms 𝓤) (W : Given 𝓤 H A) (at-mem : Memory → SProp 𝓤) (run : Routine → Fun 𝓤)
+    (𝓣 : Tables 𝓤 H) → Known 𝓤 H A at-mem run 𝓣 → Meets 𝓤 H A f.signature (WpFn 𝓤 H (𝓣 .C) (𝓣 .Λ) code.function) (f.spec 𝓤 H A at-mem run)
 f-meets 𝓤 H A W at-mem run 𝓣 known =
     walk-meets 𝓤 H A f.ended stayed W (
       goes-dropped 𝓤 H A W 6 (shrSliceOf (0 ∷ []) tt (plain (λ _. u8))) yes (λ κs x f. refl),
@@ -248,9 +284,11 @@ slice-index-spec 𝓤 H 𝓜 𝓖 𝓡 =
     (f-meets 𝓤 H (𝓖 .A) (givenOf 𝓤 H 𝓜 𝓖) (𝓜 .mem) (𝓡 .run) (tablesOf 𝓤 H 𝓜 (tables 𝓤 H 𝓜 𝓡 code.env)) (
       cited 𝓤 H (Asks 𝓤 H (𝓖 .A) (𝓜 .mem) (𝓡 .run)) 𝓜 𝓡 code.env #slice·asks ask-def.routine code.calls-slice-rules·by-number (ask-thm.met 𝓤 H 𝓜 𝓖 𝓡),
       (
-        cited 𝓤 H (Judges 𝓤 H (𝓖 .A) (𝓜 .mem) (𝓡 .run)) 𝓜 𝓡 code.env #index_records·judges judge-def.routine code.calls-index-records·judge-all (judge-thm.met 𝓤 H 𝓜 𝓖 𝓡),
+        cited 𝓤 H (Judges 𝓤 H (𝓖 .A) (𝓜 .mem) (𝓡 .run)) 𝓜 𝓡 code.env #index_records·judges judge-def.routine
+            code.calls-index-records·judge-all (judge-thm.met 𝓤 H 𝓜 𝓖 𝓡),
         (
-          cited 𝓤 H (Chooses 𝓤 H (𝓖 .A) (𝓜 .mem) (𝓡 .run)) 𝓜 𝓡 code.env #index_records·choose choose-def.routine code.calls-index-records·choose (choose-thm.met 𝓤 H 𝓜 𝓖 𝓡),
+          cited 𝓤 H (Chooses 𝓤 H (𝓖 .A) (𝓜 .mem) (𝓡 .run)) 𝓜 𝓡 code.env #index_records·choose choose-def.routine
+              code.calls-index-records·choose (choose-thm.met 𝓤 H 𝓜 𝓖 𝓡),
           cited 𝓤 H (Slicing 𝓤 H (𝓖 .A) (𝓜 .mem) (𝓡 .run)) 𝓜 𝓡 code.env #slice·from from-def.routine code.calls-slice·slice-from (from-thm.met 𝓤 H 𝓜 𝓖 𝓡),
         ),
       ),

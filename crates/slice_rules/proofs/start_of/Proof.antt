@@ -5,47 +5,47 @@ use borrow.Author.Needs.{needs}
 use Rattle.slice_rules.proofs.start_of.Statement.{statement}
 use Rattle.slice_rules.proofs.start_of.Tie as tie
 
--- src/lib.rt:127:9
 returns : tie.Need-returns
 returns c = rw (lt-ltb (2 ^ 30) (c .before .args .len) (c .if1 .taken))
 
--- src/lib.rt:129:8
-has-zero-requires : tie.Need-has-zero-requires
-has-zero-requires c κs = search needs
-
--- src/lib.rt:130:9
 returns-2 : tie.Need-returns-2
 returns-2 c = rw (le-ltb (2 ^ 30) (c .before .before .before .args .len) (c .before .before .if1 .left), sym (c .before .has-zero .ensures) ∙ c .if2 .taken)
 
--- src/lib.rt:133:8
-spacing-ok-requires : tie.Need-spacing-ok-requires
-spacing-ok-requires c κs = search needs
-
--- src/lib.rt:135:30
-less-requires : tie.Need-less-requires
-less-requires c κs = search needs
-
--- src/lib.rt:135:13
 returns-3 : tie.Need-returns-3
-returns-3 c = rw (le-ltb (2 ^ 30) (c .before .before .before .before .before .before .before .args .len) (c .before .before .before .before .before .before .if1 .left), sym (c .before .before .before .before .before .has-zero .ensures) ∙ c .before .before .before .before .if2 .left, sym (c .before .before .before .spacing-ok .ensures) ∙ c .before .before .if3 .taken, c .before .if4 .taken, c .less .ensures)
+returns-3 c =
+    rw (
+      le-ltb (2 ^ 30) (c .before .before .before .before .before .before .before .args .len) (c .before .before .before .before .before .before .if1 .left),
+      sym (c .before .before .before .before .before .has-zero .ensures) ∙ c .before .before .before .before .if2 .left,
+      sym (c .before .before .before .spacing-ok .ensures) ∙ c .before .before .if3 .taken,
+      c .before .if4 .taken,
+      c .less .ensures,
+    )
 
--- src/lib.rt:137:9
 returns-4 : tie.Need-returns-4
-returns-4 c = rw (le-ltb (2 ^ 30) (c .before .before .before .before .before .before .args .len) (c .before .before .before .before .before .if1 .left), sym (c .before .before .before .before .has-zero .ensures) ∙ c .before .before .before .if2 .left, sym (c .before .before .spacing-ok .ensures) ∙ c .before .if3 .taken, c .if4 .left)
+returns-4 c =
+    rw (
+      le-ltb (2 ^ 30) (c .before .before .before .before .before .before .args .len) (c .before .before .before .before .before .if1 .left),
+      sym (c .before .before .before .before .has-zero .ensures) ∙ c .before .before .before .if2 .left,
+      sym (c .before .before .spacing-ok .ensures) ∙ c .before .if3 .taken,
+      c .if4 .left,
+    )
 
--- src/lib.rt:123:1
 returns-5 : tie.Need-returns-5
-returns-5 c = rw (le-ltb (2 ^ 30) (c .before .before .before .before .before .args .len) (c .before .before .before .before .if1 .left), sym (c .before .before .before .has-zero .ensures) ∙ c .before .before .if2 .left, sym (c .before .spacing-ok .ensures) ∙ c .if3 .left)
+returns-5 c =
+    rw (
+      le-ltb (2 ^ 30) (c .before .before .before .before .before .args .len) (c .before .before .before .before .if1 .left),
+      sym (c .before .before .before .has-zero .ensures) ∙ c .before .before .if2 .left,
+      sym (c .before .spacing-ok .ensures) ∙ c .if3 .left,
+    )
 
 pub start-of-spec : {M : Type 1} → statement M
 start-of-spec =
     tie.close
     (tie.spec
     returns
-    has-zero-requires
+    (λ c κs. search needs)
     returns-2
-    spacing-ok-requires
-    less-requires
+    (λ c κs. search needs) (λ c κs. search needs)
     returns-3
     returns-4
     returns-5)

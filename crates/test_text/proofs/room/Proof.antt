@@ -5,8 +5,5 @@ use lib.ListN.{length-replicate}
 use Rattle.test_text.proofs.room.Statement.{statement}
 use Rattle.test_text.proofs.room.Tie as tie
 
-returns : tie.Need-returns
-returns c = sym (length-replicate {A = ℕ} 1048576 0)
-
 pub room-spec : {M : Type 1} → statement M
-room-spec = tie.close (tie.spec returns)
+room-spec = tie.close (tie.spec (λ c. sym (length-replicate {A = ℕ} 1048576 0)))

@@ -4,13 +4,8 @@ use borrow.Author.Needs.{needs}
 use Rattle.write_append.proofs.header_due.Statement.{statement}
 use Rattle.write_append.proofs.header_due.Tie as tie
 
--- src/lib.rt:31:1
-returns : tie.Need-returns
-returns c = search needs
-
--- src/lib.rt:31:1
 returns-2 : tie.Need-returns-2
 returns-2 c = rw (c .if1 .left) (some-is (now (c .before .args .xs)))
 
 pub header-due-spec : {M : Type 1} → statement M
-header-due-spec = tie.close (tie.spec returns returns-2)
+header-due-spec = tie.close (tie.spec (λ c. search needs) returns-2)

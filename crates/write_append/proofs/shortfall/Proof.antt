@@ -9,44 +9,35 @@ use borrow.Author.Needs.{needs}
 use Rattle.write_append.proofs.shortfall.Statement.{statement}
 use Rattle.write_append.proofs.shortfall.Tie as tie
 
--- src/lib.rt:95:13
-mul-if1 : tie.Need-mul-if1
-mul-if1 c = search needs
-
--- src/lib.rt:95:8
-add-if1 : tie.Need-add-if1
-add-if1 c = search needs
-
--- src/lib.rt:96:9
 returns : tie.Need-returns
 returns c =
     let a = c .before .before .before .before .args in
-    let few = sends-few (a .sink) (a .width) (a .height) (now (a .xs)) (now (a .ys)) (now (a .ts)) (now (a .ps)) (c .before .before .before .before .pre .0) (omega arith) (omega arith) in
-    short-fits (length (sends (a .sink) (a .width) (a .height) (now (a .xs)) (now (a .ys)) (now (a .ts)) (now (a .ps)))) (a .room) (omega (arith, few, c .if1 .taken))
+    let few = sends-few (a .sink) (a .width) (a .height) (now (a .xs)) (now (a .ys)) (now (a .ts)) (now (a .ps))
+    (c .before .before .before .before .pre .0) (omega arith) (omega arith) in
+    short-fits (length (sends (a .sink) (a .width) (a .height) (now (a .xs)) (now (a .ys)) (now (a .ts)) (now (a .ps)))) (a .room) (omega arith)
 
--- src/lib.rt:99:58
-slice-aggregate-write : tie.Need-slice-aggregate-write
-slice-aggregate-write c = search needs
-
--- src/lib.rt:99:9
-write-requires : tie.Need-write-requires
-write-requires c κs = search needs
-
--- src/lib.rt:82:1
 returns-2 : tie.Need-returns-2
 returns-2 c =
     let a = c .before .before .before .before .before .before .before .before .args in
-    let n : c .before .before .write .result .at ≡ length (sends (a .sink) (a .width) (a .height) (now (a .xs)) (now (a .ys)) (now (a .ts)) (now (a .ps))) = ap (λ (p : Put). p .at) (c .before .before .write .ensures .0) in
-    short-fits (length (sends (a .sink) (a .width) (a .height) (now (a .xs)) (now (a .ys)) (now (a .ts)) (now (a .ps)))) (a .room) (omega (arith, n, c .if2 .taken))
+    let n : c .before .before .write .result .at
+    ≡ length (sends (a .sink) (a .width) (a .height) (now (a .xs)) (now (a .ys)) (now (a .ts)) (now (a .ps))) =
+    ap (λ (p : Put). p .at) (c .before .before .write .ensures .0) in
+    short-fits (length (sends (a .sink) (a .width) (a .height) (now (a .xs)) (now (a .ys)) (now (a .ts)) (now (a .ps)))) (a .room) (omega arith)
 
--- src/lib.rt:82:1
 returns-3 : tie.Need-returns-3
 returns-3 c =
     let a = c .before .before .before .before .before .before .before .before .args in
-    let n : c .before .before .write .result .at ≡ length (sends (a .sink) (a .width) (a .height) (now (a .xs)) (now (a .ys)) (now (a .ts)) (now (a .ps))) = ap (λ (p : Put). p .at) (c .before .before .write .ensures .0) in
-    n ∙ short-lacks (length (sends (a .sink) (a .width) (a .height) (now (a .xs)) (now (a .ys)) (now (a .ts)) (now (a .ps)))) (a .room) (omega (arith, n, c .if2 .left))
+    let n : c .before .before .write .result .at
+    ≡ length (sends (a .sink) (a .width) (a .height) (now (a .xs)) (now (a .ys)) (now (a .ts)) (now (a .ps))) =
+    ap (λ (p : Put). p .at) (c .before .before .write .ensures .0) in
+    n ∙ short-lacks (length (sends (a .sink) (a .width) (a .height) (now (a .xs)) (now (a .ys)) (now (a .ts)) (now (a .ps)))) (a .room) (omega arith)
 
 pub shortfall-spec : {M : Type 1} → statement M
 shortfall-spec =
     tie.close
-    (tie.spec mul-if1 add-if1 returns slice-aggregate-write write-requires returns-2 returns-3)
+    (tie.spec
+    (λ c. search needs) (λ c. search needs)
+    returns
+    (λ c. search needs) (λ c κs. search needs)
+    returns-2
+    returns-3)

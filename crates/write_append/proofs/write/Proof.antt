@@ -5,32 +5,34 @@ use borrow.Author.Needs.{needs}
 use Rattle.write_append.proofs.write.Statement.{statement}
 use Rattle.write_append.proofs.write.Tie as tie
 
--- src/lib.rt:75:9
-header-due-requires : tie.Need-header-due-requires
-header-due-requires c κs = search needs
-
--- src/lib.rt:76:9
-put-due-requires : tie.Need-put-due-requires
-put-due-requires c κs = search needs
-
--- src/lib.rt:77:5
 pass-requires : tie.Need-pass-requires
 pass-requires c κs =
+    let header-due = c .before .before .before .before .before .header-due in
     let s = c .before .before .before .before .before .before .before .before .before .before .before in
-    let few = due-few (c .before .before .before .before .before .header-due .result) (s .args .sink .version) (s .args .width) (s .args .height) (omega arith) (omega arith) in
-    let a = s .args in
-    (s .pre .0, omega (arith, few, c .before .before .before .put-due .ensures .0), s .pre .1, room-words (a .sink) (a .width) (a .height) (now (a .xs)) (now (a .ys)) (now (a .ts)) (now (a .ps)) (now (a .out)) (c .before .before .before .put-due .last .1 .1 .1 .1 .0) (c .before .before .before .before .before .header-due .ensures) (c .before .before .before .put-due .ensures .0) (c .before .before .out .given) (s .pre .2), s .pre .3)
+    let few = due-few (header-due .result) (s .args .sink .version) (s .args .width) (s .args .height) (omega arith) (omega arith) in
+    let a = s .args in (
+      s .pre .0,
+      omega arith,
+      s .pre .1,
+      room-words (a .sink) (a .width) (a .height) (now (a .xs)) (now (a .ys)) (now (a .ts)) (now (a .ps)) (now (a .out))
+          (c .before .before .before .put-due .last .1 .1 .1 .1 .0) (header-due .ensures) (c .before .before .before .put-due .ensures .0)
+          (c .before .before .out .given) (s .pre .2),
+      s .pre .3,
+    )
 
--- src/lib.rt:60:1
-same-length : tie.Need-same-length
-same-length c = search needs
-
--- src/lib.rt:60:1
 returns : tie.Need-returns
 returns c =
-    let a = c .before .before .before .before .before .before .before .before .before .before .before .before .before .before .args in
-    wrote-is (a .sink) (a .width) (a .height) (now (a .xs)) (now (a .ys)) (now (a .ts)) (now (a .ps)) (now (a .out)) (c .before .before .before .before .before .before .before .before .header-due .ensures) (c .before .before .before .before .before .before .put-due .ensures .0) (c .before .before .before .before .before .before .put-due .ensures .1) (c .before .before .pass .ensures .0) (c .before .before .pass .ensures .1)
+    let b = c .before .before .before .before .before .before in
+    let a = b .before .before .before .before .before .before .before .before .args in
+    wrote-is (a .sink) (a .width) (a .height) (now (a .xs)) (now (a .ys)) (now (a .ts)) (now (a .ps)) (now (a .out))
+    (b .before .before .header-due .ensures) (b .put-due .ensures .0) (b .put-due .ensures .1) (c .before .before .pass .ensures .0)
+    (c .before .before .pass .ensures .1)
 
 pub write-spec : {M : Type 1} → statement M
 write-spec =
-    tie.close (tie.spec header-due-requires put-due-requires pass-requires same-length returns)
+    tie.close
+    (tie.spec
+    (λ c κs. search needs) (λ c κs. search needs)
+    pass-requires
+    (λ c. search needs)
+    returns)

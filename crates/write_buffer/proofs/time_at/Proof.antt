@@ -22,26 +22,16 @@ is-time : (z : ℤ) → nonNeg z ≡ true → natAbs z ≡ natural z
 is-time (pos n) e = refl
 is-time (negsuc n) e = absurd (true≢false (sym e))
 
--- src/lib.rt:56:5
-mul-result : tie.Need-mul-result
-mul-result c = search needs
-
--- src/lib.rt:56:5
-shared-slice-copy-out-result : tie.Need-shared-slice-copy-out-result
-shared-slice-copy-out-result c = search needs
-
--- src/lib.rt:56:5
 cast-result : tie.Need-cast-result
 cast-result c =
     let z = getD (c .before .args .ts .now) (c .before .args .i) (pos 0) in
     let f = c .result .given in
     rw (toZ-ofZ w64 z (record { sfits = f })) (fits-time z f (c .before .pre .2 (c .before .args .i)))
 
--- src/lib.rt:52:1
 returns : tie.Need-returns
 returns c =
     let z = getD (c .before .args .ts .now) (c .before .args .i) (pos 0) in
     rw (toZ-ofZ w64 z (record { sfits = c .result .given })) (is-time z (c .before .pre .2 (c .before .args .i)))
 
 pub time-at-spec : {M : Type 1} → statement M
-time-at-spec = tie.close (tie.spec mul-result shared-slice-copy-out-result cast-result returns)
+time-at-spec = tie.close (tie.spec (λ c. search needs) (λ c. search needs) cast-result returns)

@@ -11,74 +11,72 @@ use borrow.Author.Needs.{needs}
 use Rattle.write_rules.proofs.check_append.Statement.{statement}
 use Rattle.write_rules.proofs.check_append.Tie as tie
 
--- src/lib.rt:81:8
-in-range-requires : tie.Need-in-range-requires
-in-range-requires c κs = search needs
-
--- src/lib.rt:82:9
 returns : tie.Need-returns
 returns c = rw (sym (c .before .in-range .ensures) ∙ c .if1 .left)
 
--- src/lib.rt:84:9
-check-lengths-requires : tie.Need-check-lengths-requires
-check-lengths-requires c κs = search needs
-
-enum-told : tie.Need-enum-told
-enum-told c = search needs
-
--- src/lib.rt:86:9
-enum-told-2 : tie.Need-enum-told-2
-enum-told-2 c = search needs
-
--- src/lib.rt:86:9
 returns-2 : tie.Need-returns-2
 returns-2 c =
     let s = c .before .before .before .before .before .before .before .before .args in
-    lengths-failed (now (s .xs)) (now (s .ys)) (now (s .ts)) (now (s .ps)) _ (c .before .before .check-lengths .ensures) (s .sink) (sym (c .before .before .before .before .in-range .ensures) ∙ c .before .before .before .if1 .taken) _ (c .enum-told2 .given .1)
+    lengths-failed (now (s .xs)) (now (s .ys)) (now (s .ts)) (now (s .ps)) _ (c .before .before .check-lengths .ensures) (s .sink)
+    (sym (c .before .before .before .before .in-range .ensures) ∙ c .before .before .before .if1 .taken) _ (c .enum-told2 .given .1)
 
--- src/lib.rt:89:9
 look-after-requires : tie.Need-look-after-requires
 look-after-requires c κs = let s = c .before .before .before .before .before .before .before .before .args in
     let l = lengths-passed (now (s .xs)) (now (s .ys)) (now (s .ts)) (now (s .ps)) _ (c .before .before .check-lengths .ensures) (c .enum-told .given .1) in
     sized-of (now (s .xs)) (now (s .ys)) (now (s .ts)) (now (s .ps)) (l .0) (leb-true (length (now (s .xs))) (2 ^ 28) (l .1))
 
--- src/lib.rt:91:9
 returns-3 : tie.Need-returns-3
 returns-3 c = let s = c .before .before .before .before .before .before .before .before .before .before .args in
-    let l = lengths-passed (now (s .xs)) (now (s .ys)) (now (s .ts)) (now (s .ps)) _ (c .before .before .before .before .check-lengths .ensures) (c .before .before .enum-told .given .1) in
+    let l = lengths-passed (now (s .xs)) (now (s .ys)) (now (s .ts)) (now (s .ps)) _
+    (c .before .before .before .before .check-lengths .ensures) (c .before .before .enum-told .given .1) in
     let d : fallsAfter (s .sink .«last_t») (now (s .ts)) ≡ true = sym (c .before .look-after .ensures .is-falls) ∙ c .if2 .taken in
     rw (sym (c .before .before .before .before .before .before .in-range .ensures) ∙ c .before .before .before .before .before .if1 .taken, l .0, l .1, d)
 
--- src/lib.rt:94:8
 events-in-range-requires : tie.Need-events-in-range-requires
 events-in-range-requires c κs = let s = c .before .before .before .before .before .before .before .before .before .before .args in
     falls-never (s .sink .«last_t») (now (s .ts)) (sym (c .before .look-after .ensures .is-falls) ∙ c .if2 .left)
 
--- src/lib.rt:78:1
 returns-4 : tie.Need-returns-4
-returns-4 c = let s = c .before .before .before .before .before .before .before .before .before .before .before .before .args in
-    let l = lengths-passed (now (s .xs)) (now (s .ys)) (now (s .ts)) (now (s .ps)) _ (c .before .before .before .before .before .before .check-lengths .ensures) (c .before .before .before .before .enum-told .given .1) in
-    let d : fallsAfter (s .sink .«last_t») (now (s .ts)) ≡ false = sym (c .before .before .before .look-after .ensures .is-falls) ∙ c .before .before .if2 .left in
-    let f = ap (λ (b : Bool). b && every (timeInRange (s .sink .version)) (now (s .ts))) (c .before .before .before .look-after .ensures .is-fine d) ∙ all-in-range (s .sink .version) (now (s .xs)) (now (s .ys)) (now (s .ts)) (now (s .ps)) in
-    rw (sym (c .before .before .before .before .before .before .before .before .in-range .ensures) ∙ c .before .before .before .before .before .before .before .if1 .taken, l .0, l .1, d, sym f ∙ sym (c .before .events-in-range .ensures) ∙ c .if3 .taken)
+returns-4 c =
+    let b′ = c .before .before .before in
+    let s = b′ .before .before .before .before .before .before .before .before .before .args in
+    let l = lengths-passed (now (s .xs)) (now (s .ys)) (now (s .ts)) (now (s .ps)) _ (b′ .before .before .before .check-lengths .ensures)
+    (b′ .before .enum-told .given .1) in
+    let d : fallsAfter (s .sink .«last_t») (now (s .ts)) ≡ false = sym (b′ .look-after .ensures .is-falls) ∙ c .before .before .if2 .left in
+    let f = ap (λ (b : Bool). b && every (timeInRange (s .sink .version)) (now (s .ts))) (b′ .look-after .ensures .is-fine d)
+    ∙ all-in-range (s .sink .version) (now (s .xs)) (now (s .ys)) (now (s .ts)) (now (s .ps)) in
+    rw (
+      sym (b′ .before .before .before .before .before .in-range .ensures) ∙ b′ .before .before .before .before .if1 .taken,
+      l .0,
+      l .1,
+      d,
+      sym f ∙ sym (c .before .events-in-range .ensures) ∙ c .if3 .taken,
+    )
 
--- src/lib.rt:78:1
 returns-5 : tie.Need-returns-5
-returns-5 c = let s = c .before .before .before .before .before .before .before .before .before .before .before .before .args in
-    let l = lengths-passed (now (s .xs)) (now (s .ys)) (now (s .ts)) (now (s .ps)) _ (c .before .before .before .before .before .before .check-lengths .ensures) (c .before .before .before .before .enum-told .given .1) in
-    let d : fallsAfter (s .sink .«last_t») (now (s .ts)) ≡ false = sym (c .before .before .before .look-after .ensures .is-falls) ∙ c .before .before .if2 .left in
-    let f = ap (λ (b : Bool). b && every (timeInRange (s .sink .version)) (now (s .ts))) (c .before .before .before .look-after .ensures .is-fine d) ∙ all-in-range (s .sink .version) (now (s .xs)) (now (s .ys)) (now (s .ts)) (now (s .ps)) in
-    rw (sym (c .before .before .before .before .before .before .before .before .in-range .ensures) ∙ c .before .before .before .before .before .before .before .if1 .taken, l .0, l .1, d, sym f ∙ sym (c .before .events-in-range .ensures) ∙ c .if3 .left)
+returns-5 c =
+    let b′ = c .before .before .before in
+    let s = b′ .before .before .before .before .before .before .before .before .before .args in
+    let l = lengths-passed (now (s .xs)) (now (s .ys)) (now (s .ts)) (now (s .ps)) _ (b′ .before .before .before .check-lengths .ensures)
+    (b′ .before .enum-told .given .1) in
+    let d : fallsAfter (s .sink .«last_t») (now (s .ts)) ≡ false = sym (b′ .look-after .ensures .is-falls) ∙ c .before .before .if2 .left in
+    let f = ap (λ (b : Bool). b && every (timeInRange (s .sink .version)) (now (s .ts))) (b′ .look-after .ensures .is-fine d)
+    ∙ all-in-range (s .sink .version) (now (s .xs)) (now (s .ys)) (now (s .ts)) (now (s .ps)) in
+    rw (
+      sym (b′ .before .before .before .before .before .in-range .ensures) ∙ b′ .before .before .before .before .if1 .taken,
+      l .0,
+      l .1,
+      d,
+      sym f ∙ sym (c .before .events-in-range .ensures) ∙ c .if3 .left,
+    )
 
 pub check-append-spec : {M : Type 1} → statement M
 check-append-spec =
     tie.close
     (tie.spec
-    in-range-requires
+    (λ c κs. search needs)
     returns
-    check-lengths-requires
-    enum-told
-    enum-told-2
+    (λ c κs. search needs) (λ c. search needs) (λ c. search needs)
     returns-2
     look-after-requires
     returns-3

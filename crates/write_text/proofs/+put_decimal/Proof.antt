@@ -22,130 +22,59 @@ abbrev put-decimal-below : ℕ → In 1 put-decimal-kinds.ps
 put-decimal-below t =
     and 1 put-decimal-kinds.ps (falls 1 put-decimal-kinds.ps _<_ μ-put-decimal t) put-decimal.Pre
 
--- src/lib.rt:29:41
-put-decimal-cast-put8 : (t : ℕ) → put-decimal-lts.Need-cast-put8 (
-  put8-reads.Asked,
-  put8-reads.Learnt,
-  put-decimal-below t,
-  put-decimal.Post,
-) (put-decimal-at t) put-decimal.Post
-put-decimal-cast-put8 t c = search needs
-
--- src/lib.rt:29:36
-put-decimal-add-put8 : (t : ℕ) → put-decimal-lts.Need-add-put8 (
-  put8-reads.Asked,
-  put8-reads.Learnt,
-  put-decimal-below t,
-  put-decimal.Post,
-) (put-decimal-at t) put-decimal.Post
-put-decimal-add-put8 t c = search needs
-
--- src/lib.rt:29:9
-put-decimal-put8-requires : (t : ℕ) → put-decimal-lts.Need-put8-requires (
-  put8-reads.Asked,
-  put8-reads.Learnt,
-  put-decimal-below t,
-  put-decimal.Post,
-) (put-decimal-at t) put-decimal.Post
-put-decimal-put8-requires t c κs = tt
-
--- src/lib.rt:30:9
-put-decimal-add-result : (t : ℕ) → put-decimal-lts.Need-add-result (
-  put8-reads.Asked,
-  put8-reads.Learnt,
-  put-decimal-below t,
-  put-decimal.Post,
-) (put-decimal-at t) put-decimal.Post
-put-decimal-add-result t c = search needs
-
--- src/lib.rt:32:13
-put-decimal-put-decimal-requires : (t : ℕ) → put-decimal-lts.Need-put-decimal-requires (
-  put8-reads.Asked,
-  put8-reads.Learnt,
-  put-decimal-below t,
-  put-decimal.Post,
-) (put-decimal-at t) put-decimal.Post
-put-decimal-put-decimal-requires t c κs = (omega (arith, c .before .before .before .pre .0), c .before .before .before .pre .1)
-
--- src/lib.rt:33:42
-put-decimal-cast-put8-2 : (t : ℕ) → put-decimal-lts.Need-cast-put8-2 (
-  put8-reads.Asked,
-  put8-reads.Learnt,
-  put-decimal-below t,
-  put-decimal.Post,
-) (put-decimal-at t) put-decimal.Post
-put-decimal-cast-put8-2 t c = search needs
-
--- src/lib.rt:33:37
-put-decimal-add-put8-2 : (t : ℕ) → put-decimal-lts.Need-add-put8-2 (
-  put8-reads.Asked,
-  put8-reads.Learnt,
-  put-decimal-below t,
-  put-decimal.Post,
-) (put-decimal-at t) put-decimal.Post
-put-decimal-add-put8-2 t c = search needs
-
--- src/lib.rt:33:9
-put-decimal-put8-requires-2 : (t : ℕ) → put-decimal-lts.Need-put8-requires-2 (
-  put8-reads.Asked,
-  put8-reads.Learnt,
-  put-decimal-below t,
-  put-decimal.Post,
-) (put-decimal-at t) put-decimal.Post
-put-decimal-put8-requires-2 t c κs = tt
-
--- src/lib.rt:34:9
-put-decimal-add-result-2 : (t : ℕ) → put-decimal-lts.Need-add-result-2 (
-  put8-reads.Asked,
-  put8-reads.Learnt,
-  put-decimal-below t,
-  put-decimal.Post,
-) (put-decimal-at t) put-decimal.Post
-put-decimal-add-result-2 t c = search needs
-
--- src/lib.rt:24:1
-put-decimal-same-length : (t : ℕ) → put-decimal-lts.Need-same-length (
-  put8-reads.Asked,
-  put8-reads.Learnt,
-  put-decimal-below t,
-  put-decimal.Post,
-) (put-decimal-at t) put-decimal.Post
-put-decimal-same-length t c = search needs
-
--- src/lib.rt:24:1
-put-decimal-returns : (t : ℕ) → put-decimal-lts.Need-returns (
-  put8-reads.Asked,
-  put8-reads.Learnt,
-  put-decimal-below t,
-  put-decimal.Post,
-) (put-decimal-at t) put-decimal.Post
-put-decimal-returns t c = stored-digit (c .before .before .before .before .before .before .args .n) (c .before .before .before .before .if1 .taken) (c .before .before .put8 .ensures)
-
--- src/lib.rt:24:1
-put-decimal-same-length-2 : (t : ℕ) → put-decimal-lts.Need-same-length-2 (
-  put8-reads.Asked,
-  put8-reads.Learnt,
-  put-decimal-below t,
-  put-decimal.Post,
-) (put-decimal-at t) put-decimal.Post
-put-decimal-same-length-2 t c = search needs
-
--- src/lib.rt:24:1
-put-decimal-returns-2 : (t : ℕ) → put-decimal-lts.Need-returns-2 (
-  put8-reads.Asked,
-  put8-reads.Learnt,
-  put-decimal-below t,
-  put-decimal.Post,
-) (put-decimal-at t) put-decimal.Post
-put-decimal-returns-2 t c = stored-digits (c .before .before .before .before .before .before .before .before .before .before .args .n) (c .before .before .before .before .before .before .before .before .if1 .left) (omega arith) (c .before .before .before .before .before .before .put-decimal .ensures) (c .before .before .put82 .ensures)
-
-pub +put-decimal-spec : {M : Type 1} → statement M
-+put-decimal-spec = close μ-put-decimal λ t. put-decimal-lts.spec (
+abbrev claims : ℕ → put-decimal-lts.Claims
+claims t = (
   put8-reads.Asked,
   put8-reads.Learnt,
   put-decimal-below t,
   put-decimal.Post,
 )
+
+put-decimal-cast-put8 : (t : ℕ) → put-decimal-lts.Need-cast-put8 (claims t) (put-decimal-at t) put-decimal.Post
+put-decimal-cast-put8 t c = search needs
+
+put-decimal-add-put8 : (t : ℕ) → put-decimal-lts.Need-add-put8 (claims t) (put-decimal-at t) put-decimal.Post
+put-decimal-add-put8 t c = search needs
+
+put-decimal-put8-requires : (t : ℕ) → put-decimal-lts.Need-put8-requires (claims t) (put-decimal-at t) put-decimal.Post
+put-decimal-put8-requires t c κs = tt
+
+put-decimal-add-result : (t : ℕ) → put-decimal-lts.Need-add-result (claims t) (put-decimal-at t) put-decimal.Post
+put-decimal-add-result t c = search needs
+
+put-decimal-put-decimal-requires : (t : ℕ) → put-decimal-lts.Need-put-decimal-requires (claims t) (put-decimal-at t) put-decimal.Post
+put-decimal-put-decimal-requires t c κs = (omega arith, c .before .before .before .pre .1)
+
+put-decimal-cast-put8-2 : (t : ℕ) → put-decimal-lts.Need-cast-put8-2 (claims t) (put-decimal-at t) put-decimal.Post
+put-decimal-cast-put8-2 t c = search needs
+
+put-decimal-add-put8-2 : (t : ℕ) → put-decimal-lts.Need-add-put8-2 (claims t) (put-decimal-at t) put-decimal.Post
+put-decimal-add-put8-2 t c = search needs
+
+put-decimal-put8-requires-2 : (t : ℕ) → put-decimal-lts.Need-put8-requires-2 (claims t) (put-decimal-at t) put-decimal.Post
+put-decimal-put8-requires-2 t c κs = tt
+
+put-decimal-add-result-2 : (t : ℕ) → put-decimal-lts.Need-add-result-2 (claims t) (put-decimal-at t) put-decimal.Post
+put-decimal-add-result-2 t c = search needs
+
+put-decimal-same-length : (t : ℕ) → put-decimal-lts.Need-same-length (claims t) (put-decimal-at t) put-decimal.Post
+put-decimal-same-length t c = search needs
+
+put-decimal-returns : (t : ℕ) → put-decimal-lts.Need-returns (claims t) (put-decimal-at t) put-decimal.Post
+put-decimal-returns t c =
+    stored-digit (c .before .before .before .before .before .before .args .n) (c .before .before .before .before .if1 .taken) (c .before .before .put8 .ensures)
+
+put-decimal-same-length-2 : (t : ℕ) → put-decimal-lts.Need-same-length-2 (claims t) (put-decimal-at t) put-decimal.Post
+put-decimal-same-length-2 t c = search needs
+
+put-decimal-returns-2 : (t : ℕ) → put-decimal-lts.Need-returns-2 (claims t) (put-decimal-at t) put-decimal.Post
+put-decimal-returns-2 t c =
+    stored-digits (c .before .before .before .before .before .before .before .before .before .before .args .n)
+    (c .before .before .before .before .before .before .before .before .if1 .left) (omega arith)
+    (c .before .before .before .before .before .before .put-decimal .ensures) (c .before .before .put82 .ensures)
+
+pub +put-decimal-spec : {M : Type 1} → statement M
++put-decimal-spec = close μ-put-decimal λ t. put-decimal-lts.spec (claims t)
     (put-decimal-at t)
     put-decimal.Post
     (put-decimal-cast-put8 t)

@@ -4,17 +4,11 @@ use borrow.Author.Needs.{needs}
 use Rattle.write_words.proofs.pass.Statement.{statement}
 use Rattle.write_words.proofs.pass.Tie as tie
 
-enum-told : tie.Need-enum-told
-enum-told c = search needs
-
 pass2-requires : tie.Need-pass-requires
 pass2-requires c κs =
     let s = c .before .before .before .before .before .before .before in
     let room = rw (c .before .enum-told .given .1) at (s .pre .3) in
     (s .pre .0, s .pre .1, s .pre .2, unfold encodeBytes bytesFrom in room, rw (c .before .enum-told .given .1) at (s .pre .4))
-
-enum-told-2 : tie.Need-enum-told-2
-enum-told-2 c = search needs
 
 pass3-requires : tie.Need-pass-requires-2
 pass3-requires c κs =
@@ -22,14 +16,8 @@ pass3-requires c κs =
     let room = rw (c .before .enum-told2 .given .1) at (s .pre .3) in
     (s .pre .0, s .pre .1, s .pre .2, unfold encodeBytes bytesFrom in room)
 
-same-length : tie.Need-same-length
-same-length c = search needs
-
 returns : tie.Need-returns
 returns c = rw (c .before .before .before .before .enum-told .given .1) (unfold encodeBytes bytesFrom in c .before .before .pass .ensures)
-
-same-length-2 : tie.Need-same-length-2
-same-length-2 c = search needs
 
 returns-2 : tie.Need-returns-2
 returns-2 c = rw (c .before .before .before .before .enum-told2 .given .1) (unfold encodeBytes bytesFrom in c .before .before .pass2 .ensures)
@@ -38,11 +26,11 @@ pub pass-spec : {M : Type 1} → statement M
 pass-spec =
     tie.close
     (tie.spec
-    enum-told
+    (λ c. search needs)
     pass2-requires
-    enum-told-2
+    (λ c. search needs)
     pass3-requires
-    same-length
+    (λ c. search needs)
     returns
-    same-length-2
+    (λ c. search needs)
     returns-2)

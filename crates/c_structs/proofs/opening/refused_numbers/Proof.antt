@@ -3,17 +3,8 @@ use borrow.Author.Needs.{needs}
 use Rattle.c_structs.proofs.opening.refused_numbers.Statement.{statement}
 use Rattle.c_structs.proofs.opening.refused_numbers.Tie as tie
 
--- src/opening.rt:107:18
-refusal-number-requires : tie.Need-refusal-number-requires
-refusal-number-requires c κs = search needs
-
--- src/opening.rt:109:15
-count-of-requires : tie.Need-count-of-requires
-count-of-requires c κs = search needs
-
--- src/opening.rt:95:1
 returns : tie.Need-returns
 returns c = refused-opening (c .before .before .args .r) _ _ (c .before .refusal-number .ensures) (c .count-of .ensures)
 
 pub refused-numbers-spec : {M : Type 1} → statement M
-refused-numbers-spec = tie.close (tie.spec refusal-number-requires count-of-requires returns)
+refused-numbers-spec = tie.close (tie.spec (λ c κs. search needs) (λ c κs. search needs) returns)

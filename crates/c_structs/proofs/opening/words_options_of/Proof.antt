@@ -2,13 +2,5 @@ use borrow.Author.Needs.{needs}
 use Rattle.c_structs.proofs.opening.words_options_of.Statement.{statement}
 use Rattle.c_structs.proofs.opening.words_options_of.Tie as tie
 
--- src/opening.rt:65:9
-size-of-requires : tie.Need-size-of-requires
-size-of-requires c κs = search needs
-
--- src/opening.rt:62:1
-returns : tie.Need-returns
-returns c = rw (c .size-of .ensures)
-
 pub words-options-of-spec : {M : Type 1} → statement M
-words-options-of-spec = tie.close (tie.spec size-of-requires returns)
+words-options-of-spec = tie.close (tie.spec (λ c κs. search needs) (λ c. rw (c .size-of .ensures)))

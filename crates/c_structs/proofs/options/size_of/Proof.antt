@@ -3,17 +3,9 @@ use borrow.Author.Needs.{needs}
 use Rattle.c_structs.proofs.options.size_of.Statement.{statement}
 use Rattle.c_structs.proofs.options.size_of.Tie as tie
 
--- src/options.rt:28:8
-is-set-requires : tie.Need-is-set-requires
-is-set-requires c κs = search needs
-
--- src/options.rt:29:9
-returns : tie.Need-returns
-returns c = rw (sym (c .before .is-set .ensures) ∙ c .if1 .taken)
-
--- src/options.rt:25:1
-returns-2 : tie.Need-returns-2
-returns-2 c = rw (sym (c .before .is-set .ensures) ∙ c .if1 .left)
-
 pub size-of-spec : {M : Type 1} → statement M
-size-of-spec = tie.close (tie.spec is-set-requires returns returns-2)
+size-of-spec =
+    tie.close
+    (tie.spec
+    (λ c κs. search needs) (λ c. rw (sym (c .before .is-set .ensures) ∙ c .if1 .taken))
+    (λ c. rw (sym (c .before .is-set .ensures) ∙ c .if1 .left)))

@@ -4,21 +4,12 @@ use borrow.Author.Needs.{needs}
 use Rattle.c_structs.proofs.writer.last_value.Statement.{statement}
 use Rattle.c_structs.proofs.writer.last_value.Tie as tie
 
--- src/writer.rt:149:28
-enum-told : tie.Need-enum-told
-enum-told c = search needs
-
--- src/writer.rt:150:22
-enum-known-last : tie.Need-enum-known-last
-enum-known-last c = search needs
-
--- src/writer.rt:145:1
-returns : tie.Need-returns
-returns c = rw (c .enum-told .given .1)
-
--- src/writer.rt:145:1
 returns-2 : tie.Need-returns-2
 returns-2 c = rw (c .before .last .given .1) (toZ-ofZ w64 (c .before .last .given .0 .0) (record { sfits = c .known-told .given .0 .1 }))
 
 pub last-value-spec : {M : Type 1} → statement M
-last-value-spec = tie.close (tie.spec enum-told enum-known-last returns returns-2)
+last-value-spec =
+    tie.close
+    (tie.spec
+    (λ c. search needs) (λ c. search needs) (λ c. rw (c .enum-told .given .1))
+    returns-2)

@@ -3,17 +3,9 @@ use borrow.Author.Needs.{needs}
 use Rattle.c_structs.proofs.writer.sent_of.Statement.{statement}
 use Rattle.c_structs.proofs.writer.sent_of.Tie as tie
 
--- src/writer.rt:59:8
-is-set-requires : tie.Need-is-set-requires
-is-set-requires c κs = search needs
-
--- src/writer.rt:60:9
-returns : tie.Need-returns
-returns c = rw (sym (c .before .is-set .ensures) ∙ c .if1 .taken)
-
--- src/writer.rt:56:1
-returns-2 : tie.Need-returns-2
-returns-2 c = rw (sym (c .before .is-set .ensures) ∙ c .if1 .left)
-
 pub sent-of-spec : {M : Type 1} → statement M
-sent-of-spec = tie.close (tie.spec is-set-requires returns returns-2)
+sent-of-spec =
+    tie.close
+    (tie.spec
+    (λ c κs. search needs) (λ c. rw (sym (c .before .is-set .ensures) ∙ c .if1 .taken))
+    (λ c. rw (sym (c .before .is-set .ensures) ∙ c .if1 .left)))

@@ -16,37 +16,15 @@ Inv-loop from n got given i₀ i = Agreeing (pos 0) got given from n i
 abbrev μ-loop : tie.MeasureT-loop
 μ-loop from n got given i₀ i = n - i
 
-loop-holds : tie.Need-loop-holds Inv-loop μ-loop
-loop-holds c = agreeing-start (pos 0) _ _ _ _
-
-mul-if1 : tie.Need-mul-if1 Inv-loop μ-loop
-mul-if1 c = search needs
-
-array-copy-out-if1 : tie.Need-array-copy-out-if1 Inv-loop μ-loop
-array-copy-out-if1 c = search needs
-
-add-if1 : tie.Need-add-if1 Inv-loop μ-loop
-add-if1 c = search needs
-
-mul-if1-2 : tie.Need-mul-if1-2 Inv-loop μ-loop
-mul-if1-2 c = search needs
-
-array-copy-out-if1-2 : tie.Need-array-copy-out-if1-2 Inv-loop μ-loop
-array-copy-out-if1-2 c = search needs
-
 returns : tie.Need-returns Inv-loop μ-loop
-returns c = differ-at (pos 0) _ _ _ _ (c .before .before .before .before .loop .inv) (c .before .before .before .loop-test .taken) (λ e. c .if1 .taken (ap (ofZ w64) e))
-
-add-i : tie.Need-add-i Inv-loop μ-loop
-add-i c = search needs
-
-loop-less : tie.Need-loop-less Inv-loop μ-loop
-loop-less c = search needs
+returns c =
+    differ-at (pos 0) _ _ _ _ (c .before .before .before .before .loop .inv) (c .before .before .before .loop-test .taken) (λ e. c .if1 .taken (ap (ofZ w64) e))
 
 loop-again : tie.Need-loop-again Inv-loop μ-loop
 loop-again c =
     agreeing-turn (pos 0) _ _ _ _ (c .before .before .before .before .loop .inv) (c .before .before .before .loop-test .taken)
-    (sym (toZ-ofZ w64 _ (record { sfits = c .before .before .if12 .given })) ∙ ap (toZ w64) (c .if1 .left) ∙ toZ-ofZ w64 _ (record { sfits = c .before .if13 .given }))
+    (sym (toZ-ofZ w64 _ (record { sfits = c .before .before .if12 .given })) ∙ ap (toZ w64) (c .if1 .left)
+    ∙ toZ-ofZ w64 _ (record { sfits = c .before .if13 .given }))
 
 returns-2 : tie.Need-returns-2 Inv-loop μ-loop
 returns-2 c = agreeing-end (pos 0) _ _ _ _ (c .before .loop .inv) (c .loop-test .left) (search needs) (search needs)
@@ -57,14 +35,9 @@ same-longs-spec =
     (tie.spec
     Inv-loop
     μ-loop
-    loop-holds
-    mul-if1
-    array-copy-out-if1
-    add-if1
-    mul-if1-2
-    array-copy-out-if1-2
+    (λ c. agreeing-start (pos 0) _ _ _ _) (λ c. search needs) (λ c. search needs) (λ c. search needs) (λ c. search needs)
+    (λ c. search needs)
     returns
-    add-i
-    loop-less
+    (λ c. search needs) (λ c. search needs)
     loop-again
     returns-2)

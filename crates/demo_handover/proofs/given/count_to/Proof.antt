@@ -16,24 +16,6 @@ Inv-loop ends cut n₀ i₀ n i = Counting (λ end. leb end cut) ends n i
 abbrev μ-loop : tie.MeasureT-loop
 μ-loop ends cut n₀ i₀ n i = length ends - i
 
-loop-holds : tie.Need-loop-holds Inv-loop μ-loop
-loop-holds c = counting-start _ _
-
-mul-if1 : tie.Need-mul-if1 Inv-loop μ-loop
-mul-if1 c = search needs
-
-shared-slice-read-if1 : tie.Need-shared-slice-read-if1 Inv-loop μ-loop
-shared-slice-read-if1 c = search needs
-
-add-n : tie.Need-add-n Inv-loop μ-loop
-add-n c = omega (arith, c .before .before .before .loop .inv .few)
-
-add-i : tie.Need-add-i Inv-loop μ-loop
-add-i c = omega arith
-
-loop-less : tie.Need-loop-less Inv-loop μ-loop
-loop-less c = omega arith
-
 loop-again : tie.Need-loop-again Inv-loop μ-loop
 loop-again c =
     let inv = c .before .before .before .loop .inv in
@@ -52,11 +34,7 @@ count-to-spec =
     (tie.spec
     Inv-loop
     μ-loop
-    loop-holds
-    mul-if1
-    shared-slice-read-if1
-    add-n
-    add-i
-    loop-less
+    (λ c. counting-start _ _) (λ c. search needs) (λ c. search needs) (λ c. omega arith) (λ c. omega arith)
+    (λ c. omega arith)
     loop-again
     returns)

@@ -56,5 +56,8 @@ unfolding code.routine tablesOf
 decode-spec 𝓤 H 𝓜 𝓖 𝓡 =
     entered 𝓤 H (tripleOf 𝓤 H (𝓖 .A) decode.signature (decode.spec 𝓤 H (𝓖 .A) (𝓜 .mem) (𝓡 .run)))
     (tables 𝓤 H 𝓜 𝓡 code.env .C) (tables 𝓤 H 𝓜 𝓡 code.env .Λ) decode-def.name code.function (code.unfolded 𝓤 H 𝓜 𝓡)
-    (lent-word decoder answer decoded w32 Owes 𝓤 H (𝓖 .A) (decode.clauses 𝓤 H (𝓖 .A) (𝓜 .mem) (𝓡 .run)) (λ κs a g d r owes. factI 𝓤 _ (emp 𝓤) owes) (givenOf 𝓤 H 𝓜 𝓖) (pointee (D.the-row .written)) step-def.name (tablesOf 𝓤 H 𝓜 (tables 𝓤 H 𝓜 𝓡 code.env))
-    (cited 𝓤 H (tripleOf 𝓤 H (𝓖 .A) step.signature (step.spec 𝓤 H (𝓖 .A) (𝓜 .mem) (𝓡 .run))) 𝓜 𝓡 code.env step-def.name step-def.routine code.calls-evt2-decoder·Evt2Decoder·step (step-thm.met 𝓤 H 𝓜 𝓖 𝓡)))
+    (lent-word decoder answer decoded w32 Owes 𝓤 H (𝓖 .A) (decode.clauses 𝓤 H (𝓖 .A) (𝓜 .mem) (𝓡 .run))
+    (λ κs a g d r owes. factI 𝓤 _ (emp 𝓤) owes) (givenOf 𝓤 H 𝓜 𝓖) (pointee (D.the-row .written)) step-def.name
+    (tablesOf 𝓤 H 𝓜 (tables 𝓤 H 𝓜 𝓡 code.env))
+    (cited 𝓤 H (tripleOf 𝓤 H (𝓖 .A) step.signature (step.spec 𝓤 H (𝓖 .A) (𝓜 .mem) (𝓡 .run))) 𝓜 𝓡 code.env step-def.name step-def.routine
+    code.calls-evt2-decoder·Evt2Decoder·step (step-thm.met 𝓤 H 𝓜 𝓖 𝓡)))

@@ -16,53 +16,33 @@ Inv-loop s n₀ i₀ n i = (i ≤ length s) × ((n < 2 ^ 64) × (numberFrom n (d
 abbrev μ-loop : tie.MeasureT-loop
 μ-loop s n₀ i₀ n i = length s - i
 
-returns : tie.Need-returns Inv-loop μ-loop
-returns c = laws.digits-none _ (c .if1 .taken)
-
 loop-holds : tie.Need-loop-holds Inv-loop μ-loop
 loop-holds c = (omega arith, (omega arith, laws.digits-some _ (c .if1 .left)))
-
-shared-slice-read-if2 : tie.Need-shared-slice-read-if2 Inv-loop μ-loop
-shared-slice-read-if2 c = search needs
 
 returns-2 : tie.Need-returns-2 Inv-loop μ-loop
 returns-2 c = laws.digits-bad _ _ _ (c .before .before .before .loop .inv .1 .1) (c .before .before .loop-test .taken) (inl (c .if2 .taken))
 
-shared-slice-read-if3 : tie.Need-shared-slice-read-if3 Inv-loop μ-loop
-shared-slice-read-if3 c = search needs
-
 returns-3 : tie.Need-returns-3 Inv-loop μ-loop
-returns-3 c = laws.digits-bad _ _ _ (c .before .before .before .before .before .loop .inv .1 .1) (c .before .before .before .before .loop-test .taken) (inr (c .if3 .taken))
-
-shared-slice-read-d : tie.Need-shared-slice-read-d Inv-loop μ-loop
-shared-slice-read-d c = search needs
-
-sub-d : tie.Need-sub-d Inv-loop μ-loop
-sub-d c = search needs
-
-cast-d : tie.Need-cast-d Inv-loop μ-loop
-cast-d c = search needs
-
-sub-if4 : tie.Need-sub-if4 Inv-loop μ-loop
-sub-if4 c = search needs
+returns-3 c =
+    laws.digits-bad _ _ _ (c .before .before .before .before .before .loop .inv .1 .1) (c .before .before .before .before .loop-test .taken)
+    (inr (c .if3 .taken))
 
 returns-4 : tie.Need-returns-4 Inv-loop μ-loop
-returns-4 c = laws.digits-big _ _ _ (c .before .before .before .before .before .before .before .loop .inv .1 .1) (c .before .before .before .before .before .before .loop-test .taken) (c .before .before .before .before .if2 .left) (c .before .before .if3 .left) (omega arith)
-
-mul-n : tie.Need-mul-n Inv-loop μ-loop
-mul-n c = search needs
-
-add-n : tie.Need-add-n Inv-loop μ-loop
-add-n c = search needs
-
-add-i : tie.Need-add-i Inv-loop μ-loop
-add-i c = search needs
-
-loop-less : tie.Need-loop-less Inv-loop μ-loop
-loop-less c = search needs
+returns-4 c =
+    laws.digits-big _ _ _ (c .before .before .before .before .before .before .before .loop .inv .1 .1)
+    (c .before .before .before .before .before .before .loop-test .taken) (c .before .before .before .before .if2 .left)
+    (c .before .before .if3 .left) (omega arith)
 
 loop-again : tie.Need-loop-again Inv-loop μ-loop
-loop-again c = (omega arith, (omega arith, laws.digits-next _ _ _ (c .before .before .before .before .before .before .before .loop .inv .1 .1) (c .before .before .before .before .before .before .loop-test .taken) (c .before .before .before .before .if2 .left) (c .before .before .if3 .left)))
+loop-again c = (
+  omega arith,
+  (
+    omega arith,
+    laws.digits-next _ _ _ (c .before .before .before .before .before .before .before .loop .inv .1 .1)
+        (c .before .before .before .before .before .before .loop-test .taken) (c .before .before .before .before .if2 .left)
+        (c .before .before .if3 .left),
+  ),
+)
 
 returns-5 : tie.Need-returns-5 Inv-loop μ-loop
 returns-5 c = laws.digits-end _ _ _ (c .before .loop .inv .1 .1) (c .loop-test .left) (c .before .loop .inv .1 .0)
@@ -73,20 +53,14 @@ digits-spec =
     (tie.spec
     Inv-loop
     μ-loop
-    returns
+    (λ c. laws.digits-none _ (c .if1 .taken))
     loop-holds
-    shared-slice-read-if2
+    (λ c. search needs)
     returns-2
-    shared-slice-read-if3
+    (λ c. search needs)
     returns-3
-    shared-slice-read-d
-    sub-d
-    cast-d
-    sub-if4
+    (λ c. search needs) (λ c. search needs) (λ c. search needs) (λ c. search needs)
     returns-4
-    mul-n
-    add-n
-    add-i
-    loop-less
+    (λ c. search needs) (λ c. search needs) (λ c. search needs) (λ c. search needs)
     loop-again
     returns-5)

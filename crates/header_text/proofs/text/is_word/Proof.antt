@@ -9,12 +9,9 @@ returns : tie.Need-returns
 unfolding same
 returns c = simp (ne-eqb _ _ (c .if1 .taken))
 
-begins-with-requires : tie.Need-begins-with-requires
-begins-with-requires c κs = search needs
-
 returns-2 : tie.Need-returns-2
 unfolding same
 returns-2 c = rw (eq-eqb _ _ (c .before .if1 .left)) (c .begins-with .ensures)
 
 pub is-word-spec : {M : Type 1} → statement M
-is-word-spec = tie.close (tie.spec returns begins-with-requires returns-2)
+is-word-spec = tie.close (tie.spec returns (λ c κs. search needs) returns-2)

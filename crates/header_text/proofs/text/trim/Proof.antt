@@ -5,15 +5,9 @@ use Rattle.header_text.specs.Text.{trimStart, trimEnd, trimOf}
 use Rattle.header_text.proofs.text.trim.Statement.{statement}
 use Rattle.header_text.proofs.text.trim.Tie as tie
 
-tail-from-requires : tie.Need-tail-from-requires
-tail-from-requires c κs = search needs
-
-trim-end-requires : tie.Need-trim-end-requires
-trim-end-requires c κs = search needs
-
 returns : tie.Need-returns
 unfolding trimOf trimStart
 returns c = c .trim-end .ensures ∙ ap trimEnd (c .before .tail-from .ensures)
 
 pub trim-spec : {M : Type 1} → statement M
-trim-spec = tie.close (tie.spec tail-from-requires trim-end-requires returns)
+trim-spec = tie.close (tie.spec (λ c κs. search needs) (λ c κs. search needs) returns)

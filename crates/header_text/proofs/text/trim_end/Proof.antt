@@ -17,35 +17,18 @@ Inv-loop s n₀ n = (n ≤ length s) × (trimEnd (take n s) ≡ trimEnd s)
 abbrev μ-loop : tie.MeasureT-loop
 μ-loop s n₀ n = n
 
-loop-holds : tie.Need-loop-holds Inv-loop μ-loop
-loop-holds c = (omega arith, ap trimEnd (take-length _))
-
-sub-blank : tie.Need-sub-blank Inv-loop μ-loop
-sub-blank c = search needs
-
-shared-slice-read-blank : tie.Need-shared-slice-read-blank Inv-loop μ-loop
-shared-slice-read-blank c = search needs
-
-blank-requires : tie.Need-blank-requires Inv-loop μ-loop
-blank-requires c κs = search needs
-
-slice-aggregate-result : tie.Need-slice-aggregate-result Inv-loop μ-loop
-slice-aggregate-result c = sym (length-take-le _ _ (omega arith))
-
 returns : tie.Need-returns Inv-loop μ-loop
-returns c = laws.end-dark _ _ (c .before .before .before .before .loop-test .taken) (c .before .before .before .before .before .loop .inv .0) (sym (c .before .before .blank .ensures) ∙ not-true _ (c .before .if1 .taken)) (c .before .before .before .before .before .loop .inv .1)
-
-sub-n : tie.Need-sub-n Inv-loop μ-loop
-sub-n c = search needs
-
-loop-less : tie.Need-loop-less Inv-loop μ-loop
-loop-less c = search needs
+returns c =
+    let inv = c .before .before .before .before .before .loop .inv in
+    laws.end-dark _ _ (c .before .before .before .before .loop-test .taken) (inv .0)
+    (sym (c .before .before .blank .ensures) ∙ not-true _ (c .before .if1 .taken)) (inv .1)
 
 loop-again : tie.Need-loop-again Inv-loop μ-loop
-loop-again c = (omega arith, laws.end-blank _ _ (c .before .before .before .loop-test .taken) (c .before .before .before .before .loop .inv .0) (sym (c .before .blank .ensures) ∙ not-false _ (c .if1 .left)) (c .before .before .before .before .loop .inv .1))
-
-slice-aggregate-result-2 : tie.Need-slice-aggregate-result-2 Inv-loop μ-loop
-slice-aggregate-result-2 c = sym (length-take-le _ _ (omega arith))
+loop-again c =
+    let inv = c .before .before .before .before .loop .inv in (
+      omega arith,
+      laws.end-blank _ _ (c .before .before .before .loop-test .taken) (inv .0) (sym (c .before .blank .ensures) ∙ not-false _ (c .if1 .left)) (inv .1),
+    )
 
 returns-2 : tie.Need-returns-2 Inv-loop μ-loop
 returns-2 c = laws.end-none _ _ (c .before .loop-test .left) (c .before .before .loop .inv .1)
@@ -56,14 +39,10 @@ trim-end-spec =
     (tie.spec
     Inv-loop
     μ-loop
-    loop-holds
-    sub-blank
-    shared-slice-read-blank
-    blank-requires
-    slice-aggregate-result
+    (λ c. (omega arith, ap trimEnd (take-length _))) (λ c. search needs) (λ c. search needs) (λ c κs. search needs)
+    (λ c. sym (length-take-le _ _ (omega arith)))
     returns
-    sub-n
-    loop-less
+    (λ c. search needs) (λ c. search needs)
     loop-again
-    slice-aggregate-result-2
+    (λ c. sym (length-take-le _ _ (omega arith)))
     returns-2)

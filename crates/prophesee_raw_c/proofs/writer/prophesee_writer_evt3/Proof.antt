@@ -4,22 +4,12 @@ use borrow.Author.Needs.{needs}
 use Rattle.prophesee_raw_c.proofs.writer.prophesee_writer_evt3.Statement.{statement}
 use Rattle.prophesee_raw_c.proofs.writer.prophesee_writer_evt3.Tie as tie
 
--- src/writer.rt:191:53
-is-set-requires : tie.Need-is-set-requires
-is-set-requires c κs = search needs
-
--- src/writer.rt:191:13
-to-writer-requires : tie.Need-to-writer-requires
-to-writer-requires c κs = search needs
-
--- src/writer.rt:191:5
-flat-of-requires : tie.Need-flat-of-requires
-flat-of-requires c κs = search needs
-
--- src/writer.rt:187:1
 returns : tie.Need-returns
 returns c = c .flat-of .ensures ∙ ap flatSink (rw (c .before .before .is-set .ensures) at (c .before .to-writer .ensures))
 
 pub prophesee-writer-evt3-spec : {M : Type 1} → statement M
 prophesee-writer-evt3-spec =
-    tie.close (tie.spec is-set-requires to-writer-requires flat-of-requires returns)
+    tie.close
+    (tie.spec
+    (λ c κs. search needs) (λ c κs. search needs) (λ c κs. search needs)
+    returns)

@@ -17,66 +17,54 @@ use Rattle.read_count.proofs.all.evt2.Statement.{statement}
 use Rattle.read_count.proofs.all.evt2.Tie as tie
 
 abbrev Inv-loop : tie.InvT-loop
-Inv-loop bytes width height s₀ limit₀ n₀ top₀ i₀ w₀ s limit n top i w = Counting 4 reader2 Bounded2 width height s₀ bytes s n top i × (limit ≡ limitOf (s .initialised) width) × (w ≡ ahead 4 bytes i)
+Inv-loop bytes width height s₀ limit₀ n₀ top₀ i₀ w₀ s limit n top i w =
+    Counting 4 reader2 Bounded2 width height s₀ bytes s n top i × (limit ≡ limitOf (s .initialised) width) × (w ≡ ahead 4 bytes i)
 
 abbrev μ-loop : tie.MeasureT-loop
 μ-loop bytes width height s₀ limit₀ n₀ top₀ i₀ w₀ s limit n top i w = length bytes - i
 
-limit-requires : tie.Need-limit-requires Inv-loop μ-loop
-limit-requires c κs = search needs
-
-four-at-requires : tie.Need-four-at-requires Inv-loop μ-loop
-four-at-requires c κs = search needs
-
 loop-holds : tie.Need-loop-holds Inv-loop μ-loop
-loop-holds c = (counting-start (omega arith) bounded-step2 (start2 (now (c .before .before .before .args .bytes)) (c .before .before .before .pre)), c .before .limit .ensures, c .four-at .ensures)
-
-add-loop : tie.Need-add-loop Inv-loop μ-loop
-add-loop c = omega (arith, c .loop .inv .0 .stand .within, c .before .before .before .before .pre .loops)
-
-seen-requires : tie.Need-seen-requires Inv-loop μ-loop
-seen-requires c κs = search needs
-
-bits-requires : tie.Need-bits-requires Inv-loop μ-loop
-bits-requires c κs = search needs
+loop-holds c = (
+  counting-start (omega arith) bounded-step2 (start2 (now (c .before .before .before .args .bytes)) (c .before .before .before .pre)),
+  c .before .limit .ensures,
+  c .four-at .ensures,
+)
 
 add-t : tie.Need-add-t Inv-loop μ-loop
-add-t c = omega (arith, bounded-sane2 (c .before .before .before .before .before .loop .inv .0 .stand .inv) .high, c .before .bits .ensures)
+add-t c = omega (arith, bounded-sane2 (c .before .before .before .before .before .loop .inv .0 .stand .inv) .high)
 
 add-n : tie.Need-add-n Inv-loop μ-loop
-add-n c = omega (arith, seen-few (record { more = c .before .before .before .before .loop-test .taken; is-word = c .before .before .before .before .before .loop .inv .2; is-limit = c .before .before .before .before .before .loop .inv .1 }) (c .before .before .before .before .before .loop .inv .0) (sym (c .before .before .before .seen .ensures) ∙ c .before .before .if1 .taken), few2 (c .before .before .before .before .before .before .before .before .before .args .width) (c .before .before .before .before .before .before .before .before .before .args .height) (c .before .before .before .before .before .before .before .before .before .args .d) (now (c .before .before .before .before .before .before .before .before .before .args .bytes)), c .before .before .before .before .before .before .before .before .before .pre .loops)
-
-later-requires : tie.Need-later-requires Inv-loop μ-loop
-later-requires c κs = search needs
+add-n c =
+    let a = c .before .before .before .before .before .before .before .before .before .args in
+    let inv = c .before .before .before .before .before .loop .inv in
+    omega (
+      arith,
+      seen-few (record { more = c .before .before .before .before .loop-test .taken; is-word = inv .2; is-limit = inv .1 }) (inv .0)
+          (sym (c .before .before .before .seen .ensures) ∙ c .before .before .if1 .taken),
+      few2 (a .width) (a .height) (a .d) (now (a .bytes)),
+    )
 
 advance-requires : tie.Need-advance-requires Inv-loop μ-loop
 advance-requires c κs = bounded-sane2 (c .before .before .before .loop .inv .0 .stand .inv)
-
-limit-requires-2 : tie.Need-limit-requires-2 Inv-loop μ-loop
-limit-requires-2 c κs = search needs
-
-add-i : tie.Need-add-i Inv-loop μ-loop
-add-i c = omega (arith, c .before .before .loop-test .taken, c .before .before .before .loop .inv .0 .stand .within, c .before .before .before .before .before .before .before .pre .loops)
-
-four-at-requires-2 : tie.Need-four-at-requires-2 Inv-loop μ-loop
-four-at-requires-2 c κs = omega (arith, c .before .before .loop-test .taken, c .before .before .before .loop .inv .0 .stand .within, c .before .before .before .before .before .before .before .pre .loops)
-
-loop-less : tie.Need-loop-less Inv-loop μ-loop
-loop-less c = omega (arith, c .before .before .before .loop-test .taken)
 
 loop-again : tie.Need-loop-again Inv-loop μ-loop
 loop-again c =
     let l = c .before .before .before .before .loop in
     let x = c .before .before .before .before .before .before .before .before .args in
-    let a : Word2 (x .width) (x .height) (now (x .bytes)) (l .s) (l .limit) (l .i) (l .w) = record { more = c .before .before .before .loop-test .taken; is-word = l .inv .2; is-limit = l .inv .1 } in
+    let a : Word2 (x .width) (x .height) (now (x .bytes)) (l .s) (l .limit) (l .i) (l .w) =
+    record { more = c .before .before .before .loop-test .taken; is-word = l .inv .2; is-limit = l .inv .1 } in
     let e = sym (c .before .before .seen .ensures) in
     ⊎-elim
-    (λ q. (rw (q .4, q .6, q .7) (seen-turn a (l .inv .0) (e ∙ q .0 .taken) (l .s .«time_high» + q .1 .result) (rw (q .1 .ensures)) (q .3 .ensures)), rw (q .4, q .5) (l .inv .1), c .four-at2 .ensures))
+    (λ q. (
+      rw (q .4, q .6, q .7) (seen-turn a (l .inv .0) (e ∙ q .0 .taken) (l .s .«time_high» + q .1 .result) (rw (q .1 .ensures)) (q .3 .ensures)),
+      rw (q .4, q .5) (l .inv .1),
+      c .four-at2 .ensures,
+    ))
     (λ q. (rw (q .4, q .6, q .7) (unseen-turn a (l .inv .0) (e ∙ q .0 .left) (q .1 .ensures .0)), rw (q .4, q .5) (q .3 .ensures), c .four-at2 .ensures))
     (c .before .if1 .came)
 
 returns : tie.Need-returns Inv-loop μ-loop
-returns c = counting-end (omega arith) bounded-step2 (c .before .loop .inv .0) (omega (arith, c .loop-test .left))
+returns c = counting-end (omega arith) bounded-step2 (c .before .loop .inv .0) (omega arith)
 
 pub evt2-spec : {M : Type 1} → statement M
 evt2-spec =
@@ -84,19 +72,13 @@ evt2-spec =
     (tie.spec
     Inv-loop
     μ-loop
-    limit-requires
-    four-at-requires
+    (λ c κs. search needs) (λ c κs. search needs)
     loop-holds
-    add-loop
-    seen-requires
-    bits-requires
+    (λ c. omega arith) (λ c κs. search needs) (λ c κs. search needs)
     add-t
     add-n
-    later-requires
+    (λ c κs. search needs)
     advance-requires
-    limit-requires-2
-    add-i
-    four-at-requires-2
-    loop-less
+    (λ c κs. search needs) (λ c. omega arith) (λ c κs. omega arith) (λ c. omega arith)
     loop-again
     returns)

@@ -3,12 +3,6 @@ use borrow.Author.Needs.{needs}
 use Rattle.read_deliver.proofs.plan.is_everything.Statement.{statement}
 use Rattle.read_deliver.proofs.plan.is_everything.Tie as tie
 
-in-range-requires : tie.Need-in-range-requires
-in-range-requires c κs = search needs
-
-is-whole-requires : tie.Need-is-whole-requires
-is-whole-requires c κs = search needs
-
 returns : tie.Need-returns
 returns c = (rw (sym (c .before .is-whole .ensures) ∙ c .if1 .taken) (c .before .before .in-range .ensures .0), c .before .before .in-range .ensures .1)
 
@@ -16,4 +10,4 @@ returns-2 : tie.Need-returns-2
 returns-2 c = (rw (sym (c .before .is-whole .ensures) ∙ c .if1 .left), c .before .before .in-range .ensures .1)
 
 pub is-everything-spec : {M : Type 1} → statement M
-is-everything-spec = tie.close (tie.spec in-range-requires is-whole-requires returns returns-2)
+is-everything-spec = tie.close (tie.spec (λ c κs. search needs) (λ c κs. search needs) returns returns-2)

@@ -4,9 +4,6 @@ use borrow.Author.Tests.{eq-eqb, ne-eqb, le-leb, lt-leb}
 use Rattle.read_deliver.proofs.plan.is_whole.Statement.{statement}
 use Rattle.read_deliver.proofs.plan.is_whole.Tie as tie
 
-is-timed-requires : tie.Need-is-timed-requires
-is-timed-requires c κs = search needs
-
 returns : tie.Need-returns
 returns c =
     let w = c .before .before .before .before .before .args .window in
@@ -21,4 +18,4 @@ returns-3 : tie.Need-returns-3
 returns-3 c = rw (ne-eqb (c .before .before .args .window .t0) 0 (c .if1 .left))
 
 pub is-whole-spec : {M : Type 1} → statement M
-is-whole-spec = tie.close (tie.spec is-timed-requires returns returns-2 returns-3)
+is-whole-spec = tie.close (tie.spec (λ c κs. search needs) returns returns-2 returns-3)

@@ -6,21 +6,21 @@ use borrow.Author.Needs.{needs}
 use Rattle.read_deliver.proofs.plan.plan_number.Statement.{statement}
 use Rattle.read_deliver.proofs.plan.plan_number.Tie as tie
 
--- src/plan.rt:74:17
-sub-most : tie.Need-sub-most
-sub-most c = search needs
-
--- src/plan.rt:75:9
 count-to-requires : tie.Need-count-to-requires
 count-to-requires c κs = steady-able (c .before .before .args .codec) (length (c .before .before .args .bytes .now)) (c .before .before .pre .0 .able)
 
--- src/plan.rt:77:16
 add-next : tie.Need-add-next
-add-next c = omega (arith, few-number (c .before .before .before .args .window) (c .before .before .before .args .number) (c .before .before .before .args .codec) (c .before .before .before .args .bytes .now) (c .before .before .before .pre .0) (c .before .before .before .pre .1) (c .count-to .result) (c .count-to .ensures .0), c .before .before .before .pre .1 .low)
+add-next c =
+    let s = c .before .before .before in
+    let a = s .args in
+    omega (arith, few-number (a .window) (a .number) (a .codec) (a .bytes .now) (s .pre .0) (s .pre .1) (c .count-to .result) (c .count-to .ensures .0))
 
--- src/plan.rt:70:1
 returns : tie.Need-returns
-returns c = planned-number (c .before .before .before .args .window) (c .before .before .before .args .number) (c .before .before .before .args .codec) (c .before .before .before .args .bytes .now) (c .before .before .before .pre .0) (c .before .before .before .pre .1) (c .count-to .result) (c .count-to .ensures .0) (c .count-to .ensures .1)
+returns c =
+    let s = c .before .before .before in
+    let a = s .args in
+    planned-number (a .window) (a .number) (a .codec) (a .bytes .now) (s .pre .0) (s .pre .1) (c .count-to .result)
+    (c .count-to .ensures .0) (c .count-to .ensures .1)
 
 pub plan-number-spec : {M : Type 1} → statement M
-plan-number-spec = tie.close (tie.spec sub-most count-to-requires add-next returns)
+plan-number-spec = tie.close (tie.spec (λ c. search needs) count-to-requires add-next returns)

@@ -13,7 +13,8 @@ use Rattle.read_fill.proofs.fill.evt3.Statement.{statement}
 use Rattle.read_fill.proofs.fill.evt3.Tie as tie
 
 abbrev Inv-loop : tie.InvT-loop
-Inv-loop bytes width height xs₀ ys₀ ts₀ ps₀ s₀ n₀ i₀ xs ys ts ps s n i = Filling 2 reader3 Bounded3 width height (slimmed s₀) bytes xs₀ ys₀ ts₀ ps₀ xs ys ts ps (slimmed s) n i
+Inv-loop bytes width height xs₀ ys₀ ts₀ ps₀ s₀ n₀ i₀ xs ys ts ps s n i =
+    Filling 2 reader3 Bounded3 width height (slimmed s₀) bytes xs₀ ys₀ ts₀ ps₀ xs ys ts ps (slimmed s) n i
 
 abbrev μ-loop : tie.MeasureT-loop
 μ-loop bytes width height xs₀ ys₀ ts₀ ps₀ s₀ n₀ i₀ xs ys ts ps s n i = length bytes - i
@@ -21,64 +22,52 @@ abbrev μ-loop : tie.MeasureT-loop
 -- the room, over the decoder as the loop has it
 fits-at : (c : tie.After-widen Inv-loop μ-loop) →
     let a = c .before .before .before .before .before .args in
-    Fits (length (insideAll 2 reader3 (a .width) (a .height) (slimmed (c .widen .result)) (now (a .bytes)))) (length (now (a .xs))) (length (now (a .ys))) (length (now (a .ts))) (length (now (a .ps)))
+    Fits (length (insideAll 2 reader3 (a .width) (a .height) (slimmed (c .widen .result)) (now (a .bytes)))) (length (now (a .xs)))
+    (length (now (a .ys))) (length (now (a .ts))) (length (now (a .ps)))
 fits-at c = rw (c .widen .ensures .0) (c .before .before .before .before .before .pre .1)
 
 -- the word's step, and its events
-turn : (c : tie.After-clean Inv-loop μ-loop) → Turn 2 reader3 (now (c .before .before .before .before .before .before .before .before .before .before .before .args .bytes)) (slimmed (c .before .before .before .before .before .loop .s)) (c .before .before .before .before .before .loop .i) (slimmed (c .before .before .advance .result .next)) (c .before .before .advance .result .events)
-turn c = turn3 (c .before .before .before .before .loop-test .taken) (c .before .before .before .two-at .result) (c .before .before .before .two-at .ensures) (c .before .before .advance .result) (c .before .before .advance .ensures)
+turn : (c : tie.After-clean Inv-loop μ-loop) →
+    let k = c .before .before .before .before .before .loop in
+    Turn 2 reader3 (now (c .before .before .before .before .before .before .before .before .before .before .before .args .bytes))
+    (slimmed (k .s)) (k .i) (slimmed (c .before .before .advance .result .next)) (c .before .before .advance .result .events)
+turn c =
+    turn3 (c .before .before .before .before .loop-test .taken) (c .before .before .before .two-at .result)
+    (c .before .before .before .two-at .ensures) (c .before .before .advance .result) (c .before .before .advance .ensures)
 
 small : (c : tie.After-clean Inv-loop μ-loop) → Narrow (c .before .before .advance .result .events)
-small c = small3 (c .before .before .before .before .before .loop .inv .stand .inv) (c .before .before .before .two-at .result) (c .before .before .advance .result .events) (c .before .before .advance .ensures .1)
-
-widen-requires : tie.Need-widen-requires Inv-loop μ-loop
-widen-requires c κs = search needs
+small c =
+    small3 (c .before .before .before .before .before .loop .inv .stand .inv) (c .before .before .before .two-at .result)
+    (c .before .before .advance .result .events) (c .before .before .advance .ensures .1)
 
 loop-holds : tie.Need-loop-holds Inv-loop μ-loop
-loop-holds c = rw (c .widen .ensures .0) (filling-start (omega arith) bounded-step3 (start3 (now (c .before .before .before .before .before .args .bytes)) (c .before .before .before .before .before .pre .0)))
-
-add-loop : tie.Need-add-loop Inv-loop μ-loop
-add-loop c = omega (arith, c .loop .inv .stand .within, c .before .before .before .before .before .before .pre .0 .loops)
-
-two-at-requires : tie.Need-two-at-requires Inv-loop μ-loop
-two-at-requires c κs = omega (arith, c .loop-test .taken, c .before .before .before .before .before .before .before .pre .0 .loops)
+loop-holds c =
+    let s = c .before .before .before .before .before in
+    rw (c .widen .ensures .0) (filling-start (omega arith) bounded-step3 (start3 (now (s .args .bytes)) (s .pre .0)))
 
 advance-requires : tie.Need-advance-requires Inv-loop μ-loop
 advance-requires c κs = bounded-sane3 (c .before .before .loop .inv .stand .inv)
 
-clean-requires : tie.Need-clean-requires Inv-loop μ-loop
-clean-requires c κs = search needs
-
-add-i : tie.Need-add-i Inv-loop μ-loop
-add-i c = omega (arith, c .before .before .before .before .loop-test .taken, c .before .before .before .before .before .before .before .before .before .before .before .pre .0 .loops)
-
 place-requires : tie.Need-place-requires Inv-loop μ-loop
-place-requires c κs = filling-room (omega arith) bounded-step3 (fits-at (c .before .before .before .before .before .before .before .before .before .before)) (c .before .before .before .before .before .before .before .before .before .loop .inv) (turn (c .before .before .before .before)) (small (c .before .before .before .before))
-
-loop-less : tie.Need-loop-less Inv-loop μ-loop
-loop-less c = omega (arith, c .before .before .before .before .before .before .before .before .before .before .before .before .before .before .before .before .loop-test .taken)
+place-requires c κs =
+    filling-room (omega arith) bounded-step3 (fits-at (c .before .before .before .before .before .before .before .before .before .before))
+    (c .before .before .before .before .before .before .before .before .before .loop .inv) (turn (c .before .before .before .before))
+    (small (c .before .before .before .before))
 
 loop-again : tie.Need-loop-again Inv-loop μ-loop
-loop-again c = rw (c .before .before .before .before .before .before .before .before .before .before .before .before .clean .ensures, c .before .before .before .before .before .before .before .place .ensures .0) (filling-turn (omega arith) bounded-step3 (fits-at (c .before .before .before .before .before .before .before .before .before .before .before .before .before .before .before .before .before .before)) (c .before .before .before .before .before .before .before .before .before .before .before .before .before .before .before .before .before .loop .inv) (turn (c .before .before .before .before .before .before .before .before .before .before .before .before)) (small (c .before .before .before .before .before .before .before .before .before .before .before .before)) (c .before .before .before .before .before .before .before .place .ensures .1))
-
-slim-requires : tie.Need-slim-requires Inv-loop μ-loop
-slim-requires c κs = bounded-slim3 (c .before .loop .inv .stand .inv)
-
-same-length : tie.Need-same-length Inv-loop μ-loop
-same-length c = c .before .before .loop .inv .going .in-x .long
-
-same-length-2 : tie.Need-same-length-2 Inv-loop μ-loop
-same-length-2 c = c .before .before .loop .inv .going .in-y .long
-
-same-length-3 : tie.Need-same-length-3 Inv-loop μ-loop
-same-length-3 c = c .before .before .loop .inv .going .in-t .long
-
-same-length-4 : tie.Need-same-length-4 Inv-loop μ-loop
-same-length-4 c = c .before .before .loop .inv .going .in-p .long
+loop-again c =
+    let place = c .before .before .before .before .before .before .before .place .ensures in
+    rw (c .before .before .before .before .before .before .before .before .before .before .before .before .clean .ensures, place .0)
+    (filling-turn (omega arith) bounded-step3 (fits-at
+    (c .before .before .before .before .before .before .before .before .before .before .before .before .before .before .before .before .before .before))
+    (c .before .before .before .before .before .before .before .before .before .before .before .before .before .before .before .before .before .loop .inv)
+    (turn (c .before .before .before .before .before .before .before .before .before .before .before .before))
+    (small (c .before .before .before .before .before .before .before .before .before .before .before .before)) (place .1))
 
 returns : tie.Need-returns Inv-loop μ-loop
 returns c =
-    let q = rw (c .before .before .before .widen .ensures .0) at (filling-end (omega arith) bounded-step3 (fits-at (c .before .before .before)) (c .before .before .loop .inv) (omega (arith, c .before .loop-test .left))) in
+    let q = rw (c .before .before .before .widen .ensures .0) at (filling-end (omega arith) bounded-step3
+    (fits-at (c .before .before .before)) (c .before .before .loop .inv) (omega arith)) in
     (rw (c .slim .ensures, q .0, q .1), q .2)
 
 pub evt3-spec : {M : Type 1} → statement M
@@ -87,19 +76,15 @@ evt3-spec =
     (tie.spec
     Inv-loop
     μ-loop
-    widen-requires
+    (λ c κs. search needs)
     loop-holds
-    add-loop
-    two-at-requires
+    (λ c. omega arith) (λ c κs. omega arith)
     advance-requires
-    clean-requires
-    add-i
+    (λ c κs. search needs) (λ c. omega arith)
     place-requires
-    loop-less
+    (λ c. omega arith)
     loop-again
-    slim-requires
-    same-length
-    same-length-2
-    same-length-3
-    same-length-4
+    (λ c κs. bounded-slim3 (c .before .loop .inv .stand .inv)) (λ c. c .before .before .loop .inv .going .in-x .long)
+    (λ c. c .before .before .loop .inv .going .in-y .long) (λ c. c .before .before .loop .inv .going .in-t .long)
+    (λ c. c .before .before .loop .inv .going .in-p .long)
     returns)

@@ -20,73 +20,85 @@ Inv-loop bytes t c₀ at₀ i₀ c at i = (d : Decoder) → d .initialised ≡ t
 abbrev μ-loop : tie.MeasureT-loop
 μ-loop bytes t c₀ at₀ i₀ c at i = length bytes - i
 
--- src/evt3.rt:134:9
-of-requires : tie.Need-of-requires Inv-loop μ-loop
-of-requires c κs = search needs
-
--- src/evt3.rt:137:12
 add-if1 : tie.Need-add-if1 Inv-loop μ-loop
 add-if1 c = omega (arith, bounded-sane3 (c .before .before .before .pre .1 .0) .base)
 
--- src/evt3.rt:138:9
 returns : tie.Need-returns Inv-loop μ-loop
-returns c = rw (c .before .before .of .ensures) (passing-start 0 (c .before .before .before .before .args .t) (c .before .before .before .before .args .d) (now (c .before .before .before .before .args .bytes)) (c .before .before .before .before .pre .0) (c .before .before .before .before .pre .1 .0))
+returns c =
+    let s = c .before .before .before .before in
+    rw (c .before .before .of .ensures) (passing-start 0 (s .args .t) (s .args .d) (now (s .args .bytes)) (s .pre .0) (s .pre .1 .0))
 
--- src/evt3.rt:140:5
 loop-holds : tie.Need-loop-holds Inv-loop μ-loop
-loop-holds c = λ d on is b. let e : d .«time_base» ≡ c .before .before .before .before .args .d .«time_base» = ap (λ (c : Times). c .base) (sym is ∙ c .before .before .of .ensures) in let h : d .«time_base» + 4096 ≤ c .before .before .before .before .args .t = omega (arith, e, c .if1 .left) in rw is (skip-start3 (c .before .before .before .before .args .t) d (now (c .before .before .before .before .args .bytes)) on b h)
+loop-holds c =
+    λ d on is b. let e : d .«time_base» ≡ c .before .before .before .before .args .d .«time_base» =
+    ap (λ (c : Times). c .base) (sym is ∙ c .before .before .of .ensures) in
+    let h : d .«time_base» + 4096 ≤ c .before .before .before .before .args .t = omega arith in
+    rw is (skip-start3 (c .before .before .before .before .args .t) d (now (c .before .before .before .before .args .bytes)) on b h)
 
--- src/evt3.rt:140:11
 add-loop : tie.Need-add-loop Inv-loop μ-loop
-add-loop c = omega (arith, (c .loop .inv (c .before .before .before .before .before .args .d) (c .before .before .before .before .before .pre .0) (c .before .before .before .of .ensures) (c .before .before .before .before .before .pre .1 .0)) .here .seeking .within, c .before .before .before .before .before .pre .1 .1)
+add-loop c =
+    let s = c .before .before .before .before .before in
+    omega (arith, (c .loop .inv (s .args .d) (s .pre .0) (c .before .before .before .of .ensures) (s .pre .1 .0)) .here .seeking .within)
 
--- src/evt3.rt:141:13
-two-at-requires : tie.Need-two-at-requires Inv-loop μ-loop
-two-at-requires c κs = omega (arith, c .loop-test .taken, c .before .before .before .before .before .before .pre .1 .1)
-
--- src/evt3.rt:142:9
-add-i : tie.Need-add-i Inv-loop μ-loop
-add-i c = omega (arith, c .before .loop-test .taken, c .before .before .before .before .before .before .before .pre .1 .1)
-
--- src/evt3.rt:143:13
-bits-requires : tie.Need-bits-requires Inv-loop μ-loop
-bits-requires c κs = search needs
-
--- src/evt3.rt:145:17
 tick-requires : tie.Need-tick-requires Inv-loop μ-loop
-tick-requires c κs = passing-slow 0 (c .before .before .before .before .before .before .before .before .before .args .t) (c .before .before .before .before .before .before .before .before .before .args .d) (now (c .before .before .before .before .before .before .before .before .before .args .bytes)) ((c .before .before .before .before .loop .inv (c .before .before .before .before .before .before .before .before .before .args .d) (c .before .before .before .before .before .before .before .before .before .pre .0) (c .before .before .before .before .before .before .before .of .ensures) (c .before .before .before .before .before .before .before .before .before .pre .1 .0)) .marked)
+tick-requires c κs =
+    let s = c .before .before .before .before .before .before .before .before .before in
+    let a = s .args in
+    passing-slow 0 (a .t) (a .d) (now (a .bytes)) ((c .before .before .before .before .loop .inv (a .d) (s .pre .0)
+    (c .before .before .before .before .before .before .before .of .ensures) (s .pre .1 .0)) .marked)
 
--- src/evt3.rt:151:20
 add-if4 : tie.Need-add-if4 Inv-loop μ-loop
-add-if4 c = omega (arith, skip-small3 (c .before .before .before .before .before .before .before .before .before .before .before .before .before .args .t) (c .before .before .before .before .before .before .before .before .before .before .before .before .before .args .d) (now (c .before .before .before .before .before .before .before .before .before .before .before .before .before .args .bytes)) (c .before .before .before .before .before .before .before .before .loop .inv (c .before .before .before .before .before .before .before .before .before .before .before .before .before .args .d) (c .before .before .before .before .before .before .before .before .before .before .before .before .before .pre .0) (c .before .before .before .before .before .before .before .before .before .before .before .of .ensures) (c .before .before .before .before .before .before .before .before .before .before .before .before .before .pre .1 .0)) (c .before .before .before .before .before .before .before .loop-test .taken) (c .before .before .before .before .before .before .two-at .result) (c .before .before .before .before .before .before .two-at .ensures) (c .before .before .before .before .before .bits .result) (c .before .before .before .before .before .bits .ensures) (c .before .before .before .before .if2 .taken) (c .before .before .before .tick .result) (c .before .before .before .tick .ensures) (c .before .if3 .left))
+add-if4 c =
+    let s = c .before .before .before .before .before .before .before .before .before .before .before .before .before in
+    let two-at = c .before .before .before .before .before .before .two-at in
+    let bits = c .before .before .before .before .before .bits in
+    let a = s .args in
+    omega (
+      arith,
+      skip-small3 (a .t) (a .d) (now (a .bytes)) (c .before .before .before .before .before .before .before .before .loop .inv (a .d)
+          (s .pre .0) (c .before .before .before .before .before .before .before .before .before .before .before .of .ensures)
+          (s .pre .1 .0)) (c .before .before .before .before .before .before .before .loop-test .taken) (two-at .result) (two-at .ensures)
+          (bits .result) (bits .ensures) (c .before .before .before .before .if2 .taken) (c .before .before .before .tick .result)
+          (c .before .before .before .tick .ensures) (c .before .if3 .left),
+    )
 
--- src/evt3.rt:140:5
-loop-less : tie.Need-loop-less Inv-loop μ-loop
-loop-less c = omega (arith, c .before .before .before .before .before .before .before .before .loop-test .taken)
-
--- src/evt3.rt:140:5
 loop-again : tie.Need-loop-again Inv-loop μ-loop
-loop-again c = λ d on is b. skip-on3 (c .before .before .before .before .before .before .before .before .before .before .before .before .before .before .args .t) d (now (c .before .before .before .before .before .before .before .before .before .before .before .before .before .before .args .bytes)) (c .before .before .before .before .before .before .before .before .before .loop .inv d on is b) (c .before .before .before .before .before .before .before .before .loop-test .taken) (c .before .before .before .before .before .before .before .two-at .result) (c .before .before .before .before .before .before .before .two-at .ensures) (c .before .before .before .before .before .before .bits .result) (c .before .before .before .before .before .before .bits .ensures) (c .before .before .before .before .before .if2 .taken) (c .before .before .before .before .tick .result) (c .before .before .before .before .tick .ensures) (c .before .before .if3 .left) (c .if4 .left)
+loop-again c =
+    let b′ = c .before .before .before .before .before .before in
+    let a = b′ .before .before .before .before .before .before .before .before .args in
+    λ d on is b. skip-on3 (a .t) d (now (a .bytes)) (b′ .before .before .before .loop .inv d on is b) (b′ .before .before .loop-test .taken)
+    (b′ .before .two-at .result) (b′ .before .two-at .ensures) (b′ .bits .result) (b′ .bits .ensures)
+    (c .before .before .before .before .before .if2 .taken) (c .before .before .before .before .tick .result)
+    (c .before .before .before .before .tick .ensures) (c .before .before .if3 .left) (c .if4 .left)
 
--- src/evt3.rt:140:5
-loop-less-2 : tie.Need-loop-less-2 Inv-loop μ-loop
-loop-less-2 c = omega (arith, c .before .before .before .loop-test .taken)
-
--- src/evt3.rt:140:5
 loop-again-2 : tie.Need-loop-again-2 Inv-loop μ-loop
-loop-again-2 c = λ d on is b. skip-other3 (c .before .before .before .before .before .before .before .before .before .args .t) d (now (c .before .before .before .before .before .before .before .before .before .args .bytes)) (c .before .before .before .before .loop .inv d on is b) (c .before .before .before .loop-test .taken) (c .before .before .two-at .result) (c .before .before .two-at .ensures) (c .before .bits .result) (c .before .bits .ensures) (c .if2 .left)
+loop-again-2 c =
+    let a = c .before .before .before .before .before .before .before .before .before .args in
+    λ d on is b. skip-other3 (a .t) d (now (a .bytes)) (c .before .before .before .before .loop .inv d on is b)
+    (c .before .before .before .loop-test .taken) (c .before .before .two-at .result) (c .before .before .two-at .ensures)
+    (c .before .bits .result) (c .before .bits .ensures) (c .if2 .left)
 
--- src/evt3.rt:130:1
 returns-2 : tie.Need-returns-2 Inv-loop μ-loop
-returns-2 c = (c .before .loop .inv (c .before .before .before .before .before .before .args .d) (c .before .before .before .before .before .before .pre .0) (c .before .before .before .before .of .ensures) (c .before .before .before .before .before .before .pre .1 .0)) .marked
+returns-2 c =
+    let s = c .before .before .before .before .before .before in
+    (c .before .loop .inv (s .args .d) (s .pre .0) (c .before .before .before .before .of .ensures) (s .pre .1 .0)) .marked
 
--- src/evt3.rt:130:1
 returns-3 : tie.Need-returns-3 Inv-loop μ-loop
-returns-3 c = (c .before .before .before .before .before .before .before .loop .inv (c .before .before .before .before .before .before .before .before .before .before .before .before .args .d) (c .before .before .before .before .before .before .before .before .before .before .before .before .pre .0) (c .before .before .before .before .before .before .before .before .before .before .of .ensures) (c .before .before .before .before .before .before .before .before .before .before .before .before .pre .1 .0)) .marked
+returns-3 c =
+    let b = c .before .before .before .before .before .before .before .before .before .before in
+    (c .before .before .before .before .before .before .before .loop .inv (b .before .before .args .d) (b .before .before .pre .0)
+    (b .of .ensures) (b .before .before .pre .1 .0)) .marked
 
--- src/evt3.rt:130:1
 returns-4 : tie.Need-returns-4 Inv-loop μ-loop
-returns-4 c = skip-time3 (c .before .before .before .before .before .before .before .before .before .before .before .before .before .before .args .t) (c .before .before .before .before .before .before .before .before .before .before .before .before .before .before .args .d) (now (c .before .before .before .before .before .before .before .before .before .before .before .before .before .before .args .bytes)) (c .before .before .before .before .before .before .before .before .before .loop .inv (c .before .before .before .before .before .before .before .before .before .before .before .before .before .before .args .d) (c .before .before .before .before .before .before .before .before .before .before .before .before .before .before .pre .0) (c .before .before .before .before .before .before .before .before .before .before .before .before .of .ensures) (c .before .before .before .before .before .before .before .before .before .before .before .before .before .before .pre .1 .0)) (c .before .before .before .before .before .before .before .before .loop-test .taken) (c .before .before .before .before .before .before .before .two-at .result) (c .before .before .before .before .before .before .before .two-at .ensures) (c .before .before .before .before .before .before .bits .result) (c .before .before .before .before .before .before .bits .ensures) (c .before .before .before .before .before .if2 .taken) (c .before .before .before .before .tick .result) (c .before .before .before .before .tick .ensures) (c .before .before .if3 .left)
+returns-4 c =
+    let b = c .before .before .before .before .before .before in
+    let s = b .before .before .before .before .before .before .before .before in
+    let a = s .args in
+    skip-time3 (a .t) (a .d) (now (a .bytes))
+    (b .before .before .before .loop .inv (a .d) (s .pre .0) (b .before .before .before .before .before .before .of .ensures) (s .pre .1 .0))
+    (b .before .before .loop-test .taken) (b .before .two-at .result) (b .before .two-at .ensures) (b .bits .result) (b .bits .ensures)
+    (c .before .before .before .before .before .if2 .taken) (c .before .before .before .before .tick .result)
+    (c .before .before .before .before .tick .ensures) (c .before .before .if3 .left)
 
 pub stride-spec : {M : Type 1} → statement M
 stride-spec =
@@ -94,19 +106,17 @@ stride-spec =
     (tie.spec
     Inv-loop
     μ-loop
-    of-requires
+    (λ c κs. search needs)
     add-if1
     returns
     loop-holds
     add-loop
-    two-at-requires
-    add-i
-    bits-requires
+    (λ c κs. omega arith) (λ c. omega arith) (λ c κs. search needs)
     tick-requires
     add-if4
-    loop-less
+    (λ c. omega arith)
     loop-again
-    loop-less-2
+    (λ c. omega arith)
     loop-again-2
     returns-2
     returns-3

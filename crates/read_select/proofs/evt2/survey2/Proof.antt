@@ -19,34 +19,47 @@ Inv-loop bytes win number s₀ t₀ i₀ s t i = Counts source2 win number s₀ 
 abbrev μ-loop : tie.MeasureT-loop
 μ-loop bytes win number s₀ t₀ i₀ s t i = length bytes - i
 
-turned : (c : tie.After-s Inv-loop μ-loop) → Turned source2 (now (c .before .before .before .before .before .before .before .args .bytes)) (c .before .before .before .before .before .loop .i) (c .before .before .before .before .before .loop .s) (c .before .before .advance .result .next) (c .before .before .advance .result .events)
-turned c = turned2 (c .before .before .before .before .loop-test .taken) (c .before .before .before .four-at .ensures) (c .before .before .advance .ensures .0) (c .before .before .advance .ensures .1)
+turned : (c : tie.After-s Inv-loop μ-loop) →
+    let k = c .before .before .before .before .before .loop in
+    Turned source2 (now (c .before .before .before .before .before .before .before .args .bytes)) (k .i) (k .s)
+    (c .before .before .advance .result .next) (c .before .before .advance .result .events)
+turned c =
+    turned2 (c .before .before .before .before .loop-test .taken) (c .before .before .before .four-at .ensures)
+    (c .before .before .advance .ensures .0) (c .before .before .advance .ensures .1)
 
 -- after the word, before it is asked whether the pass stops
-pend : (c : tie.After-note Inv-loop μ-loop) → CountsIf source2 (c .before .before .before .before .before .before .before .before .before .args .win) (c .before .before .before .before .before .before .before .before .before .args .number) (c .before .before .before .before .before .before .before .before .before .args .d) (now (c .before .before .before .before .before .before .before .before .before .args .bytes)) (c .before .before .before .before .advance .result .next) (c .note .result) (c .before .before .before .before .before .before .before .loop .i + 4)
-pend c = rw (c .note .ensures) (counts-turn laws2 (c .before .before .before .before .before .before .before .loop .inv) (turned (c .before .before)) (c .before .cut2 .result) (c .before .cut2 .ensures))
+pend : (c : tie.After-note Inv-loop μ-loop) →
+    let a = c .before .before .before .before .before .before .before .before .before .args in
+    CountsIf source2 (a .win) (a .number) (a .d) (now (a .bytes)) (c .before .before .before .before .advance .result .next)
+    (c .note .result) (c .before .before .before .before .before .before .before .loop .i + 4)
+pend c =
+    rw (c .note .ensures) (counts-turn laws2 (c .before .before .before .before .before .before .before .loop .inv)
+    (turned (c .before .before)) (c .before .cut2 .result) (c .before .cut2 .ensures))
 
-done : (c : tie.Left-loop Inv-loop μ-loop) → Counted source2 (c .before .before .before .args .win) (c .before .before .before .args .number) (c .before .before .before .args .d) (now (c .before .before .before .args .bytes)) (c .loop-test .s) (c .loop-test .t) (c .loop-test .i)
+done : (c : tie.Left-loop Inv-loop μ-loop) →
+    let a = c .before .before .before .args in
+    Counted source2 (a .win) (a .number) (a .d) (now (a .bytes)) (c .loop-test .s) (c .loop-test .t) (c .loop-test .i)
 done c =
     ⊎-elim
-    (λ w. rw (w .1, w .2, w .3) (counts-end laws2 (c .before .loop .inv) (omega (arith, w .0 .left))))
-    (λ w. rw (w .9, w .10, w .11) (counts-stop laws2 (sym (w .7 .ensures) ∙ w .8 .taken) (pend (record { before = record { before = record { before = record { before = record { before = record { before = record { before = c .before; loop-test = w .0 }; four-at = w .1 }; advance = w .2 }; v = w .3 }; s = w .4 }; cut2 = w .5 }; note = w .6 }))))
+    (λ w. rw (w .1, w .2, w .3) (counts-end laws2 (c .before .loop .inv) (omega arith)))
+    (λ w. rw (w .9, w .10, w .11) (counts-stop laws2 (sym (w .7 .ensures) ∙ w .8 .taken) (pend (record {
+      before = record {
+        before = record {
+          before = record
+              { before = record { before = record { before = record { before = c .before; loop-test = w .0 }; four-at = w .1 }; advance = w .2 }; v = w .3 };
+          s = w .4;
+        };
+        cut2 = w .5;
+      };
+      note = w .6;
+    }))))
     (c .loop-test .came)
 
 loop-holds : tie.Need-loop-holds Inv-loop μ-loop
 loop-holds c = counts-start laws2 (inv2 (c .before .args .d) (now (c .before .args .bytes)) (c .before .pre)) (c .before .pre .long) (c .before .pre .low)
 
-add-loop : tie.Need-add-loop Inv-loop μ-loop
-add-loop c = omega (arith, c .loop .inv .at .within, c .loop .inv .at .long)
-
-four-at-requires : tie.Need-four-at-requires Inv-loop μ-loop
-four-at-requires c κs = omega (arith, c .loop-test .taken, c .before .loop .inv .at .long)
-
 advance-requires : tie.Need-advance-requires Inv-loop μ-loop
 advance-requires c κs = bounded-sane2 (c .before .before .loop .inv .at .inv)
-
-add-i : tie.Need-add-i Inv-loop μ-loop
-add-i c = omega (arith, c .before .before .before .before .before .loop .inv .at .within, c .before .before .before .before .before .loop .inv .at .long)
 
 cut2-requires : tie.Need-cut2-requires Inv-loop μ-loop
 cut2-requires c κs = (mask-here (turned c), narrow-here laws2 (c .before .before .before .before .before .loop .inv .at) (turned c) .x<)
@@ -54,17 +67,8 @@ cut2-requires c κs = (mask-here (turned c), narrow-here laws2 (c .before .befor
 note-requires : tie.Need-note-requires Inv-loop μ-loop
 note-requires c κs = notable-here laws2 (c .before .before .before .before .before .before .loop .inv) (turned (c .before)) (c .cut2 .result) (c .cut2 .ensures)
 
-stopped-requires : tie.Need-stopped-requires Inv-loop μ-loop
-stopped-requires c κs = search needs
-
-loop-less : tie.Need-loop-less Inv-loop μ-loop
-loop-less c = omega (arith, c .before .before .before .before .before .before .before .before .loop-test .taken)
-
 loop-again : tie.Need-loop-again Inv-loop μ-loop
 loop-again c = counts-on laws2 (sym (c .before .stopped .ensures) ∙ c .if1 .left) (pend (c .before .before))
-
-returns : tie.Need-returns Inv-loop μ-loop
-returns c = counted laws2 (done (c .before))
 
 pub survey2-spec : {M : Type 1} → statement M
 survey2-spec =
@@ -73,13 +77,11 @@ survey2-spec =
     Inv-loop
     μ-loop
     loop-holds
-    add-loop
-    four-at-requires
+    (λ c. omega arith) (λ c κs. omega arith)
     advance-requires
-    add-i
+    (λ c. omega arith)
     cut2-requires
     note-requires
-    stopped-requires
-    loop-less
+    (λ c κs. search needs) (λ c. omega arith)
     loop-again
-    returns)
+    (λ c. counted laws2 (done (c .before))))

@@ -20,55 +20,63 @@ Inv-loop bytes win number s₀ t₀ i₀ s t i = Counts source3 win number (slim
 abbrev μ-loop : tie.MeasureT-loop
 μ-loop bytes win number s₀ t₀ i₀ s t i = length bytes - i
 
-turned : (c : tie.After-s Inv-loop μ-loop) → Turned source3 (now (c .before .before .before .before .before .before .before .before .args .bytes)) (c .before .before .before .before .before .loop .i) (slimmed (c .before .before .before .before .before .loop .s)) (slimmed (c .before .before .advance .result .next)) (c .before .before .advance .result .events)
-turned c = turned3 (c .before .before .before .before .loop-test .taken) (c .before .before .before .two-at .ensures) (ap slimmed (c .before .before .advance .ensures .0)) (c .before .before .advance .ensures .1)
+turned : (c : tie.After-s Inv-loop μ-loop) →
+    let k = c .before .before .before .before .before .loop in
+    Turned source3 (now (c .before .before .before .before .before .before .before .before .args .bytes)) (k .i) (slimmed (k .s))
+    (slimmed (c .before .before .advance .result .next)) (c .before .before .advance .result .events)
+turned c =
+    turned3 (c .before .before .before .before .loop-test .taken) (c .before .before .before .two-at .ensures)
+    (ap slimmed (c .before .before .advance .ensures .0)) (c .before .before .advance .ensures .1)
 
 -- after the word, before it is asked whether the pass stops
-pend : (c : tie.After-note Inv-loop μ-loop) → CountsIf source3 (c .before .before .before .before .before .before .before .before .before .before .args .win) (c .before .before .before .before .before .before .before .before .before .before .args .number) (slimmed (c .before .before .before .before .before .before .before .before .widen .result)) (now (c .before .before .before .before .before .before .before .before .before .before .args .bytes)) (slimmed (c .before .before .before .before .advance .result .next)) (c .note .result) (c .before .before .before .before .before .before .before .loop .i + 2)
-pend c = rw (c .note .ensures) (counts-turn laws3 (c .before .before .before .before .before .before .before .loop .inv) (turned (c .before .before)) (c .before .cut3 .result) (c .before .cut3 .ensures))
+pend : (c : tie.After-note Inv-loop μ-loop) →
+    let a = c .before .before .before .before .before .before .before .before .before .before .args in
+    CountsIf source3 (a .win) (a .number) (slimmed (c .before .before .before .before .before .before .before .before .widen .result))
+    (now (a .bytes)) (slimmed (c .before .before .before .before .advance .result .next)) (c .note .result)
+    (c .before .before .before .before .before .before .before .loop .i + 2)
+pend c =
+    rw (c .note .ensures) (counts-turn laws3 (c .before .before .before .before .before .before .before .loop .inv)
+    (turned (c .before .before)) (c .before .cut3 .result) (c .before .cut3 .ensures))
 
-done : (c : tie.Left-loop Inv-loop μ-loop) → Counted source3 (c .before .before .before .before .args .win) (c .before .before .before .before .args .number) (slimmed (c .before .before .widen .result)) (now (c .before .before .before .before .args .bytes)) (slimmed (c .loop-test .s)) (c .loop-test .t) (c .loop-test .i)
+done : (c : tie.Left-loop Inv-loop μ-loop) →
+    let a = c .before .before .before .before .args in
+    Counted source3 (a .win) (a .number) (slimmed (c .before .before .widen .result)) (now (a .bytes)) (slimmed (c .loop-test .s))
+    (c .loop-test .t) (c .loop-test .i)
 done c =
     ⊎-elim
-    (λ w. rw (w .1, w .2, w .3) (counts-end laws3 (c .before .loop .inv) (omega (arith, w .0 .left))))
-    (λ w. rw (w .9, w .10, w .11) (counts-stop laws3 (sym (w .7 .ensures) ∙ w .8 .taken) (pend (record { before = record { before = record { before = record { before = record { before = record { before = record { before = c .before; loop-test = w .0 }; two-at = w .1 }; advance = w .2 }; v = w .3 }; s = w .4 }; cut3 = w .5 }; note = w .6 }))))
+    (λ w. rw (w .1, w .2, w .3) (counts-end laws3 (c .before .loop .inv) (omega arith)))
+    (λ w. rw (w .9, w .10, w .11) (counts-stop laws3 (sym (w .7 .ensures) ∙ w .8 .taken) (pend (record {
+      before = record {
+        before = record {
+          before = record
+              { before = record { before = record { before = record { before = c .before; loop-test = w .0 }; two-at = w .1 }; advance = w .2 }; v = w .3 };
+          s = w .4;
+        };
+        cut3 = w .5;
+      };
+      note = w .6;
+    }))))
     (c .loop-test .came)
 
-widen-requires : tie.Need-widen-requires Inv-loop μ-loop
-widen-requires c κs = search needs
-
 loop-holds : tie.Need-loop-holds Inv-loop μ-loop
-loop-holds c = rw (c .widen .ensures .0) (counts-start laws3 (inv3 (c .before .before .args .d) (now (c .before .before .args .bytes)) (c .before .before .pre) (c .widen .ensures .1 .column)) (c .before .before .pre .long) (c .before .before .pre .low))
-
-add-loop : tie.Need-add-loop Inv-loop μ-loop
-add-loop c = omega (arith, c .loop .inv .at .within, c .loop .inv .at .long)
-
-two-at-requires : tie.Need-two-at-requires Inv-loop μ-loop
-two-at-requires c κs = omega (arith, c .loop-test .taken, c .before .loop .inv .at .long)
+loop-holds c =
+    rw (c .widen .ensures .0) (counts-start laws3
+    (inv3 (c .before .before .args .d) (now (c .before .before .args .bytes)) (c .before .before .pre) (c .widen .ensures .1 .column))
+    (c .before .before .pre .long) (c .before .before .pre .low))
 
 advance-requires : tie.Need-advance-requires Inv-loop μ-loop
 advance-requires c κs = bounded-sane3 (c .before .before .loop .inv .at .inv)
 
-add-i : tie.Need-add-i Inv-loop μ-loop
-add-i c = omega (arith, c .before .before .before .before .before .loop .inv .at .within, c .before .before .before .before .before .loop .inv .at .long)
-
 cut3-requires : tie.Need-cut3-requires Inv-loop μ-loop
-cut3-requires c κs = (narrow-here laws3 (c .before .before .before .before .before .loop .inv .at) (turned c), number-here laws3 (c .before .before .before .before .before .loop .inv .at))
+cut3-requires c κs =
+    let at′ = c .before .before .before .before .before .loop .inv .at in
+    (narrow-here laws3 at′ (turned c), number-here laws3 at′)
 
 note-requires : tie.Need-note-requires Inv-loop μ-loop
 note-requires c κs = notable-here laws3 (c .before .before .before .before .before .before .loop .inv) (turned (c .before)) (c .cut3 .result) (c .cut3 .ensures)
 
-stopped-requires : tie.Need-stopped-requires Inv-loop μ-loop
-stopped-requires c κs = search needs
-
-loop-less : tie.Need-loop-less Inv-loop μ-loop
-loop-less c = omega (arith, c .before .before .before .before .before .before .before .before .loop-test .taken)
-
 loop-again : tie.Need-loop-again Inv-loop μ-loop
 loop-again c = counts-on laws3 (sym (c .before .stopped .ensures) ∙ c .if1 .left) (pend (c .before .before))
-
-slim-requires : tie.Need-slim-requires Inv-loop μ-loop
-slim-requires c κs = bounded-slim3 (done c .at .inv)
 
 returns : tie.Need-returns Inv-loop μ-loop
 returns c = rw (c .before .slim .ensures) (rw (c .before .before .before .before .widen .ensures .0) at (counted laws3 (done (c .before .before))))
@@ -79,16 +87,14 @@ survey3-spec =
     (tie.spec
     Inv-loop
     μ-loop
-    widen-requires
+    (λ c κs. search needs)
     loop-holds
-    add-loop
-    two-at-requires
+    (λ c. omega arith) (λ c κs. omega arith)
     advance-requires
-    add-i
+    (λ c. omega arith)
     cut3-requires
     note-requires
-    stopped-requires
-    loop-less
+    (λ c κs. search needs) (λ c. omega arith)
     loop-again
-    slim-requires
+    (λ c κs. bounded-slim3 (done c .at .inv))
     returns)

@@ -7,11 +7,5 @@ use Rattle.read_select.proofs.word.keep3.Tie as tie
 returns : tie.Need-returns
 returns c = picked-none (c .before .before .args .v) (c .before .before .args .win) (c .before .before .args .k) (c .if1 .taken)
 
-trim-requires : tie.Need-trim-requires
-trim-requires c κs = search needs
-
-returns-2 : tie.Need-returns-2
-returns-2 c = search needs
-
 pub keep3-spec : {M : Type 1} → statement M
-keep3-spec = tie.close (tie.spec returns trim-requires returns-2)
+keep3-spec = tie.close (tie.spec returns (λ c κs. search needs) (λ c. search needs))

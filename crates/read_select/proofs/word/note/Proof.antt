@@ -12,28 +12,24 @@ use Rattle.read_select.proofs.word.note.Statement.{statement}
 use Rattle.read_select.proofs.word.note.Tie as tie
 
 few : {t : Notes} {v : Vector} {r : Trimmed} → Notable t v r → ones (r .mask) ≤ 32
-few {r = r} p = ones-le 32 (r .mask) (omega (arith, p .low, p .narrow .mask<))
-
-masked-requires : tie.Need-masked-requires
-masked-requires c κs = search needs
+few {r = r} p = ones-le 32 (r .mask) (omega arith)
 
 see-requires : tie.Need-see-requires
-see-requires c κs = rw (c .masked .ensures) (narrow-masked (c .before .before .args .v) (c .before .before .args .r .mask) (c .before .before .pre .narrow) (c .before .before .pre .low))
-
-cast-t8 : tie.Need-cast-t8
-cast-t8 c = omega (arith, few (c .before .before .before .pre))
+see-requires c κs =
+    rw (c .masked .ensures)
+    (narrow-masked (c .before .before .args .v) (c .before .before .args .r .mask) (c .before .before .pre .narrow) (c .before .before .pre .low))
 
 add-t9 : tie.Need-add-t9
-add-t9 c = omega (arith, few (c .before .before .before .before .pre), c .before .before .before .before .pre .number)
+add-t9 c = omega (arith, few (c .before .before .before .before .pre))
 
 add-t10 : tie.Need-add-t10
-add-t10 c = omega (arith, few (c .before .before .before .before .before .pre), c .before .before .before .before .before .pre .number, c .before .before .before .before .before .pre .few, c .before .before .before .before .before .pre .narrow .mask<)
+add-t10 c = omega (arith, few (c .before .before .before .before .before .pre))
 
 cast-t11 : tie.Need-cast-t11
 cast-t11 c = omega (arith, few (c .before .before .before .before .before .pre))
 
 add-t12 : tie.Need-add-t12
-add-t12 c = omega (arith, few (c .before .before .before .before .before .before .pre), c .before .before .before .before .before .before .pre .count)
+add-t12 c = omega (arith, few (c .before .before .before .before .before .before .pre))
 
 returns : tie.Need-returns
 returns c = rw (c .before .before .before .see .ensures, c .before .before .before .before .masked .ensures)
@@ -41,4 +37,12 @@ returns c = rw (c .before .before .before .see .ensures, c .before .before .befo
 pub note-spec : {M : Type 1} → statement M
 note-spec =
     tie.close
-    (tie.spec masked-requires see-requires cast-t8 add-t9 add-t10 cast-t11 add-t12 returns)
+    (tie.spec
+    (λ c κs. search needs)
+    see-requires
+    (λ c. omega (arith, few (c .before .before .before .pre)))
+    add-t9
+    add-t10
+    cast-t11
+    add-t12
+    returns)

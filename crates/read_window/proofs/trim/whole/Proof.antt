@@ -4,20 +4,24 @@ use borrow.Author.Needs.{needs}
 use Rattle.read_window.proofs.trim.whole.Statement.{statement}
 use Rattle.read_window.proofs.trim.whole.Tie as tie
 
-add-if2 : tie.Need-add-if2
-add-if2 c = search needs
-
-add-if4 : tie.Need-add-if4
-add-if4 c = search needs
-
-within-requires : tie.Need-within-requires
-within-requires c κs = search needs
-
 returns : tie.Need-returns
-returns c = simp (lt-ltb _ _ (c .before .before .before .before .before .before .before .before .if1 .taken), le-leb _ _ (c .before .before .before .before .before .if2 .taken), le-leb _ _ (c .before .before .before .if3 .taken), le-leb _ _ (c .before .if4 .taken), c .within .ensures)
+returns c =
+    simp (
+      lt-ltb _ _ (c .before .before .before .before .before .before .before .before .if1 .taken),
+      le-leb _ _ (c .before .before .before .before .before .if2 .taken),
+      le-leb _ _ (c .before .before .before .if3 .taken),
+      le-leb _ _ (c .before .if4 .taken),
+      c .within .ensures,
+    )
 
 returns-2 : tie.Need-returns-2
-returns-2 c = simp (lt-ltb _ _ (c .before .before .before .before .before .before .before .if1 .taken), le-leb _ _ (c .before .before .before .before .if2 .taken), le-leb _ _ (c .before .before .if3 .taken), lt-leb _ _ (c .if4 .left))
+returns-2 c =
+    simp (
+      lt-ltb _ _ (c .before .before .before .before .before .before .before .if1 .taken),
+      le-leb _ _ (c .before .before .before .before .if2 .taken),
+      le-leb _ _ (c .before .before .if3 .taken),
+      lt-leb _ _ (c .if4 .left),
+    )
 
 returns-3 : tie.Need-returns-3
 returns-3 c = simp (lt-ltb _ _ (c .before .before .before .before .before .if1 .taken), le-leb _ _ (c .before .before .if2 .taken), lt-leb _ _ (c .if3 .left))
@@ -25,10 +29,13 @@ returns-3 c = simp (lt-ltb _ _ (c .before .before .before .before .before .if1 .
 returns-4 : tie.Need-returns-4
 returns-4 c = simp (lt-ltb _ _ (c .before .before .before .if1 .taken), lt-leb _ _ (c .if2 .left))
 
-returns-5 : tie.Need-returns-5
-returns-5 c = simp (le-ltb _ _ (c .if1 .left))
-
 pub whole-spec : {M : Type 1} → statement M
 whole-spec =
     tie.close
-    (tie.spec add-if2 add-if4 within-requires returns returns-2 returns-3 returns-4 returns-5)
+    (tie.spec
+    (λ c. search needs) (λ c. search needs) (λ c κs. search needs)
+    returns
+    returns-2
+    returns-3
+    returns-4
+    (λ c. simp (le-ltb _ _ (c .if1 .left))))

@@ -3,11 +3,8 @@ use borrow.Author.Tests.{le-leb, lt-leb}
 use Rattle.read_window.proofs.trim.within.Statement.{statement}
 use Rattle.read_window.proofs.trim.within.Tie as tie
 
-returns : tie.Need-returns
-returns c = simp (le-leb _ _ (c .before .if1 .taken))
-
-returns-2 : tie.Need-returns-2
-returns-2 c = simp (lt-leb _ _ (c .if1 .left))
-
 pub within-spec : {M : Type 1} → statement M
-within-spec = tie.close (tie.spec returns returns-2)
+within-spec =
+    tie.close
+    (tie.spec
+    (λ c. simp (le-leb _ _ (c .before .if1 .taken))) (λ c. simp (lt-leb _ _ (c .if1 .left))))

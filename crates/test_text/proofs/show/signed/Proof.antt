@@ -28,9 +28,6 @@ cast-not-below : (z : ℤ) → mag z < 2 ^ 63 → ltZ z (pos 0) ≡ false → T 
 cast-not-below (pos n) h e = (tt, record { fits = omega arith })
 cast-not-below (negsuc n) h e = absurd (true≢false e)
 
-byte-requires : tie.Need-byte-requires
-byte-requires c κs = search needs
-
 cast-number : tie.Need-cast-number
 cast-number c =
     let z = c .before .before .args .n in
@@ -43,33 +40,19 @@ add-number c =
     let f = c .before .before .fits .n in
     add-low _ (turned z (f .sfits) (rw (toZ-ofZ w64 z f) at (c .before .if1 .taken)))
 
-number-requires : tie.Need-number-requires
-number-requires c κs = search needs
-
-returns : tie.Need-returns
-returns c = search needs
-
 cast-number-2 : tie.Need-cast-number-2
 cast-number-2 c =
     let z = c .before .args .n in
     let f = c .before .fits .n in
     rw (toZ-ofZ w64 z f) (cast-not-below z (f .sfits) (rw (toZ-ofZ w64 z f) at (c .if1 .left)))
 
-number-requires-2 : tie.Need-number-requires-2
-number-requires-2 c κs = search needs
-
-returns-2 : tie.Need-returns-2
-returns-2 c = search needs
-
 pub signed-spec : {M : Type 1} → statement M
 signed-spec =
     tie.close
     (tie.spec
-    byte-requires
+    (λ c κs. search needs)
     cast-number
     add-number
-    number-requires
-    returns
+    (λ c κs. search needs) (λ c. search needs)
     cast-number-2
-    number-requires-2
-    returns-2)
+    (λ c κs. search needs) (λ c. search needs))

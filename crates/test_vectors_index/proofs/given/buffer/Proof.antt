@@ -5,8 +5,5 @@ use lib.ListN.{length-replicate}
 use Rattle.test_vectors_index.proofs.given.buffer.Statement.{statement}
 use Rattle.test_vectors_index.proofs.given.buffer.Tie as tie
 
-returns : tie.Need-returns
-returns c = sym (length-replicate {A = ℕ} 131072 0)
-
 pub buffer-spec : {M : Type 1} → statement M
-buffer-spec = tie.close (tie.spec returns)
+buffer-spec = tie.close (tie.spec (λ c. sym (length-replicate {A = ℕ} 131072 0)))

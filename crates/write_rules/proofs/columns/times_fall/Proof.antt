@@ -20,53 +20,43 @@ Inv-loop from ts last₀ i₀ last i = (i ≤ length ts) × (falls (toZ w64 last
 abbrev μ-loop : tie.MeasureT-loop
 μ-loop from ts last₀ i₀ last i = length ts - i
 
--- src/lib.rt:149:5
-loop-holds : tie.Need-loop-holds Inv-loop μ-loop
-loop-holds c = (omega arith, refl)
-
--- src/lib.rt:150:17
-mul-t : tie.Need-mul-t Inv-loop μ-loop
-mul-t c = omega (arith, c .before .before .pre)
-
--- src/lib.rt:150:17
-shared-slice-copy-out-t : tie.Need-shared-slice-copy-out-t Inv-loop μ-loop
-shared-slice-copy-out-t c = omega arith
-
--- src/lib.rt:151:12
-earlier-requires : tie.Need-earlier-requires Inv-loop μ-loop
-earlier-requires c κs = search needs
-
--- src/lib.rt:152:13
-plain : (c : tie.After-earlier Inv-loop μ-loop) → toZ w64 (ofZ w64 (getD (c .before .before .before .before .args .ts .now) (c .before .before .before .loop .i) (pos 0))) ≡ getD (c .before .before .before .before .args .ts .now) (c .before .before .before .loop .i) (pos 0)
+plain : (c : tie.After-earlier Inv-loop μ-loop) →
+    let ts = c .before .before .before .before .args .ts .now in
+    toZ w64 (ofZ w64 (getD ts (c .before .before .before .loop .i) (pos 0))) ≡ getD ts (c .before .before .before .loop .i) (pos 0)
 plain c = toZ-ofZ w64 _ (record { sfits = c .before .t .given })
 
-is-earlier : (c : tie.After-earlier Inv-loop μ-loop) → c .earlier .result ≡ ltZ (getD (c .before .before .before .before .args .ts .now) (c .before .before .before .loop .i) (pos 0)) (toZ w64 (c .before .before .before .loop .last))
+is-earlier : (c : tie.After-earlier Inv-loop μ-loop) → c .earlier .result
+    ≡ ltZ (getD (c .before .before .before .before .args .ts .now) (c .before .before .before .loop .i) (pos 0))
+    (toZ w64 (c .before .before .before .loop .last))
 is-earlier c = c .earlier .ensures ∙ ap (λ (z : ℤ). ltZ z (toZ w64 (c .before .before .before .loop .last))) (plain c)
 
-falls-start : (c : tie.After-earlier Inv-loop μ-loop) → falls (toZ w64 (c .before .before .before .loop .last)) (drop (c .before .before .before .loop .i) (c .before .before .before .before .args .ts .now)) ≡ falls (c .before .before .before .before .args .from) (c .before .before .before .before .args .ts .now)
-falls-start c = c .before .before .before .loop .inv .1 ∙ ap (λ (z : ℤ). falls z (c .before .before .before .before .args .ts .now)) (toZ-ofZ w64 (c .before .before .before .before .args .from) (c .before .before .before .before .fits .from))
+falls-start : (c : tie.After-earlier Inv-loop μ-loop) →
+    let a = c .before .before .before .before .args in
+    falls (toZ w64 (c .before .before .before .loop .last)) (drop (c .before .before .before .loop .i) (a .ts .now)) ≡ falls (a .from) (a .ts .now)
+falls-start c =
+    let a = c .before .before .before .before .args in
+    c .before .before .before .loop .inv .1 ∙ ap (λ (z : ℤ). falls z (a .ts .now)) (toZ-ofZ w64 (a .from) (c .before .before .before .before .fits .from))
 
 returns : tie.Need-returns Inv-loop μ-loop
-returns c = sym (falls-yes (c .before .before .before .before .before .args .ts .now) (toZ w64 (c .before .before .before .before .loop .last)) (c .before .before .before .before .loop .i) (c .before .before .before .loop-test .taken) (sym (is-earlier (c .before)) ∙ c .if1 .taken)) ∙ falls-start (c .before)
+returns c =
+    sym (falls-yes (c .before .before .before .before .before .args .ts .now) (toZ w64 (c .before .before .before .before .loop .last))
+    (c .before .before .before .before .loop .i) (c .before .before .before .loop-test .taken)
+    (sym (is-earlier (c .before)) ∙ c .if1 .taken)) ∙ falls-start (c .before)
 
--- src/lib.rt:155:9
-add-i : tie.Need-add-i Inv-loop μ-loop
-add-i c = omega (arith, c .before .before .before .before .before .pre, c .before .before .before .loop-test .taken)
-
--- src/lib.rt:149:5
-loop-less : tie.Need-loop-less Inv-loop μ-loop
-loop-less c = omega (arith, c .before .before .before .loop-test .taken)
-
--- src/lib.rt:149:5
 loop-again : tie.Need-loop-again Inv-loop μ-loop
 loop-again c = (
-  omega (arith, c .before .before .before .loop-test .taken),
-  rw (plain (c .before)) (sym (falls-no (c .before .before .before .before .before .args .ts .now) (toZ w64 (c .before .before .before .before .loop .last)) (c .before .before .before .before .loop .i) (c .before .before .before .loop-test .taken) (sym (is-earlier (c .before)) ∙ c .if1 .left)) ∙ c .before .before .before .before .loop .inv .1),
+  omega arith,
+  rw (plain (c .before)) (sym (falls-no (c .before .before .before .before .before .args .ts .now)
+      (toZ w64 (c .before .before .before .before .loop .last)) (c .before .before .before .before .loop .i)
+      (c .before .before .before .loop-test .taken) (sym (is-earlier (c .before)) ∙ c .if1 .left))
+      ∙ c .before .before .before .before .loop .inv .1),
 )
 
--- src/lib.rt:143:1
 returns-2 : tie.Need-returns-2 Inv-loop μ-loop
-returns-2 c = sym (falls-end (now (c .before .before .args .ts)) (toZ w64 (c .before .loop .last)) (c .before .loop .i) (c .loop-test .left)) ∙ c .before .loop .inv .1 ∙ ap (λ (z : ℤ). falls z (now (c .before .before .args .ts))) (toZ-ofZ w64 (c .before .before .args .from) (c .before .before .fits .from))
+returns-2 c =
+    sym (falls-end (now (c .before .before .args .ts)) (toZ w64 (c .before .loop .last)) (c .before .loop .i) (c .loop-test .left))
+    ∙ c .before .loop .inv .1
+    ∙ ap (λ (z : ℤ). falls z (now (c .before .before .args .ts))) (toZ-ofZ w64 (c .before .before .args .from) (c .before .before .fits .from))
 
 pub times-fall-spec : {M : Type 1} → statement M
 times-fall-spec =
@@ -74,12 +64,8 @@ times-fall-spec =
     (tie.spec
     Inv-loop
     μ-loop
-    loop-holds
-    mul-t
-    shared-slice-copy-out-t
-    earlier-requires
+    (λ c. (omega arith, refl)) (λ c. omega arith) (λ c. omega arith) (λ c κs. search needs)
     returns
-    add-i
-    loop-less
+    (λ c. omega arith) (λ c. omega arith)
     loop-again
     returns-2)

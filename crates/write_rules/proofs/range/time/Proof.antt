@@ -7,19 +7,9 @@ use borrow.Author.Needs.{needs}
 use Rattle.write_rules.proofs.range.time.Statement.{statement}
 use Rattle.write_rules.proofs.range.time.Tie as tie
 
--- src/range.rt:70:9
-time-of-requires : tie.Need-time-of-requires
-time-of-requires c κs = search needs
-
--- src/range.rt:70:30
-time-bound-requires : tie.Need-time-bound-requires
-time-bound-requires c κs = search needs
-
--- src/range.rt:64:1
 returns : tie.Need-returns
 returns c = let s = c .before in time-early (s .args .version) (s .args .t) (rw (toZ-ofZ w64 (s .args .t) (s .fits .t)) at (c .if1 .taken))
 
--- src/range.rt:64:1
 returns-2 : tie.Need-returns-2
 returns-2 c =
     let s = c .before .before .before in
@@ -27,4 +17,4 @@ returns-2 c =
     rw (e, c .time-bound .ensures) (time-late (s .args .version) (s .args .t) (rw (toZ-ofZ w64 (s .args .t) (s .fits .t)) at (c .before .before .if1 .left)))
 
 pub time-spec : {M : Type 1} → statement M
-time-spec = tie.close (tie.spec time-of-requires time-bound-requires returns returns-2)
+time-spec = tie.close (tie.spec (λ c κs. search needs) (λ c κs. search needs) returns returns-2)

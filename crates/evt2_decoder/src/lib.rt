@@ -93,7 +93,8 @@ impl Evt2Decoder {
 
     // One word, into a lent decoder. Out of range, it is refused and left as it was.
     pub fn decode(&mut self, word: u32) -> DecodeAnswer
-        ensures { λ r. ⌜ Owed (inRange2 (now (self .entry))) (now (self .entry)) (step2 (now (self .entry)) word) (vector2 (now (self .entry)) word) (now (self .exit)) r ⌝ }
+        ensures { λ r. ⌜ Owed (inRange2 (now (self .entry))) (now (self .entry)) (step2 (now (self .entry)) word)
+            (vector2 (now (self .entry)) word) (now (self .exit)) r ⌝ }
     {
         let s = (*self).step(word);
         *self = s.next;

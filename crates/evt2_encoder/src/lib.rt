@@ -36,7 +36,8 @@ fn event_word(x: u16, y: u16, t: u64, p: u8) -> u32
 // always: where it isn't due the event's word takes its place, which is faster than a branch.
 fn put_event(high: u64, x: u16, y: u16, t: u64, p: u8, out: &mut [u8], at: usize) -> usize
     requires { ⌜ (at < 2 ^ 60) × Roomy (now out) at (length (eventBytes2 (eqb high (t / 64)) (event x y t p))) × Fit2 (event x y t p) ⌝ }
-    ensures { λ r. ⌜ r ≡ at + length (eventBytes2 (eqb high (t / 64)) (event x y t p)) ⌝ ∗ ⌜ now (out .exit) ≡ sets (now (out .entry)) at (eventBytes2 (eqb high (t / 64)) (event x y t p)) ⌝ }
+    ensures { λ r. ⌜ r ≡ at + length (eventBytes2 (eqb high (t / 64)) (event x y t p)) ⌝
+        ∗ ⌜ now (out .exit) ≡ sets (now (out .entry)) at (eventBytes2 (eqb high (t / 64)) (event x y t p)) ⌝ }
 {
     let w = event_word(x, y, t, p);
     let a = write_buffer::past(high == t / 64, 4, at);
@@ -56,8 +57,13 @@ fn put_at(
     out: &mut [u8],
     at: usize,
 ) -> usize
-    requires { ⌜ Within2 (now xs) (now ys) (now ps) i × (at < 2 ^ 60) × Roomy (now out) at (length (eventBytes2 (eqb high (t / 64)) (eventAt2 (now xs) (now ys) (now ps) i t))) × Fit2 (eventAt2 (now xs) (now ys) (now ps) i t) ⌝ }
-    ensures { λ r. ⌜ r ≡ at + length (eventBytes2 (eqb high (t / 64)) (eventAt2 (now (xs .entry)) (now (ys .entry)) (now (ps .entry)) i t)) ⌝ ∗ ⌜ now (out .exit) ≡ sets (now (out .entry)) at (eventBytes2 (eqb high (t / 64)) (eventAt2 (now (xs .entry)) (now (ys .entry)) (now (ps .entry)) i t)) ⌝ }
+    requires { ⌜ Within2 (now xs) (now ys) (now ps) i × (at < 2 ^ 60)
+        × Roomy (now out) at (length (eventBytes2 (eqb high (t / 64)) (eventAt2 (now xs) (now ys) (now ps) i t)))
+        × Fit2 (eventAt2 (now xs) (now ys) (now ps) i t) ⌝ }
+    ensures { λ r. ⌜ r ≡ at + length (eventBytes2 (eqb high (t / 64)) (eventAt2
+        (now (xs .entry)) (now (ys .entry)) (now (ps .entry)) i t)) ⌝
+        ∗ ⌜ now (out .exit) ≡ sets (now (out .entry)) at (eventBytes2 (eqb high (t / 64)) (eventAt2
+        (now (xs .entry)) (now (ys .entry)) (now (ps .entry)) i t)) ⌝ }
 {
     put_event(high, xs[i], ys[i], t, ps[i], &mut *out, at)
 }
@@ -90,8 +96,12 @@ pub fn pass(
     out: &mut [u8],
     start: usize,
 ) -> Put
-    requires { ⌜ Sized (now xs) (now ys) (now ts) (now ps) × (start ≤ 2 ^ 32) × Whole (now ts) × Roomy (now out) start (length (stream2 state (eventsIn (now xs) (now ys) (now ts) (now ps)))) × Fitting2 (now xs) (now ys) (now ts) (now ps) ⌝ }
-    ensures { λ r. ⌜ r ≡ passed2 state (eventsIn (now (xs .entry)) (now (ys .entry)) (now (ts .entry)) (now (ps .entry))) start ⌝ ∗ ⌜ now (out .exit) ≡ sets (now (out .entry)) start (stream2 state (eventsIn (now (xs .entry)) (now (ys .entry)) (now (ts .entry)) (now (ps .entry)))) ⌝ }
+    requires { ⌜ Sized (now xs) (now ys) (now ts) (now ps) × (start ≤ 2 ^ 32) × Whole (now ts)
+        × Roomy (now out) start (length (stream2 state (eventsIn (now xs) (now ys) (now ts) (now ps))))
+        × Fitting2 (now xs) (now ys) (now ts) (now ps) ⌝ }
+    ensures { λ r. ⌜ r ≡ passed2 state (eventsIn (now (xs .entry)) (now (ys .entry)) (now (ts .entry)) (now (ps .entry))) start ⌝
+        ∗ ⌜ now (out .exit) ≡ sets (now (out .entry)) start (stream2 state (eventsIn
+        (now (xs .entry)) (now (ys .entry)) (now (ts .entry)) (now (ps .entry)))) ⌝ }
 {
     let sent = state.time_high;
     let mut high = held_of(sent);

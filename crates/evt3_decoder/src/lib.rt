@@ -131,7 +131,8 @@ impl Decoder {
 
     // One word, into a lent decoder. Out of range, it is refused and left as it was.
     pub fn decode(&mut self, word: u16) -> DecodeAnswer
-        ensures { λ r. ⌜ Owed (inRange3 (now (self .entry))) (now (self .entry)) (step3 (now (self .entry)) word) (vector3 (now (self .entry)) word) (now (self .exit)) r ⌝ }
+        ensures { λ r. ⌜ Owed (inRange3 (now (self .entry))) (now (self .entry)) (step3 (now (self .entry)) word)
+            (vector3 (now (self .entry)) word) (now (self .exit)) r ⌝ }
     {
         let s = (*self).step(word);
         *self = s.next;

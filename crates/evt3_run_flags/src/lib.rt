@@ -33,7 +33,8 @@ fn time_ends(t: u64, t2: u64) -> u8
 // A flag for each of 64 events, from column, row and polarity: 1 where the next one doesn't go on
 // its run. This loop and the next have no branch, and so compare several events at once.
 fn flag_places(xs: &[u16], ys: &[u16], ps: &[u8], i: usize, flags: &mut [u8; 64])
-    requires { ⌜ (i + 64 < length (now xs)) × (length (now xs) ≤ 2 ^ 28) × (length (now ys) ≡ length (now xs)) × (length (now ps) ≡ length (now xs)) × (length (now flags) ≡ 64) ⌝ }
+    requires { ⌜ (i + 64 < length (now xs)) × (length (now xs) ≤ 2 ^ 28) × (length (now ys) ≡ length (now xs))
+        × (length (now ps) ≡ length (now xs)) × (length (now flags) ≡ 64) ⌝ }
     ensures { λ r. ⌜ Filled (λ j. placeEnds (now (xs .entry)) (now (ys .entry)) (now (ps .entry)) (i + j)) (now (flags .exit)) ⌝ }
 {
     let mut j: usize = 0;

@@ -41,7 +41,8 @@ fn base_word(p: u8, x: u16) -> u16
 // A word for each event from i up to end.
 fn put_singles(p: u8, xs: &[u16], i: usize, end: usize, out: &mut [u8], at: usize) -> usize
     requires { ⌜ Part (now xs) i end at × Roomy (now out) at (length (stream 2 (map (singleWord3 p) (between (now xs) i end)))) ⌝ }
-    ensures { λ r. ⌜ r ≡ at + length (stream 2 (map (singleWord3 p) (between (now (xs .entry)) i end))) ⌝ ∗ ⌜ now (out .exit) ≡ sets (now (out .entry)) at (stream 2 (map (singleWord3 p) (between (now (xs .entry)) i end))) ⌝ }
+    ensures { λ r. ⌜ r ≡ at + length (stream 2 (map (singleWord3 p) (between (now (xs .entry)) i end))) ⌝
+        ∗ ⌜ now (out .exit) ≡ sets (now (out .entry)) at (stream 2 (map (singleWord3 p) (between (now (xs .entry)) i end))) ⌝ }
 {
     let mut a = at;
     let mut j = i;
@@ -113,8 +114,10 @@ fn put_masks(
     out: &mut [u8],
     at: usize,
 ) -> usize
-    requires { ⌜ Part (now xs) i end at × (base + 12 * k ≤ 2 ^ 20) × Inc base (2 ^ 16) (between (now xs) i end) × Roomy (now out) at (length (stream 2 (maskWords k base (between (now xs) i end)))) ⌝ }
-    ensures { λ r. ⌜ r ≡ at + length (stream 2 (maskWords k base (between (now (xs .entry)) i end))) ⌝ ∗ ⌜ now (out .exit) ≡ sets (now (out .entry)) at (stream 2 (maskWords k base (between (now (xs .entry)) i end))) ⌝ }
+    requires { ⌜ Part (now xs) i end at × (base + 12 * k ≤ 2 ^ 20) × Inc base (2 ^ 16) (between (now xs) i end)
+        × Roomy (now out) at (length (stream 2 (maskWords k base (between (now xs) i end)))) ⌝ }
+    ensures { λ r. ⌜ r ≡ at + length (stream 2 (maskWords k base (between (now (xs .entry)) i end))) ⌝
+        ∗ ⌜ now (out .exit) ≡ sets (now (out .entry)) at (stream 2 (maskWords k base (between (now (xs .entry)) i end))) ⌝ }
 {
     let mut a = at;
     let mut c = i;
@@ -150,7 +153,8 @@ fn vector_pays(n: u64, first: u64, last: u64) -> bool
 // The words of one or two events: a single one is stored twice, which is faster than a branch.
 fn put_pair(p: u8, xs: &[u16], i: usize, end: usize, out: &mut [u8], at: usize) -> usize
     requires { ⌜ Part (now xs) i end at × (i < end) × (end ≤ i + 2) × Roomy (now out) at (length (stream 2 (map (singleWord3 p) (between (now xs) i end)))) ⌝ }
-    ensures { λ r. ⌜ r ≡ at + length (stream 2 (map (singleWord3 p) (between (now (xs .entry)) i end))) ⌝ ∗ ⌜ now (out .exit) ≡ sets (now (out .entry)) at (stream 2 (map (singleWord3 p) (between (now (xs .entry)) i end))) ⌝ }
+    ensures { λ r. ⌜ r ≡ at + length (stream 2 (map (singleWord3 p) (between (now (xs .entry)) i end))) ⌝
+        ∗ ⌜ now (out .exit) ≡ sets (now (out .entry)) at (stream 2 (map (singleWord3 p) (between (now (xs .entry)) i end))) ⌝ }
 {
     let j = end - 1;
     let last = at + 2 * (j - i);
@@ -162,8 +166,10 @@ fn put_pair(p: u8, xs: &[u16], i: usize, end: usize, out: &mut [u8], at: usize) 
 // The words of the columns from i up to end, a run. One or two, which most runs have, are tested first:
 // no vector pays for them.
 fn put_body(p: u8, xs: &[u16], i: usize, end: usize, out: &mut [u8], at: usize) -> usize
-    requires { ⌜ Part (now xs) i end (at + 2) × (i < end) × Rising (between (now xs) i end) × Roomy (now out) at (length (stream 2 (bodyWords p (between (now xs) i end)))) ⌝ }
-    ensures { λ r. ⌜ r ≡ at + length (stream 2 (bodyWords p (between (now (xs .entry)) i end))) ⌝ ∗ ⌜ now (out .exit) ≡ sets (now (out .entry)) at (stream 2 (bodyWords p (between (now (xs .entry)) i end))) ⌝ }
+    requires { ⌜ Part (now xs) i end (at + 2) × (i < end) × Rising (between (now xs) i end)
+        × Roomy (now out) at (length (stream 2 (bodyWords p (between (now xs) i end)))) ⌝ }
+    ensures { λ r. ⌜ r ≡ at + length (stream 2 (bodyWords p (between (now (xs .entry)) i end))) ⌝
+        ∗ ⌜ now (out .exit) ≡ sets (now (out .entry)) at (stream 2 (bodyWords p (between (now (xs .entry)) i end))) ⌝ }
 {
     let n = end - i;
     if n <= 2 {
@@ -207,8 +213,11 @@ pub fn put_run(
     out: &mut [u8],
     at: usize,
 ) -> usize
-    requires { ⌜ Part (now xs) i end (at + 8) × (i < end) × Rising (between (now xs) i end) × Roomy (now out) at (length (leadsBytes high low row t y ++ stream 2 (bodyWords p (between (now xs) i end)))) ⌝ }
-    ensures { λ r. ⌜ r ≡ at + length (leadsBytes high low row t y ++ stream 2 (bodyWords p (between (now (xs .entry)) i end))) ⌝ ∗ ⌜ now (out .exit) ≡ sets (now (out .entry)) at (leadsBytes high low row t y ++ stream 2 (bodyWords p (between (now (xs .entry)) i end))) ⌝ }
+    requires { ⌜ Part (now xs) i end (at + 8) × (i < end) × Rising (between (now xs) i end)
+        × Roomy (now out) at (length (leadsBytes high low row t y ++ stream 2 (bodyWords p (between (now xs) i end)))) ⌝ }
+    ensures { λ r. ⌜ r ≡ at + length (leadsBytes high low row t y ++ stream 2 (bodyWords p (between (now (xs .entry)) i end))) ⌝
+        ∗ ⌜ now (out .exit) ≡ sets (now (out .entry)) at (leadsBytes high low row t y ++ stream 2
+        (bodyWords p (between (now (xs .entry)) i end))) ⌝ }
 {
     let a = put_leads(high, low, row, t, y, &mut *out, at);
     if 0 < out.len() {

@@ -82,7 +82,8 @@ impl Codec {
 
     // The first word of `bytes`, into a lent decoder. Out of range, it is refused and left as it was.
     pub fn decode(&mut self, bytes: &[u8]) -> DecodeAnswer
-        ensures { λ r. ⌜ Owed (inRangeC (now (self .entry))) (now (self .entry)) (stepC (now (self .entry)) (now (bytes .entry))) (vectorC (now (self .entry)) (now (bytes .entry))) (now (self .exit)) r ⌝ }
+        ensures { λ r. ⌜ Owed (inRangeC (now (self .entry))) (now (self .entry)) (stepC (now (self .entry)) (now (bytes .entry)))
+            (vectorC (now (self .entry)) (now (bytes .entry))) (now (self .exit)) r ⌝ }
     {
         let s = (*self).step(bytes);
         *self = s.next;

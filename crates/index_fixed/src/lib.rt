@@ -31,7 +31,8 @@ pub fn open_into(
     n: usize,
 ) -> FixedIndex
     requires { ⌜ n ≤ 64 ⌝ }
-    ensures { λ r. ⌜ Opens (rawVerdict (now (recording .entry)) options n) (rawAnswer (now (recording .entry)) options n) (rawMade (now (recording .entry)) options n) (r .answer) records (r .records) ⌝ }
+    ensures { λ r. ⌜ Opens (rawVerdict (now (recording .entry)) options n) (rawAnswer (now (recording .entry)) options n)
+        (rawMade (now (recording .entry)) options n) (r .answer) records (r .records) ⌝ }
 {
     let mut made = records;
     let answer = index_open::open(recording, &mut made[..n], options);
@@ -49,7 +50,8 @@ pub fn open_words_into(
     n: usize,
 ) -> FixedIndex
     requires { ⌜ n ≤ 64 ⌝ }
-    ensures { λ r. ⌜ Opens (wordsVerdict (now (words .entry)) options n) (wordsAnswer (now (words .entry)) options n) (wordsMade (now (words .entry)) options n) (r .answer) records (r .records) ⌝ }
+    ensures { λ r. ⌜ Opens (wordsVerdict (now (words .entry)) options n) (wordsAnswer (now (words .entry)) options n)
+        (wordsMade (now (words .entry)) options n) (r .answer) records (r .records) ⌝ }
 {
     let mut made = records;
     let answer = index_open::open_words(words, &mut made[..n], options);
@@ -79,7 +81,9 @@ fn clamp(room: usize) -> usize
 
 // Opens with room for `room` records, at most 64.
 pub fn open(recording: &[u8], options: OpenOptions, room: usize) -> FixedIndex
-    ensures { λ r. ⌜ Opens (rawVerdict (now (recording .entry)) options (min room 64)) (rawAnswer (now (recording .entry)) options (min room 64)) (rawMade (now (recording .entry)) options (min room 64)) (r .answer) (replicate 64 blankRecord) (r .records) ⌝ }
+    ensures { λ r. ⌜ Opens (rawVerdict (now (recording .entry)) options (min room 64))
+        (rawAnswer (now (recording .entry)) options (min room 64)) (rawMade (now (recording .entry)) options (min room 64)) (r .answer)
+        (replicate 64 blankRecord) (r .records) ⌝ }
 {
     let n = clamp(room);
     let b = blank();
@@ -89,7 +93,9 @@ pub fn open(recording: &[u8], options: OpenOptions, room: usize) -> FixedIndex
 
 // The same for headerless words.
 pub fn open_words(words: &[u8], options: WordsOptions, room: usize) -> FixedIndex
-    ensures { λ r. ⌜ Opens (wordsVerdict (now (words .entry)) options (min room 64)) (wordsAnswer (now (words .entry)) options (min room 64)) (wordsMade (now (words .entry)) options (min room 64)) (r .answer) (replicate 64 blankRecord) (r .records) ⌝ }
+    ensures { λ r. ⌜ Opens (wordsVerdict (now (words .entry)) options (min room 64))
+        (wordsAnswer (now (words .entry)) options (min room 64)) (wordsMade (now (words .entry)) options (min room 64)) (r .answer)
+        (replicate 64 blankRecord) (r .records) ⌝ }
 {
     let n = clamp(room);
     let b = blank();
@@ -111,7 +117,9 @@ pub fn slice_index_in(
     ps: &mut [u8],
 ) -> SliceAnswer
     requires { ⌜ n ≤ 64 ⌝ }
-    ensures { λ r. ⌜ SlicesIndex (now (recording .entry)) source (take n records) i0 i1 r (now (xs .entry)) (now (ys .entry)) (now (ts .entry)) (now (ps .entry)) (now (xs .exit)) (now (ys .exit)) (now (ts .exit)) (now (ps .exit)) ⌝ }
+    ensures { λ r. ⌜ SlicesIndex (now (recording .entry)) source (take n records) i0 i1 r
+        (now (xs .entry)) (now (ys .entry)) (now (ts .entry)) (now (ps .entry))
+        (now (xs .exit)) (now (ys .exit)) (now (ts .exit)) (now (ps .exit)) ⌝ }
 {
     slice::slice_index(recording, source, &records[..n], i0, i1, xs, ys, ts, ps)
 }
@@ -130,7 +138,9 @@ pub fn slice_time_in(
     ps: &mut [u8],
 ) -> SliceAnswer
     requires { ⌜ n ≤ 64 ⌝ }
-    ensures { λ r. ⌜ SlicesTime (now (recording .entry)) source (take n records) t0 t1 r (now (xs .entry)) (now (ys .entry)) (now (ts .entry)) (now (ps .entry)) (now (xs .exit)) (now (ys .exit)) (now (ts .exit)) (now (ps .exit)) ⌝ }
+    ensures { λ r. ⌜ SlicesTime (now (recording .entry)) source (take n records) t0 t1 r
+        (now (xs .entry)) (now (ys .entry)) (now (ts .entry)) (now (ps .entry))
+        (now (xs .exit)) (now (ys .exit)) (now (ts .exit)) (now (ps .exit)) ⌝ }
 {
     slice::slice_time(recording, source, &records[..n], t0, t1, xs, ys, ts, ps)
 }
@@ -148,7 +158,9 @@ pub fn slice_index(
     ts: &mut [i64],
     ps: &mut [u8],
 ) -> SliceAnswer
-    ensures { λ r. ⌜ SlicesIndex (now (recording .entry)) source (take n records) i0 i1 r (now (xs .entry)) (now (ys .entry)) (now (ts .entry)) (now (ps .entry)) (now (xs .exit)) (now (ys .exit)) (now (ts .exit)) (now (ps .exit)) ⌝ }
+    ensures { λ r. ⌜ SlicesIndex (now (recording .entry)) source (take n records) i0 i1 r
+        (now (xs .entry)) (now (ys .entry)) (now (ts .entry)) (now (ps .entry))
+        (now (xs .exit)) (now (ys .exit)) (now (ts .exit)) (now (ps .exit)) ⌝ }
 {
     let k = clamp(n);
     slice_index_in(
@@ -178,7 +190,9 @@ pub fn slice_time(
     ts: &mut [i64],
     ps: &mut [u8],
 ) -> SliceAnswer
-    ensures { λ r. ⌜ SlicesTime (now (recording .entry)) source (take n records) t0 t1 r (now (xs .entry)) (now (ys .entry)) (now (ts .entry)) (now (ps .entry)) (now (xs .exit)) (now (ys .exit)) (now (ts .exit)) (now (ps .exit)) ⌝ }
+    ensures { λ r. ⌜ SlicesTime (now (recording .entry)) source (take n records) t0 t1 r
+        (now (xs .entry)) (now (ys .entry)) (now (ts .entry)) (now (ps .entry))
+        (now (xs .exit)) (now (ys .exit)) (now (ts .exit)) (now (ps .exit)) ⌝ }
 {
     let k = clamp(n);
     slice_time_in(

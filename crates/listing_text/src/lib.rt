@@ -32,7 +32,8 @@ pub fn lines_text(
     out: &mut [u8],
 ) -> usize
     requires { ⌜ Rows (now xs) (now ys) (now ts) (now ps) from n ⌝ }
-    ensures { λ r. ⌜ Stored (84 * n) (now (out .entry)) 0 (eventLines (rowsFrom (now (xs .entry)) (now (ys .entry)) (now (ts .entry)) (now (ps .entry)) from n)) r (now (out .exit)) ⌝ }
+    ensures { λ r. ⌜ Stored (84 * n) (now (out .entry)) 0 (eventLines (rowsFrom
+        (now (xs .entry)) (now (ys .entry)) (now (ts .entry)) (now (ps .entry)) from n)) r (now (out .exit)) ⌝ }
 {
     let mut at: usize = 0;
     let mut i = from;
@@ -66,7 +67,8 @@ pub fn begin(
     out: &mut [u8],
 ) -> Begun
     requires { ⌜ Wide (now xs) (now ys) (now ts) (now ps) ⌝ }
-    ensures { λ r. ⌜ Begins (now (recording .entry)) r (now (out .entry)) (now (out .exit)) (now (xs .exit)) (now (ys .exit)) (now (ts .exit)) (now (ps .exit)) ⌝ }
+    ensures { λ r. ⌜ Begins (now (recording .entry)) r (now (out .entry)) (now (out .exit))
+        (now (xs .exit)) (now (ys .exit)) (now (ts .exit)) (now (ps .exit)) ⌝ }
 {
     if 65536 < recording.len() {
         let written = put_text(&mut *out, 0, b"too long\n");

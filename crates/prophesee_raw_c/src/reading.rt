@@ -17,7 +17,8 @@ pub extern "C" fn prophesee_read_raw(
     ts: &mut [i64],
     ps: &mut [u8],
 ) -> PropheseeReading
-    ensures { λ r. ⌜ ReadsRaw (now (recording .entry)) options r (now (xs .entry)) (now (ys .entry)) (now (ts .entry)) (now (ps .entry)) (now (xs .exit)) (now (ys .exit)) (now (ts .exit)) (now (ps .exit)) ⌝ }
+    ensures { λ r. ⌜ ReadsRaw (now (recording .entry)) options r (now (xs .entry)) (now (ys .entry)) (now (ts .entry)) (now (ps .entry))
+        (now (xs .exit)) (now (ys .exit)) (now (ts .exit)) (now (ps .exit)) ⌝ }
 {
     let o = options_of(options);
     let answer = read::read_raw(recording, o, &mut *xs, &mut *ys, &mut *ts, &mut *ps);
@@ -34,7 +35,9 @@ fn decode(
     ts: &mut [i64],
     ps: &mut [u8],
 ) -> PropheseeReading
-    ensures { λ r. ⌜ DecodesWords (now (words .entry)) encoding options r (now (xs .entry)) (now (ys .entry)) (now (ts .entry)) (now (ps .entry)) (now (xs .exit)) (now (ys .exit)) (now (ts .exit)) (now (ps .exit)) ⌝ }
+    ensures { λ r. ⌜ DecodesWords (now (words .entry)) encoding options r
+        (now (xs .entry)) (now (ys .entry)) (now (ts .entry)) (now (ps .entry))
+        (now (xs .exit)) (now (ys .exit)) (now (ts .exit)) (now (ps .exit)) ⌝ }
 {
     let o = options_of(options);
     let size = o.sensor_size;
@@ -61,7 +64,9 @@ pub extern "C" fn prophesee_decode_evt2(
     ts: &mut [i64],
     ps: &mut [u8],
 ) -> PropheseeReading
-    ensures { λ r. ⌜ DecodesWords (now (words .entry)) Evt2 options r (now (xs .entry)) (now (ys .entry)) (now (ts .entry)) (now (ps .entry)) (now (xs .exit)) (now (ys .exit)) (now (ts .exit)) (now (ps .exit)) ⌝ }
+    ensures { λ r. ⌜ DecodesWords (now (words .entry)) Evt2 options r
+        (now (xs .entry)) (now (ys .entry)) (now (ts .entry)) (now (ps .entry))
+        (now (xs .exit)) (now (ys .exit)) (now (ts .exit)) (now (ps .exit)) ⌝ }
 {
     decode(
         words,
@@ -83,7 +88,9 @@ pub extern "C" fn prophesee_decode_evt3(
     ts: &mut [i64],
     ps: &mut [u8],
 ) -> PropheseeReading
-    ensures { λ r. ⌜ DecodesWords (now (words .entry)) Evt3 options r (now (xs .entry)) (now (ys .entry)) (now (ts .entry)) (now (ps .entry)) (now (xs .exit)) (now (ys .exit)) (now (ts .exit)) (now (ps .exit)) ⌝ }
+    ensures { λ r. ⌜ DecodesWords (now (words .entry)) Evt3 options r
+        (now (xs .entry)) (now (ys .entry)) (now (ts .entry)) (now (ps .entry))
+        (now (xs .exit)) (now (ys .exit)) (now (ts .exit)) (now (ps .exit)) ⌝ }
 {
     decode(
         words,

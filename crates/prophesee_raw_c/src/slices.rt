@@ -21,7 +21,9 @@ fn slice_index(
     ts: &mut [i64],
     ps: &mut [u8],
 ) -> PropheseeSlice
-    ensures { λ r. ⌜ SlicesIndex (now (recording .entry)) encoding source (now (records .entry)) i0 i1 r (now (xs .entry)) (now (ys .entry)) (now (ts .entry)) (now (ps .entry)) (now (xs .exit)) (now (ys .exit)) (now (ts .exit)) (now (ps .exit)) ⌝ }
+    ensures { λ r. ⌜ SlicesIndex (now (recording .entry)) encoding source (now (records .entry)) i0 i1 r
+        (now (xs .entry)) (now (ys .entry)) (now (ts .entry)) (now (ps .entry))
+        (now (xs .exit)) (now (ys .exit)) (now (ts .exit)) (now (ps .exit)) ⌝ }
 {
     let s = source_of(encoding, source);
     let asked = slice_rules::by_number(s, records.len() / 10, i0, i1);
@@ -56,7 +58,9 @@ fn slice_time(
     ts: &mut [i64],
     ps: &mut [u8],
 ) -> PropheseeSlice
-    ensures { λ r. ⌜ SlicesTime (now (recording .entry)) encoding source (now (records .entry)) t0 t1 r (now (xs .entry)) (now (ys .entry)) (now (ts .entry)) (now (ps .entry)) (now (xs .exit)) (now (ys .exit)) (now (ts .exit)) (now (ps .exit)) ⌝ }
+    ensures { λ r. ⌜ SlicesTime (now (recording .entry)) encoding source (now (records .entry)) t0 t1 r
+        (now (xs .entry)) (now (ys .entry)) (now (ts .entry)) (now (ps .entry))
+        (now (xs .exit)) (now (ys .exit)) (now (ts .exit)) (now (ps .exit)) ⌝ }
 {
     let s = source_of(encoding, source);
     let asked = slice_rules::by_time(s, records.len() / 10, t0, t1);
@@ -92,7 +96,9 @@ pub extern "C" fn prophesee_slice_index_evt2(
     ts: &mut [i64],
     ps: &mut [u8],
 ) -> PropheseeSlice
-    ensures { λ r. ⌜ SlicesIndex (now (recording .entry)) Evt2 source (now (records .entry)) i0 i1 r (now (xs .entry)) (now (ys .entry)) (now (ts .entry)) (now (ps .entry)) (now (xs .exit)) (now (ys .exit)) (now (ts .exit)) (now (ps .exit)) ⌝ }
+    ensures { λ r. ⌜ SlicesIndex (now (recording .entry)) Evt2 source (now (records .entry)) i0 i1 r
+        (now (xs .entry)) (now (ys .entry)) (now (ts .entry)) (now (ps .entry))
+        (now (xs .exit)) (now (ys .exit)) (now (ts .exit)) (now (ps .exit)) ⌝ }
 {
     slice_index(
         Encoding::Evt2,
@@ -121,7 +127,9 @@ pub extern "C" fn prophesee_slice_index_evt3(
     ts: &mut [i64],
     ps: &mut [u8],
 ) -> PropheseeSlice
-    ensures { λ r. ⌜ SlicesIndex (now (recording .entry)) Evt3 source (now (records .entry)) i0 i1 r (now (xs .entry)) (now (ys .entry)) (now (ts .entry)) (now (ps .entry)) (now (xs .exit)) (now (ys .exit)) (now (ts .exit)) (now (ps .exit)) ⌝ }
+    ensures { λ r. ⌜ SlicesIndex (now (recording .entry)) Evt3 source (now (records .entry)) i0 i1 r
+        (now (xs .entry)) (now (ys .entry)) (now (ts .entry)) (now (ps .entry))
+        (now (xs .exit)) (now (ys .exit)) (now (ts .exit)) (now (ps .exit)) ⌝ }
 {
     slice_index(
         Encoding::Evt3,
@@ -150,7 +158,9 @@ pub extern "C" fn prophesee_slice_time_evt2(
     ts: &mut [i64],
     ps: &mut [u8],
 ) -> PropheseeSlice
-    ensures { λ r. ⌜ SlicesTime (now (recording .entry)) Evt2 source (now (records .entry)) t0 t1 r (now (xs .entry)) (now (ys .entry)) (now (ts .entry)) (now (ps .entry)) (now (xs .exit)) (now (ys .exit)) (now (ts .exit)) (now (ps .exit)) ⌝ }
+    ensures { λ r. ⌜ SlicesTime (now (recording .entry)) Evt2 source (now (records .entry)) t0 t1 r
+        (now (xs .entry)) (now (ys .entry)) (now (ts .entry)) (now (ps .entry))
+        (now (xs .exit)) (now (ys .exit)) (now (ts .exit)) (now (ps .exit)) ⌝ }
 {
     slice_time(
         Encoding::Evt2,
@@ -179,7 +189,9 @@ pub extern "C" fn prophesee_slice_time_evt3(
     ts: &mut [i64],
     ps: &mut [u8],
 ) -> PropheseeSlice
-    ensures { λ r. ⌜ SlicesTime (now (recording .entry)) Evt3 source (now (records .entry)) t0 t1 r (now (xs .entry)) (now (ys .entry)) (now (ts .entry)) (now (ps .entry)) (now (xs .exit)) (now (ys .exit)) (now (ts .exit)) (now (ps .exit)) ⌝ }
+    ensures { λ r. ⌜ SlicesTime (now (recording .entry)) Evt3 source (now (records .entry)) t0 t1 r
+        (now (xs .entry)) (now (ys .entry)) (now (ts .entry)) (now (ps .entry))
+        (now (xs .exit)) (now (ys .exit)) (now (ts .exit)) (now (ps .exit)) ⌝ }
 {
     slice_time(
         Encoding::Evt3,

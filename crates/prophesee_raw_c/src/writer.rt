@@ -41,7 +41,8 @@ pub extern "C" fn prophesee_append(
     ps: &[u8],
     output: &mut [u8],
 ) -> PropheseeAppended
-    ensures { λ r. ⌜ Appends sink width height (now (xs .entry)) (now (ys .entry)) (now (ts .entry)) (now (ps .entry)) (now (output .entry)) r (now (output .exit)) ⌝ }
+    ensures { λ r. ⌜ Appends sink width height (now (xs .entry)) (now (ys .entry)) (now (ts .entry)) (now (ps .entry)) (now (output .entry))
+        r (now (output .exit)) ⌝ }
 {
     let s = sink_of(sink);
     let a = write_append::append(s, width, height, xs, ys, ts, ps, &mut *output);

@@ -27,7 +27,9 @@ fn read_body(
     ps: &mut [u8],
 ) -> ReadAnswer
     requires { ⌜ length (now body) ≤ 2 ^ 30 ⌝ }
-    ensures { λ r. ⌜ ReadsBody encoding size (bodyEvents encoding size limit (now (body .entry))) r (now (xs .entry)) (now (ys .entry)) (now (ts .entry)) (now (ps .entry)) (now (xs .exit)) (now (ys .exit)) (now (ts .exit)) (now (ps .exit)) ⌝ }
+    ensures { λ r. ⌜ ReadsBody encoding size (bodyEvents encoding size limit (now (body .entry))) r
+        (now (xs .entry)) (now (ys .entry)) (now (ts .entry)) (now (ps .entry))
+        (now (xs .exit)) (now (ys .exit)) (now (ts .exit)) (now (ps .exit)) ⌝ }
 {
     let codec = Codec::new(encoding);
     let window = read_rules::window_of(size, limit);
@@ -55,7 +57,9 @@ pub fn decode_words(
     ts: &mut [i64],
     ps: &mut [u8],
 ) -> ReadAnswer
-    ensures { λ r. ⌜ DecodesWords (now (words .entry)) encoding size limit r (now (xs .entry)) (now (ys .entry)) (now (ts .entry)) (now (ps .entry)) (now (xs .exit)) (now (ys .exit)) (now (ts .exit)) (now (ps .exit)) ⌝ }
+    ensures { λ r. ⌜ DecodesWords (now (words .entry)) encoding size limit r
+        (now (xs .entry)) (now (ys .entry)) (now (ts .entry)) (now (ps .entry))
+        (now (xs .exit)) (now (ys .exit)) (now (ts .exit)) (now (ps .exit)) ⌝ }
 {
     let judged = read_rules::judge(words.len(), size);
     if let Judged::Unfit(r) = judged {
@@ -82,7 +86,8 @@ pub fn read_raw(
     ts: &mut [i64],
     ps: &mut [u8],
 ) -> ReadAnswer
-    ensures { λ r. ⌜ ReadsRaw (now (recording .entry)) options r (now (xs .entry)) (now (ys .entry)) (now (ts .entry)) (now (ps .entry)) (now (xs .exit)) (now (ys .exit)) (now (ts .exit)) (now (ps .exit)) ⌝ }
+    ensures { λ r. ⌜ ReadsRaw (now (recording .entry)) options r (now (xs .entry)) (now (ys .entry)) (now (ts .entry)) (now (ps .entry))
+        (now (xs .exit)) (now (ys .exit)) (now (ts .exit)) (now (ps .exit)) ⌝ }
 {
     let size = options.sensor_size;
     let limit = options.max_events;

@@ -38,7 +38,9 @@ pub fn put_all(
     ps: &mut [u8],
 ) -> usize
     requires { ⌜ Room (length (eventsOf v)) v at (length (now xs)) (length (now ys)) (length (now ts)) (length (now ps)) ⌝ }
-    ensures { λ r. ⌜ r ≡ at + length (eventsOf v) ⌝ ∗ ⌜ Wrote (eventsOf v) at (now (xs .entry)) (now (ys .entry)) (now (ts .entry)) (now (ps .entry)) (now (xs .exit)) (now (ys .exit)) (now (ts .exit)) (now (ps .exit)) ⌝ }
+    ensures { λ r. ⌜ r ≡ at + length (eventsOf v) ⌝ ∗ ⌜ Wrote (eventsOf v) at
+        (now (xs .entry)) (now (ys .entry)) (now (ts .entry)) (now (ps .entry))
+        (now (xs .exit)) (now (ys .exit)) (now (ts .exit)) (now (ps .exit)) ⌝ }
 {
     let y = v.y as u16;
     let t = v.t as i64;
@@ -70,7 +72,9 @@ pub fn place(
     ps: &mut [u8],
 ) -> usize
     requires { ⌜ Room (length (insideOf width height v)) v at (length (now xs)) (length (now ys)) (length (now ts)) (length (now ps)) ⌝ }
-    ensures { λ r. ⌜ r ≡ at + length (insideOf width height v) ⌝ ∗ ⌜ Wrote (insideOf width height v) at (now (xs .entry)) (now (ys .entry)) (now (ts .entry)) (now (ps .entry)) (now (xs .exit)) (now (ys .exit)) (now (ts .exit)) (now (ps .exit)) ⌝ }
+    ensures { λ r. ⌜ r ≡ at + length (insideOf width height v) ⌝
+        ∗ ⌜ Wrote (insideOf width height v) at (now (xs .entry)) (now (ys .entry)) (now (ts .entry)) (now (ps .entry))
+        (now (xs .exit)) (now (ys .exit)) (now (ts .exit)) (now (ps .exit)) ⌝ }
 {
     if v.mask == 1 {
         put1(v, width, height, at, &mut *xs, &mut *ys, &mut *ts, &mut *ps)
@@ -91,7 +95,9 @@ pub fn put(
     ps: &mut [u8],
 ) -> usize
     requires { ⌜ Room (length (insideOf width height v)) v at (length (now xs)) (length (now ys)) (length (now ts)) (length (now ps)) ⌝ }
-    ensures { λ r. ⌜ r ≡ at + length (insideOf width height v) ⌝ ∗ ⌜ Wrote (insideOf width height v) at (now (xs .entry)) (now (ys .entry)) (now (ts .entry)) (now (ps .entry)) (now (xs .exit)) (now (ys .exit)) (now (ts .exit)) (now (ps .exit)) ⌝ }
+    ensures { λ r. ⌜ r ≡ at + length (insideOf width height v) ⌝
+        ∗ ⌜ Wrote (insideOf width height v) at (now (xs .entry)) (now (ys .entry)) (now (ts .entry)) (now (ps .entry))
+        (now (xs .exit)) (now (ys .exit)) (now (ts .exit)) (now (ps .exit)) ⌝ }
 {
     let y = v.y as u16;
     let t = v.t as i64;
@@ -125,7 +131,9 @@ pub fn put1(
     ps: &mut [u8],
 ) -> usize
     requires { ⌜ Room (length (insideOf width height v)) v at (length (now xs)) (length (now ys)) (length (now ts)) (length (now ps)) ⌝ ∗ ⌜ v .mask ≤ 1 ⌝ }
-    ensures { λ r. ⌜ r ≡ at + length (insideOf width height v) ⌝ ∗ ⌜ Wrote (insideOf width height v) at (now (xs .entry)) (now (ys .entry)) (now (ts .entry)) (now (ps .entry)) (now (xs .exit)) (now (ys .exit)) (now (ts .exit)) (now (ps .exit)) ⌝ }
+    ensures { λ r. ⌜ r ≡ at + length (insideOf width height v) ⌝
+        ∗ ⌜ Wrote (insideOf width height v) at (now (xs .entry)) (now (ys .entry)) (now (ts .entry)) (now (ps .entry))
+        (now (xs .exit)) (now (ys .exit)) (now (ts .exit)) (now (ps .exit)) ⌝ }
 {
     if sees(v, width, height) {
         xs[at] = v.x as u16;

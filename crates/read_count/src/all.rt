@@ -32,7 +32,9 @@ pub struct Evt3Survey {
 
 pub fn evt2(bytes: &[u8], d: Evt2Decoder, width: u64, height: u64) -> Evt2Survey
     requires { ⌜ Bounded2 (length (now bytes) / 4) d ⌝ }
-    ensures { λ r. ⌜ (r .count ≡ length (insideAll 4 reader2 width height d (now (bytes .entry)))) × (r .latest ≡ greatest clock (insideAll 4 reader2 width height d (now (bytes .entry)))) × (r .decoder ≡ after 4 reader2 d (now (bytes .entry))) ⌝ }
+    ensures { λ r. ⌜ (r .count ≡ length (insideAll 4 reader2 width height d (now (bytes .entry))))
+        × (r .latest ≡ greatest clock (insideAll 4 reader2 width height d (now (bytes .entry))))
+        × (r .decoder ≡ after 4 reader2 d (now (bytes .entry))) ⌝ }
 {
     let mut s = d;
     let mut limit = quick::limit(s.initialised, width);
@@ -63,7 +65,9 @@ pub fn evt2(bytes: &[u8], d: Evt2Decoder, width: u64, height: u64) -> Evt2Survey
 
 pub fn evt3(bytes: &[u8], d: Decoder, width: u64, height: u64) -> Evt3Survey
     requires { ⌜ Bounded3 (length (now bytes) / 2) d ⌝ }
-    ensures { λ r. ⌜ (r .count ≡ length (insideAll 2 reader3 width height d (now (bytes .entry)))) × (r .latest ≡ greatest clock (insideAll 2 reader3 width height d (now (bytes .entry)))) × (r .decoder ≡ after 2 reader3 d (now (bytes .entry))) ⌝ }
+    ensures { λ r. ⌜ (r .count ≡ length (insideAll 2 reader3 width height d (now (bytes .entry))))
+        × (r .latest ≡ greatest clock (insideAll 2 reader3 width height d (now (bytes .entry))))
+        × (r .decoder ≡ after 2 reader3 d (now (bytes .entry))) ⌝ }
 {
     let spans = read_count_word::span_table();
     let vects = read_count_word::vect_table();

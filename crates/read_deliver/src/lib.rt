@@ -29,7 +29,9 @@ pub fn deliver_all(
     ps: &mut [u8],
 ) -> Delivered
     requires { ⌜ length (now bytes) ≤ 2 ^ 30 ⌝ ∗ ⌜ Bounded (length (now bytes)) codec ⌝ }
-    ensures { λ r. ⌜ Delivers (insideEvents width height codec (now (bytes .entry))) r (now (xs .entry)) (now (ys .entry)) (now (ts .entry)) (now (ps .entry)) (now (xs .exit)) (now (ys .exit)) (now (ts .exit)) (now (ps .exit)) ⌝ }
+    ensures { λ r. ⌜ Delivers (insideEvents width height codec (now (bytes .entry))) r
+        (now (xs .entry)) (now (ys .entry)) (now (ts .entry)) (now (ps .entry))
+        (now (xs .exit)) (now (ys .exit)) (now (ts .exit)) (now (ps .exit)) ⌝ }
 {
     let room = shortest(xs.len(), ys.len(), ts.len(), ps.len());
     let n = need_all(bytes, codec, width, height, room);
@@ -61,7 +63,9 @@ fn deliver_window(
     ps: &mut [u8],
 ) -> Delivered
     requires { ⌜ Ready codec number (length (now bytes)) ⌝ }
-    ensures { λ r. ⌜ Delivers (handedOver window number codec (now (bytes .entry))) r (now (xs .entry)) (now (ys .entry)) (now (ts .entry)) (now (ps .entry)) (now (xs .exit)) (now (ys .exit)) (now (ts .exit)) (now (ps .exit)) ⌝ }
+    ensures { λ r. ⌜ Delivers (handedOver window number codec (now (bytes .entry))) r
+        (now (xs .entry)) (now (ys .entry)) (now (ts .entry)) (now (ps .entry))
+        (now (xs .exit)) (now (ys .exit)) (now (ts .exit)) (now (ps .exit)) ⌝ }
 {
     let room = shortest(xs.len(), ys.len(), ts.len(), ps.len());
     let n = need(bytes, codec, window, number, room);
@@ -95,7 +99,9 @@ pub fn deliver(
     ps: &mut [u8],
 ) -> Delivered
     requires { ⌜ Ready codec number (length (now bytes)) ⌝ }
-    ensures { λ r. ⌜ Delivers (handedOver window number codec (now (bytes .entry))) r (now (xs .entry)) (now (ys .entry)) (now (ts .entry)) (now (ps .entry)) (now (xs .exit)) (now (ys .exit)) (now (ts .exit)) (now (ps .exit)) ⌝ }
+    ensures { λ r. ⌜ Delivers (handedOver window number codec (now (bytes .entry))) r
+        (now (xs .entry)) (now (ys .entry)) (now (ts .entry)) (now (ps .entry))
+        (now (xs .exit)) (now (ys .exit)) (now (ts .exit)) (now (ps .exit)) ⌝ }
 {
     if plan::is_everything(window, codec) {
         return deliver_all(

@@ -23,8 +23,12 @@ pub fn evt2(
     ts: &mut [i64],
     ps: &mut [u8],
 ) -> Tally
-    requires { ⌜ Bounded (length (now bytes)) (Evt2 d) ⌝ ∗ ⌜ Fits (length (insideEvents width height (Evt2 d) (now bytes))) (length (now xs)) (length (now ys)) (length (now ts)) (length (now ps)) ⌝ }
-    ensures { λ r. ⌜ r ≡ tallyOf width height (Evt2 d) (now (bytes .entry)) ⌝ ∗ ⌜ Wrote (insideEvents width height (Evt2 d) (now (bytes .entry))) 0 (now (xs .entry)) (now (ys .entry)) (now (ts .entry)) (now (ps .entry)) (now (xs .exit)) (now (ys .exit)) (now (ts .exit)) (now (ps .exit)) ⌝ }
+    requires { ⌜ Bounded (length (now bytes)) (Evt2 d) ⌝ ∗ ⌜ Fits (length (insideEvents width height (Evt2 d) (now bytes)))
+        (length (now xs)) (length (now ys)) (length (now ts)) (length (now ps)) ⌝ }
+    ensures { λ r. ⌜ r ≡ tallyOf width height (Evt2 d) (now (bytes .entry)) ⌝
+        ∗ ⌜ Wrote (insideEvents width height (Evt2 d) (now (bytes .entry))) 0
+        (now (xs .entry)) (now (ys .entry)) (now (ts .entry)) (now (ps .entry))
+        (now (xs .exit)) (now (ys .exit)) (now (ts .exit)) (now (ps .exit)) ⌝ }
 {
     let mut s = d;
     let mut n: usize = 0;
@@ -53,8 +57,12 @@ pub fn evt3(
     ts: &mut [i64],
     ps: &mut [u8],
 ) -> Tally
-    requires { ⌜ Bounded (length (now bytes)) (Evt3 d) ⌝ ∗ ⌜ Fits (length (insideEvents width height (Evt3 d) (now bytes))) (length (now xs)) (length (now ys)) (length (now ts)) (length (now ps)) ⌝ }
-    ensures { λ r. ⌜ r ≡ tallyOf width height (Evt3 d) (now (bytes .entry)) ⌝ ∗ ⌜ Wrote (insideEvents width height (Evt3 d) (now (bytes .entry))) 0 (now (xs .entry)) (now (ys .entry)) (now (ts .entry)) (now (ps .entry)) (now (xs .exit)) (now (ys .exit)) (now (ts .exit)) (now (ps .exit)) ⌝ }
+    requires { ⌜ Bounded (length (now bytes)) (Evt3 d) ⌝ ∗ ⌜ Fits (length (insideEvents width height (Evt3 d) (now bytes)))
+        (length (now xs)) (length (now ys)) (length (now ts)) (length (now ps)) ⌝ }
+    ensures { λ r. ⌜ r ≡ tallyOf width height (Evt3 d) (now (bytes .entry)) ⌝
+        ∗ ⌜ Wrote (insideEvents width height (Evt3 d) (now (bytes .entry))) 0
+        (now (xs .entry)) (now (ys .entry)) (now (ts .entry)) (now (ps .entry))
+        (now (xs .exit)) (now (ys .exit)) (now (ts .exit)) (now (ps .exit)) ⌝ }
 {
     let mut s = widen(d);
     let mut n: usize = 0;

@@ -42,8 +42,12 @@ pub fn fill_all(
     ts: &mut [i64],
     ps: &mut [u8],
 ) -> Tally
-    requires { ⌜ Bounded (length (now bytes)) codec ⌝ ∗ ⌜ Fits (length (insideEvents width height codec (now bytes))) (length (now xs)) (length (now ys)) (length (now ts)) (length (now ps)) ⌝ }
-    ensures { λ r. ⌜ r ≡ tallyOf width height codec (now (bytes .entry)) ⌝ ∗ ⌜ Wrote (insideEvents width height codec (now (bytes .entry))) 0 (now (xs .entry)) (now (ys .entry)) (now (ts .entry)) (now (ps .entry)) (now (xs .exit)) (now (ys .exit)) (now (ts .exit)) (now (ps .exit)) ⌝ }
+    requires { ⌜ Bounded (length (now bytes)) codec ⌝ ∗ ⌜ Fits (length (insideEvents width height codec (now bytes))) (length (now xs))
+        (length (now ys)) (length (now ts)) (length (now ps)) ⌝ }
+    ensures { λ r. ⌜ r ≡ tallyOf width height codec (now (bytes .entry)) ⌝
+        ∗ ⌜ Wrote (insideEvents width height codec (now (bytes .entry))) 0
+        (now (xs .entry)) (now (ys .entry)) (now (ts .entry)) (now (ps .entry))
+        (now (xs .exit)) (now (ys .exit)) (now (ts .exit)) (now (ps .exit)) ⌝ }
 {
     match codec {
         Codec::Evt2(d) => {

@@ -32,7 +32,8 @@ pub struct Passed {
 // From a started decoder, by its times alone.
 fn pass(bytes: &[u8], d: Decoder, t0: u64, t1: u64) -> Passed
     requires { ⌜ d .initialised ≡ true ⌝ ∗ ⌜ Bounded3 (length (now bytes) / 2) d ⌝ ∗ ⌜ length (now bytes) ≤ 2 ^ 30 ⌝ }
-    ensures { λ r. ⌜ (r ≡ passedOf (reach3 t0 t1 d (now (bytes .entry)))) × Bounded3 (length (drop (r .at) (now (bytes .entry))) / 2) (reach3 t0 t1 d (now (bytes .entry)) .state) ⌝ }
+    ensures { λ r. ⌜ (r ≡ passedOf (reach3 t0 t1 d (now (bytes .entry))))
+        × Bounded3 (length (drop (r .at) (now (bytes .entry))) / 2) (reach3 t0 t1 d (now (bytes .entry)) .state) ⌝ }
 {
     let mut c = times::of(d);
     let mut stray = false;

@@ -62,8 +62,12 @@ pub fn fill2(
     ts: &mut [i64],
     ps: &mut [u8],
 ) -> Filled
-    requires { ⌜ Ready (Evt2 d) number (length (now bytes)) ⌝ ∗ ⌜ Fits (length (handedOver win number (Evt2 d) (now bytes))) (length (now xs)) (length (now ys)) (length (now ts)) (length (now ps)) ⌝ }
-    ensures { λ r. ⌜ r ≡ filled win number (Evt2 d) (now (bytes .entry)) ⌝ ∗ ⌜ Wrote (handedOver win number (Evt2 d) (now (bytes .entry))) 0 (now (xs .entry)) (now (ys .entry)) (now (ts .entry)) (now (ps .entry)) (now (xs .exit)) (now (ys .exit)) (now (ts .exit)) (now (ps .exit)) ⌝ }
+    requires { ⌜ Ready (Evt2 d) number (length (now bytes)) ⌝ ∗ ⌜ Fits (length (handedOver win number (Evt2 d) (now bytes)))
+        (length (now xs)) (length (now ys)) (length (now ts)) (length (now ps)) ⌝ }
+    ensures { λ r. ⌜ r ≡ filled win number (Evt2 d) (now (bytes .entry)) ⌝
+        ∗ ⌜ Wrote (handedOver win number (Evt2 d) (now (bytes .entry))) 0
+        (now (xs .entry)) (now (ys .entry)) (now (ts .entry)) (now (ps .entry))
+        (now (xs .exit)) (now (ys .exit)) (now (ts .exit)) (now (ps .exit)) ⌝ }
 {
     let mut s = d;
     let mut k = number;

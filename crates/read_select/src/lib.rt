@@ -59,8 +59,12 @@ pub fn fill(
     ts: &mut [i64],
     ps: &mut [u8],
 ) -> Filled
-    requires { ⌜ Ready codec number (length (now bytes)) ⌝ ∗ ⌜ Fits (length (handedOver win number codec (now bytes))) (length (now xs)) (length (now ys)) (length (now ts)) (length (now ps)) ⌝ }
-    ensures { λ r. ⌜ r ≡ filled win number codec (now (bytes .entry)) ⌝ ∗ ⌜ Wrote (handedOver win number codec (now (bytes .entry))) 0 (now (xs .entry)) (now (ys .entry)) (now (ts .entry)) (now (ps .entry)) (now (xs .exit)) (now (ys .exit)) (now (ts .exit)) (now (ps .exit)) ⌝ }
+    requires { ⌜ Ready codec number (length (now bytes)) ⌝ ∗ ⌜ Fits (length (handedOver win number codec (now bytes))) (length (now xs))
+        (length (now ys)) (length (now ts)) (length (now ps)) ⌝ }
+    ensures { λ r. ⌜ r ≡ filled win number codec (now (bytes .entry)) ⌝
+        ∗ ⌜ Wrote (handedOver win number codec (now (bytes .entry))) 0
+        (now (xs .entry)) (now (ys .entry)) (now (ts .entry)) (now (ps .entry))
+        (now (xs .exit)) (now (ys .exit)) (now (ts .exit)) (now (ps .exit)) ⌝ }
 {
     match codec {
         Codec::Evt2(d) => {

@@ -23,7 +23,9 @@ pub fn slice_from(
     ps: &mut [u8],
 ) -> SliceAnswer
     requires { ⌜ Startable source ok start ⌝ }
-    ensures { λ r. ⌜ SlicesFrom (now (recording .entry)) source ok (passedFrom (now (recording .entry)) window start) r (now (xs .entry)) (now (ys .entry)) (now (ts .entry)) (now (ps .entry)) (now (xs .exit)) (now (ys .exit)) (now (ts .exit)) (now (ps .exit)) ⌝ }
+    ensures { λ r. ⌜ SlicesFrom (now (recording .entry)) source ok (passedFrom (now (recording .entry)) window start) r
+        (now (xs .entry)) (now (ys .entry)) (now (ts .entry)) (now (ps .entry))
+        (now (xs .exit)) (now (ys .exit)) (now (ts .exit)) (now (ps .exit)) ⌝ }
 {
     match slice_rules::start_of(recording.len(), source, ok, start.byte_offset) {
         Start::Not(why) => SliceAnswer::Refused(why),
@@ -58,7 +60,9 @@ pub fn slice_index(
     ts: &mut [i64],
     ps: &mut [u8],
 ) -> SliceAnswer
-    ensures { λ r. ⌜ SlicesIndex (now (recording .entry)) source (now (records .entry)) i0 i1 r (now (xs .entry)) (now (ys .entry)) (now (ts .entry)) (now (ps .entry)) (now (xs .exit)) (now (ys .exit)) (now (ts .exit)) (now (ps .exit)) ⌝ }
+    ensures { λ r. ⌜ SlicesIndex (now (recording .entry)) source (now (records .entry)) i0 i1 r
+        (now (xs .entry)) (now (ys .entry)) (now (ts .entry)) (now (ps .entry))
+        (now (xs .exit)) (now (ys .exit)) (now (ts .exit)) (now (ps .exit)) ⌝ }
 {
     let asked = slice_rules::by_number(source, records.len(), i0, i1);
     let judged = index_records::judge_all(records, asked.judging);
@@ -88,7 +92,9 @@ pub fn slice_time(
     ts: &mut [i64],
     ps: &mut [u8],
 ) -> SliceAnswer
-    ensures { λ r. ⌜ SlicesTime (now (recording .entry)) source (now (records .entry)) t0 t1 r (now (xs .entry)) (now (ys .entry)) (now (ts .entry)) (now (ps .entry)) (now (xs .exit)) (now (ys .exit)) (now (ts .exit)) (now (ps .exit)) ⌝ }
+    ensures { λ r. ⌜ SlicesTime (now (recording .entry)) source (now (records .entry)) t0 t1 r
+        (now (xs .entry)) (now (ys .entry)) (now (ts .entry)) (now (ps .entry))
+        (now (xs .exit)) (now (ys .exit)) (now (ts .exit)) (now (ps .exit)) ⌝ }
 {
     let asked = slice_rules::by_time(source, records.len(), t0, t1);
     let judged = index_records::judge_all(records, asked.judging);

@@ -68,8 +68,12 @@ fn write(
     ps: &[u8],
     out: &mut [u8],
 ) -> Put
-    requires { ⌜ Sized (now xs) (now ys) (now ts) (now ps) × Whole (now ts) × Roomy (now out) 0 (length (sends sink width height (now xs) (now ys) (now ts) (now ps))) × Fitting (sink .version) (now xs) (now ys) (now ts) (now ps) ⌝ }
-    ensures { λ r. ⌜ r ≡ wrote sink width height (now (xs .entry)) (now (ys .entry)) (now (ts .entry)) (now (ps .entry)) ⌝ ∗ ⌜ now (out .exit) ≡ sets (now (out .entry)) 0 (sends sink width height (now (xs .entry)) (now (ys .entry)) (now (ts .entry)) (now (ps .entry))) ⌝ }
+    requires { ⌜ Sized (now xs) (now ys) (now ts) (now ps) × Whole (now ts)
+        × Roomy (now out) 0 (length (sends sink width height (now xs) (now ys) (now ts) (now ps)))
+        × Fitting (sink .version) (now xs) (now ys) (now ts) (now ps) ⌝ }
+    ensures { λ r. ⌜ r ≡ wrote sink width height (now (xs .entry)) (now (ys .entry)) (now (ts .entry)) (now (ps .entry)) ⌝
+        ∗ ⌜ now (out .exit) ≡ sets (now (out .entry)) 0 (sends sink width height
+        (now (xs .entry)) (now (ys .entry)) (now (ts .entry)) (now (ps .entry))) ⌝ }
 {
     let version = sink.version;
     let state = sink.state;
@@ -91,7 +95,9 @@ fn shortfall(
     room: usize,
 ) -> usize
     requires { ⌜ Sized (now xs) (now ys) (now ts) (now ps) × Whole (now ts) × Fitting (sink .version) (now xs) (now ys) (now ts) (now ps) ⌝ }
-    ensures { λ r. ⌜ r ≡ cond (leb (length (sends sink width height (now (xs .entry)) (now (ys .entry)) (now (ts .entry)) (now (ps .entry)))) room) 0 (length (sends sink width height (now (xs .entry)) (now (ys .entry)) (now (ts .entry)) (now (ps .entry)))) ⌝ }
+    ensures { λ r. ⌜ r ≡ cond (leb (length (sends sink width height
+        (now (xs .entry)) (now (ys .entry)) (now (ts .entry)) (now (ps .entry)))) room) 0
+        (length (sends sink width height (now (xs .entry)) (now (ys .entry)) (now (ts .entry)) (now (ps .entry)))) ⌝ }
 {
     if 96 + 8 * xs.len() <= room {
         return 0;
@@ -113,7 +119,8 @@ pub fn append(
     ps: &[u8],
     output: &mut [u8],
 ) -> Appended
-    ensures { λ r. ⌜ AppendOwed sink width height (now (xs .entry)) (now (ys .entry)) (now (ts .entry)) (now (ps .entry)) (now (output .entry)) r (now (output .exit)) ⌝ }
+    ensures { λ r. ⌜ AppendOwed sink width height (now (xs .entry)) (now (ys .entry)) (now (ts .entry)) (now (ps .entry))
+        (now (output .entry)) r (now (output .exit)) ⌝ }
 {
     let verdict = write_rules::check_append(sink, xs, ys, ts, ps);
     match verdict {

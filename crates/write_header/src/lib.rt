@@ -35,7 +35,8 @@ fn put_header(version: Encoding, width: usize, height: usize, out: &mut [u8]) ->
 
 // The header, where one is due.
 pub fn put_due(due: bool, version: Encoding, width: usize, height: usize, out: &mut [u8]) -> usize
-    ensures { λ r. ⌜ r ≡ length (cond due (headerText version width height) []) ⌝ ∗ ⌜ now (out .exit) ≡ sets (now (out .entry)) 0 (cond due (headerText version width height) []) ⌝ }
+    ensures { λ r. ⌜ r ≡ length (cond due (headerText version width height) []) ⌝
+        ∗ ⌜ now (out .exit) ≡ sets (now (out .entry)) 0 (cond due (headerText version width height) []) ⌝ }
 {
     if due {
         put_header(version, width, height, &mut *out)

@@ -39,8 +39,11 @@ pub fn pass(
     out: &mut [u8],
     start: usize,
 ) -> Put
-    requires { ⌜ Sized (now xs) (now ys) (now ts) (now ps) × (start ≤ 2 ^ 32) × Whole (now ts) × Roomy (now out) start (length (stream3 state (eventsIn (now xs) (now ys) (now ts) (now ps)))) ⌝ }
-    ensures { λ r. ⌜ r ≡ passed3 state (eventsIn (now (xs .entry)) (now (ys .entry)) (now (ts .entry)) (now (ps .entry))) start ⌝ ∗ ⌜ now (out .exit) ≡ sets (now (out .entry)) start (stream3 state (eventsIn (now (xs .entry)) (now (ys .entry)) (now (ts .entry)) (now (ps .entry)))) ⌝ }
+    requires { ⌜ Sized (now xs) (now ys) (now ts) (now ps) × (start ≤ 2 ^ 32) × Whole (now ts)
+        × Roomy (now out) start (length (stream3 state (eventsIn (now xs) (now ys) (now ts) (now ps)))) ⌝ }
+    ensures { λ r. ⌜ r ≡ passed3 state (eventsIn (now (xs .entry)) (now (ys .entry)) (now (ts .entry)) (now (ps .entry))) start ⌝
+        ∗ ⌜ now (out .exit) ≡ sets (now (out .entry)) start (stream3 state (eventsIn
+        (now (xs .entry)) (now (ys .entry)) (now (ts .entry)) (now (ps .entry)))) ⌝ }
 {
     let sent_high = state.time_high;
     let sent_low = state.time_low;

@@ -27,8 +27,12 @@ pub fn pass(
     out: &mut [u8],
     start: usize,
 ) -> Put
-    requires { ⌜ Sized (now xs) (now ys) (now ts) (now ps) × (start ≤ 2 ^ 32) × Whole (now ts) × Roomy (now out) start (length (encodeBytes version state (eventsIn (now xs) (now ys) (now ts) (now ps)))) × Fitting version (now xs) (now ys) (now ts) (now ps) ⌝ }
-    ensures { λ r. ⌜ r ≡ passed version state (eventsIn (now (xs .entry)) (now (ys .entry)) (now (ts .entry)) (now (ps .entry))) start ⌝ ∗ ⌜ now (out .exit) ≡ sets (now (out .entry)) start (encodeBytes version state (eventsIn (now (xs .entry)) (now (ys .entry)) (now (ts .entry)) (now (ps .entry)))) ⌝ }
+    requires { ⌜ Sized (now xs) (now ys) (now ts) (now ps) × (start ≤ 2 ^ 32) × Whole (now ts)
+        × Roomy (now out) start (length (encodeBytes version state (eventsIn (now xs) (now ys) (now ts) (now ps))))
+        × Fitting version (now xs) (now ys) (now ts) (now ps) ⌝ }
+    ensures { λ r. ⌜ r ≡ passed version state (eventsIn (now (xs .entry)) (now (ys .entry)) (now (ts .entry)) (now (ps .entry))) start ⌝
+        ∗ ⌜ now (out .exit) ≡ sets (now (out .entry)) start (encodeBytes version state (eventsIn
+        (now (xs .entry)) (now (ys .entry)) (now (ts .entry)) (now (ps .entry)))) ⌝ }
 {
     match version {
         Encoding::Evt2 => evt2_encoder::pass(state, xs, ys, ts, ps, &mut *out, start),

@@ -12,7 +12,7 @@ use Rattle.evt_types.specs.declared.Encoding.{Encoding}
 use Rattle.evt_codec.specs.declared.codec.Codec.{Codec}
 use Rattle.evt_codec.specs.declared.codec.Codec.the-variants.{Evt2, Evt3}
 use Rattle.evt_codec.specs.Codec.{encodingOf}
-use Rattle.write_buffer.specs.Columns.{natural}
+use Rattle.evt_types.specs.Num.{natural}
 use Rattle.index_build.specs.declared.Checkpoint.{Checkpoint}
 use Rattle.index_build.specs.Index.{firsts}
 use Rattle.index_build.specs.Nth.{nth, blank}

@@ -6,7 +6,7 @@ use native.Mathlib.Omega.{arith}
 use lib.ListN.{set}
 use lib.Seq.{sets}
 use Rattle.evt_codec.specs.declared.codec.Codec.{Codec}
-use Rattle.write_buffer.specs.Columns.{natural}
+use Rattle.evt_types.specs.Num.{natural}
 use Rattle.index_build.specs.declared.Checkpoint.{Checkpoint}
 use Rattle.c_structs.specs.declared.records.PropheseeRecord.{PropheseeRecord}
 use Rattle.c_structs.specs.Records.{flatOf, flatRecord, entriesOf}

@@ -1,12 +1,10 @@
 // A reading's answer in numbers.
 ghost use mathlib.Core.Path.{_≡_};
-ghost use Rattle.evt_types.specs.declared.Encoding.the-variants.{Evt2, Evt3};
-ghost use Rattle.header.specs.Header.{encodingNumber};
 ghost use Rattle.read_rules.specs.Read.{toldRead};
 ghost use Rattle.c_structs.specs.Reading.{readingOf};
 use crate::refusal::count_of;
-use evt_types::Encoding;
 use evt_types::Refusal;
+use evt_types::encoding_number;
 use evt_types::refusal_number;
 use read::ReadAnswer;
 use read::Reading;
@@ -21,15 +19,6 @@ pub struct PropheseeReading {
     pub width: usize,
     pub height: usize,
     pub count: usize,
-}
-
-pub fn encoding_number(encoding: Encoding) -> u32
-    ensures { λ r. ⌜ r ≡ encodingNumber encoding ⌝ }
-{
-    match encoding {
-        Encoding::Evt2 => 2,
-        Encoding::Evt3 => 3,
-    }
 }
 
 pub fn reading_of(answer: ReadAnswer) -> PropheseeReading

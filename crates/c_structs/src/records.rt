@@ -1,6 +1,6 @@
 // Records of an index as numbers: ten entries of a lent run to a record.
 ghost use mathlib.Core.Path.{_≡_};
-ghost use Prim.Native.Nat.{_+_, _≤_, min};
+ghost use Prim.Native.Nat.{_+_, _≤_};
 ghost use lib.ListN.{length};
 ghost use lib.Seq.{sets};
 ghost use Rattle.c_structs.specs.Entries.{five};
@@ -9,6 +9,8 @@ use crate::options::is_set_wide;
 use crate::writer::bit_of;
 use evt_codec::Codec;
 use evt_types::Encoding;
+use evt_types::num::natural_time;
+use evt_types::num::saturate;
 use evt2_decoder::Evt2Decoder;
 use evt3_decoder::Decoder;
 use index_build::Checkpoint;
@@ -69,7 +71,7 @@ fn flat_record(c: Checkpoint) -> PropheseeRecord
     let codec = c.codec;
     let offset = c.byte_offset as u64;
     let count = c.event_index as u64;
-    let time = write_buffer::time_of(c.time);
+    let time = natural_time(c.time);
     match codec {
         Codec::Evt2(d) => flat_evt2(offset, count, time, d),
         Codec::Evt3(d) => flat_evt3(offset, count, time, d),
@@ -114,20 +116,13 @@ pub fn put_record(records: &mut [u64], at: usize, c: Checkpoint)
 }
 
 // A number from 2^63 on is a negative time.
-fn time_of(n: u64) -> i64
+fn signed_time(n: u64) -> i64
     ensures { λ r. ⌜ r ≡ timeOf n ⌝ }
 {
     if n < 9223372036854775808 {
         return n as i64;
     }
     -1
-}
-
-// A number over 65,535 is held there.
-fn held(n: u64) -> u16
-    ensures { λ r. ⌜ r ≡ min n 65535 ⌝ }
-{
-    if n < 65535 { n as u16 } else { 65535 }
 }
 
 fn evt2_of(r: PropheseeRecord) -> Codec
@@ -148,8 +143,8 @@ fn evt3_of(r: PropheseeRecord) -> Codec
         initialised: is_set_wide(r.initialised),
         time_base: r.time_base,
         time: r.decoder_time,
-        y: held(r.y),
-        base_x: held(r.base_x),
+        y: saturate(r.y) as u16,
+        base_x: saturate(r.base_x) as u16,
         polarity: is_set_wide(r.polarity),
         high_loops: r.high_loops,
     })
@@ -167,7 +162,7 @@ fn codec_of(encoding: Encoding, r: PropheseeRecord) -> Codec
 fn checkpoint_of(encoding: Encoding, r: PropheseeRecord) -> Checkpoint
     ensures { λ c. ⌜ c ≡ checkpointOf encoding r ⌝ }
 {
-    let time = time_of(r.time);
+    let time = signed_time(r.time);
     let codec = codec_of(encoding, r);
     Checkpoint {
         byte_offset: r.byte_offset as usize,

@@ -12,7 +12,7 @@ use Rattle.evt_types.specs.declared.vector.Vector.{Vector}
 use Rattle.evt_types.specs.Clock.{either}
 use Rattle.evt_types.specs.Event.{Event, eventsOf, noEvents}
 use Rattle.evt_types.specs.Clock.{clockInRange}
-use Rattle.evt_types.specs.Layout.{type2, timeLow2, x2, y2, timeHigh2}
+use Rattle.evt_types.specs.Layout.{type2, timeLow2, x2, y2, timeHigh2, grain2}
 
 abbrev pub fresh2 : Evt2Decoder
 fresh2 = record { initialised = false; «time_high» = 0; time = 0; «high_loops» = 0 }
@@ -32,7 +32,7 @@ kindOf type started = cond (eqb type 8) timeHigh (cond started (cond (ltb type 2
 
 abbrev pub stepAs : Kind → Evt2Decoder → ℕ → Evt2Decoder
 stepAs timeHigh d w =
-    let raw = timeHigh2 w * 64 in
+    let raw = timeHigh2 w * grain2 in
     record {
       initialised = true;
       «time_high» = timeAfter period2 threshold2 (d .«time_high») (d .«high_loops») raw;
@@ -60,7 +60,7 @@ reader2 = record { step = step2; emit = λ d w. eventsOf (vector2 d w) }
 
 abbrev pub inRange2 : Evt2Decoder → Bool
 inRange2 d =
-    cond (d .initialised) (clockInRange period2 64 (2 ^ 27) (d .«time_high») (d .time) (d .«high_loops»))
+    cond (d .initialised) (clockInRange period2 grain2 (2 ^ 27) (d .«time_high») (d .time) (d .«high_loops»))
     (eqb (d .«time_high») 0 && (eqb (d .time) 0 && eqb (d .«high_loops») 0))
 
 -- bounds under which no sum of a step wraps

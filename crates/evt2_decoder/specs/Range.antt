@@ -13,13 +13,13 @@ use Rattle.laws_stream.specs.Words.{wordsOf, length-words}
 use Rattle.evt2_decoder.specs.declared.Evt2Decoder.{Evt2Decoder}
 use Rattle.evt_types.specs.Clock.{Ticking, ticking-word, ticking-range, range-ticking}
 use Rattle.evt_types.specs.Event.{Narrow}
-use Rattle.evt_types.specs.Layout.{type2, timeHigh2}
+use Rattle.evt_types.specs.Layout.{type2, timeHigh2, grain2, wordSize2}
 use Rattle.evt2_decoder.specs.Evt2 as Evt2
 use Rattle.evt2_decoder.specs.Evt2.{fresh2, period2, threshold2, step2, vector2, reader2, inRange2, Sane2}
 
 pub record Regular2 (d : Evt2Decoder) : Type 0 where
   pub unstarted : d .initialised ≡ false → d ≡ fresh2
-  pub started : d .initialised ≡ true → Ticking (2 ^ 28) 64 (d .«time_high») (d .time) (d .«high_loops»)
+  pub started : d .initialised ≡ true → Ticking (2 ^ 28) grain2 (d .«time_high») (d .time) (d .«high_loops»)
 
 pub regular-fresh2 : Regular2 fresh2
 regular-fresh2 = record { unstarted = λ h. refl; started = λ h. absurd (true≢false (sym h)) }
@@ -27,7 +27,7 @@ regular-fresh2 = record { unstarted = λ h. refl; started = λ h. absurd (true�
 pub regular-step2 : (d : Evt2Decoder) (w : ℕ) → Regular2 d → Regular2 (step2 d w)
 unfolding step2
 regular-step2 d w r = Evt2.by-kinds (λ k. Regular2 (Evt2.stepAs k d w)) (type2 w) (d .initialised)
-    (record { unstarted = λ h. absurd (true≢false h); started = λ h. ticking-word (2 ^ 28) 64 (omega arith) (omega arith) threshold2 (d .«time_high») (d .«high_loops») (timeHigh2 w) (omega arith) })
+    (record { unstarted = λ h. absurd (true≢false h); started = λ h. ticking-word (2 ^ 28) grain2 (omega arith) (omega arith) threshold2 (d .«time_high») (d .«high_loops») (timeHigh2 w) (omega arith) })
     (λ on q. record {
       unstarted = λ h. absurd (true≢false (sym on ∙ h));
       started = λ h. let t = r .started on in record { low = t .low; high = t .high; whole = t .whole; past = omega arith; near = omega arith };
@@ -45,14 +45,14 @@ slow2 : (d : Evt2Decoder) (w : ℕ) → Regular2 d
     → charge period2 threshold2 (step2 d w .«time_high») (step2 d w .«high_loops») ≤ charge period2 threshold2 (d .«time_high») (d .«high_loops») + 1
 unfolding step2
 slow2 d w r = Evt2.by-kinds (λ k. charge period2 threshold2 (Evt2.stepAs k d w .«time_high») (Evt2.stepAs k d w .«high_loops») ≤ charge period2 threshold2 (d .«time_high») (d .«high_loops») + 1) (type2 w) (d .initialised)
-    (charge-one period2 threshold2 (d .«time_high») (d .«high_loops») (timeHigh2 w * 64) (omega arith) (below2 d r))
+    (charge-one period2 threshold2 (d .«time_high») (d .«high_loops») (timeHigh2 w * grain2) (omega arith) (below2 d r))
     (λ on q. omega arith) (omega arith)
 
 range2 : (d : Evt2Decoder) → Regular2 d → d .«high_loops» ≤ 2 ^ 27 → inRange2 d ≡ true
 range2 d r h = go (d .initialised) refl
   where
     go : (b : Bool) → d .initialised ≡ b → inRange2 d ≡ true
-    go true e = rw e (ticking-range (2 ^ 28) 64 (omega arith) (omega arith) (2 ^ 27) (d .«time_high») (d .time) (d .«high_loops») (r .started e) h)
+    go true e = rw e (ticking-range (2 ^ 28) grain2 (omega arith) (omega arith) (2 ^ 27) (d .«time_high») (d .time) (d .«high_loops») (r .started e) h)
     go false e = ap inRange2 (r .unstarted e)
 
 pub regular-range2 : (d : Evt2Decoder) → inRange2 d ≡ true → Regular2 d × (d .«high_loops» ≤ 2 ^ 27)
@@ -60,7 +60,7 @@ regular-range2 d h = go (d .initialised) refl
   where
     go : (b : Bool) → d .initialised ≡ b → Regular2 d × (d .«high_loops» ≤ 2 ^ 27)
     go true e =
-        let t = range-ticking (2 ^ 28) 64 (omega arith) (omega arith) (2 ^ 27) (d .«time_high») (d .time) (d .«high_loops») (rw e at h) in
+        let t = range-ticking (2 ^ 28) grain2 (omega arith) (omega arith) (2 ^ 27) (d .«time_high») (d .time) (d .«high_loops») (rw e at h) in
         (record { unstarted = λ f. absurd (true≢false (sym e ∙ f)); started = λ f. t .0 }, t .1)
     go false e =
         let a = and-both _ _ (rw e at h) in
@@ -76,10 +76,10 @@ regular-range2 d h = go (d .initialised) refl
         )
 
 -- at most 2^30 bytes from a fresh decoder
-pub fresh-range2 : (l : List ℕ) → length l ≤ 2 ^ 30 → inRange2 (run reader2 fresh2 (wordsOf 4 l)) ≡ true
+pub fresh-range2 : (l : List ℕ) → length l ≤ 2 ^ 30 → inRange2 (run reader2 fresh2 (wordsOf wordSize2 l)) ≡ true
 fresh-range2 l h =
-    let few = charge-run period2 threshold2 reader2 (λ d. d .«time_high») (λ d. d .«high_loops») Regular2 regular-step2 slow2 fresh2 (wordsOf 4 l) regular-fresh2 in
-    range2 (run reader2 fresh2 (wordsOf 4 l)) (run-keeps reader2 Regular2 regular-step2 fresh2 (wordsOf 4 l) regular-fresh2)
+    let few = charge-run period2 threshold2 reader2 (λ d. d .«time_high») (λ d. d .«high_loops») Regular2 regular-step2 slow2 fresh2 (wordsOf wordSize2 l) regular-fresh2 in
+    range2 (run reader2 fresh2 (wordsOf wordSize2 l)) (run-keeps reader2 Regular2 regular-step2 fresh2 (wordsOf wordSize2 l) regular-fresh2)
     (omega (arith, few, charge-fresh period2 threshold2 (omega arith), length-words 4 l))
 
 -- the decoder can take n words more, and no sum wraps
@@ -93,7 +93,7 @@ bounded-range2 n d h k = let r = regular-range2 d h in record { regular = r .0; 
 one2 : (d : Evt2Decoder) (w : ℕ) → step2 d w .«high_loops» ≤ suc (d .«high_loops»)
 unfolding step2
 one2 d w = Evt2.by-kinds (λ k. Evt2.stepAs k d w .«high_loops» ≤ suc (d .«high_loops»)) (type2 w) (d .initialised)
-    (loops-one period2 threshold2 (d .«time_high») (d .«high_loops») (timeHigh2 w * 64) .1) (λ on q. omega arith) (omega arith)
+    (loops-one period2 threshold2 (d .«time_high») (d .«high_loops») (timeHigh2 w * grain2) .1) (λ on q. omega arith) (omega arith)
 
 pub bounded-step2 : (n : ℕ) (d : Evt2Decoder) (w : ℕ) → Bounded2 (suc n) d → Bounded2 n (step2 d w)
 bounded-step2 n d w b = record { regular = regular-step2 d w (b .regular); loops = omega (arith, b .loops, one2 d w) }

@@ -32,6 +32,9 @@ pub struct Evt2Decoded {
 impl Evt2Decoder {
     pub const WORD_SIZE: usize = 4;
 
+    // Microseconds of a unit of coarse time.
+    pub const GRAIN: u64 = 64;
+
     pub const PERIOD: u64 = 17179869184;
 
     pub const THRESHOLD: u64 = 16106127360;
@@ -55,7 +58,7 @@ impl Evt2Decoder {
         if self.initialised {
             return clock::in_range(
                 Self::PERIOD,
-                64,
+                Self::GRAIN,
                 Self::MOST_LOOPS,
                 self.time_high,
                 self.time,
@@ -113,7 +116,7 @@ pub fn advance(decoder: Evt2Decoder, word: u64) -> Evt2Step
     let mut v = vector::none();
     match kind {
         8 => {
-            let raw = bits(word, 0, 28) * 64;
+            let raw = bits(word, 0, 28) * Evt2Decoder::GRAIN;
             let c = clock::after(
                 Evt2Decoder::PERIOD,
                 Evt2Decoder::THRESHOLD,

@@ -16,8 +16,9 @@ use Rattle.evt_types.specs.Event.{Event}
 use Rattle.evt_types.specs.declared.Sent.the-variants.{Value}
 use Rattle.write_buffer.specs.declared.EncoderState.{EncoderState}
 use Rattle.write_buffer.specs.declared.Put.{Put}
-use Rattle.write_buffer.specs.Columns.{natural, event, Sized, Whole, eventsIn, eventsPast, eventOf, events-at, events-end}
-use Rattle.write_buffer.specs.Sent.{carries, due, held, held-is}
+use Rattle.write_buffer.specs.Columns.{event, Sized, Whole, eventsIn, eventsPast, eventOf, events-at, events-end}
+use Rattle.evt_types.specs.Num.{natural}
+use Rattle.write_buffer.specs.Sent.{carries, due, sentNumber, held-is}
 use Rattle.evt2_encoder.specs.Evt2.{highWord2, wordOf2, highSent2, encode2, encoded2, writer2}
 use Rattle.write_buffer.specs.Storing.{Roomy, sets-over, piece, bytesFrom, Going, going-start, going-turn, going-room, going-end}
 
@@ -107,7 +108,7 @@ state-step2 v (suc i) high e = refl
 pub record Under2 (v₀ : EncoderState) (xs ys : List ℕ) (ts : List ℤ) (ps : List ℕ) (at₀ : ℕ) (out₀ out : List ℕ) (high at i : ℕ) : Type 0 where
   pub within : i ≤ length xs
   pub small : at ≤ at₀ + 8 * i
-  pub is-high : high ≡ held (stateAt2 v₀ i high .«time_high»)
+  pub is-high : high ≡ sentNumber (stateAt2 v₀ i high .«time_high»)
   pub going : Going 4 writer2 v₀ (eventsIn xs ys ts ps) at₀ out₀ (eventsPast xs ys ts ps i) (stateAt2 v₀ i high) at out
 
 -- what reading a time asks for
@@ -115,11 +116,11 @@ pub time-asks2 : {xs ys : List ℕ} {ts : List ℤ} {ps : List ℕ} → Sized xs
 time-asks2 sized whole h = (omega (arith, sized .same-t), omega (arith, sized .same-t, sized .few), whole)
 
 module _ {xs ys : List ℕ} {ts : List ℤ} {ps : List ℕ} (sized : Sized xs ys ts ps) {v₀ : EncoderState} {at₀ : ℕ} {out₀ : List ℕ} where
-  pub under-start2 : (high : ℕ) → high ≡ held (v₀ .«time_high») → Under2 v₀ xs ys ts ps at₀ out₀ out₀ high at₀ 0
+  pub under-start2 : (high : ℕ) → high ≡ sentNumber (v₀ .«time_high») → Under2 v₀ xs ys ts ps at₀ out₀ out₀ high at₀ 0
   under-start2 high h = record { within = omega arith; small = omega arith; is-high = h; going = going-start 4 writer2 }
 
   module _ {out : List ℕ} {high at i : ℕ} (u : Under2 v₀ xs ys ts ps at₀ out₀ out high at i) where
-    -- by what is held of the state, or by the state
+    -- by the numbers of what was sent, or by the state
     words-are : (e : Event) → e .t < 2 ^ 64 → eventBytes2 (eqb high (e .t / 64)) e ≡ bytes2 (stateAt2 v₀ i high) e
     words-are e t< =
         let v = stateAt2 v₀ i high in

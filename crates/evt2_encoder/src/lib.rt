@@ -13,7 +13,7 @@ ghost use Rattle.evt2_encoder.specs.Pass2.{Fit2, Fitting2, Within2, even
 use evt_types::Sent;
 use write_buffer::EncoderState;
 use write_buffer::Put;
-use write_buffer::held_of;
+use write_buffer::sent_number;
 use write_buffer::time_at;
 
 // Nothing is cut off of what rule 7 lets pass, so these two need none of the remainders of the
@@ -104,7 +104,7 @@ pub fn pass(
         (now (xs .entry)) (now (ys .entry)) (now (ts .entry)) (now (ps .entry)))) ⌝ }
 {
     let sent = state.time_high;
-    let mut high = held_of(sent);
+    let mut high = sent_number(sent);
     let mut at = start;
     let mut i: usize = 0;
     while i + 1 < xs.len() {

@@ -12,7 +12,7 @@ use Rattle.evt_types.specs.declared.vector.Vector.{Vector}
 use Rattle.evt_types.specs.Clock.{either}
 use Rattle.evt_types.specs.Event.{Event, eventsOf, noEvents}
 use Rattle.evt_types.specs.Clock.{clockInRange}
-use Rattle.evt_types.specs.Layout.{type3, y3, x3, polarity3, mask12, mask8, time3}
+use Rattle.evt_types.specs.Layout.{type3, y3, x3, polarity3, mask12, mask8, time3, grain3}
 
 abbrev pub fresh3 : Decoder
 fresh3 = record { initialised = false; «time_base» = 0; time = 0; y = 0; «base_x» = 0; polarity = false; «high_loops» = 0 }
@@ -37,8 +37,8 @@ abbrev pub kindOf : ℕ → Bool → Kind
 kindOf type started = cond started (kindOn type) (cond (eqb type 8) firstTime skip)
 
 -- the time is the coarse time
-abbrev pub timed : Decoder → (coarse loops : ℕ) → Decoder
-timed d coarse loops = record {
+abbrev pub atCoarse : Decoder → (coarse loops : ℕ) → Decoder
+atCoarse d coarse loops = record {
   initialised = true;
   «time_base» = coarse;
   time = coarse;
@@ -64,10 +64,10 @@ abbrev pub past : ℕ → Decoder → Decoder
 past n d = at d (d .time) (d .y) (min (d .«base_x» + n) 65535) (d .polarity)
 
 abbrev pub stepAs : Kind → Decoder → ℕ → Decoder
-stepAs firstTime d w = timed d (time3 w * 4096) (d .«high_loops»)
+stepAs firstTime d w = atCoarse d (time3 w * grain3) (d .«high_loops»)
 stepAs timeHigh d w =
-    let raw = time3 w * 4096 in
-    timed d (timeAfter period3 threshold3 (d .«time_base») (d .«high_loops») raw) (loopsAfter period3 threshold3 (d .«time_base») (d .«high_loops») raw)
+    let raw = time3 w * grain3 in
+    atCoarse d (timeAfter period3 threshold3 (d .«time_base») (d .«high_loops») raw) (loopsAfter period3 threshold3 (d .«time_base») (d .«high_loops») raw)
 stepAs timeLow d w = at d (d .«time_base» + time3 w) (d .y) (d .«base_x») (d .polarity)
 stepAs addrY d w = at d (d .time) (y3 w) (d .«base_x») (d .polarity)
 stepAs addrX d w = d
@@ -115,7 +115,7 @@ isZero d = eqb (d .«time_base») 0 && (eqb (d .time) 0 && (eqb (d .y) 0 && (eqb
 
 abbrev pub inRange3 : Decoder → Bool
 inRange3 d =
-    cond (d .initialised) (clockInRange period3 4096 (2 ^ 28) (d .«time_base») (d .time) (d .«high_loops») && leb (d .y) 2047)
+    cond (d .initialised) (clockInRange period3 grain3 (2 ^ 28) (d .«time_base») (d .time) (d .«high_loops») && leb (d .y) 2047)
     (isZero d)
 
 -- ---- the same decoder in the loops' struct

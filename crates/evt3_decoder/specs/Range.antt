@@ -13,22 +13,22 @@ use Rattle.laws_stream.specs.Words.{wordsOf, length-words}
 use Rattle.evt3_decoder.specs.declared.Decoder.{Decoder}
 use Rattle.evt_types.specs.Clock.{Ticking, ticking-word, ticking-range, range-ticking}
 use Rattle.evt_types.specs.Event.{Narrow}
-use Rattle.evt_types.specs.Layout.{type3, time3}
+use Rattle.evt_types.specs.Layout.{type3, time3, grain3, wordSize3}
 use Rattle.evt3_decoder.specs.Evt3 as Evt3
 use Rattle.evt3_decoder.specs.Evt3.{fresh3, period3, threshold3, step3, vector3, reader3, inRange3, isZero, Sane3, Slim, widened, number}
 
 pub record Regular3 (d : Decoder) : Type 0 where
   pub unstarted : d .initialised ≡ false → d ≡ fresh3
-  pub started : d .initialised ≡ true → Ticking 4096 4096 (d .«time_base») (d .time) (d .«high_loops») × (d .y < 2048)
+  pub started : d .initialised ≡ true → Ticking 4096 grain3 (d .«time_base») (d .time) (d .«high_loops») × (d .y < 2048)
 
 pub regular-fresh3 : Regular3 fresh3
 regular-fresh3 = record { unstarted = λ h. refl; started = λ h. absurd (true≢false (sym h)) }
 
 -- a rule that leaves a started decoder started
-goes-on3 : (e : Decoder) → e .initialised ≡ true → Ticking 4096 4096 (e .«time_base») (e .time) (e .«high_loops») × (e .y < 2048) → Regular3 e
+goes-on3 : (e : Decoder) → e .initialised ≡ true → Ticking 4096 grain3 (e .«time_base») (e .time) (e .«high_loops») × (e .y < 2048) → Regular3 e
 goes-on3 e on t = record { unstarted = λ h. absurd (true≢false (sym on ∙ h)); started = λ h. t }
 
-sets3 : (d : Decoder) (coarse loops : ℕ) → Ticking 4096 4096 coarse coarse loops → d .y < 2048 → Regular3 (Evt3.timed d coarse loops)
+sets3 : (d : Decoder) (coarse loops : ℕ) → Ticking 4096 grain3 coarse coarse loops → d .y < 2048 → Regular3 (Evt3.atCoarse d coarse loops)
 sets3 d coarse loops t y = record { unstarted = λ h. absurd (true≢false h); started = λ h. (t, y) }
 
 row3 : (d : Decoder) → Regular3 d → d .y < 2048
@@ -44,8 +44,8 @@ regular-step3 d w r =
     let raw : time3 w < 4096 = omega arith in
     Evt3.by-kinds (λ k. Regular3 (Evt3.stepAs k d w)) (type3 w) (d .initialised)
     (λ off. let z : d .«high_loops» ≡ 0 = ap (λ (e : Decoder). e .«high_loops») (r .unstarted off) in
-    sets3 d (time3 w * 4096) (d .«high_loops») (record { low = omega arith; high = omega arith; whole = omega arith; past = omega arith; near = omega arith }) (row3 d r))
-    (λ on. sets3 d _ _ (ticking-word 4096 4096 (omega arith) (omega arith) threshold3 (d .«time_base») (d .«high_loops») (time3 w) raw) (row3 d r))
+    sets3 d (time3 w * grain3) (d .«high_loops») (record { low = omega arith; high = omega arith; whole = omega arith; past = omega arith; near = omega arith }) (row3 d r))
+    (λ on. sets3 d _ _ (ticking-word 4096 grain3 (omega arith) (omega arith) threshold3 (d .«time_base») (d .«high_loops») (time3 w) raw) (row3 d r))
     (λ on. let t = r .started on in
     goes-on3 _ on (record { low = t .0 .low; high = t .0 .high; whole = t .0 .whole; past = omega arith; near = omega arith }, t .1))
     (λ on. goes-on3 _ on (r .started on .0, omega arith))
@@ -62,10 +62,10 @@ below3 d r = go (d .initialised) refl
     go true h = r .started h .0 .high
     go false h = rw (r .unstarted h) (omega arith)
 
-near3 : (d : Decoder) → Regular3 d → d .time < d .«time_base» + 4096
+near3 : (d : Decoder) → Regular3 d → d .time < d .«time_base» + grain3
 near3 d r = go (d .initialised) refl
   where
-    go : (b : Bool) → d .initialised ≡ b → d .time < d .«time_base» + 4096
+    go : (b : Bool) → d .initialised ≡ b → d .time < d .«time_base» + grain3
     go true h = r .started h .0 .near
     go false h = rw (r .unstarted h) (omega arith)
 
@@ -75,8 +75,8 @@ unfolding step3
 slow3 d w r =
     let same : charge period3 threshold3 (d .«time_base») (d .«high_loops») ≤ charge period3 threshold3 (d .«time_base») (d .«high_loops») + 1 = omega arith in
     Evt3.by-kinds (λ k. charge period3 threshold3 (Evt3.stepAs k d w .«time_base») (Evt3.stepAs k d w .«high_loops») ≤ charge period3 threshold3 (d .«time_base») (d .«high_loops») + 1) (type3 w) (d .initialised)
-    (λ off. let z : d .«high_loops» ≡ 0 = ap (λ (e : Decoder). e .«high_loops») (r .unstarted off) in rw z (omega (arith, charge-le period3 threshold3 (time3 w * 4096) 0)))
-    (λ on. charge-one period3 threshold3 (d .«time_base») (d .«high_loops») (time3 w * 4096) (omega arith) (below3 d r))
+    (λ off. let z : d .«high_loops» ≡ 0 = ap (λ (e : Decoder). e .«high_loops») (r .unstarted off) in rw z (omega (arith, charge-le period3 threshold3 (time3 w * grain3) 0)))
+    (λ on. charge-one period3 threshold3 (d .«time_base») (d .«high_loops») (time3 w * grain3) (omega arith) (below3 d r))
     (λ on. same) (λ on. same) (λ on. same) (λ on. same) (λ on. same) (λ on. same) same
 
 range3 : (d : Decoder) → Regular3 d → d .«high_loops» ≤ 2 ^ 28 → inRange3 d ≡ true
@@ -85,7 +85,7 @@ range3 d r h = go (d .initialised) refl
     go : (b : Bool) → d .initialised ≡ b → inRange3 d ≡ true
     go true e =
         let t = r .started e in
-        rw (e, ticking-range 4096 4096 (omega arith) (omega arith) (2 ^ 28) (d .«time_base») (d .time) (d .«high_loops») (t .0) h, le-leb (d .y) 2047 (omega (arith, t .1)))
+        rw (e, ticking-range 4096 grain3 (omega arith) (omega arith) (2 ^ 28) (d .«time_base») (d .time) (d .«high_loops») (t .0) h, le-leb (d .y) 2047 (omega (arith, t .1)))
     go false e = ap inRange3 (r .unstarted e)
 
 is-off : (b : Bool) → not b ≡ true → b ≡ false
@@ -115,17 +115,17 @@ regular-range3 d h = go (d .initialised) refl
     go : (b : Bool) → d .initialised ≡ b → Regular3 d × (d .«high_loops» ≤ 2 ^ 28)
     go true e =
         let a = and-both _ _ (rw e at h) in
-        let t = range-ticking 4096 4096 (omega arith) (omega arith) (2 ^ 28) (d .«time_base») (d .time) (d .«high_loops») (a .0) in
+        let t = range-ticking 4096 grain3 (omega arith) (omega arith) (2 ^ 28) (d .«time_base») (d .time) (d .«high_loops») (a .0) in
         (goes-on3 d e (t .0, omega (arith, leb-true (d .y) 2047 (a .1))), t .1)
     go false e =
         let z = zero3 d e (rw e at h) in
         (record { unstarted = λ f. z; started = λ f. absurd (true≢false (sym f ∙ e)) }, rw z (omega arith))
 
 -- at most 2^30 bytes from a fresh decoder
-pub fresh-range3 : (l : List ℕ) → length l ≤ 2 ^ 30 → inRange3 (run reader3 fresh3 (wordsOf 2 l)) ≡ true
+pub fresh-range3 : (l : List ℕ) → length l ≤ 2 ^ 30 → inRange3 (run reader3 fresh3 (wordsOf wordSize3 l)) ≡ true
 fresh-range3 l h =
-    let few = charge-run period3 threshold3 reader3 (λ d. d .«time_base») (λ d. d .«high_loops») Regular3 regular-step3 slow3 fresh3 (wordsOf 2 l) regular-fresh3 in
-    range3 (run reader3 fresh3 (wordsOf 2 l)) (run-keeps reader3 Regular3 regular-step3 fresh3 (wordsOf 2 l) regular-fresh3)
+    let few = charge-run period3 threshold3 reader3 (λ d. d .«time_base») (λ d. d .«high_loops») Regular3 regular-step3 slow3 fresh3 (wordsOf wordSize3 l) regular-fresh3 in
+    range3 (run reader3 fresh3 (wordsOf wordSize3 l)) (run-keeps reader3 Regular3 regular-step3 fresh3 (wordsOf wordSize3 l) regular-fresh3)
     (omega (arith, few, charge-fresh period3 threshold3 (omega arith), length-words 2 l))
 
 -- the decoder can take n words more, and no sum wraps
@@ -142,7 +142,7 @@ unfolding step3
 one3 d w x =
     let same : d .«high_loops» ≤ suc (d .«high_loops») = omega arith in
     Evt3.by-kinds (λ k. (Evt3.stepAs k d w .«high_loops» ≤ suc (d .«high_loops»)) × (Evt3.stepAs k d w .«base_x» < 2 ^ 16)) (type3 w) (d .initialised)
-    (λ off. (same, x)) (λ on. (loops-one period3 threshold3 (d .«time_base») (d .«high_loops») (time3 w * 4096) .1, x))
+    (λ off. (same, x)) (λ on. (loops-one period3 threshold3 (d .«time_base») (d .«high_loops») (time3 w * grain3) .1, x))
     (λ on. (same, x)) (λ on. (same, x)) (λ on. (same, x)) (λ on. (same, omega arith)) (λ on. (same, omega arith)) (λ on. (same, omega arith)) (same, x)
 
 pub bounded-step3 : (n : ℕ) (d : Decoder) (w : ℕ) → Bounded3 (suc n) d → Bounded3 n (step3 d w)

@@ -1,6 +1,5 @@
 // EVT3: words of 16 bits. A word sets the row, the base column or the time, or carries events.
 ghost use mathlib.Core.Path.{_≡_};
-ghost use Prim.Native.Nat.{_+_, _≤_, min};
 ghost use Rattle.evt3_decoder.specs.Evt3.{fresh3, step3, vector3, Sane3, Slim, widened, slimmed, inRange3, isZero, single, several};
 ghost use Rattle.evt3_decoder.specs.Decode.{Decoded3};
 ghost use Rattle.evt_types.specs.Owed.{Owed};
@@ -8,6 +7,7 @@ use evt_types::DecodeAnswer;
 use evt_types::Refusal;
 use evt_types::clock;
 use evt_types::fields::bits;
+use evt_types::num::saturating_add;
 use evt_types::vector;
 use evt_types::vector::Vector;
 
@@ -47,6 +47,9 @@ pub struct Decoded {
 impl Decoder {
     pub const WORD_SIZE: usize = 2;
 
+    // Microseconds of a unit of coarse time.
+    pub const GRAIN: u64 = 4096;
+
     pub const PERIOD: u64 = 16777216;
 
     pub const THRESHOLD: u64 = 16732160;
@@ -73,7 +76,7 @@ impl Decoder {
         if self.initialised {
             if clock::in_range(
                 Self::PERIOD,
-                4096,
+                Self::GRAIN,
                 Self::MOST_LOOPS,
                 self.time_base,
                 self.time,
@@ -155,14 +158,6 @@ pub fn widen(d: Decoder) -> WideDecoder
     }
 }
 
-// base + n, held at 65,535.
-fn advanced(base: u64, n: u64) -> u64
-    requires { ⌜ n ≤ 65535 ⌝ }
-    ensures { λ r. ⌜ r ≡ min (base + n) 65535 ⌝ }
-{
-    if base <= 65535 - n { base + n } else { 65535 }
-}
-
 impl WideDecoder {
     pub fn slim(self) -> Decoder
         requires { ⌜ Slim self ⌝ }
@@ -230,17 +225,17 @@ impl WideDecoder {
                 }
                 4 => {
                     v = d.many(low);
-                    d.base_x = advanced(d.base_x, 12);
+                    d.base_x = saturating_add(d.base_x, 12);
                 }
                 5 => {
                     v = d.many(bits(word, 0, 8));
-                    d.base_x = advanced(d.base_x, 8);
+                    d.base_x = saturating_add(d.base_x, 8);
                 }
                 6 => {
                     d.time = d.time_base + low;
                 }
                 8 => {
-                    let raw = low * 4096;
+                    let raw = low * Decoder::GRAIN;
                     let c = clock::after(
                         Decoder::PERIOD,
                         Decoder::THRESHOLD,
@@ -258,7 +253,7 @@ impl WideDecoder {
         } else {
             match kind {
                 8 => {
-                    let raw = low * 4096;
+                    let raw = low * Decoder::GRAIN;
                     d.initialised = true;
                     d.time_base = raw;
                     d.time = raw;

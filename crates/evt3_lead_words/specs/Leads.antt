@@ -13,7 +13,7 @@ use Rattle.laws_stream.specs.Columns.{sets-append}
 use Rattle.laws_stream.specs.Words.{stream, bytes, stream-append}
 use Rattle.evt_types.specs.declared.Sent.{Sent}
 use Rattle.write_buffer.specs.declared.EncoderState.{EncoderState}
-use Rattle.write_buffer.specs.Sent.{due, held, held-is}
+use Rattle.write_buffer.specs.Sent.{due, sentNumber, held-is}
 use Rattle.write_buffer.specs.Storing.{sets-over}
 use Rattle.evt3_lead_words.specs.Evt3.{highWord3, lowWord3, rowWord3, lowHeld, highSent3, lowSent3, rowSent3, leads3}
 
@@ -33,21 +33,21 @@ pub due-few : (b : Bool) (w : ℕ) → length (dueBytes b w) ≤ 2
 due-few true w = omega arith
 due-few false w = omega arith
 
--- by the numbers that are held of what was sent
+-- by the numbers of what was sent
 abbrev pub leadsBytes : (high low row t y : ℕ) → List ℕ
 leadsBytes high low row t y =
     let sent = eqb high (t / 4096) in
     dueBytes sent (highWord3 t) ++ (dueBytes (eqb (cond sent low 0) (t % 4096)) (lowWord3 t) ++ dueBytes (eqb row y) (y % 2048))
 
-low-as : (b : Bool) (l : Sent) → held (lowHeld b l) ≡ cond b (held l) 0
+low-as : (b : Bool) (l : Sent) → sentNumber (lowHeld b l) ≡ cond b (sentNumber l) 0
 low-as true l = refl
 low-as false l = refl
 
-pub leads-held : (v : EncoderState) (high low row t y : ℕ) → t < 2 ^ 64 → y < 2 ^ 16 → high ≡ held (v .«time_high») → low ≡ held (v .«time_low») → row ≡ held (v .y)
+pub leads-held : (v : EncoderState) (high low row t y : ℕ) → t < 2 ^ 64 → y < 2 ^ 16 → high ≡ sentNumber (v .«time_high») → low ≡ sentNumber (v .«time_low») → row ≡ sentNumber (v .y)
     → leadsBytes high low row t y ≡ leadBytes v t y
 leads-held v high low row t y t< y< h l r =
     let hi : eqb high (t / 4096) ≡ highSent3 v t = ap (λ (n : ℕ). eqb n (t / 4096)) h ∙ held-is (v .«time_high») (t / 4096) (omega arith) in
-    let kept : cond (eqb high (t / 4096)) low 0 ≡ held (lowHeld (highSent3 v t) (v .«time_low»)) = rw (hi, l) (sym (low-as (highSent3 v t) (v .«time_low»))) in
+    let kept : cond (eqb high (t / 4096)) low 0 ≡ sentNumber (lowHeld (highSent3 v t) (v .«time_low»)) = rw (hi, l) (sym (low-as (highSent3 v t) (v .«time_low»))) in
     let lo : eqb (cond (eqb high (t / 4096)) low 0) (t % 4096) ≡ lowSent3 v t = ap (λ (n : ℕ). eqb n (t % 4096)) kept ∙ held-is (lowHeld (highSent3 v t) (v .«time_low»)) (t % 4096) (omega arith) in
     let ro : eqb row y ≡ rowSent3 v y = ap (λ (n : ℕ). eqb n y) r ∙ held-is (v .y) y (omega arith) in
     let e : rowWord3 y ≡ y % 2048 = omega arith in

@@ -7,11 +7,14 @@ ghost use Prim.Native.Nat.{_+_, _<_};
 ghost use lib.ListN.{length};
 ghost use Rattle.write_buffer.specs.Columns.{Sized, Whole};
 ghost use Rattle.evt3_run_rules.specs.Marks.{stopAt, marksFrom, Marked, Finds};
-use evt3_run_blocks::skip_blocks;
-use evt3_run_flags::marks_at_once;
+use blocks::skip_blocks;
 use evt3_run_rules::Found;
 use evt3_run_rules::goes_on;
+use flags::marks_at_once;
 use write_buffer::time_at;
+
+mod blocks;
+mod flags;
 
 // Whether the event after k doesn't go on its run: 1, or 0.
 fn stops(xs: &[u16], ys: &[u16], ts: &[i64], ps: &[u8], k: usize) -> u64

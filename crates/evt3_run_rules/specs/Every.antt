@@ -10,16 +10,16 @@ use borrow.Author.Tests.{eq-eqb, ne-eqb, eqb-true, eqb-false}
 use Rattle.evt3_run_rules.specs.Runs.{xor-equal}
 
 -- at n places from i on
-unfoldable pub every : (ℕ → Bool) → (n i : ℕ) → Bool
-every f zero i = true
-every f (suc n) i = f i && every f n (i + 1)
+unfoldable pub everyFrom : (ℕ → Bool) → (n i : ℕ) → Bool
+everyFrom f zero i = true
+everyFrom f (suc n) i = f i && everyFrom f n (i + 1)
 
-every-none : (f : ℕ → Bool) (i : ℕ) → every f 0 i ≡ true
-unfolding every
+every-none : (f : ℕ → Bool) (i : ℕ) → everyFrom f 0 i ≡ true
+unfolding everyFrom
 every-none f i = refl
 
-pub every-some : (f : ℕ → Bool) (n i : ℕ) → every f (suc n) i ≡ (f i && every f n (i + 1))
-unfolding every
+pub every-some : (f : ℕ → Bool) (n i : ℕ) → everyFrom f (suc n) i ≡ (f i && everyFrom f n (i + 1))
+unfolding everyFrom
 every-some f n i = refl
 
 -- ---- numbers that are 0 where all holds
@@ -46,7 +46,7 @@ module _ (f : ℕ → Bool) (i : ℕ) where
   -- j of 64 places are gathered
   pub record Gathered (other j : ℕ) : Type 0 where
     pub below : j ≤ 64
-    pub so-far : (eqb other 0 && every f (64 - j) (i + j)) ≡ every f 64 i
+    pub so-far : (eqb other 0 && everyFrom f (64 - j) (i + j)) ≡ everyFrom f 64 i
 
   pub gathered-start : Gathered 0 0
   gathered-start = record { below = omega arith; so-far = rw add-zero }
@@ -57,23 +57,23 @@ module _ (f : ℕ → Bool) (i : ℕ) where
     gathered-turn h v e =
         let n : 64 - j ≡ suc (64 - (j + 1)) = omega arith in
         let to : i + j + 1 ≡ i + (j + 1) = omega arith in
-        let split : every f (64 - j) (i + j) ≡ (f (i + j) && every f (64 - (j + 1)) (i + (j + 1))) = rw (n, every-some f, to) in
+        let split : everyFrom f (64 - j) (i + j) ≡ (f (i + j) && everyFrom f (64 - (j + 1)) (i + (j + 1))) = rw (n, every-some f, to) in
         record {
           below = omega arith;
           so-far = rw (or-none other v, e, and-assoc (eqb other 0) (f (i + j))) (ap (λ (b : Bool). eqb other 0 && b) (sym split) ∙ g .so-far);
         }
 
-    pub gathered-end : 64 ≤ j → eqb other 0 ≡ every f 64 i
+    pub gathered-end : 64 ≤ j → eqb other 0 ≡ everyFrom f 64 i
     gathered-end h =
         let n : 64 - j ≡ 0 = omega (arith, g .below) in
         sym (and-true (eqb other 0)) ∙ (rw (n, every-none f) at (g .so-far))
 
 -- ---- laws
 
-pub every-and : (f g : ℕ → Bool) (n i : ℕ) → every (λ j. f j && g j) n i ≡ (every f n i && every g n i)
-unfolding every
+pub every-and : (f g : ℕ → Bool) (n i : ℕ) → everyFrom (λ j. f j && g j) n i ≡ (everyFrom f n i && everyFrom g n i)
+unfolding everyFrom
 every-and f g zero i = refl
-every-and f g (suc n) i = ap (λ (b : Bool). (f i && g i) && b) (every-and f g n (i + 1)) ∙ swap (f i) (g i) (every f n (i + 1)) (every g n (i + 1))
+every-and f g (suc n) i = ap (λ (b : Bool). (f i && g i) && b) (every-and f g n (i + 1)) ∙ swap (f i) (g i) (everyFrom f n (i + 1)) (everyFrom g n (i + 1))
   where
     swap : (a b c d : Bool) → ((a && b) && (c && d)) ≡ ((a && c) && (b && d))
     swap true true c d = refl
@@ -82,16 +82,16 @@ every-and f g (suc n) i = ap (λ (b : Bool). (f i && g i) && b) (every-and f g n
     swap false b c d = refl
 
 -- numbers that are each the one before are all the first
-pub every-same : (v : ℕ → ℕ) (c n i : ℕ) → v i ≡ c → every (λ j. eqb (v (j + 1)) (v j)) n i ≡ every (λ j. eqb (v j) c) n (i + 1)
-unfolding every
+pub every-same : (v : ℕ → ℕ) (c n i : ℕ) → v i ≡ c → everyFrom (λ j. eqb (v (j + 1)) (v j)) n i ≡ everyFrom (λ j. eqb (v j) c) n (i + 1)
+unfolding everyFrom
 every-same v c zero i e = refl
 every-same v c (suc n) i e = rw e (go (eqb (v (i + 1)) c) refl (every-same v c n (i + 1)))
   where
     nexts : Bool
-    nexts = every (λ j. eqb (v (j + 1)) (v j)) n (i + 1)
+    nexts = everyFrom (λ j. eqb (v (j + 1)) (v j)) n (i + 1)
 
     firsts : Bool
-    firsts = every (λ j. eqb (v j) c) n (i + 1 + 1)
+    firsts = everyFrom (λ j. eqb (v j) c) n (i + 1 + 1)
 
     go : (b : Bool) → eqb (v (i + 1)) c ≡ b → (v (i + 1) ≡ c → nexts ≡ firsts) → (b && nexts) ≡ (b && firsts)
     go true q ih = ih (eqb-true (v (i + 1)) c q)

@@ -33,13 +33,13 @@ firstOf r = event (getD (r .xs) 0 0) (r .y) (r .t) (r .p)
 abbrev pub single : Event → Run
 single e = runOf (e .t) (e .y) (e .p) (e .x ∷ [])
 
-abbrev pub before : Event → Run → Run
-before e r = runOf (e .t) (e .y) (e .p) (e .x ∷ r .xs)
+abbrev pub prepend : Event → Run → Run
+prepend e r = runOf (e .t) (e .y) (e .p) (e .x ∷ r .xs)
 
 -- an event before some runs: in the first run where that goes on from the event, else alone
 abbrev pub glue : Event → List Run → List Run
 glue e [] = single e ∷ []
-glue e (r ∷ rs) = cond (goes (e .t) (e .y) (e .p) (e .x) (firstOf r)) (before e r ∷ rs) (single e ∷ r ∷ rs)
+glue e (r ∷ rs) = cond (goes (e .t) (e .y) (e .p) (e .x) (firstOf r)) (prepend e r ∷ rs) (single e ∷ r ∷ rs)
 
 -- the longest runs, from the left
 abbrev pub runs : List Event → List Run
@@ -111,7 +111,7 @@ first e es = runAt e (follow (e .t) (e .y) (e .p) (e .x) es) es
 
 runs-go : (b : Bool) (e f : Event) (es : List Event) → goes (e .t) (e .y) (e .p) (e .x) f ≡ b → runs (f ∷ es) ≡ first f es ∷ rest f es
     → let n = cond b (suc (follow (e .t) (e .y) (e .p) (f .x) es)) 0 in
-    cond b (before e (first f es) ∷ rest f es) (single e ∷ first f es ∷ rest f es) ≡ runAt e n (f ∷ es) ∷ runs (drop n (f ∷ es))
+    cond b (prepend e (first f es) ∷ rest f es) (single e ∷ first f es ∷ rest f es) ≡ runAt e n (f ∷ es) ∷ runs (drop n (f ∷ es))
 runs-go true e f es q ih = let g = goes-true (e .t) (e .y) (e .p) (e .x) f q in rw (g .is-t, g .is-y, g .is-p)
 runs-go false e f es q ih = ap {B = List Run} (λ (l : List Run). single e ∷ l) (sym ih)
 
@@ -176,7 +176,7 @@ givenBy [] = []
 givenBy (r ∷ rs) = given r ++ givenBy rs
 
 glue-as : (b : Bool) (e : Event) (r : Run) (rs : List Run) → goes (e .t) (e .y) (e .p) (e .x) (firstOf r) ≡ b → Valid r → All Valid rs
-    → All Valid (cond b (before e r ∷ rs) (single e ∷ r ∷ rs)) × (givenBy (cond b (before e r ∷ rs) (single e ∷ r ∷ rs)) ≡ e ∷ (given r ++ givenBy rs))
+    → All Valid (cond b (prepend e r ∷ rs) (single e ∷ r ∷ rs)) × (givenBy (cond b (prepend e r ∷ rs) (single e ∷ r ∷ rs)) ≡ e ∷ (given r ++ givenBy rs))
 glue-as true e r rs q v vs =
     let g = goes-true (e .t) (e .y) (e .p) (e .x) (firstOf r) q in
     ((rising-cons (e .x) (r .xs) (g .rises) v, vs), rw (g .is-t, g .is-y, g .is-p))

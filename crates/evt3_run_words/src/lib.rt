@@ -18,6 +18,7 @@ ghost use Rattle.evt3_lead_words.specs.Evt3.{singleWord3, baseWord3};
 ghost use Rattle.evt3_lead_words.specs.Leads.{leadsBytes};
 ghost use Rattle.evt3_run_words.specs.Parts.{bodyWords, maskWords, Part};
 ghost use Rattle.evt3_run_words.specs.Windows.{digitWords, Windowed};
+use evt_types::num::saturating_sub;
 use evt3_lead_words::put_leads;
 
 // The bits of 60 columns, and the index of the first event after them.
@@ -52,13 +53,6 @@ fn put_singles(p: u8, xs: &[u16], i: usize, end: usize, out: &mut [u8], at: usiz
         j += 1;
     }
     a
-}
-
-// a - b, or 0 where that is negative.
-fn less(a: u64, b: u64) -> u64
-    ensures { λ r. ⌜ r ≡ a - b ⌝ }
-{
-    if a < b { 0 } else { a - b }
 }
 
 fn bit(d: u64) -> u64
@@ -139,7 +133,7 @@ fn windows_to(first: u64, last: u64) -> u64
     requires { ⌜ last < 2 ^ 16 ⌝ }
     ensures { λ r. ⌜ r ≡ (last - first + 12) / 12 ⌝ }
 {
-    (less(last, first) + 12) / 12
+    (saturating_sub(last, first) + 12) / 12
 }
 
 // Whether n events are more than the words of their windows.

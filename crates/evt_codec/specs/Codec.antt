@@ -14,14 +14,15 @@ use Rattle.evt_codec.specs.declared.codec.Codec.{Codec}
 use Rattle.evt_codec.specs.declared.codec.Codec.the-variants.{Evt2, Evt3}
 use Rattle.evt2_decoder.specs.Evt2.{fresh2, inRange2, step2, vector2, reader2}
 use Rattle.evt3_decoder.specs.Evt3.{fresh3, inRange3, step3, vector3, reader3}
+use Rattle.evt_types.specs.Layout.{wordSize2, wordSize3}
 
 abbrev pub freshC : Encoding → Codec
 freshC E.Evt2 = Evt2 fresh2
 freshC E.Evt3 = Evt3 fresh3
 
 abbrev pub wordSize : Codec → ℕ
-wordSize (Evt2 d) = 4
-wordSize (Evt3 d) = 2
+wordSize (Evt2 d) = wordSize2
+wordSize (Evt3 d) = wordSize3
 
 abbrev pub encodingOf : Codec → Encoding
 encodingOf (Evt2 d) = E.Evt2
@@ -46,12 +47,12 @@ inRangeC (Evt3 d) = inRange3 d
 
 -- the first word of some bytes
 abbrev pub onWord : Codec → List ℕ → Codec
-onWord (Evt2 d) l = Evt2 (step2 d (value (take 4 l)))
-onWord (Evt3 d) l = Evt3 (step3 d (value (take 2 l)))
+onWord (Evt2 d) l = Evt2 (step2 d (value (take wordSize2 l)))
+onWord (Evt3 d) l = Evt3 (step3 d (value (take wordSize3 l)))
 
 abbrev pub ofWord : Codec → List ℕ → Vector
-ofWord (Evt2 d) l = vector2 d (value (take 4 l))
-ofWord (Evt3 d) l = vector3 d (value (take 2 l))
+ofWord (Evt2 d) l = vector2 d (value (take wordSize2 l))
+ofWord (Evt3 d) l = vector3 d (value (take wordSize3 l))
 
 -- with fewer bytes than a word nothing happens
 abbrev pub stepC : Codec → List ℕ → Codec
@@ -62,9 +63,9 @@ vectorC c l = cond (ltb (length l) (wordSize c)) noEvents (ofWord c l)
 
 -- all events of some bytes, and the decoder after them: a broken last word is passed over
 abbrev pub eventsFrom : Codec → List ℕ → List Event
-eventsFrom (Evt2 d) l = decode 4 reader2 d l
-eventsFrom (Evt3 d) l = decode 2 reader3 d l
+eventsFrom (Evt2 d) l = decode wordSize2 reader2 d l
+eventsFrom (Evt3 d) l = decode wordSize3 reader3 d l
 
 abbrev pub codecAfter : Codec → List ℕ → Codec
-codecAfter (Evt2 d) l = Evt2 (after 4 reader2 d l)
-codecAfter (Evt3 d) l = Evt3 (after 2 reader3 d l)
+codecAfter (Evt2 d) l = Evt2 (after wordSize2 reader2 d l)
+codecAfter (Evt3 d) l = Evt3 (after wordSize3 reader3 d l)

@@ -94,7 +94,7 @@ impl Codec {
 fn first_evt2(d: Evt2Decoder, bytes: &[u8]) -> CodecDecoded
     ensures { λ r. ⌜ DecodedC (Codec.Evt2 d) (now (bytes .entry)) r ⌝ }
 {
-    if bytes.len() < 4 {
+    if bytes.len() < Evt2Decoder::WORD_SIZE {
         return Codec::Evt2(d).idle();
     }
     let s = d.step(word32(bytes[0], bytes[1], bytes[2], bytes[3]));
@@ -109,7 +109,7 @@ fn first_evt2(d: Evt2Decoder, bytes: &[u8]) -> CodecDecoded
 fn first_evt3(d: Decoder, bytes: &[u8]) -> CodecDecoded
     ensures { λ r. ⌜ DecodedC (Codec.Evt3 d) (now (bytes .entry)) r ⌝ }
 {
-    if bytes.len() < 2 {
+    if bytes.len() < Decoder::WORD_SIZE {
         return Codec::Evt3(d).idle();
     }
     let s = d.step(word16(bytes[0], bytes[1]));

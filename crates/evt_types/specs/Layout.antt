@@ -9,6 +9,13 @@ field hi lo w = w / 2 ^ lo % 2 ^ (suc hi - lo)
 
 -- ---- EVT 2.0, words of 32 bits
 
+-- a word's bytes, and the microseconds of a unit of coarse time
+abbrev pub wordSize2 : ℕ
+wordSize2 = 4
+
+abbrev pub grain2 : ℕ
+grain2 = 64
+
 abbrev pub type2 : ℕ → ℕ
 type2 = field 31 28
 
@@ -27,6 +34,12 @@ abbrev pub timeHigh2 : ℕ → ℕ
 timeHigh2 = field 27 0
 
 -- ---- EVT 3.0, words of 16 bits
+
+abbrev pub wordSize3 : ℕ
+wordSize3 = 2
+
+abbrev pub grain3 : ℕ
+grain3 = 4096
 
 abbrev pub type3 : ℕ → ℕ
 type3 = field 15 12

@@ -4,6 +4,7 @@
 // every refusal (specs/Told.antt).
 
 ghost use mathlib.Core.Path.{_≡_};
+ghost use Rattle.evt_types.specs.Num.{encodingNumber};
 ghost use Rattle.evt_types.specs.Told.{told};
 
 // An event: column, row, time in microseconds, polarity 0 or 1.
@@ -17,6 +18,16 @@ pub struct RawEvent {
 pub enum Encoding {
     Evt2,
     Evt3,
+}
+
+// An encoding's number.
+pub fn encoding_number(encoding: Encoding) -> u32
+    ensures { λ r. ⌜ r ≡ encodingNumber encoding ⌝ }
+{
+    match encoding {
+        Encoding::Evt2 => 2,
+        Encoding::Evt3 => 3,
+    }
 }
 
 // The name that the writer and `decode_words` have for it in the Rust.
@@ -39,6 +50,9 @@ pub enum Sent {
     Nothing,
     Value(u64),
 }
+
+// More bytes than this aren't read (4).
+pub const MOST_BYTES: usize = 1073741824;
 
 // Why a call is refused: a case for each number of the table, with the count that it tells.
 pub enum Refusal {
@@ -84,6 +98,8 @@ pub enum DecodeAnswer {
 
 pub mod clock;
 pub mod fields;
+pub mod num;
 pub mod vector;
+pub mod words;
 
 pub use vector::EventVector;

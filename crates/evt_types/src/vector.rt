@@ -1,9 +1,9 @@
 // The events of one word: a base column, a row, a time, a polarity, and a mask in which bit i
-// stands for an event at column x + i, held at 65,535.
+// stands for an event at column x + i, saturated at 65,535.
 ghost use mathlib.Core.Path.{_≡_};
-ghost use Prim.Native.Nat.{min};
 ghost use Rattle.evt_types.specs.Event.{Narrow, narrowed, noEvents, nextOf};
 use crate::RawEvent;
+use crate::num::saturate;
 
 // In the loops all numbers have 64 bits, so that a step is inlined. The mask is below 2^32.
 pub struct Vector {
@@ -40,7 +40,7 @@ impl EventVector {
         let x = self.x as u64 + u32::trailing_zeros(mask) as u64;
         let t = self.t;
         let event = RawEvent {
-            x: held(x) as u16,
+            x: saturate(x) as u16,
             y: self.y,
             t,
             p: self.p,
@@ -49,13 +49,6 @@ impl EventVector {
         rest.mask = mask & (mask - 1);
         NextEvent::Event(event, rest)
     }
-}
-
-// A column, at most 65,535.
-pub fn held(x: u64) -> u64
-    ensures { λ r. ⌜ r ≡ min x 65535 ⌝ }
-{
-    if x <= 65535 { x } else { 65535 }
 }
 
 pub fn none() -> Vector

@@ -5,8 +5,8 @@ use mathlib.Core.List.{List, [], _∷_}
 use Rattle.evt_types.specs.declared.SensorSize.the-variants.{Unknown, Known}
 use Rattle.evt_types.specs.Told.{accepted, refused}
 use Rattle.header_text.specs.Text.{isBlank, upTo, from, any, restOf, trimStart, trimEnd, trimOf, lowerOf, begins, same}
-use Rattle.header_text.specs.Size.{isDigit, allDigits, decimal, numberFrom, digitsOf, numberOf, both, sizeAt, geometryOf}
-use Rattle.header.specs.Lines.{joined, linesOf, startsPercent, leading, headerLines, bytesOf, headerBytes, bodyStart, bodyOf, keyOf, valueOf}
+use Rattle.header_text.specs.Size.{isDigit, allDigits, digitsValue, numberFrom, digitsOf, numberOf, both, sizeAt, geometryOf}
+use Rattle.header.specs.Lines.{joined, linesOf, startsPercent, leading, headerLines, joinedLines, headerBytes, bodyStart, bodyOf, keyOf, valueOf}
 use Rattle.header.specs.Header.{readLine, readAll, saidBy, encodingOf, sizeThatHolds, hasZero, headerVerdict}
 
 -- `% format EVT3`, `% geometry 64x48`, and three bytes of the body
@@ -23,7 +23,7 @@ pub worked :
     headerVerdict listing Unknown ∷ headerVerdict (37 ∷ 128 ∷ []) Unknown ∷ headerVerdict [] Unknown ∷ headerVerdict flat Unknown
     ∷ headerVerdict flat (Known 5 7) ∷ []
     ≡ accepted (31 ∷ 3 ∷ 1 ∷ 64 ∷ 48 ∷ []) ∷ refused 3 ∷ refused 2 ∷ refused 1 ∷ accepted (27 ∷ 2 ∷ 1 ∷ 5 ∷ 7 ∷ []) ∷ []
-unfolding isBlank upTo from any restOf trimStart trimEnd trimOf lowerOf begins same isDigit allDigits decimal numberFrom digitsOf numberOf
-    both sizeAt geometryOf joined linesOf startsPercent leading headerLines bytesOf headerBytes bodyStart bodyOf keyOf valueOf readLine
+unfolding isBlank upTo from any restOf trimStart trimEnd trimOf lowerOf begins same isDigit allDigits digitsValue numberFrom digitsOf numberOf
+    both sizeAt geometryOf joined linesOf startsPercent leading headerLines joinedLines headerBytes bodyStart bodyOf keyOf valueOf readLine
     readAll saidBy encodingOf sizeThatHolds hasZero headerVerdict
 worked = refl

@@ -13,7 +13,7 @@ use Rattle.header.specs.declared.Seen.{Seen}
 use Rattle.header.specs.declared.Scan.{Scan}
 use Rattle.header_text.specs.Text.{isBlank, isByte, upTo, from, any, trimOf, same}
 use Rattle.header_text.specs.Size.{geometryOf}
-use Rattle.header.specs.Lines.{joined, linesOf, startsPercent, leading, headerLines, bytesOf, headerBytes, bodyStart, bodyOf, keyOf, valueOf}
+use Rattle.header.specs.Lines.{joined, linesOf, startsPercent, leading, headerLines, joinedLines, headerBytes, bodyStart, bodyOf, keyOf, valueOf}
 use Rattle.header.specs.Header.{geometryName, formatName, evtName, evt2, evt3, two, three}
 use Rattle.header_text.specs.Cases.{by-bool}
 use Rattle.header.specs.Notes.{lineLength, versionOf, noteLine, noteAll, blankNote, scanOf}
@@ -127,12 +127,12 @@ unfolding scanOf
 scan-start s = let e : 0 + bodyStart s ≡ bodyStart s = omega arith in rw e
 
 start-none : (s : List ℕ) → headerLines s ≡ [] → bodyStart s ≡ 0
-unfolding bodyStart headerBytes bytesOf
+unfolding bodyStart headerBytes joinedLines
 start-none s e = rw e
 
 start-line : (s l t : List ℕ) → headerLines s ≡ l ∷ headerLines t → bodyStart s ≡ length l + bodyStart t
-unfolding bodyStart headerBytes bytesOf
-start-line s l t e = rw e (length-append l (bytesOf (headerLines t)))
+unfolding bodyStart headerBytes joinedLines
+start-line s l t e = rw e (length-append l (joinedLines (headerLines t)))
 
 scan-over : (at : ℕ) (seen : Seen) (s : List ℕ) → headerLines s ≡ [] → _≡_ {A = Scan} (record { at = at; seen = seen }) (resume at seen s)
 unfolding noteAll

@@ -10,6 +10,7 @@ use Rattle.evt_types.specs.declared.SensorSize.the-variants.{Unknown, Known}
 use Rattle.evt_types.specs.declared.Encoding.{Encoding}
 use Rattle.evt_types.specs.declared.Encoding.the-variants.{Evt2, Evt3}
 use Rattle.evt_types.specs.declared.Refusal.the-variants.{InvalidSensorSize, UnknownEncoding, HeaderNotAscii, TooLong}
+use Rattle.evt_types.specs.Num.{encodingNumber}
 use Rattle.evt_types.specs.Told.{Told, accepted, refused, told}
 use Rattle.header.specs.declared.Named.{Named}
 use Rattle.header.specs.declared.Named.the-variants.{As, Nothing}
@@ -88,11 +89,6 @@ hasZero Unknown = false
 hasZero (Known w h) = eqb w 0 || eqb h 0
 
 -- ---- the verdict by the table, in numbers and values
-
--- an encoding's number
-abbrev pub encodingNumber : Encoding → ℕ
-encodingNumber Evt2 = 2
-encodingNumber Evt3 = 3
 
 -- the same for what a header names: 0 where it names none
 abbrev pub namedNumber : Named → ℕ

@@ -23,37 +23,38 @@ use Rattle.header.specs.declared.HeaderAnswer.{HeaderAnswer}
 use Rattle.header.specs.declared.HeaderAnswer.the-variants.{Header, Refused}
 use Rattle.header_text.specs.Cases.{by-bool}
 use Rattle.header_text.specs.Text.{notAscii, any}
-use Rattle.header.specs.Lines.{joined, linesOf, startsPercent, leading, headerLines, bytesOf, headerBytes, bodyStart}
-use Rattle.header.specs.Header.{saidBy, encodingOf, sizeThatHolds, hasZero, encodingNumber, namedNumber, sizeValues, toldHeader, headerVerdict, withEncoding, headerOf}
+use Rattle.header.specs.Lines.{joined, linesOf, startsPercent, leading, headerLines, joinedLines, headerBytes, bodyStart}
+use Rattle.header.specs.Header.{saidBy, encodingOf, sizeThatHolds, hasZero, namedNumber, sizeValues, toldHeader, headerVerdict, withEncoding, headerOf}
+use Rattle.evt_types.specs.Num.{encodingNumber}
 
 -- ---- the header is a part of the recording
 
-bytes-joined : (b : ℕ) (ls : List (List ℕ)) → bytesOf (joined b ls) ≡ b ∷ bytesOf ls
-unfolding bytesOf joined
+bytes-joined : (b : ℕ) (ls : List (List ℕ)) → joinedLines (joined b ls) ≡ b ∷ joinedLines ls
+unfolding joinedLines joined
 bytes-joined b [] = refl
 bytes-joined b (l ∷ ls) = refl
 
-pub lines-whole : (s : List ℕ) → bytesOf (linesOf s) ≡ s
-unfolding bytesOf linesOf
+pub lines-whole : (s : List ℕ) → joinedLines (linesOf s) ≡ s
+unfolding joinedLines linesOf
 lines-whole [] = refl
 lines-whole (b ∷ s) =
     by-bool (eqb b 10) (λ e. rw e (ap (λ (t : List ℕ). b ∷ t) (lines-whole s)))
     (λ e. rw e (bytes-joined b (linesOf s) ∙ ap (λ (t : List ℕ). b ∷ t) (lines-whole s)))
 
-leading-part : (ls : List (List ℕ)) → (t : List ℕ) × (bytesOf ls ≡ bytesOf (leading ls) ++ t)
-unfolding bytesOf leading
+leading-part : (ls : List (List ℕ)) → (t : List ℕ) × (joinedLines ls ≡ joinedLines (leading ls) ++ t)
+unfolding joinedLines leading
 leading-part [] = ([], refl)
 leading-part (l ∷ ls) =
     let r = leading-part ls in
-    by-bool (startsPercent l) (λ e. (r .0, rw e (ap (λ (t : List ℕ). l ++ t) (r .1) ∙ sym (append-assoc l (bytesOf (leading ls)) (r .0)))))
-    (λ e. (l ++ bytesOf ls, rw e))
+    by-bool (startsPercent l) (λ e. (r .0, rw e (ap (λ (t : List ℕ). l ++ t) (r .1) ∙ sym (append-assoc l (joinedLines (leading ls)) (r .0)))))
+    (λ e. (l ++ joinedLines ls, rw e))
 
 pub header-part : (s : List ℕ) → take (bodyStart s) s ≡ headerBytes s
 unfolding bodyStart headerBytes headerLines
 header-part s =
     let r = leading-part (linesOf s) in
-    let e : s ≡ bytesOf (leading (linesOf s)) ++ r .0 = sym (lines-whole s) ∙ r .1 in
-    ap (take (length (bytesOf (leading (linesOf s))))) e ∙ take-at (bytesOf (leading (linesOf s))) (r .0) _ refl
+    let e : s ≡ joinedLines (leading (linesOf s)) ++ r .0 = sym (lines-whole s) ∙ r .1 in
+    ap (take (length (joinedLines (leading (linesOf s))))) e ∙ take-at (joinedLines (leading (linesOf s))) (r .0) _ refl
 
 pub body-within : (s : List ℕ) → bodyStart s ≤ length s
 unfolding bodyStart

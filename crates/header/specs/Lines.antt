@@ -30,13 +30,13 @@ unfoldable pub headerLines : List ℕ → List (List ℕ)
 headerLines s = leading (linesOf s)
 
 -- the bytes of lines
-unfoldable pub bytesOf : List (List ℕ) → List ℕ
-bytesOf [] = []
-bytesOf (l ∷ ls) = l ++ bytesOf ls
+unfoldable pub joinedLines : List (List ℕ) → List ℕ
+joinedLines [] = []
+joinedLines (l ∷ ls) = l ++ joinedLines ls
 
 -- the header's bytes
 unfoldable pub headerBytes : List ℕ → List ℕ
-headerBytes s = bytesOf (headerLines s)
+headerBytes s = joinedLines (headerLines s)
 
 -- the body starts right after the header's lines
 unfoldable pub bodyStart : List ℕ → ℕ

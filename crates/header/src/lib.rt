@@ -8,6 +8,7 @@ ghost use Rattle.header.specs.Lines.{bodyOf};
 ghost use Rattle.header.specs.Header.{sizeThatHolds, hasZero, Parsed};
 ghost use Rattle.header.specs.Notes.{lineLength, versionOf, noteLine, scanOf, nameOf};
 use evt_types::Encoding;
+use evt_types::MOST_BYTES;
 use evt_types::Refusal;
 use evt_types::SensorSize;
 use header_text::size::geometry;
@@ -184,7 +185,7 @@ pub fn has_zero(size: SensorSize) -> bool
 pub fn parse_header(recording: &[u8], size: SensorSize) -> HeaderAnswer
     ensures { λ r. ⌜ Parsed (now (recording .entry)) size r ⌝ }
 {
-    if 1073741824 < recording.len() {
+    if MOST_BYTES < recording.len() {
         return HeaderAnswer::Refused(Refusal::TooLong);
     }
     let scanned = scan_lines(recording);

@@ -13,25 +13,25 @@ use Rattle.evt_types.specs.declared.SensorSize.the-variants.{Unknown, Known}
 use Rattle.header_text.specs.declared.size.Number.{Number}
 use Rattle.header_text.specs.declared.size.Number.the-variants.{Invalid, Value}
 use Rattle.header_text.specs.Text.{isByte, upTo, any, trimOf}
-use Rattle.header_text.specs.Size.{isDigit, allDigits, decimal, numberFrom, digitsOf, numberOf, both, sizeAt, geometryOf}
+use Rattle.header_text.specs.Size.{isDigit, allDigits, digitsValue, numberFrom, digitsOf, numberOf, both, sizeAt, geometryOf}
 use Rattle.header_text.specs.Parts.{halvesAt}
 use Rattle.header_text.proofs.TextLaws.{at-drop, at-end, tail-part, lt-upTo, count-take, rest-after}
 
 -- ---- digits
 
-pub decimal-ge : (n : ℕ) (s : List ℕ) → n ≤ decimal n s
-unfolding decimal
+pub decimal-ge : (n : ℕ) (s : List ℕ) → n ≤ digitsValue n s
+unfolding digitsValue
 decimal-ge n [] = omega arith
 decimal-ge n (b ∷ s) = omega (arith, decimal-ge (n * 10 + (b - 48)) s)
 
 pub value-big : (n : ℕ) (s : List ℕ) → 2 ^ 64 ≤ n → numberFrom n s ≡ Invalid
 unfolding numberFrom
 value-big n s h =
-    let e : ltb (decimal n s) (2 ^ 64) ≡ false = le-ltb (decimal n s) (2 ^ 64) (omega (arith, decimal-ge n s)) in
+    let e : ltb (digitsValue n s) (2 ^ 64) ≡ false = le-ltb (digitsValue n s) (2 ^ 64) (omega (arith, decimal-ge n s)) in
     rw (e, and-false)
 
 pub value-end : (n : ℕ) → n < 2 ^ 64 → numberFrom n [] ≡ Value n
-unfolding numberFrom allDigits decimal
+unfolding numberFrom allDigits digitsValue
 value-end n h = rw (lt-ltb n (2 ^ 64) h)
 
 pub value-bad : (n b : ℕ) (s : List ℕ) → isDigit b ≡ false → numberFrom n (b ∷ s) ≡ Invalid
@@ -39,7 +39,7 @@ unfolding numberFrom allDigits
 value-bad n b s e = rw e
 
 pub value-step : (n b : ℕ) (s : List ℕ) → isDigit b ≡ true → numberFrom n (b ∷ s) ≡ numberFrom (n * 10 + (b - 48)) s
-unfolding numberFrom allDigits decimal
+unfolding numberFrom allDigits digitsValue
 value-step n b s e = rw e
 
 pub digits-some : (s : List ℕ) → (length s ≡ 0 → ⊥) → numberFrom 0 s ≡ digitsOf s

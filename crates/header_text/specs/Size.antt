@@ -17,13 +17,13 @@ allDigits [] = true
 allDigits (b ∷ s) = isDigit b && allDigits s
 
 -- the value of decimal digits that follow digits of value n
-unfoldable pub decimal : ℕ → List ℕ → ℕ
-decimal n [] = n
-decimal n (b ∷ s) = decimal (n * 10 + (b - 48)) s
+unfoldable pub digitsValue : ℕ → List ℕ → ℕ
+digitsValue n [] = n
+digitsValue n (b ∷ s) = digitsValue (n * 10 + (b - 48)) s
 
 -- what follows digits of value n: the number, if all of it are digits and it stays below 2^64
 unfoldable pub numberFrom : ℕ → List ℕ → Number
-numberFrom n s = cond (allDigits s && ltb (decimal n s) (2 ^ 64)) (Value (decimal n s)) Invalid
+numberFrom n s = cond (allDigits s && ltb (digitsValue n s) (2 ^ 64)) (Value (digitsValue n s)) Invalid
 
 -- one or more digits
 unfoldable pub digitsOf : List ℕ → Number

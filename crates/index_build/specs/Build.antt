@@ -17,7 +17,7 @@ use Rattle.evt_codec.specs.Codec.{freshC, codecAfter}
 use Rattle.evt_types.specs.Event.{Event}
 use Rattle.read_columns.specs.Inside.{clock}
 use Rattle.read_fill.specs.Decode.{Bounded, insideEvents}
-use Rattle.read_count.specs.Count.{surveyOf}
+use Rattle.read_count.specs.Count.{countedAllOf}
 use Rattle.header.specs.declared.HeaderAnswer.{HeaderAnswer}
 use Rattle.header.specs.declared.HeaderAnswer.the-variants.{Header, Refused as NoHeader}
 use Rattle.header.specs.Header.{hasZero, headerOf}
@@ -52,8 +52,8 @@ nextOf l t = record {
   spacing = t .spacing;
   width = t .width;
   height = t .height;
-  count = t .count + surveyOf (t .width) (t .height) (t .codec) (chunkOf l t) .count;
-  latest = max (t .latest) (surveyOf (t .width) (t .height) (t .codec) (chunkOf l t) .latest);
+  count = t .count + countedAllOf (t .width) (t .height) (t .codec) (chunkOf l t) .count;
+  latest = max (t .latest) (countedAllOf (t .width) (t .height) (t .codec) (chunkOf l t) .latest);
   codec = codecAfter (t .codec) (chunkOf l t);
   plan = t .plan;
 }

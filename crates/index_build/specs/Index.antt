@@ -17,7 +17,8 @@ use Rattle.evt_types.specs.Told.{Told, told, accepted, refused, short}
 use Rattle.read_columns.specs.Inside.{clock}
 use Rattle.header.specs.declared.HeaderAnswer.{HeaderAnswer}
 use Rattle.header.specs.declared.HeaderAnswer.the-variants.{Header, Refused as NoHeader}
-use Rattle.header.specs.Header.{encodingNumber, hasZero, headerOf}
+use Rattle.header.specs.Header.{hasZero, headerOf}
+use Rattle.evt_types.specs.Num.{encodingNumber}
 use Rattle.read_rules.specs.Read.{kept, widthOf, heightOf, sizeless}
 use Rattle.index_build.specs.declared.Checkpoint.{Checkpoint}
 use Rattle.index_build.specs.declared.RawSliceSource.{RawSliceSource}

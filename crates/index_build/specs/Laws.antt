@@ -15,12 +15,12 @@ use Rattle.evt_codec.specs.declared.codec.Codec.{Codec}
 use Rattle.evt_codec.specs.Codec.{freshC, codecAfter}
 use Rattle.read_columns.specs.Inside.{clock}
 use Rattle.read_fill.specs.Decode.{Bounded, insideEvents}
-use Rattle.read_count.specs.Count.{surveyOf}
+use Rattle.read_count.specs.Count.{countedAllOf}
 use Rattle.read_fill.specs.Laws.{codec-append, codec-nil, events-nil, count-append, latest-append, bounded-after, bounded-fresh, bounded-less, inside-bytes, latest-small}
 use Rattle.index_build.specs.declared.Checkpoint.{Checkpoint}
 use Rattle.index_build.specs.declared.Run.{Run}
 use Rattle.index_build.specs.Index.{firsts}
-use Rattle.read_count.specs.declared.Survey.{Survey}
+use Rattle.read_count.specs.declared.CountedAll.{CountedAll}
 use Rattle.index_build.specs.Build.{Advanced, chunkOf, nextOf, Fit, Job, firstOf, frontOf, seenOf, runAt}
 
 -- ---- one turn
@@ -61,12 +61,12 @@ module _ (l : List ℕ) (t : Run) (f : Fit l t) (end : ℕ) (is-end : end ≡ mi
   pub part-bounded : Bounded (length part) (t .codec)
   part-bounded = rw is-part (chunk-bounded l t f)
 
-  module _ (s : Survey) (is : s ≡ surveyOf (t .width) (t .height) (t .codec) part) where
-    is-survey : s ≡ surveyOf (t .width) (t .height) (t .codec) (chunkOf l t)
-    is-survey = is ∙ ap (surveyOf (t .width) (t .height) (t .codec)) is-part
+  module _ (s : CountedAll) (is : s ≡ countedAllOf (t .width) (t .height) (t .codec) part) where
+    is-survey : s ≡ countedAllOf (t .width) (t .height) (t .codec) (chunkOf l t)
+    is-survey = is ∙ ap (countedAllOf (t .width) (t .height) (t .codec)) is-part
 
     pub count-sum : t .count + s .count < 2 ^ 64
-    count-sum = omega (arith, ap (λ (u : Survey). u .count) is-survey, chunk-few l t f, f .few, f .long, f .start)
+    count-sum = omega (arith, ap (λ (u : CountedAll). u .count) is-survey, chunk-few l t f, f .few, f .long, f .start)
 
     pub advanced : (time : ℤ) → time ≡ pos (t .latest) → (top : ℕ) → top ≡ max (t .latest) (s .latest)
         → Advanced l t (record {
@@ -76,7 +76,7 @@ module _ (l : List ℕ) (t : Run) (f : Fit l t) (end : ℕ) (is-end : end ≡ mi
     advanced time is-time top is-top = record {
       is-record = ap (λ (z : ℤ). record { «byte_offset» = t .offset; «event_index» = t .count; time = z; codec = t .codec }) is-time;
       is-next =
-          let e : top ≡ max (t .latest) (surveyOf (t .width) (t .height) (t .codec) (chunkOf l t) .latest) = is-top ∙ ap (λ (u : Survey). max (t .latest) (u .latest)) is-survey in
+          let e : top ≡ max (t .latest) (countedAllOf (t .width) (t .height) (t .codec) (chunkOf l t) .latest) = is-top ∙ ap (λ (u : CountedAll). max (t .latest) (u .latest)) is-survey in
           λ i. record { more = ltb (t .at + 1) (t .cap); at = t .at + 1; cap = t .cap; offset = t .offset + t .spacing; spacing = t .spacing; width = t .width; height = t .height; count = t .count + is-survey i .count; latest = e i; codec = is-survey i .codec; plan = t .plan };
     }
 

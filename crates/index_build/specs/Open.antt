@@ -27,9 +27,10 @@ use Rattle.read_fill.specs.Laws.{bounded-fresh, all-inside, inside-bytes}
 use Rattle.header.specs.declared.Header as header
 use Rattle.header.specs.declared.HeaderAnswer.{HeaderAnswer}
 use Rattle.header.specs.declared.HeaderAnswer.the-variants.{Header, Refused as NoHeader}
-use Rattle.header.specs.Header.{hasZero, headerOf, encodingNumber}
+use Rattle.header.specs.Header.{hasZero, headerOf}
+use Rattle.evt_types.specs.Num.{encodingNumber}
 use Rattle.header.specs.Laws.{of-accepted}
-use Rattle.read_select.specs.declared.Tally.{Tally}
+use Rattle.read_select.specs.declared.SurveyTotals.{SurveyTotals}
 use Rattle.read_select.specs.Pass.{Ready, handedOver, surveyed}
 use Rattle.read_select.specs.Uses.{numberedOver, over-all}
 use Rattle.read_window.specs.declared.Window.{Window}
@@ -232,9 +233,9 @@ module _ (e : Encoding) (body : List ℕ) (long : length body ≤ 2 ^ 30) where
       let n : length (numberedOver wholeWindow (freshC e) body) ≤ 6 * length body = rw (numbered-all, ← kept-inside Unknown e body long) (inside-bytes 65536 65536 (freshC e) body) in
       over-all wholeWindow (freshC e) body (ready-fresh e (length body) long .able) refl (omega arith) 0 (omega arith) (omega (arith, n)) ∙ numbered-all
 
-  module _ (t : Tally) (is : t ≡ surveyed wholeWindow 0 (freshC e) body) where
+  module _ (t : SurveyTotals) (is : t ≡ surveyed wholeWindow 0 (freshC e) body) where
     pub survey-count : t .count ≡ length (eventsFrom (freshC e) body)
-    survey-count = ap (λ (u : Tally). u .count) is ∙ ap length handed-all
+    survey-count = ap (λ (u : SurveyTotals). u .count) is ∙ ap length handed-all
 
     pub survey-none : t .count ≡ 0 → sizeless Unknown (eventsFrom (freshC e) body) ≡ true
     survey-none z = go (eventsFrom (freshC e) body) (sym survey-count ∙ z)
@@ -246,8 +247,8 @@ module _ (e : Encoding) (body : List ℕ) (long : length body ≤ 2 ^ 30) where
     pub survey-some : (t .count ≡ 0 → ⊥) → (sizeless Unknown (eventsFrom (freshC e) body) ≡ false)
         × ((t .width ≡ widthOf Unknown (eventsFrom (freshC e) body)) × (t .height ≡ heightOf Unknown (eventsFrom (freshC e) body)))
     survey-some nz =
-        let w : t .width ≡ greatest (λ e. e .x + 1) (eventsFrom (freshC e) body) = ap (λ (u : Tally). u .width) is ∙ ap (greatest (λ e. e .x + 1)) handed-all in
-        let h : t .height ≡ greatest (λ e. e .y + 1) (eventsFrom (freshC e) body) = ap (λ (u : Tally). u .height) is ∙ ap (greatest (λ e. e .y + 1)) handed-all in
+        let w : t .width ≡ greatest (λ e. e .x + 1) (eventsFrom (freshC e) body) = ap (λ (u : SurveyTotals). u .width) is ∙ ap (greatest (λ e. e .x + 1)) handed-all in
+        let h : t .height ≡ greatest (λ e. e .y + 1) (eventsFrom (freshC e) body) = ap (λ (u : SurveyTotals). u .height) is ∙ ap (greatest (λ e. e .y + 1)) handed-all in
         go (eventsFrom (freshC e) body) survey-count w h
       where
         go : (es : List Event) → t .count ≡ length es → t .width ≡ greatest (λ e. e .x + 1) es → t .height ≡ greatest (λ e. e .y + 1) es
@@ -274,7 +275,7 @@ module _ (l : List ℕ) (start : ℕ) (e : Encoding) (spacing room : ℕ) (long 
   run-known size w h q r is = is ∙ ap firstOf (job-made l start e (Known w h) spacing room long within n is-n ok enough refl) ∙ ap (λ (s : SensorSize). firstOf (bodyJob l start e s spacing room)) (sym q)
 
   -- the rest of the recording is surveyed
-  module _ (size : SensorSize) (q : size ≡ Unknown) (c : Codec) (is-c : c ≡ freshC e) (win : Window) (is-win : win ≡ wholeWindow) (t : Tally)
+  module _ (size : SensorSize) (q : size ≡ Unknown) (c : Codec) (is-c : c ≡ freshC e) (win : Window) (is-win : win ≡ wholeWindow) (t : SurveyTotals)
       (is-t : t ≡ surveyed win 0 c (take (length l - start) (drop start l))) where
     is-tally : t ≡ surveyed wholeWindow 0 (freshC e) (drop start l)
     is-tally =

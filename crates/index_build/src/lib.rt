@@ -11,12 +11,13 @@ ghost use Rattle.index_build.specs.Index.{spacingOk, recordCount};
 ghost use Rattle.index_build.specs.Build.{Fit, Advanced, firstOf, idle, bodyJob, rawJob, refusedJob, wholeWindow, wordsJob, concluded};
 use evt_codec::Codec;
 use evt_types::Encoding;
+use evt_types::MOST_BYTES;
 use evt_types::Refusal;
 use evt_types::SensorSize;
+use evt_types::num::max_u64;
+use evt_types::num::min_usize;
 use header::HeaderAnswer;
-use read_capacity::less;
 use read_select::Window;
-use read_window::extent::greater;
 
 // What is kept after the first `byte_offset` bytes: the events counted before, their greatest time
 // (0 if none), and the decoder.
@@ -102,10 +103,10 @@ pub fn advance(recording: &[u8], run: Run) -> Ran
     };
     let start = run.offset;
     let next_offset = start + run.spacing;
-    let end = less(next_offset, recording.len());
+    let end = min_usize(next_offset, recording.len());
     let s = read_count::count_all(&recording[start..end], codec, run.width, run.height);
     let count = run.count + s.count;
-    let latest = greater(run.latest, s.latest);
+    let latest = max_u64(run.latest, s.latest);
     let at = run.at + 1;
     let after = s.codec;
     let next = Run {
@@ -323,7 +324,7 @@ pub fn prepare_words(words: &[u8], options: WordsOptions, room: usize) -> Run
     let encoding = options.encoding;
     let size = options.sensor_size;
     let spacing = options.spacing;
-    if 1073741824 < words.len() {
+    if MOST_BYTES < words.len() {
         return idle_run(Refusal::TooLong);
     }
     if header::has_zero(size) {

@@ -196,12 +196,12 @@ ltZ-falls (negsuc a) (negsuc b) (negsuc t) p q = le-ltb t b (omega (arith, leb-t
 
 module _ (s : RawSliceSource) where
   -- the tests of one record, passed
-  record Passed (offset count : ℕ) (time : ℤ) (c : Checkpoint) : Type 0 where
+  record Admitted (offset count : ℕ) (time : ℤ) (c : Checkpoint) : Type 0 where
     good : leZ (pos 0) time ≡ true → Good s c
     counts : count ≤ c .«event_index»
     times : leZ time (c .time) ≡ true
 
-  tested : (offset count : ℕ) (time : ℤ) (c : Checkpoint) → recordInRange s offset count time c ≡ true → Passed offset count time c
+  tested : (offset count : ℕ) (time : ℤ) (c : Checkpoint) → recordInRange s offset count time c ≡ true → Admitted offset count time c
   tested offset count time c h =
       let n = c .«event_index» in
       let a = and-both (ltb offset (2 ^ 64)) _ h in

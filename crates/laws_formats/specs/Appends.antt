@@ -9,7 +9,7 @@ use lib.ListN.{take, drop}
 use Rattle.laws_stream.specs.Machine.{Note, All, all-of, run, emits, words, notes, words-append, notes-append, words-take, says-take, says-fits}
 use Rattle.laws_stream.specs.Words.{Fits, stream, stream-append, wordsOf, wordsOf-stream, wordsOf-take}
 use Rattle.laws_stream.specs.Format.{Format, Lawful, Good, givens, writes, resumes}
-use Rattle.laws_stream.specs.Stream.{after, bytesOf, decode-whole, decode-cut, bytes-resumed}
+use Rattle.laws_stream.specs.Stream.{after, notedBytes, decode-whole, decode-cut, bytes-resumed}
 use Rattle.laws_stream.specs.Checkpoint.{good-timed}
 use Rattle.laws_stream.specs.Order.{Rise}
 use Rattle.laws_stream.specs.Slice.{Past, within, reached, over-time, says-past}
@@ -72,7 +72,7 @@ rise-inside e from (a ∷ es) r =
 module _ {S Q I E : Type 0} (F : Format S Q I E) (L : Lawful F) (live : S → Bool) (time : S → ℕ) (clock : E → ℕ)
     (ahead : (s : S) (es : List E) → F .Ready s es → live s ≡ true → All (λ e. time s ≤ clock e) es) where
   cut-timed : (t₀ t₁ : ℕ) (s : S) (ns : List (Note ℕ E)) → Good F s ns [] → (c : ℕ)
-      → Past (F .reader) (within clock t₀ t₁) (reached live time t₁) s (wordsOf (F .size) (take c (bytesOf F L ns)))
+      → Past (F .reader) (within clock t₀ t₁) (reached live time t₁) s (wordsOf (F .size) (take c (notedBytes F L ns)))
   cut-timed t₀ t₁ s ns g c =
       let k = c / F .size in
       rw (wordsOf-take (F .size) (L .sized) c (words ns) (says-fits (F .reader) (Fits (F .size)) (F .Ready) s ns [] g), ← words-take k ns)

@@ -4,6 +4,7 @@ use mathlib.Core.Bool.{Bool}
 use mathlib.Core.List.{List, [], _∷_}
 use Prim.Native.Nat.{ℕ, _≤_}
 use native.Mathlib.Omega.{arith}
+use Rattle.evt_types.specs.Layout.{wordSize2, wordSize3}
 use Rattle.laws_stream.specs.Machine.{Machine, Note, All, all-of}
 use Rattle.laws_stream.specs.Words.{wordsOf}
 use Rattle.laws_stream.specs.Format.{Format, Lawful, through, givens}
@@ -121,5 +122,5 @@ ready-ahead Evt3 d es rd = rise-all clock (sayable (limit Evt3)) (d .time) es (r
 
 pub past-over : (e : Encoding) (win : Window) (d : StateOf e) (l : List ℕ)
     → Past (readerOf e) (isTimely win) (reached (isStarted e) (timeOf e) (win .t1)) d (wordsOf (encodeSize e) l) → PastOver win (codecOf e d) l
-past-over Evt2 win d l p = past-then reader2 (inside (win .width) (win .height)) (isTimely win) (reached (isStarted Evt2) (timeOf Evt2) (win .t1)) d (wordsOf 4 l) p
-past-over Evt3 win d l p = past-then reader3 (inside (win .width) (win .height)) (isTimely win) (reached (isStarted Evt3) (timeOf Evt3) (win .t1)) d (wordsOf 2 l) p
+past-over Evt2 win d l p = past-then reader2 (inside (win .width) (win .height)) (isTimely win) (reached (isStarted Evt2) (timeOf Evt2) (win .t1)) d (wordsOf wordSize2 l) p
+past-over Evt3 win d l p = past-then reader3 (inside (win .width) (win .height)) (isTimely win) (reached (isStarted Evt3) (timeOf Evt3) (win .t1)) d (wordsOf wordSize3 l) p

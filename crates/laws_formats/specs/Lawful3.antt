@@ -18,7 +18,7 @@ use Rattle.evt_types.specs.declared.Sent.{Sent}
 use Rattle.evt_types.specs.declared.vector.Vector.{Vector}
 use Rattle.evt_types.specs.Event.{Event, eventAt, eventsOf}
 use Rattle.evt_types.specs.Layout.{type3, x3, polarity3, mask12, time3, word-type3, word-time3, word-mask12, word-y3, word-fits3, column-type3, column-polarity3, column-x3, column-fits3}
-use Rattle.evt3_decoder.specs.Evt3.{fresh3, period3, threshold3, timed, past, number, step3, vector3, reader3, stepAs, vectorAs, kindOn, started-word, first-word}
+use Rattle.evt3_decoder.specs.Evt3.{fresh3, period3, threshold3, atCoarse, past, number, step3, vector3, reader3, stepAs, vectorAs, kindOn, started-word, first-word}
 use Rattle.read_columns.specs.Inside.{clock}
 use Rattle.write_buffer.specs.declared.EncoderState.{EncoderState}
 use Rattle.write_buffer.specs.Columns.{event}
@@ -218,7 +218,7 @@ module _ (t y p : ℕ) (xs : List ℕ) (v : Rising xs) (more : List Event) (r : 
 
   -- the first type 8, and each later one, takes the decoder to the coarse time of t
   high-word : (on : Bool) (d : Decoder) → d .initialised ≡ on → d .«high_loops» * period3 ≤ t → d .«time_base» ≤ t
-      → (step3 d (highWord3 t) ≡ timed d (t / 4096 * 4096) (d .«high_loops»)) × (eventsOf (vector3 d (highWord3 t)) ≡ [])
+      → (step3 d (highWord3 t) ≡ atCoarse d (t / 4096 * 4096) (d .«high_loops»)) × (eventsOf (vector3 d (highWord3 t)) ≡ [])
   high-word on d o low le =
       let w = highWord3 t in
       let t< = fine .t< in
@@ -227,7 +227,7 @@ module _ (t y p : ℕ) (xs : List ℕ) (v : Rising xs) (more : List Event) (r : 
       go on o (word-type3 8 (t / 4096 % 4096) (omega arith) q<) is-raw
     where
       go : (on : Bool) → d .initialised ≡ on → type3 (highWord3 t) ≡ 8 → time3 (highWord3 t) * 4096 ≡ t / 4096 * 4096
-          → (step3 d (highWord3 t) ≡ timed d (t / 4096 * 4096) (d .«high_loops»)) × (eventsOf (vector3 d (highWord3 t)) ≡ [])
+          → (step3 d (highWord3 t) ≡ atCoarse d (t / 4096 * 4096) (d .«high_loops»)) × (eventsOf (vector3 d (highWord3 t)) ≡ [])
       go true o is-8 is-raw =
           let w = highWord3 t in
           let by = started-word d w (type3 w) refl 8 is-8 o in
@@ -245,7 +245,7 @@ module _ (t y p : ℕ) (xs : List ℕ) (v : Rising xs) (more : List Event) (r : 
   said-high true lo ro d rd le hh ht hr = said-low lo ro d (hh refl .0) (hh refl .1) rd (λ e. ht e .0 refl) hr
   said-high false lo ro d rd le hh ht hr =
       let w = highWord3 t in
-      let d′ = timed d (t / 4096 * 4096) (d .«high_loops») in
+      let d′ = atCoarse d (t / 4096 * 4096) (d .«high_loops») in
       let low : d .«high_loops» * period3 ≤ t = omega (arith, rd .counted, rd .past) in
       let q = high-word (d .initialised) d refl low (omega (arith, rd .past)) in
       said-word t y d d′ w [] (spread t y p xs) (due lo (lowWord3 t) ++ (due ro (rowWord3 y) ++ here)) more (q .0) (q .1)

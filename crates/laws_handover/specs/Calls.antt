@@ -16,7 +16,8 @@ use Rattle.evt_types.specs.declared.Encoding.{Encoding}
 use Rattle.evt_types.specs.declared.Encoding.the-variants.{Evt2, Evt3}
 use Rattle.read_columns.specs.Inside.{clock}
 use Rattle.write_buffer.specs.declared.EncoderState.{EncoderState}
-use Rattle.write_buffer.specs.Columns.{natural, eventsIn}
+use Rattle.write_buffer.specs.Columns.{eventsIn}
+use Rattle.evt_types.specs.Num.{natural}
 use Rattle.write_words.specs.Encode.{encodeNotes, encodeBytes}
 use Rattle.laws_formats.specs.Ready.{limit, sayable}
 use Rattle.laws_formats.specs.Either.{freshOf}
@@ -28,7 +29,7 @@ use Rattle.write_rules.specs.Range.{timeBound, timeInRange, every, atMost, fall
 use Rattle.write_append.specs.Append.{lastAfter, sends, nextSink}
 use Rattle.write_append.specs.Ends.{accepts-checked}
 use Rattle.write_rules.specs.Checks.{Checked, checked-of, or-neither}
-use Rattle.laws_handover.specs.Handover.{Call, isAccepted, next, bytesOf, eventsOf, wordsOf, acceptedEvents, streamOf, streamWords, fresh, Typed}
+use Rattle.laws_handover.specs.Handover.{Call, isAccepted, next, callBytes, callEvents, callWords, acceptedEvents, streamOf, streamWords, fresh, Typed}
 use Rattle.laws_handover.specs.EventWords.{append-typed}
 
 -- ---- what an append that is refused, and one that is accepted, comes to
@@ -42,9 +43,9 @@ module _ (s : RawEventSink) (c : Call) where
 
   pub record Unchanged : Type 0 where
     pub is-sink : next s c ≡ s
-    pub no-bytes : bytesOf s c ≡ []
-    pub no-events : eventsOf s c ≡ []
-    pub no-words : wordsOf s c ≡ []
+    pub no-bytes : callBytes s c ≡ []
+    pub no-events : callEvents s c ≡ []
+    pub no-words : callWords s c ≡ []
 
   pub refused-unchanged : isAccepted s c ≡ false → Unchanged
   refused-unchanged h = record {

@@ -57,29 +57,29 @@ module _ (s : RawEventSink) (c : Call) where
   next = sinkAfter s (c .width) (c .height) (c .xs) (c .ys) (c .ts) (c .ps) (c .room)
 
   -- the bytes that it hands over: none if refused
-  abbrev pub bytesOf : List ℕ
-  bytesOf = handedOver s (c .width) (c .height) (c .xs) (c .ys) (c .ts) (c .ps) (c .room)
+  abbrev pub callBytes : List ℕ
+  callBytes = handedOver s (c .width) (c .height) (c .xs) (c .ys) (c .ts) (c .ps) (c .room)
 
   -- the events of its columns, if accepted
-  abbrev pub eventsOf : List Event
-  eventsOf = cond isAccepted (eventsIn (c .xs) (c .ys) (c .ts) (c .ps)) []
+  abbrev pub callEvents : List Event
+  callEvents = cond isAccepted (eventsIn (c .xs) (c .ys) (c .ts) (c .ps)) []
 
   -- its words, each with the events whose event word it is, if accepted
-  abbrev pub wordsOf : List (Note ℕ Event)
-  wordsOf = cond isAccepted (encodeNotes (s .version) (s .state) (eventsIn (c .xs) (c .ys) (c .ts) (c .ps))) []
+  abbrev pub callWords : List (Note ℕ Event)
+  callWords = cond isAccepted (encodeNotes (s .version) (s .state) (eventsIn (c .xs) (c .ys) (c .ts) (c .ps))) []
 
 -- of a list, each append given the writer that the last one returned
 abbrev pub acceptedEvents : RawEventSink → List Call → List Event
 acceptedEvents s [] = []
-acceptedEvents s (c ∷ cs) = eventsOf s c ++ acceptedEvents (next s c) cs
+acceptedEvents s (c ∷ cs) = callEvents s c ++ acceptedEvents (next s c) cs
 
 abbrev pub streamOf : RawEventSink → List Call → List ℕ
 streamOf s [] = []
-streamOf s (c ∷ cs) = bytesOf s c ++ streamOf (next s c) cs
+streamOf s (c ∷ cs) = callBytes s c ++ streamOf (next s c) cs
 
 abbrev pub streamWords : RawEventSink → List Call → List (Note ℕ Event)
 streamWords s [] = []
-streamWords s (c ∷ cs) = wordsOf s c ++ streamWords (next s c) cs
+streamWords s (c ∷ cs) = callWords s c ++ streamWords (next s c) cs
 
 -- a fresh writer that sends no header
 abbrev pub fresh : Encoding → RawEventSink
@@ -109,8 +109,8 @@ brokenAfter size cut at (w ∷ ws) = cond (leb (at + size) cut) [] (w .events) +
 -- of a stream, given by its bytes, or by its words each with the events whose event word it is
 module _ (e : Encoding) (cut : ℕ) where
   -- what stands
-  abbrev pub before : List ℕ → List ℕ
-  before bytes = take cut bytes
+  abbrev pub beforeCut : List ℕ → List ℕ
+  beforeCut bytes = take cut bytes
 
   abbrev pub whole : List (Note ℕ Event) → List Event
   whole ws = wholeBefore (encodeSize e) cut 0 ws
@@ -120,7 +120,7 @@ module _ (e : Encoding) (cut : ℕ) where
 
   -- what stands less a broken last word, then the stream of a second list, run in the same way by a fresh writer
   abbrev pub joined : List ℕ → (second : List Call) → List ℕ
-  joined bytes second = take (cut / encodeSize e * encodeSize e) (before bytes) ++ streamOf (fresh e) second
+  joined bytes second = take (cut / encodeSize e * encodeSize e) (beforeCut bytes) ++ streamOf (fresh e) second
 
 -- ---- what is read of some bytes is exactly `es`
 
@@ -147,8 +147,8 @@ numbered es i0 i1 =
     take (end - start) (drop start es)
 
 -- by time: t0 ≤ t < t1
-abbrev pub timed : List Event → (t0 t1 : ℤ) → List Event
-timed es t0 t1 = sift (isDuring t0 t1) es
+abbrev pub duringTimes : List Event → (t0 t1 : ℤ) → List Event
+duringTimes es t0 t1 = sift (isDuring t0 t1) es
 
 -- slices of some bytes by an index, where the columns suffice
 module _ (bytes : List ℕ) (es : List Event) (source : RawSliceSource) (records : List Checkpoint) where
@@ -159,8 +159,8 @@ module _ (bytes : List ℕ) (es : List Event) (source : RawSliceSource) (records
 
   abbrev pub ByTime : Type 0
   ByTime = (t0 t1 : ℤ) (r : SliceAnswer) (xs₀ ys₀ : List ℕ) (ts₀ : List ℤ) (ps₀ xs ys : List ℕ) (ts : List ℤ) (ps : List ℕ)
-      → SlicesTime bytes source records t0 t1 r xs₀ ys₀ ts₀ ps₀ xs ys ts ps → length (timed es t0 t1) ≤ shortest xs₀ ys₀ ts₀ ps₀
-      → Gives (timed es t0 t1) r xs₀ ys₀ ts₀ ps₀ xs ys ts ps
+      → SlicesTime bytes source records t0 t1 r xs₀ ys₀ ts₀ ps₀ xs ys ts ps → length (duringTimes es t0 t1) ≤ shortest xs₀ ys₀ ts₀ ps₀
+      → Gives (duringTimes es t0 t1) r xs₀ ys₀ ts₀ ps₀ xs ys ts ps
 
 module _ (e : Encoding) (size : SensorSize) (bytes : List ℕ) (es : List Event) where
   -- decoding, with no header and no limit, where the columns suffice: accepted, the count and all four columns
@@ -199,7 +199,7 @@ pub record Claim (e : Encoding) (bytes : List ℕ) (ws : List (Note ℕ Event)) 
   pub whole-suits : Suits widest (whole e cut ws)
   pub all-suits : Suits widest es
   -- what stands decodes, and is sliced, as the events that are whole
-  pub of-cut : Exact e (before e cut bytes) (whole e cut ws)
+  pub of-cut : Exact e (beforeCut e cut bytes) (whole e cut ws)
   -- and the joined stream as all events, where the second list's accepted events are the others
   pub of-joined : (second : List Call) → acceptedEvents (fresh e) second ≡ others e cut ws → Exact e (joined e cut bytes second) es
 

@@ -21,7 +21,7 @@ use Rattle.write_words.specs.Encode.{encodeSize}
 use Rattle.laws_formats.specs.Ready.{limit, sayable}
 use Rattle.laws_formats.specs.Either.{codecOf, freshOf, lawfulOf, fresh-is}
 use Rattle.laws_formats.specs.Appends.{noteBytes, rise-inside, Understood, resumed-understood, resumed-bytes, whole-events, whole-past, cut-events, cut-past}
-use Rattle.laws_handover.specs.Handover.{Call, acceptedEvents, streamOf, streamWords, fresh, before, whole, others, joined, Typed, Suits, widest, Exact, Claim, DemandThree}
+use Rattle.laws_handover.specs.Handover.{Call, acceptedEvents, streamOf, streamWords, fresh, beforeCut, whole, others, joined, Typed, Suits, widest, Exact, Claim, DemandThree}
 use Rattle.laws_handover.specs.Cut.{whole-is, broken-is, cut-parts}
 use Rattle.laws_handover.specs.Calls.{stream-words, stream-notes, stream-typed, groupsOf, groups-events, groups-words, fresh-rise, stream-understood}
 use Rattle.laws_handover.specs.Reading.{exact}
@@ -83,7 +83,7 @@ module _ (e : Encoding) where
   exact-whole bytes ws es s =
       rw (s .worded) (read (noteBytes e ws) es (whole-events e (freshOf e) ws (s .understood) ∙ s .noted) (whole-past e (freshOf e) ws (s .understood)))
 
-  exact-before : (bytes : List ℕ) (ws : List (Note ℕ Event)) (es : List Event) → Sent e bytes ws es → (cut : ℕ) → Exact e (before e cut bytes) (whole e cut ws)
+  exact-before : (bytes : List ℕ) (ws : List (Note ℕ Event)) (es : List Event) → Sent e bytes ws es → (cut : ℕ) → Exact e (beforeCut e cut bytes) (whole e cut ws)
   exact-before bytes ws es s cut =
       rw (s .worded, whole-is (encodeSize e) cut sized ws)
       (read (take cut (noteBytes e ws)) (notes (take (cut / encodeSize e) ws)) (cut-events e (freshOf e) ws (s .understood) cut) (cut-past e (freshOf e) ws (s .understood) cut))

@@ -14,7 +14,7 @@ use Rattle.write_append.specs.declared.AppendAnswer.the-variants.{Written, Refu
 use Rattle.write_append.specs.declared.Appended.{Appended}
 use Rattle.write_rules.specs.Range.{eventsInRange, fallsAfter, sameLengths, sinkInRange}
 use Rattle.write_append.specs.Append.{appendAnswer, sends, AppendOwed}
-use Rattle.laws_handover.specs.Handover.{Call, isAccepted, next, bytesOf, streamOf}
+use Rattle.laws_handover.specs.Handover.{Call, isAccepted, next, callBytes, streamOf}
 
 -- the writer that a list leaves
 abbrev pub sinkOf : RawEventSink → List Call → RawEventSink
@@ -78,7 +78,7 @@ module _ (s : RawEventSink) (c : Call) (out₀ : List ℕ) (room : c .room ≡ l
       ∙ answer-as (sinkInRange s) (sameLengths (length (c .xs)) (length (c .ys)) (length (c .ts)) (length (c .ps))) (leb (length (c .xs)) (2 ^ 28))
       (fallsAfter (s .«last_t») (c .ts)) (eventsInRange (s .version) (c .xs) (c .ys) (c .ts) (c .ps)) (leb (length all) (c .room)) (length all)
 
-  one-written : take (bytesTold (r .answer)) out ≡ bytesOf s c
+  one-written : take (bytesTold (r .answer)) out ≡ callBytes s c
   one-written =
       ap (λ (n : ℕ). take n out) told-is ∙ ap (take (cond (isAccepted s c) (length all) 0)) (rw (← room) at (owed .is-output)) ∙ front-is (isAccepted s c) all _
 
@@ -91,7 +91,7 @@ pub ran-written : (s : RawEventSink) (ran : List Ran) → Chained s ran → allW
 ran-written s [] h = refl
 ran-written s (a ∷ ran) h =
     ap (λ (l : List ℕ). l ++ allWritten ran) (one-written s (a .call) (a .out₀) (a .is-room) (a .result) (a .out) (h .0))
-    ∙ ap (λ (l : List ℕ). bytesOf s (a .call) ++ l)
+    ∙ ap (λ (l : List ℕ). callBytes s (a .call) ++ l)
     (ran-written (a .result .sink) ran (h .1) ∙ ap (λ (u : RawEventSink). streamOf u (callsOf ran)) (one-sink s (a .call) (a .out₀) (a .is-room) (a .result) (a .out) (h .0)))
 
 -- the writer that the last one returned

@@ -7,7 +7,7 @@ use lib.ListN.{length, take, drop}
 use Rattle.laws_stream.specs.Machine.{Machine, Note, All, all-none, emits, from-checkpoint}
 use Rattle.laws_stream.specs.Words.{wordsOf}
 use Rattle.laws_stream.specs.Format.{Format, Lawful, Good}
-use Rattle.laws_stream.specs.Stream.{decode, after, split-words, decode-slice, bytesOf, good-past}
+use Rattle.laws_stream.specs.Stream.{decode, after, split-words, decode-slice, notedBytes, good-past}
 use Rattle.laws_stream.specs.Slice.{sift, until, Past, within, reached, over-time, all-early}
 use Rattle.laws_stream.specs.Order.{latest, greatest-lt}
 
@@ -57,5 +57,5 @@ module _ {S E : Type 0} (n : ℕ) (D : Machine S ℕ E) (start : S) (clock : E �
 module _ {S Q I E : Type 0} (F : Format S Q I E) (L : Lawful F) (live : S → Bool) (time : S → ℕ) (clock : E → ℕ)
     (ahead : (s : S) (es : List E) → F .Ready s es → live s ≡ true → All (λ e. time s ≤ clock e) es) where
   pub good-timed : (t₀ t₁ : ℕ) (s : S) (ns : List (Note ℕ E)) → Good F s ns []
-      → Past (F .reader) (within clock t₀ t₁) (reached live time t₁) s (wordsOf (F .size) (bytesOf F L ns))
+      → Past (F .reader) (within clock t₀ t₁) (reached live time t₁) s (wordsOf (F .size) (notedBytes F L ns))
   good-timed t₀ t₁ = good-past F L (within clock t₀ t₁) (reached live time t₁) (λ s es rd d. over-time live time t₁ clock t₀ s es (ahead s es rd) d)

@@ -10,7 +10,7 @@ use lib.ListN.{length, take, drop, length-append}
 use borrow.Author.Tests.{leb-true, leb-false, le-leb, lt-leb}
 use Rattle.laws_stream.specs.Machine.{Machine, run, emits}
 use Rattle.laws_stream.specs.Slice.{sift, sift-append}
-use Rattle.laws_stream.specs.Select.{Window, Reading, numberedOf, numbered, isOver, chosen, isStopped, ended, handed, Calm, handed-on, handed-stop, handed-after, chosen-past}
+use Rattle.laws_stream.specs.Select.{Selection, Reading, numberedOf, numbered, isOver, chosen, isStopped, ended, handed, Calm, handed-on, handed-stop, handed-after, chosen-past}
 
 -- how many words are passed over, how many numbered events they have, and the state behind them
 pub record Over (S : Type 0) : Type 0 where
@@ -77,7 +77,7 @@ module _ {S W E : Type 0} (M : Machine S W E) (inside : E → Bool) where
           }
       go false e p = record { words = omega arith; few = omega arith; count = refl; state = refl }
 
-module _ {S W E : Type 0} (R : Reading S W E) (win : Window) where
+module _ {S W E : Type 0} (R : Reading S W E) (win : Selection) where
   -- events whose numbers stay below n0
   chosen-before : (k : ℕ) (es : List E) → length es ≤ win .n0 - k → chosen R win k es ≡ []
   chosen-before k [] h = refl

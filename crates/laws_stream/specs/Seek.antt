@@ -10,7 +10,7 @@ use lib.ListN.{length, take, drop}
 use borrow.Author.Tests.{ltb-true, ltb-false, lt-ltb, le-ltb, le-leb}
 use Rattle.laws_stream.specs.Machine.{Machine, All, all-append, all-map, run}
 use Rattle.laws_stream.specs.Slice.{sift, sift-append, sift-none, sift-all, all-sift, until, early, late, timely, not-reached}
-use Rattle.laws_stream.specs.Select.{Window, Reading, numbered, numberedOf, numbered-cons, inTime, isOver, handed, handed-by-time}
+use Rattle.laws_stream.specs.Select.{Selection, Reading, numbered, numberedOf, numbered-cons, inTime, isOver, handed, handed-by-time}
 
 -- where a seek ends: how many words were passed over, whether one of them that carries events left the state before a time, and the state
 pub record Reach (S : Type 0) : Type 0 where
@@ -89,7 +89,7 @@ module _ {S W E : Type 0} (M : Machine S W E) (time : S → ℕ) (carries : W �
 
 -- Of a slice by time: an event's time is the state's after its word.
 module _ {S W E : Type 0} (R : Reading S W E) (carries : W → Bool)
-    (stamped : (s : S) (w : W) → All (λ e. R .clock e ≡ R .time (R .machine .step s w)) (R .machine .emit s w)) (win : Window) where
+    (stamped : (s : S) (w : W) → All (λ e. R .clock e ≡ R .time (R .machine .step s w)) (R .machine .emit s w)) (win : Selection) where
   abbrev timely-until : S → List W → List E
   timely-until s ws = sift (inTime R win) (numbered R s (until (R .machine) (isOver R win) s ws))
 

@@ -13,7 +13,7 @@ use Rattle.laws_stream.specs.Machine.{Machine, All, run, emits, emits-ap
 use Rattle.laws_stream.specs.Slice.{onto, onto-append, sift, sift-append, sift-all, sift-sift, andThen, none-sifted, until, unless, within, reached, not-reached, Past, until-sift, sliced}
 
 -- numbers n0 to before n1, times t0 to before t1
-pub record Window : Type 0 where
+pub record Selection : Type 0 where
   pub n0 : ℕ
   pub n1 : ℕ
   pub t0 : ℕ
@@ -36,7 +36,7 @@ pub record End (S : Type 0) : Type 0 where
   pub consumed : ℕ
 
 -- number k at time t is in the window
-abbrev pub spans : Window → ℕ → ℕ → Bool
+abbrev pub spans : Selection → ℕ → ℕ → Bool
 spans win k t = leb (win .n0) k && (ltb k (win .n1) && (leb (win .t0) t && ltb t (win .t1)))
 
 abbrev pub endAt : {S : Type 0} → Bool → ℕ → S → End S → End S
@@ -76,7 +76,7 @@ module _ {S W E : Type 0} (R : Reading S W E) where
       let e : k + length (numberedOf s w) + length (numbered (R .machine .step s w) ws) ≡ k + length (numbered s (w ∷ ws)) = omega (arith, length-numbered s w ws) in
       ap (λ (n : ℕ). record { number = n; state = run (R .machine) (R .machine .step s w) ws; consumed = suc (length ws) }) e
 
-  module _ (win : Window) where
+  module _ (win : Selection) where
     abbrev pub inTime : E → Bool
     inTime = within (R .clock) (win .t0) (win .t1)
 

@@ -41,8 +41,8 @@ module _ {S E : Type 0} (n : ℕ) (D : Machine S ℕ E) where
       rw (← split-words pos k l h) (sliced D keep done s (wordsOf n (take (k * n) l)) (wordsOf n (drop (k * n) l)) none-kept (rw (split-words pos k l h) p))
 
 module _ {S Q I E : Type 0} (F : Format S Q I E) (L : Lawful F) where
-  abbrev pub bytesOf : List (Note ℕ E) → List ℕ
-  bytesOf ns = stream (F .size) (words ns)
+  abbrev pub notedBytes : List (Note ℕ E) → List ℕ
+  notedBytes ns = stream (F .size) (words ns)
 
   abbrev pub decodeF : S → List ℕ → List E
   decodeF = decode (F .size) (F .reader)
@@ -51,33 +51,33 @@ module _ {S Q I E : Type 0} (F : Format S Q I E) (L : Lawful F) where
     ns-fits : All (Fits (F .size)) (words ns)
     ns-fits = says-fits (F .reader) (Fits (F .size)) (F .Ready) s ns [] good
 
-    pub decode-whole : decodeF s (bytesOf ns) ≡ notes ns
+    pub decode-whole : decodeF s (notedBytes ns) ≡ notes ns
     decode-whole = rw (wordsOf-stream (F .size) (L .sized) (words ns) ns-fits) (says-emits (F .reader) (Fits (F .size)) (F .Ready) s ns [] good)
 
-    pub decode-cut : (c : ℕ) → decodeF s (take c (bytesOf ns)) ≡ notes (take (c / F .size) ns)
+    pub decode-cut : (c : ℕ) → decodeF s (take c (notedBytes ns)) ≡ notes (take (c / F .size) ns)
     decode-cut c = rw (wordsOf-take (F .size) (L .sized) c (words ns) ns-fits) (cut (F .reader) (Fits (F .size)) (F .Ready) (c / F .size) s ns [] good)
 
   -- what is written can be sliced
   pub good-past : (keep : E → Bool) (done : S → Bool) → ((s : S) (es : List E) → F .Ready s es → done s ≡ true → All (λ e. keep e ≡ false) es)
-      → (s : S) (ns : List (Note ℕ E)) → Good F s ns [] → Past (F .reader) keep done s (wordsOf (F .size) (bytesOf ns))
+      → (s : S) (ns : List (Note ℕ E)) → Good F s ns [] → Past (F .reader) keep done s (wordsOf (F .size) (notedBytes ns))
   good-past keep done over s ns g =
       rw (wordsOf-stream (F .size) (L .sized) (words ns) (ns-fits s ns g)) (says-past (F .reader) keep done (Fits (F .size)) (F .Ready) over s ns [] g)
 
   -- a fresh writer behind any bytes at all, given events that the reader is ready for after them
   pub decode-goes-on : (s : S) (k : ℕ) (l : List ℕ) (is : List I) → length l ≡ k * F .size → All (F .Valid) is
-      → F .Ready (after (F .size) (F .reader) s l) (givens F is) → decodeF s (l ++ bytesOf (sent F is)) ≡ decodeF s l ++ givens F is
+      → F .Ready (after (F .size) (F .reader) s l) (givens F is) → decodeF s (l ++ notedBytes (sent F is)) ≡ decodeF s l ++ givens F is
   decode-goes-on s k l is h va rd =
       let g = sent-good F L (after (F .size) (F .reader) s l) is [] va (rw append-nil rd) in
-      decode-append (F .size) (F .reader) (L .sized) s k l (bytesOf (sent F is)) h
+      decode-append (F .size) (F .reader) (L .sized) s k l (notedBytes (sent F is)) h
       ∙ rw (decode-whole (after (F .size) (F .reader) s l) (sent F is) g, written-notes F L (F .fresh) is va)
 
   -- the bytes of a stream that was cut and gone on with
-  pub bytes-resumed : (c : ℕ) (ns ms : List (Note ℕ E)) → take (c / F .size * F .size) (bytesOf ns) ++ bytesOf ms ≡ bytesOf (take (c / F .size) ns ++ ms)
+  pub bytes-resumed : (c : ℕ) (ns ms : List (Note ℕ E)) → take (c / F .size * F .size) (notedBytes ns) ++ notedBytes ms ≡ notedBytes (take (c / F .size) ns ++ ms)
   bytes-resumed c ns ms = rw (take-stream-words (F .size), ← stream-append, words-append, words-take)
 
   -- what was missing, and no more, written by a fresh writer behind what is left
   module _ (s : S) (ns : List (Note ℕ E)) (good : Good F s ns []) (c : ℕ) (is : List I) (valid : All (F .Valid) is)
-      (missing : decodeF s (take c (bytesOf ns)) ++ givens F is ≡ notes ns) where
+      (missing : decodeF s (take c (notedBytes ns)) ++ givens F is ≡ notes ns) where
     left : givens F is ≡ notes (drop (c / F .size) ns)
     left = append-cancel-left (notes (take (c / F .size) ns)) (givens F is) (notes (drop (c / F .size) ns))
         (ap (λ (l : List E). l ++ givens F is) (sym (decode-cut s ns good c)) ∙ missing ∙ sym (notes-split (c / F .size) ns))
@@ -85,5 +85,5 @@ module _ {S Q I E : Type 0} (F : Format S Q I E) (L : Lawful F) where
     pub resumed-good : Good F s (take (c / F .size) ns ++ sent F is) []
     resumed-good = resumes F L (c / F .size) s ns is [] valid good left
 
-    pub decode-resumed : decodeF s (take (c / F .size * F .size) (bytesOf ns) ++ bytesOf (sent F is)) ≡ notes ns
+    pub decode-resumed : decodeF s (take (c / F .size * F .size) (notedBytes ns) ++ notedBytes (sent F is)) ≡ notes ns
     decode-resumed = rw bytes-resumed (decode-whole s (take (c / F .size) ns ++ sent F is) resumed-good ∙ resumed-notes F L (c / F .size) ns is valid left)

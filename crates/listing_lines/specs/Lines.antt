@@ -6,7 +6,7 @@ use native.Mathlib.Omega.{arith}
 use lib.ListN.{set}
 use Rattle.evt_types.specs.declared.Refusal.{Refusal}
 use Rattle.evt_types.specs.Told.{told}
-use Rattle.header.specs.Header.{encodingNumber}
+use Rattle.evt_types.specs.Num.{encodingNumber}
 use Rattle.read_rules.specs.declared.Reading.{Reading}
 use Rattle.read_rules.specs.declared.ReadAnswer.{ReadAnswer}
 use Rattle.read_rules.specs.declared.ReadAnswer.the-variants.{Read, Refused}

@@ -9,7 +9,7 @@ use Rattle.evt_types.specs.declared.SensorSize.the-variants.{Unknown}
 use Rattle.evt_types.specs.declared.Refusal.{Refusal}
 use Rattle.evt_types.specs.Event.{Event}
 use Rattle.evt_types.specs.Told.{told}
-use Rattle.header.specs.Header.{encodingNumber}
+use Rattle.evt_types.specs.Num.{encodingNumber}
 use Rattle.read_rules.specs.declared.LoadOptions.{LoadOptions}
 use Rattle.read_rules.specs.declared.Reading.{Reading}
 use Rattle.read_rules.specs.declared.ReadAnswer.{ReadAnswer}

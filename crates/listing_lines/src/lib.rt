@@ -3,13 +3,12 @@
 // made of, and write_text/specs/Stored.antt what stored means.
 ghost use mathlib.Core.Path.{_≡_};
 ghost use Prim.Native.Nat.{_^_, _<_};
-ghost use Rattle.header.specs.Header.{encodingNumber};
 ghost use Rattle.write_buffer.specs.Columns.{event};
 ghost use Rattle.write_text.specs.Stored.{Stored};
 ghost use Rattle.listing_lines.specs.Listing.{field as Listing·field, refusedLine, readLine, eventLine};
 ghost use Rattle.listing_lines.specs.Lines.{headLine};
-use evt_types::Encoding;
 use evt_types::Refusal;
+use evt_types::encoding_number;
 use evt_types::refusal_number;
 use read_rules::ReadAnswer;
 use read_rules::Reading;
@@ -26,15 +25,6 @@ fn field(out: &mut [u8], at: usize, n: u64, end: u8) -> usize
     e + 1
 }
 
-fn encoding_number(e: Encoding) -> u64
-    ensures { λ n. ⌜ n ≡ encodingNumber e ⌝ }
-{
-    match e {
-        Encoding::Evt2 => 2,
-        Encoding::Evt3 => 3,
-    }
-}
-
 fn refused_line(r: Refusal, out: &mut [u8]) -> usize
     ensures { λ n. ⌜ Stored 96 (now (out .entry)) 0 (refusedLine r) n (now (out .exit)) ⌝ }
 {
@@ -47,7 +37,7 @@ fn read_line(r: Reading, out: &mut [u8]) -> usize
 {
     let encoding = r.encoding;
     let a = put_text(&mut *out, 0, b"EVT");
-    let b = field(&mut *out, a, encoding_number(encoding), b' ');
+    let b = field(&mut *out, a, encoding_number(encoding) as u64, b' ');
     let c = field(&mut *out, b, r.width as u64, b' ');
     let d = field(&mut *out, c, r.height as u64, b' ');
     field(&mut *out, d, r.count as u64, b'\n')

@@ -35,7 +35,7 @@ use Rattle.read_rules.specs.Read.{toldRead, bodyEvents, sizeless, widthOf, heig
 use Rattle.evt_codec.specs.Codec.{freshC}
 use Rattle.read_capacity.specs.Deliver.{mostFrom}
 use Rattle.read_capacity.specs.Laws.{few-inside}
-use Rattle.read_rules.specs.Laws.{spanOf, body-all}
+use Rattle.read_rules.specs.Laws.{sensorOf, body-all}
 use Rattle.write_buffer.specs.Columns.{eventOf}
 use Rattle.listing_text.specs.declared.Begun.{Begun}
 use Rattle.listing_lines.specs.Listing.{tooLong, refusedLine, eventLine, eventLines, mostBytes, listOptions, listRoom, answerText, listingOf}
@@ -101,7 +101,7 @@ headOf recording = cond (ltb mostBytes (length recording)) tooLong (headLine (ra
 
 -- at most 12 events for each word
 body-few : (size : SensorSize) (e : Encoding) (body : List ℕ) → length body ≤ mostBytes → length (bodyEvents e size Unlimited body) ≤ listRoom
-body-few size e body h = rw (body-all size e body (omega arith)) (go e (few-inside (spanOf size .width) (spanOf size .height) (freshC e) body))
+body-few size e body h = rw (body-all size e body (omega arith)) (go e (few-inside (sensorOf size .width) (sensorOf size .height) (freshC e) body))
   where
     go : (e : Encoding) {n : ℕ} → n ≤ mostFrom (freshC e) (length body) → n ≤ listRoom
     go Evt2 k = omega arith

@@ -8,11 +8,11 @@ ghost use Rattle.write_text.specs.Stored.{Stored};
 ghost use Rattle.listing_text.specs.Laws.{Rows, rowsFrom, countOf, Wide, Begins};
 use evt_types::Limit;
 use evt_types::SensorSize;
+use evt_types::num::natural_time;
 use listing_lines::event_at;
 use listing_lines::head_text;
 use read::LoadOptions;
 use read::ReadAnswer;
-use write_buffer::time_of;
 use write_text::put_text;
 
 // How many bytes the first line has, and how many events are to be listed after it.
@@ -39,7 +39,7 @@ pub fn lines_text(
     let mut i = from;
     let mut left = n;
     while 0 < left {
-        let t = time_of(ts[i]);
+        let t = natural_time(ts[i]);
         at = event_at(t, xs[i], ys[i], ps[i], &mut *out, at);
         i += 1;
         left -= 1;

@@ -9,6 +9,7 @@ use lib.Dec.{leb, ltb}
 use lib.IntN.{ℤ}
 use lib.ListN.{length, take, drop, length-map}
 use borrow.Author.Tests.{leb-true, ltb-true, le-leb, lt-leb}
+use Rattle.evt_types.specs.Layout.{wordSize2, wordSize3}
 use Rattle.laws_stream.specs.Columns.{written}
 use Rattle.laws_stream.specs.Slice.{onto}
 use Rattle.laws_stream.specs.Select as Select
@@ -17,14 +18,14 @@ use Rattle.evt_codec.specs.declared.codec.Codec.{Codec}
 use Rattle.evt_codec.specs.declared.codec.Codec.the-variants.{Evt2, Evt3}
 use Rattle.evt_types.specs.Columns.{colX, colY, colT, colP, Wrote, Fits}
 use Rattle.evt_types.specs.Event.{Event}
-use Rattle.read_count.specs.declared.Survey.{Survey}
-use Rattle.read_fill.specs.declared.Tally.{Tally as Filling}
-use Rattle.read_fill.specs.Decode.{insideEvents, tallyOf}
-use Rattle.read_count.specs.Count.{surveyOf}
+use Rattle.read_count.specs.declared.CountedAll.{CountedAll}
+use Rattle.read_fill.specs.declared.FilledAll.{FilledAll}
+use Rattle.read_fill.specs.Decode.{insideEvents, filledAllOf}
+use Rattle.read_count.specs.Count.{countedAllOf}
 use Rattle.read_fill.specs.Loops.{few2, few3}
 use Rattle.read_window.specs.declared.Window.{Window}
-use Rattle.read_window.specs.Window.{spanOf, reading2, reading3}
-use Rattle.read_select.specs.declared.Tally.{Tally}
+use Rattle.read_window.specs.Window.{selectionOf, reading2, reading3}
+use Rattle.read_select.specs.declared.SurveyTotals.{SurveyTotals}
 use Rattle.read_select.specs.declared.Filled.{Filled}
 use Rattle.read_select.specs.Pass.{handedOver, surveyed, filled}
 use Rattle.read_select.specs.Uses.{numberedOver, over-few}
@@ -90,16 +91,16 @@ module _ (width height : ℕ) (c : Codec) (bytes : List ℕ) where
   pub need-all-most : (room most : ℕ) → most ≡ mostFrom c (length bytes) → most ≤ room → Enough inner room most
   need-all-most room most e h = enough-most inner room most (omega (arith, few-inside)) h
 
-  pub need-all-count : (room : ℕ) (t : Survey) → t ≡ surveyOf width height c bytes → Enough inner room (t .count)
-  need-all-count room t is = enough-just inner room (t .count) (ap (λ (t : Survey). t .count) is)
+  pub need-all-count : (room : ℕ) (t : CountedAll) → t ≡ countedAllOf width height c bytes → Enough inner room (t .count)
+  need-all-count room t is = enough-just inner room (t .count) (ap (λ (t : CountedAll). t .count) is)
 
-  pub delivers-inside : (room n : ℕ) (t : Filling) {xs₀ ys₀ : List ℕ} {ts₀ : List ℤ} {ps₀ xs ys : List ℕ} {ts : List ℤ} {ps : List ℕ} → room ≡ shortest xs₀ ys₀ ts₀ ps₀ → Enough inner room n → n ≤ room
-      → t ≡ tallyOf width height c bytes → Wrote inner 0 xs₀ ys₀ ts₀ ps₀ xs ys ts ps → Delivers inner (Written (t .count)) xs₀ ys₀ ts₀ ps₀ xs ys ts ps
-  delivers-inside room n t r enough h is w = delivers-all inner room n (t .count) r enough h (ap (λ (t : Filling). t .count) is) w
+  pub delivers-inside : (room n : ℕ) (t : FilledAll) {xs₀ ys₀ : List ℕ} {ts₀ : List ℤ} {ps₀ xs ys : List ℕ} {ts : List ℤ} {ps : List ℕ} → room ≡ shortest xs₀ ys₀ ts₀ ps₀ → Enough inner room n → n ≤ room
+      → t ≡ filledAllOf width height c bytes → Wrote inner 0 xs₀ ys₀ ts₀ ps₀ xs ys ts ps → Delivers inner (Written (t .count)) xs₀ ys₀ ts₀ ps₀ xs ys ts ps
+  delivers-inside room n t r enough h is w = delivers-all inner room n (t .count) r enough h (ap (λ (t : FilledAll). t .count) is) w
 
 -- ---- a pass hands over no more than its window has numbers, nor than its bytes have events
 
-module _ {S : Type 0} (R : Select.Reading S ℕ Event) (span : Select.Window) where
+module _ {S : Type 0} (R : Select.Reading S ℕ Event) (span : Select.Selection) where
   chosen-span : (k : ℕ) (es : List Event) → length (Select.chosen R span k es) ≤ span .n1 - max (span .n0) k
   chosen-span k [] = omega arith
   chosen-span k (e ∷ es) = go (leb (span .n0) k) refl (ltb k (span .n1)) refl (leb (span .t0) (R .clock e) && ltb (R .clock e) (span .t1)) (chosen-span (suc k) es)
@@ -122,8 +123,8 @@ module _ (win : Window) (k : ℕ) (c : Codec) (bytes : List ℕ) where
   over-span = go c
     where
       go : (c : Codec) → length (handedOver win k c bytes) ≤ win .n1 - win .n0
-      go (Evt2 d) = handed-span (reading2 win) (spanOf win) k d (wordsOf 4 bytes)
-      go (Evt3 d) = handed-span (reading3 win) (spanOf win) k d (wordsOf 2 bytes)
+      go (Evt2 d) = handed-span (reading2 win) (selectionOf win) k d (wordsOf wordSize2 bytes)
+      go (Evt3 d) = handed-span (reading3 win) (selectionOf win) k d (wordsOf wordSize3 bytes)
 
   pub numbered-most : length (numberedOver win c bytes) ≤ mostFrom c (length bytes)
   numbered-most = go c
@@ -138,8 +139,8 @@ module _ (win : Window) (k : ℕ) (c : Codec) (bytes : List ℕ) where
   pub need-most : (room most : ℕ) → most ≡ mostOver win c (length bytes) → most ≤ room → Enough over room most
   need-most room most e h = enough-most over room most (few-over most e) h
 
-  pub need-count : (room : ℕ) (t : Tally) → t ≡ surveyed win k c bytes → Enough over room (t .count)
-  need-count room t is = enough-just over room (t .count) (ap (λ (t : Tally). t .count) is)
+  pub need-count : (room : ℕ) (t : SurveyTotals) → t ≡ surveyed win k c bytes → Enough over room (t .count)
+  need-count room t is = enough-just over room (t .count) (ap (λ (t : SurveyTotals). t .count) is)
 
   pub delivers-filled : (room n : ℕ) (t : Filled) {xs₀ ys₀ : List ℕ} {ts₀ : List ℤ} {ps₀ xs ys : List ℕ} {ts : List ℤ} {ps : List ℕ} → room ≡ shortest xs₀ ys₀ ts₀ ps₀ → Enough over room n → n ≤ room
       → t ≡ filled win k c bytes → Wrote over 0 xs₀ ys₀ ts₀ ps₀ xs ys ts ps → Delivers over (Written (t .count)) xs₀ ys₀ ts₀ ps₀ xs ys ts ps

@@ -8,6 +8,7 @@ ghost use Rattle.read_fill.specs.Decode.{Bounded, insideEvents};
 ghost use Rattle.read_select.specs.Pass.{Ready, handedOver};
 ghost use Rattle.read_capacity.specs.Deliver.{mostFrom, mostOver, Enough};
 use evt_codec::Codec;
+use evt_types::num::min_usize;
 use read_select::Window;
 
 // How many events were written, or how many places they need.
@@ -16,17 +17,11 @@ pub enum Delivered {
     Needed(usize),
 }
 
-pub fn less(a: usize, b: usize) -> usize
-    ensures { λ r. ⌜ r ≡ min a b ⌝ }
-{
-    if a < b { a } else { b }
-}
-
 // The shortest of four columns counts.
 pub fn shortest(a: usize, b: usize, c: usize, d: usize) -> usize
     ensures { λ r. ⌜ r ≡ min (min a b) (min c d) ⌝ }
 {
-    less(less(a, b), less(c, d))
+    min_usize(min_usize(a, b), min_usize(c, d))
 }
 
 // More events than this n bytes can't have. `requires`: every caller has refused longer ones (4).
@@ -70,7 +65,7 @@ fn most_over(window: Window, codec: Codec, n: usize) -> usize
     requires { ⌜ n ≤ 2 ^ 30 ⌝ }
     ensures { λ r. ⌜ r ≡ mostOver window codec n ⌝ }
 {
-    less(numbers(window) as usize, most_from(codec, n))
+    min_usize(numbers(window) as usize, most_from(codec, n))
 }
 
 // The same for what a pass hands over.

@@ -14,10 +14,8 @@ use Rattle.laws_stream.specs.Mask.{bits, bits-zero, bits-one, bits-few, low-bit
 use Rattle.laws_stream.specs.Order.{greatest}
 use Rattle.laws_stream.specs.Slice.{onto, sift, sift-none}
 use Rattle.evt_types.specs.declared.vector.Vector.{Vector}
+use Rattle.evt_types.specs.Num.{isInside}
 use Rattle.evt_types.specs.Event.{Event, eventAt, eventsOf}
-
-abbrev pub isInside : (width height x y : ℕ) → Bool
-isInside width height x y = ltb x width && ltb y height
 
 abbrev pub inside : (width height : ℕ) → Event → Bool
 inside width height e = isInside width height (e .x) (e .y)

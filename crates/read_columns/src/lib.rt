@@ -11,21 +11,16 @@ ghost use lib.ListN.{length};
 ghost use Rattle.laws_stream.specs.Slice.{onto};
 ghost use Rattle.evt_types.specs.Event.{eventsOf};
 ghost use Rattle.evt_types.specs.Columns.{Room, Wrote};
-ghost use Rattle.read_columns.specs.Inside.{isInside, insideOf, firstOf, latestOf};
+ghost use Rattle.read_columns.specs.Inside.{insideOf, firstOf, latestOf};
+use evt_types::num::inside;
+use evt_types::num::saturating_add;
 use evt_types::vector::Vector;
 
-// The column of the lowest set bit: x plus the bit's number, held at 65,535.
+// The column of the lowest set bit: x plus the bit's number, saturated at 65,535.
 fn column(x: u64, mask: u64) -> u64
     ensures { λ r. ⌜ r ≡ min (x + trailingZeros 64 mask) 65535 ⌝ }
 {
-    let i = u64::trailing_zeros(mask) as u64;
-    if x <= 65535 - i { x + i } else { 65535 }
-}
-
-fn inside(x: u64, y: u64, width: u64, height: u64) -> bool
-    ensures { λ r. ⌜ r ≡ isInside width height x y ⌝ }
-{
-    if x < width { y < height } else { false }
+    saturating_add(x, u64::trailing_zeros(mask) as u64)
 }
 
 // Writes all events of v from index `at` on, and answers the next index.

@@ -2,6 +2,7 @@
 use mathlib.Core.List.{List}
 use Prim.Native.Nat.{ℕ, _*_}
 use lib.ListN.{length}
+use Rattle.evt_types.specs.Layout.{wordSize2, wordSize3}
 use Rattle.laws_stream.specs.Order.{greatest}
 use Rattle.laws_stream.specs.PassOver.{Over, over}
 use Rattle.laws_stream.specs.Words.{wordsOf}
@@ -12,21 +13,21 @@ use Rattle.evt2_decoder.specs.Evt2.{reader2}
 use Rattle.evt3_decoder.specs.Evt3.{reader3}
 use Rattle.read_columns.specs.Inside.{inside, clock}
 use Rattle.read_fill.specs.Decode.{insideEvents}
-use Rattle.read_count.specs.declared.Survey.{Survey}
-use Rattle.read_count.specs.declared.Passed.{Passed}
+use Rattle.read_count.specs.declared.CountedAll.{CountedAll}
+use Rattle.read_count.specs.declared.CountedTo.{CountedTo}
 
 -- the greatest time of no event is 0
-abbrev pub surveyOf : (width height : ℕ) → Codec → List ℕ → Survey
-surveyOf width height c l = record {
+abbrev pub countedAllOf : (width height : ℕ) → Codec → List ℕ → CountedAll
+countedAllOf width height c l = record {
   count = length (insideEvents width height c l);
   latest = greatest clock (insideEvents width height c l);
   codec = codecAfter c l;
 }
 
 -- whole words are passed over while their events inside number at most `most`
-abbrev pub passedAs : {S : Type 0} → (size : ℕ) → (S → Codec) → Over S → Passed
+abbrev pub passedAs : {S : Type 0} → (size : ℕ) → (S → Codec) → Over S → CountedTo
 passedAs size codec r = record { at = r .words * size; count = r .count; codec = codec (r .state) }
 
-abbrev pub passedOf : (width height most : ℕ) → Codec → List ℕ → Passed
-passedOf width height most (Evt2 d) l = passedAs 4 Evt2 (over reader2 (inside width height) most d (wordsOf 4 l))
-passedOf width height most (Evt3 d) l = passedAs 2 Evt3 (over reader3 (inside width height) most d (wordsOf 2 l))
+abbrev pub countedToOf : (width height most : ℕ) → Codec → List ℕ → CountedTo
+countedToOf width height most (Evt2 d) l = passedAs 4 Evt2 (over reader2 (inside width height) most d (wordsOf wordSize2 l))
+countedToOf width height most (Evt3 d) l = passedAs 2 Evt3 (over reader3 (inside width height) most d (wordsOf wordSize3 l))

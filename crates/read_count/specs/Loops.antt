@@ -9,11 +9,11 @@ use lib.ListN.{length}
 use Rattle.laws_stream.specs.Words.{wordsOf}
 use Rattle.laws_stream.specs.Order.{greatest}
 use Rattle.laws_stream.specs.Stream.{after}
-use Rattle.words.specs.Ahead.{ahead, ahead-some}
+use Rattle.evt_types.specs.Ahead.{ahead, ahead-some}
 use Rattle.evt_types.specs.declared.vector.Vector.{Vector}
 use Rattle.evt2_decoder.specs.declared.Evt2Decoder.{Evt2Decoder}
 use Rattle.evt3_decoder.specs.declared.Decoder.{Decoder}
-use Rattle.evt_types.specs.Layout.{timeLow2}
+use Rattle.evt_types.specs.Layout.{timeLow2, wordSize3}
 use Rattle.evt2_decoder.specs.Evt2.{step2, vector2, reader2}
 use Rattle.evt3_decoder.specs.Evt3.{vector3, reader3, slimmed}
 use Rattle.evt2_decoder.specs.Range.{Bounded2, bounded-step2}
@@ -21,12 +21,12 @@ use Rattle.evt3_decoder.specs.Range.{Bounded3, bounded-step3}
 use Rattle.read_columns.specs.Inside.{insideOf, clock, latestOf}
 use Rattle.read_fill.specs.Turn.{Turn, insideAll}
 use Rattle.read_fill.specs.Loops.{start3}
-use Rattle.read_count_word.specs.declared.Glance.{Glance}
+use Rattle.read_count.specs.declared.table.Glance.{Glance}
 use Rattle.read_count.specs.Counting.{Counting, counting-few, counting-turn, counting-end}
 use Rattle.read_count.specs.Passing.{Passing, Reached, passing-stop, passing-turn}
-use Rattle.read_count_word.specs.Quick.{limitOf, isSeen, oneIf, seen-count, seen-step}
-use Rattle.read_count_word.specs.Ones.{wideOf, countOf, inside-counted}
-use Rattle.read_count_word.specs.Glance.{Glanced, scanned, seenOf}
+use Rattle.read_count.specs.Quick.{limitOf, isSeen, oneIf, seen-count, seen-step}
+use Rattle.read_count.specs.Ones.{wideOf, countOf, inside-counted}
+use Rattle.read_count.specs.Glance.{Glanced, scanned, seenOf}
 
 -- ---- EVT2
 
@@ -45,10 +45,10 @@ module _ {width height : ℕ} {bytes : List ℕ} {s : Evt2Decoder} {limit i w : 
   found e = sym (seen-count width height s w ∙ ap oneIf (rw (a .is-limit) at e))
 
   module _ (e : isSeen limit height w ≡ true) (t : ℕ) (is-t : t ≡ s .«time_high» + timeLow2 w) where
-    abbrev timed : Evt2Decoder
-    timed = record { initialised = s .initialised; «time_high» = s .«time_high»; time = t; «high_loops» = s .«high_loops» }
+    abbrev stamped : Evt2Decoder
+    stamped = record { initialised = s .initialised; «time_high» = s .«time_high»; time = t; «high_loops» = s .«high_loops» }
 
-    is-timed : timed ≡ step2 s w
+    is-timed : stamped ≡ step2 s w
     is-timed = ap (λ (t : ℕ). record { initialised = s .initialised; «time_high» = s .«time_high»; time = t; «high_loops» = s .«high_loops» }) is-t
         ∙ sym (seen-step width height s w (rw (a .is-limit) at e) .0)
 
@@ -61,8 +61,8 @@ module _ {width height : ℕ} {bytes : List ℕ} {s : Evt2Decoder} {limit i w : 
     seen-few e = omega (arith, found e, counting-few (omega arith) bounded-step2 u (turn (step2 s w) refl))
 
     pub seen-turn : (e : isSeen limit height w ≡ true) (t : ℕ) (is-t : t ≡ s .«time_high» + timeLow2 w) {top′ : ℕ} → top′ ≡ max top (latestOf 1 t)
-        → Counting 4 reader2 Bounded2 width height s₀ bytes (timed e t is-t) (n + 1) top′ (i + 4)
-    seen-turn e t is-t {top′} is-top = counting-turn (omega arith) bounded-step2 u (turn (timed e t is-t) (is-timed e t is-t)) 1 (found e) top′ (rw (its-time e t is-t) at is-top)
+        → Counting 4 reader2 Bounded2 width height s₀ bytes (stamped e t is-t) (n + 1) top′ (i + 4)
+    seen-turn e t is-t {top′} is-top = counting-turn (omega arith) bounded-step2 u (turn (stamped e t is-t) (is-timed e t is-t)) 1 (found e) top′ (rw (its-time e t is-t) at is-top)
 
     pub unseen-turn : isSeen limit height w ≡ false → {s′ : Evt2Decoder} → s′ ≡ step2 s w → Counting 4 reader2 Bounded2 width height s₀ bytes s′ n top (i + 4)
     unseen-turn e {s′} is = rw add-zero at (counting-turn (omega arith) bounded-step2 u (turn s′ is) 0 (found e) top (omega arith))
@@ -73,8 +73,8 @@ module _ {width height : ℕ} {bytes : List ℕ} {s : Evt2Decoder} {limit i w : 
     seen-stop e l = passing-stop (omega arith) bounded-step2 u (turn (step2 s w) refl) (found e) (omega arith)
 
     pub seen-pass : (e : isSeen limit height w ≡ true) (t : ℕ) (is-t : t ≡ s .«time_high» + timeLow2 w) → n < most
-        → Passing 4 reader2 Bounded2 width height most s₀ bytes (timed e t is-t) (n + 1) (i + 4)
-    seen-pass e t is-t l = passing-turn (omega arith) bounded-step2 u (turn (timed e t is-t) (is-timed e t is-t)) (found e) (omega arith)
+        → Passing 4 reader2 Bounded2 width height most s₀ bytes (stamped e t is-t) (n + 1) (i + 4)
+    seen-pass e t is-t l = passing-turn (omega arith) bounded-step2 u (turn (stamped e t is-t) (is-timed e t is-t)) (found e) (omega arith)
 
     pub unseen-pass : isSeen limit height w ≡ false → {s′ : Evt2Decoder} → s′ ≡ step2 s w → Passing 4 reader2 Bounded2 width height most s₀ bytes s′ n (i + 4)
     unseen-pass e {s′} is = rw add-zero at (passing-turn (omega arith) bounded-step2 u (turn s′ is) (found e) (omega arith))
@@ -82,16 +82,16 @@ module _ {width height : ℕ} {bytes : List ℕ} {s : Evt2Decoder} {limit i w : 
 -- ---- EVT3
 
 -- the loop's own form e of the decoder d
-pub started3 : {d e : Decoder} (l : List ℕ) → e ≡ d → Bounded3 (length l / 2) d → Bounded3 (length (wordsOf 2 l)) e
+pub started3 : {d e : Decoder} (l : List ℕ) → e ≡ d → Bounded3 (length l / wordSize3) d → Bounded3 (length (wordsOf wordSize3 l)) e
 started3 l is b = rw is (start3 l b)
 
-pub ended3 : {width height : ℕ} {bytes : List ℕ} {d e s : Decoder} {n top i : ℕ} → e ≡ d → Counting 2 reader3 Bounded3 width height e bytes s n top i → length bytes < i + 2
+pub ended3 : {width height : ℕ} {bytes : List ℕ} {d e s : Decoder} {n top i : ℕ} → e ≡ d → Counting wordSize3 reader3 Bounded3 width height e bytes s n top i → length bytes < i + 2
     → (r : Decoder) → r ≡ s
-    → (n ≡ length (insideAll 2 reader3 width height d bytes)) × (top ≡ greatest clock (insideAll 2 reader3 width height d bytes)) × (r ≡ after 2 reader3 d bytes)
+    → (n ≡ length (insideAll wordSize3 reader3 width height d bytes)) × (top ≡ greatest clock (insideAll wordSize3 reader3 width height d bytes)) × (r ≡ after wordSize3 reader3 d bytes)
 ended3 is u h r is-r = rw (← is, is-r) (counting-end (omega arith) bounded-step3 u h)
 
-pub reached3 : {width height most : ℕ} {bytes : List ℕ} {d e s : Decoder} {n i : ℕ} → e ≡ d → Reached 2 reader3 Bounded3 width height most e bytes i n s → (r : Decoder) → r ≡ s
-    → Reached 2 reader3 Bounded3 width height most d bytes i n r
+pub reached3 : {width height most : ℕ} {bytes : List ℕ} {d e s : Decoder} {n i : ℕ} → e ≡ d → Reached wordSize3 reader3 Bounded3 width height most e bytes i n s → (r : Decoder) → r ≡ s
+    → Reached wordSize3 reader3 Bounded3 width height most d bytes i n r
 reached3 is u r is-r = rw (← is, is-r) u
 
 -- at a word w, which was read ahead: what glancing at it gives, and how many of its events are inside
@@ -106,7 +106,7 @@ module _ {width height wide : ℕ} {bytes : List ℕ} {s : Decoder} {i w : ℕ} 
   abbrev seen : Vector
   seen = seenOf r (vector3 s w .p)
 
-  turn′ : Turn 2 reader3 bytes s i (slimmed (scanned (r .next))) seen
+  turn′ : Turn wordSize3 reader3 bytes s i (slimmed (scanned (r .next))) seen
   turn′ = record {
     word = w;
     more = omega (arith, a .more);
@@ -118,16 +118,16 @@ module _ {width height wide : ℕ} {bytes : List ℕ} {s : Decoder} {i w : ℕ} 
   counted : m ≡ length (insideOf width height seen)
   counted = a .is-count ∙ ap (λ (k : ℕ). countOf (r .x) (r .next .y) (r .mask) k height) (a .is-wide) ∙ sym (inside-counted width height seen (a .glanced .column) (a .glanced .mask))
 
-  module _ {s₀ : Decoder} {n top : ℕ} (u : Counting 2 reader3 Bounded3 width height s₀ bytes s n top i) where
-    pub glance-few : n + m ≤ length (insideAll 2 reader3 width height s₀ bytes)
+  module _ {s₀ : Decoder} {n top : ℕ} (u : Counting wordSize3 reader3 Bounded3 width height s₀ bytes s n top i) where
+    pub glance-few : n + m ≤ length (insideAll wordSize3 reader3 width height s₀ bytes)
     glance-few = omega (arith, counted, counting-few (omega arith) bounded-step3 u turn′)
 
-    pub glance-turn : {top′ : ℕ} → top′ ≡ max top (latestOf m (r .next .time)) → Counting 2 reader3 Bounded3 width height s₀ bytes (slimmed (scanned (r .next))) (n + m) top′ (i + 2)
+    pub glance-turn : {top′ : ℕ} → top′ ≡ max top (latestOf m (r .next .time)) → Counting wordSize3 reader3 Bounded3 width height s₀ bytes (slimmed (scanned (r .next))) (n + m) top′ (i + 2)
     glance-turn {top′} is-top = counting-turn (omega arith) bounded-step3 u turn′ m counted top′ is-top
 
-  module _ {most : ℕ} {s₀ : Decoder} {n : ℕ} (u : Passing 2 reader3 Bounded3 width height most s₀ bytes s n i) where
-    pub glance-stop : most - n < m → Reached 2 reader3 Bounded3 width height most s₀ bytes i n s
+  module _ {most : ℕ} {s₀ : Decoder} {n : ℕ} (u : Passing wordSize3 reader3 Bounded3 width height most s₀ bytes s n i) where
+    pub glance-stop : most - n < m → Reached wordSize3 reader3 Bounded3 width height most s₀ bytes i n s
     glance-stop l = passing-stop (omega arith) bounded-step3 u turn′ counted l
 
-    pub glance-pass : m ≤ most - n → Passing 2 reader3 Bounded3 width height most s₀ bytes (slimmed (scanned (r .next))) (n + m) (i + 2)
+    pub glance-pass : m ≤ most - n → Passing wordSize3 reader3 Bounded3 width height most s₀ bytes (slimmed (scanned (r .next))) (n + m) (i + 2)
     glance-pass l = passing-turn (omega arith) bounded-step3 u turn′ counted l

@@ -2,6 +2,7 @@
 ghost use mathlib.Core.Path.{_≡_};
 ghost use Prim.Native.Nat.{_/_};
 ghost use lib.ListN.{length};
+ghost use Rattle.evt_types.specs.Layout.{wordSize2, wordSize3};
 ghost use Rattle.laws_stream.specs.Order.{greatest};
 ghost use Rattle.laws_stream.specs.Stream.{after};
 ghost use Rattle.evt2_decoder.specs.Evt2.{reader2};
@@ -10,28 +11,30 @@ ghost use Rattle.evt2_decoder.specs.Range.{Bounded2};
 ghost use Rattle.evt3_decoder.specs.Range.{Bounded3};
 ghost use Rattle.read_columns.specs.Inside.{clock};
 ghost use Rattle.read_fill.specs.Turn.{insideAll};
+use crate::ones;
+use crate::quick;
+use crate::table;
 use evt_types::fields::bits;
+use evt_types::words;
 use evt2_decoder::Evt2Decoder;
 use evt2_decoder::advance;
 use evt3_decoder::Decoder;
 use evt3_decoder::widen;
-use read_count_word::ones;
-use read_count_word::quick;
 
-pub struct Evt2Survey {
+pub struct Evt2CountedAll {
     pub count: usize,
     pub latest: u64,
     pub decoder: Evt2Decoder,
 }
 
-pub struct Evt3Survey {
+pub struct Evt3CountedAll {
     pub count: usize,
     pub latest: u64,
     pub decoder: Decoder,
 }
 
-pub fn evt2(bytes: &[u8], d: Evt2Decoder, width: u64, height: u64) -> Evt2Survey
-    requires { ⌜ Bounded2 (length (now bytes) / 4) d ⌝ }
+pub fn evt2(bytes: &[u8], d: Evt2Decoder, width: u64, height: u64) -> Evt2CountedAll
+    requires { ⌜ Bounded2 (length (now bytes) / wordSize2) d ⌝ }
     ensures { λ r. ⌜ (r .count ≡ length (insideAll 4 reader2 width height d (now (bytes .entry))))
         × (r .latest ≡ greatest clock (insideAll 4 reader2 width height d (now (bytes .entry))))
         × (r .decoder ≡ after 4 reader2 d (now (bytes .entry))) ⌝ }
@@ -56,24 +59,24 @@ pub fn evt2(bytes: &[u8], d: Evt2Decoder, width: u64, height: u64) -> Evt2Survey
         i += 4;
         w = words::four_at(bytes, i);
     }
-    Evt2Survey {
+    Evt2CountedAll {
         count: n,
         latest: top,
         decoder: s,
     }
 }
 
-pub fn evt3(bytes: &[u8], d: Decoder, width: u64, height: u64) -> Evt3Survey
-    requires { ⌜ Bounded3 (length (now bytes) / 2) d ⌝ }
-    ensures { λ r. ⌜ (r .count ≡ length (insideAll 2 reader3 width height d (now (bytes .entry))))
-        × (r .latest ≡ greatest clock (insideAll 2 reader3 width height d (now (bytes .entry))))
-        × (r .decoder ≡ after 2 reader3 d (now (bytes .entry))) ⌝ }
+pub fn evt3(bytes: &[u8], d: Decoder, width: u64, height: u64) -> Evt3CountedAll
+    requires { ⌜ Bounded3 (length (now bytes) / wordSize3) d ⌝ }
+    ensures { λ r. ⌜ (r .count ≡ length (insideAll wordSize3 reader3 width height d (now (bytes .entry))))
+        × (r .latest ≡ greatest clock (insideAll wordSize3 reader3 width height d (now (bytes .entry))))
+        × (r .decoder ≡ after wordSize3 reader3 d (now (bytes .entry))) ⌝ }
 {
-    let spans = read_count_word::span_table();
-    let vects = read_count_word::vect_table();
+    let spans = table::span_table();
+    let vects = table::vect_table();
     let table = ones::table();
     let wide = ones::wide(width);
-    let mut s = read_count_word::of(widen(d));
+    let mut s = table::of(widen(d));
     let mut n: usize = 0;
     let mut top: u64 = 0;
     let mut i: usize = 0;
@@ -88,7 +91,7 @@ pub fn evt3(bytes: &[u8], d: Decoder, width: u64, height: u64) -> Evt3Survey
         w = words::two_at(bytes, i);
     }
     let decoder = s.wide().slim();
-    Evt3Survey {
+    Evt3CountedAll {
         count: n,
         latest: top,
         decoder,

@@ -8,36 +8,39 @@
 ghost use mathlib.Core.Path.{_≡_};
 ghost use lib.ListN.{length, drop};
 ghost use Rattle.read_fill.specs.Decode.{Bounded, Steady};
-ghost use Rattle.read_count.specs.Count.{surveyOf, passedOf};
+ghost use Rattle.read_count.specs.Count.{countedAllOf, countedToOf};
 use evt_codec::Codec;
 
-pub mod all;
-pub mod to;
+mod all;
+mod ones;
+mod quick;
+mod table;
+mod to;
 
 // What counting leaves: how many events there are, their greatest time (0 of none), and the decoder.
-pub struct Survey {
+pub struct CountedAll {
     pub count: usize,
     pub latest: u64,
     pub codec: Codec,
 }
 
 // What passing over leaves: how many bytes, how many events inside they have, and the decoder.
-pub struct Passed {
+pub struct CountedTo {
     pub at: usize,
     pub count: usize,
     pub codec: Codec,
 }
 
 // Counts all events of the bytes inside the sensor.
-pub fn count_all(bytes: &[u8], codec: Codec, width: u64, height: u64) -> Survey
+pub fn count_all(bytes: &[u8], codec: Codec, width: u64, height: u64) -> CountedAll
     requires { ⌜ Bounded (length (now bytes)) codec ⌝ }
-    ensures { λ r. ⌜ r ≡ surveyOf width height codec (now (bytes .entry)) ⌝ }
+    ensures { λ r. ⌜ r ≡ countedAllOf width height codec (now (bytes .entry)) ⌝ }
 {
     match codec {
         Codec::Evt2(d) => {
             let s = all::evt2(bytes, d, width, height);
             let decoder = s.decoder;
-            Survey {
+            CountedAll {
                 count: s.count,
                 latest: s.latest,
                 codec: Codec::Evt2(decoder),
@@ -46,7 +49,7 @@ pub fn count_all(bytes: &[u8], codec: Codec, width: u64, height: u64) -> Survey
         Codec::Evt3(d) => {
             let s = all::evt3(bytes, d, width, height);
             let decoder = s.decoder;
-            Survey {
+            CountedAll {
                 count: s.count,
                 latest: s.latest,
                 codec: Codec::Evt3(decoder),
@@ -57,15 +60,15 @@ pub fn count_all(bytes: &[u8], codec: Codec, width: u64, height: u64) -> Survey
 
 // Passes over words as long as the events inside the sensor, those of the word with them, number at
 // most `most`. Slices by number start with it.
-pub fn count_to(bytes: &[u8], codec: Codec, width: u64, height: u64, most: usize) -> Passed
+pub fn count_to(bytes: &[u8], codec: Codec, width: u64, height: u64, most: usize) -> CountedTo
     requires { ⌜ Steady (length (now bytes)) codec ⌝ }
-    ensures { λ r. ⌜ (r ≡ passedOf width height most codec (now (bytes .entry))) × Bounded (length (drop (r .at) (now (bytes .entry)))) (r .codec) ⌝ }
+    ensures { λ r. ⌜ (r ≡ countedToOf width height most codec (now (bytes .entry))) × Bounded (length (drop (r .at) (now (bytes .entry)))) (r .codec) ⌝ }
 {
     match codec {
         Codec::Evt2(d) => {
             let s = to::evt2(bytes, d, width, height, most);
             let decoder = s.decoder;
-            Passed {
+            CountedTo {
                 at: s.at,
                 count: s.count,
                 codec: Codec::Evt2(decoder),
@@ -74,7 +77,7 @@ pub fn count_to(bytes: &[u8], codec: Codec, width: u64, height: u64, most: usize
         Codec::Evt3(d) => {
             let s = to::evt3(bytes, d, width, height, most);
             let decoder = s.decoder;
-            Passed {
+            CountedTo {
                 at: s.at,
                 count: s.count,
                 codec: Codec::Evt3(decoder),

@@ -1,33 +1,36 @@
 // Passing over words up to a number of events: a loop for each encoding.
 ghost use Prim.Native.Nat.{_+_, _*_, _/_, _≤_, _^_};
 ghost use lib.ListN.{length};
+ghost use Rattle.evt_types.specs.Layout.{wordSize2, wordSize3};
 ghost use Rattle.evt2_decoder.specs.Evt2.{reader2};
 ghost use Rattle.evt3_decoder.specs.Evt3.{reader3};
 ghost use Rattle.evt2_decoder.specs.Range.{Bounded2};
 ghost use Rattle.evt3_decoder.specs.Range.{Bounded3, Regular3};
 ghost use Rattle.read_count.specs.Passing.{Reached};
+use crate::ones;
+use crate::quick;
+use crate::table;
 use evt_types::fields::bits;
+use evt_types::words;
 use evt2_decoder::Evt2Decoder;
 use evt2_decoder::advance;
 use evt3_decoder::Decoder;
 use evt3_decoder::widen;
-use read_count_word::ones;
-use read_count_word::quick;
 
-pub struct Evt2Passed {
+pub struct Evt2CountedTo {
     pub at: usize,
     pub count: usize,
     pub decoder: Evt2Decoder,
 }
 
-pub struct Evt3Passed {
+pub struct Evt3CountedTo {
     pub at: usize,
     pub count: usize,
     pub decoder: Decoder,
 }
 
-pub fn evt2(bytes: &[u8], d: Evt2Decoder, width: u64, height: u64, most: usize) -> Evt2Passed
-    requires { ⌜ Bounded2 (length (now bytes) / 4) d ⌝ }
+pub fn evt2(bytes: &[u8], d: Evt2Decoder, width: u64, height: u64, most: usize) -> Evt2CountedTo
+    requires { ⌜ Bounded2 (length (now bytes) / wordSize2) d ⌝ }
     ensures { λ r. ⌜ Reached 4 reader2 Bounded2 width height most d (now (bytes .entry)) (r .at) (r .count) (r .decoder) ⌝ }
 {
     let mut s = d;
@@ -51,22 +54,22 @@ pub fn evt2(bytes: &[u8], d: Evt2Decoder, width: u64, height: u64, most: usize) 
         i += 4;
         w = words::four_at(bytes, i);
     }
-    Evt2Passed {
+    Evt2CountedTo {
         at: i,
         count: n,
         decoder: s,
     }
 }
 
-pub fn evt3(bytes: &[u8], d: Decoder, width: u64, height: u64, most: usize) -> Evt3Passed
+pub fn evt3(bytes: &[u8], d: Decoder, width: u64, height: u64, most: usize) -> Evt3CountedTo
     requires { ⌜ Regular3 d ⌝ ∗ ⌜ d .«high_loops» + length (now bytes) / 2 ≤ 3 * 2 ^ 28 ⌝ }
-    ensures { λ r. ⌜ Reached 2 reader3 Bounded3 width height most d (now (bytes .entry)) (r .at) (r .count) (r .decoder) ⌝ }
+    ensures { λ r. ⌜ Reached wordSize3 reader3 Bounded3 width height most d (now (bytes .entry)) (r .at) (r .count) (r .decoder) ⌝ }
 {
-    let spans = read_count_word::span_table();
-    let vects = read_count_word::vect_table();
+    let spans = table::span_table();
+    let vects = table::vect_table();
     let table = ones::table();
     let wide = ones::wide(width);
-    let mut s = read_count_word::of(widen(d));
+    let mut s = table::of(widen(d));
     let mut n: usize = 0;
     let mut i: usize = 0;
     let mut w = words::two_at(bytes, 0);
@@ -83,7 +86,7 @@ pub fn evt3(bytes: &[u8], d: Decoder, width: u64, height: u64, most: usize) -> E
         w = words::two_at(bytes, i);
     }
     let decoder = s.wide().slim();
-    Evt3Passed {
+    Evt3CountedTo {
         at: i,
         count: n,
         decoder,

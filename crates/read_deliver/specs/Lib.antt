@@ -1,1 +1,2 @@
+pub mod PassOver
 pub mod Plan

@@ -15,9 +15,9 @@ use Rattle.evt_codec.specs.declared.codec.Codec.{Codec}
 use Rattle.evt_codec.specs.declared.codec.Codec.the-variants.{Evt2, Evt3}
 use Rattle.evt_codec.specs.Codec.{inRangeC}
 use Rattle.evt_types.specs.Event.{Event}
-use Rattle.read_count.specs.declared.Passed.{Passed}
+use Rattle.read_count.specs.declared.CountedTo.{CountedTo}
 use Rattle.read_fill.specs.Decode.{insideEvents, Bounded, Fitting}
-use Rattle.read_count.specs.Count.{passedOf}
+use Rattle.read_count.specs.Count.{countedToOf}
 use Rattle.read_fill.specs.Laws.{bounded-less, inside-bytes}
 use Rattle.read_window.specs.declared.Window.{Window}
 use Rattle.read_select.specs.Pass.{Able, Ready, handedOver}
@@ -25,7 +25,7 @@ use Rattle.read_select.specs.Uses.{numberedOver, over-all}
 use Rattle.read_seek.specs.declared.Sought.{Sought}
 use Rattle.read_seek.specs.Seek.{soughtOf}
 use Rattle.read_seek.specs.Laws.{sought-within, sought-from, sought-upto, ready-there}
-use Rattle.read_pass_over.specs.Laws.{passed-within, passed-few, handed-passed, ready-passed}
+use Rattle.read_deliver.specs.PassOver.{passed-within, passed-few, handed-passed, ready-passed}
 use Rattle.read_capacity.specs.declared.Delivered.{Delivered}
 use Rattle.read_deliver.specs.declared.plan.Plan.{Plan}
 use Rattle.read_capacity.specs.Deliver.{Delivers}
@@ -185,7 +185,7 @@ module _ (win : Window) (k : ℕ) (c : Codec) (l : List ℕ) (ready : Ready c k 
       }
 
   -- by number
-  module _ (numbered : Numbered win k) (p : Passed) (is : p ≡ passedOf (win .width) (win .height) (win .n0 - k) c l) where
+  module _ (numbered : Numbered win k) (p : CountedTo) (is : p ≡ countedToOf (win .width) (win .height) (win .n0 - k) c l) where
     pub few-number : k + p .count ≤ win .n0
     few-number = let h : p .count ≤ win .n0 - k = rw is (passed-few (win .width) (win .height) (win .n0 - k) l c) in omega (arith, numbered .order)
 

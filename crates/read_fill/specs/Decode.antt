@@ -10,14 +10,14 @@ pub use Rattle.evt_codec.specs.Codec.{eventsFrom, codecAfter}
 use Rattle.evt2_decoder.specs.Range.{Bounded2}
 use Rattle.evt3_decoder.specs.Range.{Bounded3, Regular3}
 use Rattle.read_columns.specs.Inside.{inside}
-use Rattle.read_fill.specs.declared.Tally.{Tally}
+use Rattle.read_fill.specs.declared.FilledAll.{FilledAll}
 
 -- events with x ≥ width or y ≥ height are dropped
 abbrev pub insideEvents : (width height : ℕ) → Codec → List ℕ → List Event
 insideEvents width height c l = sift (inside width height) (eventsFrom c l)
 
-abbrev pub tallyOf : (width height : ℕ) → Codec → List ℕ → Tally
-tallyOf width height c l = record { count = length (insideEvents width height c l); codec = codecAfter c l }
+abbrev pub filledAllOf : (width height : ℕ) → Codec → List ℕ → FilledAll
+filledAllOf width height c l = record { count = length (insideEvents width height c l); codec = codecAfter c l }
 
 -- the decoder can take n bytes more, and no sum wraps
 abbrev pub Bounded : ℕ → Codec → Type 0

@@ -7,6 +7,7 @@ use native.Mathlib.Omega.{arith}
 use native.Mathlib.Nat.{suc-add, zero-add}
 use lib.ListN.{length, length-append}
 use borrow.Author.Tests.{lt-ltb}
+use Rattle.evt_types.specs.Layout.{wordSize2, wordSize3}
 use Rattle.laws_stream.specs.Machine.{Machine, All, all-of, all-map, run, emits-all}
 use Rattle.laws_stream.specs.Words.{wordsOf, length-words}
 use Rattle.laws_stream.specs.Mask.{bits}
@@ -37,14 +38,14 @@ module _ (c : Codec) (k : ℕ) (a b : List ℕ) (h : length a ≡ k * 4) where
     where
       go : (c : Codec) → eventsFrom c (a ++ b) ≡ eventsFrom c a ++ eventsFrom (codecAfter c a) b
       go (Evt2 d) = decode-append 4 reader2 (omega arith) d k a b h
-      go (Evt3 d) = decode-append 2 reader3 (omega arith) d (k * 2) a b (omega arith)
+      go (Evt3 d) = decode-append wordSize3 reader3 (omega arith) d (k * 2) a b (omega arith)
 
   pub codec-append : codecAfter c (a ++ b) ≡ codecAfter (codecAfter c a) b
   codec-append = go c
     where
       go : (c : Codec) → codecAfter c (a ++ b) ≡ codecAfter (codecAfter c a) b
       go (Evt2 d) = ap Evt2 (after-append 4 reader2 (omega arith) d k a b h)
-      go (Evt3 d) = ap Evt3 (after-append 2 reader3 (omega arith) d (k * 2) a b (omega arith))
+      go (Evt3 d) = ap Evt3 (after-append wordSize3 reader3 (omega arith) d (k * 2) a b (omega arith))
 
   module _ (width height : ℕ) where
     pub inside-append : insideEvents width height c (a ++ b) ≡ insideEvents width height c a ++ insideEvents width height (codecAfter c a) b
@@ -80,9 +81,9 @@ most (Evt3 d) = 12
 
 pub all-few : (c : Codec) (l : List ℕ) → length (eventsFrom c l) ≤ most c * (length l / wordSize c)
 all-few (Evt2 d) l =
-    omega (arith, decode-few 4 reader2 1 (λ s w. events-few (vector2 s w) 1 (omega (arith, small-mask2 s w))) d (wordsOf 4 l), length-words 4 l)
+    omega (arith, decode-few 4 reader2 1 (λ s w. events-few (vector2 s w) 1 (omega (arith, small-mask2 s w))) d (wordsOf wordSize2 l), length-words 4 l)
 all-few (Evt3 d) l =
-    omega (arith, decode-few 2 reader3 12 (λ s w. events-few (vector3 s w) 12 (small-mask3 s w)) d (wordsOf 2 l), length-words 2 l)
+    omega (arith, decode-few wordSize3 reader3 12 (λ s w. events-few (vector3 s w) 12 (small-mask3 s w)) d (wordsOf wordSize3 l), length-words 2 l)
 
 pub inside-few : (width height : ℕ) (c : Codec) (l : List ℕ) → length (insideEvents width height c l) ≤ most c * (length l / wordSize c)
 inside-few width height c l = omega (arith, sift-few (inside width height) (eventsFrom c l), all-few c l)
@@ -106,11 +107,11 @@ run-uses M Inv keeps k s (w ∷ ws) i = run-uses M Inv keeps k (M .step s w) ws 
 -- after a chunk
 pub bounded-after : (c : Codec) (k n : ℕ) (a : List ℕ) → length a ≡ k * 4 → Bounded (k * 4 + n) c → Bounded n (codecAfter c a)
 bounded-after (Evt2 d) k n a h b =
-    let e : (k * 4 + n) / 4 ≡ length (wordsOf 4 a) + n / 4 = omega (arith, length-words 4 a) in
-    run-uses reader2 Bounded2 bounded-step2 (n / 4) d (wordsOf 4 a) (rw e at b)
+    let e : (k * 4 + n) / 4 ≡ length (wordsOf wordSize2 a) + n / 4 = omega (arith, length-words 4 a) in
+    run-uses reader2 Bounded2 bounded-step2 (n / 4) d (wordsOf wordSize2 a) (rw e at b)
 bounded-after (Evt3 d) k n a h b =
-    let e : (k * 4 + n) / 2 ≡ length (wordsOf 2 a) + n / 2 = omega (arith, length-words 2 a) in
-    run-uses reader3 Bounded3 bounded-step3 (n / 2) d (wordsOf 2 a) (rw e at b)
+    let e : (k * 4 + n) / 2 ≡ length (wordsOf wordSize3 a) + n / 2 = omega (arith, length-words 2 a) in
+    run-uses reader3 Bounded3 bounded-step3 (n / 2) d (wordsOf wordSize3 a) (rw e at b)
 
 -- any decoder in range (10) takes as many bytes as are read (4)
 pub bounded-range : (c : Codec) (n : ℕ) → inRangeC c ≡ true → Fitting c → n ≤ 2 ^ 30 → Bounded n c
@@ -152,9 +153,9 @@ vector-small v n =
 
 pub events-small : (c : Codec) (l : List ℕ) → Bounded (length l) c → All Small (eventsFrom c l)
 events-small (Evt2 d) l b =
-    emits-all reader2 Bounded2 bounded-step2 Small (λ n s w i. vector-small (vector2 s w) (bounded-narrow2 w i)) d (wordsOf 4 l) (rw length-words b)
+    emits-all reader2 Bounded2 bounded-step2 Small (λ n s w i. vector-small (vector2 s w) (bounded-narrow2 w i)) d (wordsOf wordSize2 l) (rw length-words b)
 events-small (Evt3 d) l b =
-    emits-all reader3 Bounded3 bounded-step3 Small (λ n s w i. vector-small (vector3 s w) (bounded-narrow3 w i)) d (wordsOf 2 l) (rw length-words b)
+    emits-all reader3 Bounded3 bounded-step3 Small (λ n s w i. vector-small (vector3 s w) (bounded-narrow3 w i)) d (wordsOf wordSize3 l) (rw length-words b)
 
 module _ (c : Codec) (l : List ℕ) (b : Bounded (length l) c) where
   pub inside-small : (width height : ℕ) → All Small (insideEvents width height c l)

@@ -6,14 +6,14 @@ use native.Mathlib.Omega.{arith}
 use lib.ListN.{length}
 use Rattle.laws_stream.specs.Words.{wordsOf, length-words}
 use Rattle.laws_stream.specs.Stream.{decode}
-use Rattle.words.specs.Ahead.{ahead, ahead-some}
+use Rattle.evt_types.specs.Ahead.{ahead, ahead-some}
 use Rattle.evt_types.specs.declared.vector.Vector.{Vector}
 use Rattle.evt2_decoder.specs.declared.Evt2Decoder.{Evt2Decoder}
 use Rattle.evt2_decoder.specs.declared.Evt2Step.{Evt2Step}
 use Rattle.evt3_decoder.specs.declared.Decoder.{Decoder}
 use Rattle.evt3_decoder.specs.declared.WideStep.{WideStep}
 use Rattle.evt_types.specs.Event.{eventsOf, Narrow}
-use Rattle.evt_types.specs.Layout.{type2, type3}
+use Rattle.evt_types.specs.Layout.{type2, type3, wordSize2, wordSize3}
 use Rattle.evt2_decoder.specs.Evt2 as Evt2
 use Rattle.evt2_decoder.specs.Evt2.{step2, vector2, reader2}
 use Rattle.evt3_decoder.specs.Evt3.{step3, vector3, vectorAs, reader3, widened, slimmed, by-kinds}
@@ -28,13 +28,13 @@ pub small-mask2 : (d : Evt2Decoder) (w : ℕ) → vector2 d w .mask ≤ 1
 unfolding vector2
 small-mask2 d w = Evt2.by-kinds (λ k. Evt2.vectorAs k d w .mask ≤ 1) (type2 w) (d .initialised) (omega arith) (λ on q. omega arith) (omega arith)
 
-pub start2 : {d : Evt2Decoder} (l : List ℕ) → Bounded2 (length l / 4) d → Bounded2 (length (wordsOf 4 l)) d
+pub start2 : {d : Evt2Decoder} (l : List ℕ) → Bounded2 (length l / wordSize2) d → Bounded2 (length (wordsOf wordSize2 l)) d
 start2 l b = rw (length-words 4 l) b
 
 pub few2 : (width height : ℕ) (d : Evt2Decoder) (l : List ℕ) → length (insideAll 4 reader2 width height d l) ≤ length l / 4
 few2 width height d l =
     let one : (s : Evt2Decoder) (w : ℕ) → length (eventsOf (vector2 s w)) ≤ 1 = λ s w. events-few (vector2 s w) 1 (omega (arith, small-mask2 s w)) in
-    omega (arith, sift-few (inside width height) (decode 4 reader2 d l), decode-few 4 reader2 1 one d (wordsOf 4 l), length-words 4 l)
+    omega (arith, sift-few (inside width height) (decode 4 reader2 d l), decode-few 4 reader2 1 one d (wordsOf wordSize2 l), length-words 4 l)
 
 module _ {bytes : List ℕ} {s : Evt2Decoder} {i : ℕ} (h : i + 3 < length bytes) (w : ℕ)
     (is-word : w ≡ ahead 4 bytes i)
@@ -52,16 +52,16 @@ unfolding vector3
 small-mask3 d w = by-kinds (λ k. vectorAs k d w .mask < 2 ^ 12) (type3 w) (d .initialised)
     (λ o. omega arith) (λ o. omega arith) (λ o. omega arith) (λ o. omega arith) (λ o. omega arith) (λ o. omega arith) (λ o. omega arith) (λ o. omega arith) (omega arith)
 
-pub start3 : {d : Decoder} (l : List ℕ) → Bounded3 (length l / 2) d → Bounded3 (length (wordsOf 2 l)) d
+pub start3 : {d : Decoder} (l : List ℕ) → Bounded3 (length l / wordSize3) d → Bounded3 (length (wordsOf wordSize3 l)) d
 start3 l b = rw (length-words 2 l) b
 
-pub few3 : (width height : ℕ) (d : Decoder) (l : List ℕ) → length (insideAll 2 reader3 width height d l) ≤ 12 * (length l / 2)
+pub few3 : (width height : ℕ) (d : Decoder) (l : List ℕ) → length (insideAll wordSize3 reader3 width height d l) ≤ 12 * (length l / 2)
 few3 width height d l =
     let most : (s : Decoder) (w : ℕ) → length (eventsOf (vector3 s w)) ≤ 12 = λ s w. events-few (vector3 s w) 12 (small-mask3 s w) in
-    omega (arith, sift-few (inside width height) (decode 2 reader3 d l), decode-few 2 reader3 12 most d (wordsOf 2 l), length-words 2 l)
+    omega (arith, sift-few (inside width height) (decode wordSize3 reader3 d l), decode-few wordSize3 reader3 12 most d (wordsOf wordSize3 l), length-words 2 l)
 
 module _ {bytes : List ℕ} {s : Decoder} {i : ℕ} (h : i + 1 < length bytes) (w : ℕ) where
-  pub turn3 : w ≡ ahead 2 bytes i → (r : WideStep) → (r .next ≡ widened (step3 s w)) × (r .events ≡ vector3 s w) → Turn 2 reader3 bytes s i (slimmed (r .next)) (r .events)
+  pub turn3 : w ≡ ahead 2 bytes i → (r : WideStep) → (r .next ≡ widened (step3 s w)) × (r .events ≡ vector3 s w) → Turn wordSize3 reader3 bytes s i (slimmed (r .next)) (r .events)
   turn3 is-word r is =
       record { word = w; more = omega arith; is-word = is-word ∙ ahead-some 2 bytes i (omega arith); is-next = ap slimmed (is .0); is-events = ap eventsOf (sym (is .1)) }
 

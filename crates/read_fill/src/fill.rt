@@ -4,9 +4,10 @@ ghost use lib.ListN.{length};
 ghost use Rattle.evt_codec.specs.declared.codec.Codec.the-variants.{Evt2, Evt3};
 ghost use Rattle.evt_types.specs.Columns.{Wrote};
 ghost use Rattle.read_fill.specs.Turn.{Fits};
-ghost use Rattle.read_fill.specs.Decode.{Bounded, insideEvents, tallyOf};
-use crate::Tally;
+ghost use Rattle.read_fill.specs.Decode.{Bounded, insideEvents, filledAllOf};
+use crate::FilledAll;
 use evt_codec::Codec;
+use evt_types::words;
 use evt2_decoder::Evt2Decoder;
 use evt2_decoder::advance;
 use evt3_decoder::Decoder;
@@ -22,10 +23,10 @@ pub fn evt2(
     ys: &mut [u16],
     ts: &mut [i64],
     ps: &mut [u8],
-) -> Tally
+) -> FilledAll
     requires { ⌜ Bounded (length (now bytes)) (Evt2 d) ⌝ ∗ ⌜ Fits (length (insideEvents width height (Evt2 d) (now bytes)))
         (length (now xs)) (length (now ys)) (length (now ts)) (length (now ps)) ⌝ }
-    ensures { λ r. ⌜ r ≡ tallyOf width height (Evt2 d) (now (bytes .entry)) ⌝
+    ensures { λ r. ⌜ r ≡ filledAllOf width height (Evt2 d) (now (bytes .entry)) ⌝
         ∗ ⌜ Wrote (insideEvents width height (Evt2 d) (now (bytes .entry))) 0
         (now (xs .entry)) (now (ys .entry)) (now (ts .entry)) (now (ps .entry))
         (now (xs .exit)) (now (ys .exit)) (now (ts .exit)) (now (ps .exit)) ⌝ }
@@ -41,7 +42,7 @@ pub fn evt2(
         i += 4;
         n = read_columns::put1(v, width, height, n, &mut *xs, &mut *ys, &mut *ts, &mut *ps);
     }
-    Tally {
+    FilledAll {
         count: n,
         codec: Codec::Evt2(s),
     }
@@ -56,10 +57,10 @@ pub fn evt3(
     ys: &mut [u16],
     ts: &mut [i64],
     ps: &mut [u8],
-) -> Tally
+) -> FilledAll
     requires { ⌜ Bounded (length (now bytes)) (Evt3 d) ⌝ ∗ ⌜ Fits (length (insideEvents width height (Evt3 d) (now bytes)))
         (length (now xs)) (length (now ys)) (length (now ts)) (length (now ps)) ⌝ }
-    ensures { λ r. ⌜ r ≡ tallyOf width height (Evt3 d) (now (bytes .entry)) ⌝
+    ensures { λ r. ⌜ r ≡ filledAllOf width height (Evt3 d) (now (bytes .entry)) ⌝
         ∗ ⌜ Wrote (insideEvents width height (Evt3 d) (now (bytes .entry))) 0
         (now (xs .entry)) (now (ys .entry)) (now (ts .entry)) (now (ps .entry))
         (now (xs .exit)) (now (ys .exit)) (now (ts .exit)) (now (ps .exit)) ⌝ }
@@ -76,7 +77,7 @@ pub fn evt3(
         n = read_columns::place(v, width, height, n, &mut *xs, &mut *ys, &mut *ts, &mut *ps);
     }
     let decoder = s.slim();
-    Tally {
+    FilledAll {
         count: n,
         codec: Codec::Evt3(decoder),
     }

@@ -9,14 +9,14 @@ ghost use lib.ListN.{length};
 ghost use Rattle.evt_codec.specs.Codec.{inRangeC};
 ghost use Rattle.evt_types.specs.Columns.{Wrote};
 ghost use Rattle.read_fill.specs.Turn.{Fits};
-ghost use Rattle.read_fill.specs.Decode.{Bounded, Fitting, insideEvents, tallyOf};
+ghost use Rattle.read_fill.specs.Decode.{Bounded, Fitting, insideEvents, filledAllOf};
 use evt_codec::Codec;
 
 pub mod extent;
 pub mod fill;
 
 // What filling leaves: how many events were written, and the decoder.
-pub struct Tally {
+pub struct FilledAll {
     pub count: usize,
     pub codec: Codec,
 }
@@ -41,10 +41,10 @@ pub fn fill_all(
     ys: &mut [u16],
     ts: &mut [i64],
     ps: &mut [u8],
-) -> Tally
+) -> FilledAll
     requires { ⌜ Bounded (length (now bytes)) codec ⌝ ∗ ⌜ Fits (length (insideEvents width height codec (now bytes))) (length (now xs))
         (length (now ys)) (length (now ts)) (length (now ps)) ⌝ }
-    ensures { λ r. ⌜ r ≡ tallyOf width height codec (now (bytes .entry)) ⌝
+    ensures { λ r. ⌜ r ≡ filledAllOf width height codec (now (bytes .entry)) ⌝
         ∗ ⌜ Wrote (insideEvents width height codec (now (bytes .entry))) 0
         (now (xs .entry)) (now (ys .entry)) (now (ts .entry)) (now (ps .entry))
         (now (xs .exit)) (now (ys .exit)) (now (ts .exit)) (now (ps .exit)) ⌝ }

@@ -27,7 +27,7 @@ use Rattle.evt_types.specs.Columns.{colX, colY}
 use Rattle.evt_types.specs.Event.{Event}
 use Rattle.evt_types.specs.Told.{accepted, refused, short}
 use Rattle.read_fill.specs.Decode.{insideEvents}
-use Rattle.read_rules.specs.declared.Span.{Span}
+use Rattle.read_rules.specs.declared.Sensor.{Sensor}
 use Rattle.read_capacity.specs.declared.Delivered.{Delivered}
 use Rattle.read_capacity.specs.declared.Delivered.the-variants.{Written, Needed}
 use Rattle.read_capacity.specs.Deliver.{Delivers}
@@ -44,13 +44,14 @@ use Rattle.read_window.specs.declared.Window.{Window}
 use Rattle.read_select.specs.Pass.{Ready, handedOver}
 use Rattle.read_select.specs.Uses.{able-range, numberedOver, over-limit}
 use Rattle.header.specs.declared.Header as header
-use Rattle.header.specs.Header.{encodingNumber, hasZero, headerOf}
+use Rattle.header.specs.Header.{hasZero, headerOf}
+use Rattle.evt_types.specs.Num.{encodingNumber}
 use Rattle.read_rules.specs.declared.LoadOptions.{LoadOptions}
 use Rattle.read_rules.specs.Read.{kept, bodyEvents, widthOf, heightOf, sizeless, shortest, Handed, toldRead, verdictOf, answerOf, handedOf, Reads, ReadsBody, DecodesWords, ReadsRaw, wordsVerdict, wordsAnswer, wordsHanded, verdictAfter, answerAfter, handedAfter, rawVerdict, rawAnswer, rawHanded}
 
-abbrev pub spanOf : SensorSize → Span
-spanOf Unknown = record { width = 65536; height = 65536 }
-spanOf (Known w h) = record { width = w; height = h }
+abbrev pub sensorOf : SensorSize → Sensor
+sensorOf Unknown = record { width = 65536; height = 65536 }
+sensorOf (Known w h) = record { width = w; height = h }
 
 abbrev pub sensorEvents : (width height : ℕ) → Encoding → List ℕ → List Event
 sensorEvents width height e body = insideEvents width height (freshC e) body
@@ -76,7 +77,7 @@ handed-limit width height n e body h =
 
 -- with a size or without
 kept-inside : (size : SensorSize) (e : Encoding) (body : List ℕ) → length body ≤ 2 ^ 30
-    → kept size (eventsFrom (freshC e) body) ≡ sensorEvents (spanOf size .width) (spanOf size .height) e body
+    → kept size (eventsFrom (freshC e) body) ≡ sensorEvents (sensorOf size .width) (sensorOf size .height) e body
 kept-inside Unknown e body h = from e
   where
     from : (e : Encoding) → eventsFrom (freshC e) body ≡ sensorEvents 65536 65536 e body
@@ -89,7 +90,7 @@ kept-inside (Known w k) e body h = from e
     from Evt3 = refl
 
 pub body-all : (size : SensorSize) (e : Encoding) (body : List ℕ) → length body ≤ 2 ^ 30
-    → bodyEvents e size Unlimited body ≡ sensorEvents (spanOf size .width) (spanOf size .height) e body
+    → bodyEvents e size Unlimited body ≡ sensorEvents (sensorOf size .width) (sensorOf size .height) e body
 unfolding bodyEvents
 body-all size e body h = kept-inside size e body h
 
@@ -99,17 +100,17 @@ mostOf Unlimited = 18446744073709551615
 mostOf (AtMost n) = n
 
 abbrev pub windowOf : SensorSize → Limit → Window
-windowOf size limit = limitWindow (spanOf size .width) (spanOf size .height) (mostOf limit)
+windowOf size limit = limitWindow (sensorOf size .width) (sensorOf size .height) (mostOf limit)
 
-pub window-parts : (size : SensorSize) (limit : Limit) (span : Span) (most : ℕ) → span ≡ spanOf size → most ≡ mostOf limit → limitWindow (span .width) (span .height) most ≡ windowOf size limit
+pub window-parts : (size : SensorSize) (limit : Limit) (span : Sensor) (most : ℕ) → span ≡ sensorOf size → most ≡ mostOf limit → limitWindow (span .width) (span .height) most ≡ windowOf size limit
 window-parts size limit span most s m = rw (s, m)
 
 body-most : (size : SensorSize) (e : Encoding) (limit : Limit) (body : List ℕ) → length body ≤ 2 ^ 30
-    → bodyEvents e size limit body ≡ take (mostOf limit) (sensorEvents (spanOf size .width) (spanOf size .height) e body)
+    → bodyEvents e size limit body ≡ take (mostOf limit) (sensorEvents (sensorOf size .width) (sensorOf size .height) e body)
 unfolding bodyEvents
 body-most size e Unlimited body h =
-    let es = sensorEvents (spanOf size .width) (spanOf size .height) e body in
-    kept-inside size e body h ∙ sym (take-all 18446744073709551615 es (omega (arith, inside-bytes (spanOf size .width) (spanOf size .height) (freshC e) body)))
+    let es = sensorEvents (sensorOf size .width) (sensorOf size .height) e body in
+    kept-inside size e body h ∙ sym (take-all 18446744073709551615 es (omega (arith, inside-bytes (sensorOf size .width) (sensorOf size .height) (freshC e) body)))
 body-most size e (AtMost n) body h = ap (take n) (kept-inside size e body h)
 
 -- ---- the size
@@ -158,7 +159,7 @@ module _ (size : SensorSize) (e : Encoding) (limit : Limit) (codec : Codec) (is-
   pub delivers-body : (body : List ℕ) (win : Window) {r : Delivered} {xs₀ ys₀ : List ℕ} {ts₀ : List ℤ} {ps₀ xs ys : List ℕ} {ts : List ℤ} {ps : List ℕ}
       → length body ≤ 2 ^ 30 → win ≡ windowOf size limit
       → Delivers (handedOver win 0 codec body) r xs₀ ys₀ ts₀ ps₀ xs ys ts ps → Delivers (bodyEvents e size limit body) r xs₀ ys₀ ts₀ ps₀ xs ys ts ps
-  delivers-body body win h w d = rw (body-most size e limit body h, ← handed-limit (spanOf size .width) (spanOf size .height) (mostOf limit) e body h, ← w, ← is-fresh) d
+  delivers-body body win h w d = rw (body-most size e limit body h, ← handed-limit (sensorOf size .width) (sensorOf size .height) (mostOf limit) e body h, ← w, ← is-fresh) d
 
   pub ready-new : (n : ℕ) → n ≤ 2 ^ 30 → Ready codec 0 n
   ready-new n h = rw is-fresh (ready-fresh e n h)

@@ -22,7 +22,8 @@ use Rattle.read_columns.specs.Inside.{inside}
 pub use Rattle.read_capacity.specs.Deliver.{shortest, Handed}
 use Rattle.header.specs.declared.HeaderAnswer.{HeaderAnswer}
 use Rattle.header.specs.declared.HeaderAnswer.the-variants.{Header, Refused as NoHeader}
-use Rattle.header.specs.Header.{encodingNumber, hasZero, headerOf}
+use Rattle.header.specs.Header.{hasZero, headerOf}
+use Rattle.evt_types.specs.Num.{encodingNumber}
 use Rattle.read_rules.specs.declared.LoadOptions.{LoadOptions}
 use Rattle.read_rules.specs.declared.ReadAnswer.{ReadAnswer}
 use Rattle.read_rules.specs.declared.ReadAnswer.the-variants.{Read, Refused}

@@ -4,9 +4,10 @@
 ghost use mathlib.Core.Path.{_≡_};
 ghost use Prim.Native.Nat.{_≤_};
 ghost use lib.ListN.{length};
-ghost use Rattle.read_rules.specs.Laws.{spanOf, mostOf, windowOf, Holds, sizedOf, settledOf, refusalOf, judgedOf};
+ghost use Rattle.read_rules.specs.Laws.{sensorOf, mostOf, windowOf, Holds, sizedOf, settledOf, refusalOf, judgedOf};
 use evt_types::Encoding;
 use evt_types::Limit;
+use evt_types::MOST_BYTES;
 use evt_types::Refusal;
 use evt_types::SensorSize;
 use header::HeaderAnswer;
@@ -41,7 +42,7 @@ pub enum Judged {
 pub fn judge(n: usize, size: SensorSize) -> Judged
     ensures { λ r. ⌜ r ≡ judgedOf n size ⌝ }
 {
-    if 1073741824 < n {
+    if MOST_BYTES < n {
         return Judged::Unfit(Refusal::TooLong);
     }
     if header::has_zero(size) {
@@ -61,20 +62,20 @@ pub fn refusal_of(answer: HeaderAnswer) -> ReadAnswer
 }
 
 // A sensor's sides; 65,536 each, which holds every event, where the size is unknown.
-struct Span {
+struct Sensor {
     width: u64,
     height: u64,
 }
 
-fn span_of(size: SensorSize) -> Span
-    ensures { λ r. ⌜ r ≡ spanOf size ⌝ }
+fn sensor_of(size: SensorSize) -> Sensor
+    ensures { λ r. ⌜ r ≡ sensorOf size ⌝ }
 {
     match size {
-        SensorSize::Unknown => Span {
+        SensorSize::Unknown => Sensor {
             width: 65536,
             height: 65536,
         },
-        SensorSize::Known(width, height) => Span {
+        SensorSize::Known(width, height) => Sensor {
             width: width as u64,
             height: height as u64,
         },
@@ -94,11 +95,11 @@ fn most_of(limit: Limit) -> u64
 pub fn window_of(size: SensorSize, limit: Limit) -> Window
     ensures { λ r. ⌜ r ≡ windowOf size limit ⌝ }
 {
-    let span = span_of(size);
+    let sensor = sensor_of(size);
     let most = most_of(limit);
     Window {
-        width: span.width,
-        height: span.height,
+        width: sensor.width,
+        height: sensor.height,
         n0: 0,
         n1: most,
         t0: 0,

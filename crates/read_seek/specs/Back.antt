@@ -9,10 +9,10 @@ use lib.ListN.{length, take, drop}
 use borrow.Author.Tests.{eq-eqb, ne-eqb}
 use Rattle.laws_stream.specs.Machine.{run}
 use Rattle.laws_stream.specs.Words.{wordsOf, words-next, words-end}
-use Rattle.words.specs.Ahead.{ahead, ahead-some}
+use Rattle.evt_types.specs.Ahead.{ahead, ahead-some}
 use Rattle.laws_stream.specs.Stream.{split-words}
 use Rattle.evt3_decoder.specs.declared.Decoder.{Decoder}
-use Rattle.evt_types.specs.Layout.{type3, y3, x3, polarity3}
+use Rattle.evt_types.specs.Layout.{type3, y3, x3, polarity3, wordSize3}
 use Rattle.evt3_decoder.specs.Evt3.{kindOn, stepAs, step3, reader3}
 use Rattle.read_seek.specs.declared.back.Column.{Column}
 use Rattle.read_seek.specs.declared.times.Times.{Times}
@@ -115,7 +115,7 @@ base-run d (w ∷ ws) on small = base-run (step3 d w) ws (step-on d w on) (small
 module _ (front : List ℕ) where
   -- the words from word k on
   abbrev behind : ℕ → List ℕ
-  behind k = wordsOf 2 (drop (k * 2) front)
+  behind k = wordsOf wordSize3 (drop (k * 2) front)
 
   none-behind : behind (length front / 2) ≡ []
   none-behind = words-end 2 (omega arith) front (length front / 2 * 2) (omega arith)
@@ -129,8 +129,8 @@ module _ (front : List ℕ) where
         ∙ rw (← (is-word ∙ ahead-some 2 front (j * 2) (omega arith)), e)
 
     -- in all
-    parted : wordsOf 2 front ≡ wordsOf 2 (take (j * 2) front) ++ (w ∷ behind k)
-    parted = sym (split-words 2 reader3 (omega arith) j front (omega arith)) ∙ ap (λ (l : List ℕ). wordsOf 2 (take (j * 2) front) ++ l) word-here
+    parted : wordsOf wordSize3 front ≡ wordsOf wordSize3 (take (j * 2) front) ++ (w ∷ behind k)
+    parted = sym (split-words wordSize3 reader3 (omega arith) j front (omega arith)) ∙ ap (λ (l : List ℕ). wordsOf wordSize3 (take (j * 2) front) ++ l) word-here
 
   -- no row word from word k on
   pub record Rowless (k : ℕ) : Type 0 where
@@ -141,7 +141,7 @@ module _ (front : List ℕ) where
   unfolding rowAfter
   rowless-start = record { within = omega arith; same = λ y. rw none-behind }
 
-  pub row-none : (y : ℕ) → Rowless 0 → y ≡ rowAfter y (wordsOf 2 front)
+  pub row-none : (y : ℕ) → Rowless 0 → y ≡ rowAfter y (wordsOf wordSize3 front)
   row-none y u = sym (u .same y)
 
   -- no base word either, and what the vectors from there on add
@@ -158,7 +158,7 @@ module _ (front : List ℕ) where
     same = λ c h. let e : c .x ≡ min (c .x + 0) 65535 = omega arith in rw none-behind (ap (λ (x : ℕ). record { x = x; p = c .p }) e);
   }
 
-  pub base-none : (c : Column) (by : ℕ) → c .x ≤ 65535 → Baseless by 0 → record { x = min (c .x + by) 65535; p = c .p } ≡ baseAfter c (wordsOf 2 front)
+  pub base-none : (c : Column) (by : ℕ) → c .x ≤ 65535 → Baseless by 0 → record { x = min (c .x + by) 65535; p = c .p } ≡ baseAfter c (wordsOf wordSize3 front)
   base-none c by h u = sym (u .same c h)
 
   module _ (k j : ℕ) (next : k ≡ j + 1) (w : ℕ) (is-word : w ≡ ahead 2 front (j * 2)) (t : ℕ) (is-type : t ≡ type3 w) where
@@ -168,9 +168,9 @@ module _ (front : List ℕ) where
       same = λ y. ap (rowAfter y) (word-here k j next (u .within) w is-word) ∙ row-kept y w (behind k) (λ e. other (is-type ∙ e)) ∙ u .same y;
     }
 
-    pub row-found : (y : ℕ) → Rowless k → t ≡ 0 → y3 w ≡ rowAfter y (wordsOf 2 front)
+    pub row-found : (y : ℕ) → Rowless k → t ≡ 0 → y3 w ≡ rowAfter y (wordsOf wordSize3 front)
     row-found y u e =
-        let a = wordsOf 2 (take (j * 2) front) in
+        let a = wordsOf wordSize3 (take (j * 2) front) in
         sym (ap (rowAfter y) (parted k j next (u .within) w is-word) ∙ row-append y a (w ∷ behind k) ∙ row-set (rowAfter y a) w (behind k) (sym is-type ∙ e) ∙ u .same (y3 w))
 
     pub baseless-turn : {by : ℕ} → Baseless by k → (t ≡ 3 → ⊥) → (more : ℕ) → more ≡ min (by + width t) 65535 → Baseless more j
@@ -185,9 +185,9 @@ module _ (front : List ℕ) where
           ∙ u .same (record { x = min (c .x + n) 65535; p = c .p }) (omega arith) ∙ ap (λ (x : ℕ). record { x = x; p = c .p }) e;
     }
 
-    pub base-found : (c : Column) {by : ℕ} → Baseless by k → t ≡ 3 → record { x = min (x3 w + by) 65535; p = eqb (polarity3 w) 1 } ≡ baseAfter c (wordsOf 2 front)
+    pub base-found : (c : Column) {by : ℕ} → Baseless by k → t ≡ 3 → record { x = min (x3 w + by) 65535; p = eqb (polarity3 w) 1 } ≡ baseAfter c (wordsOf wordSize3 front)
     base-found c u e =
-        let a = wordsOf 2 (take (j * 2) front) in
+        let a = wordsOf wordSize3 (take (j * 2) front) in
         sym (ap (baseAfter c) (parted k j next (u .within) w is-word) ∙ base-append c a (w ∷ behind k) ∙ base-set (baseAfter c a) w (behind k) (sym is-type ∙ e)
         ∙ u .same (record { x = x3 w; p = eqb (polarity3 w) 1 }) (omega arith))
 
@@ -198,16 +198,16 @@ putBehind d front c = record {
   initialised = true;
   «time_base» = c .base;
   time = c .time;
-  y = rowAfter (d .y) (wordsOf 2 front);
-  «base_x» = baseAfter (baseOf d) (wordsOf 2 front) .x;
-  polarity = baseAfter (baseOf d) (wordsOf 2 front) .p;
+  y = rowAfter (d .y) (wordsOf wordSize3 front);
+  «base_x» = baseAfter (baseOf d) (wordsOf wordSize3 front) .x;
+  polarity = baseAfter (baseOf d) (wordsOf wordSize3 front) .p;
   «high_loops» = c .loops;
 }
 
-pub put-is : (d : Decoder) (front : List ℕ) (s : Decoder) → d .initialised ≡ true → d .«base_x» < 2 ^ 16 → s ≡ run reader3 d (wordsOf 2 front) → (c : Times) → c ≡ timesOf s
+pub put-is : (d : Decoder) (front : List ℕ) (s : Decoder) → d .initialised ≡ true → d .«base_x» < 2 ^ 16 → s ≡ run reader3 d (wordsOf wordSize3 front) → (c : Times) → c ≡ timesOf s
     → putBehind d front c ≡ s
 put-is d front s on small is-run c is-times =
-    let ws = wordsOf 2 front in
+    let ws = wordsOf wordSize3 front in
     let o : true ≡ s .initialised = sym (ap (λ (s : Decoder). s .initialised) is-run ∙ run-on d ws on) in
     let r : rowAfter (d .y) ws ≡ s .y = sym (ap (λ (s : Decoder). s .y) is-run ∙ row-run d ws on) in
     let e : baseAfter (baseOf d) ws ≡ baseOf s = sym (ap baseOf is-run ∙ base-run d ws on small) in

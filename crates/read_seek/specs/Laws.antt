@@ -20,7 +20,7 @@ use Rattle.evt_codec.specs.declared.codec.Codec.{Codec}
 use Rattle.evt_codec.specs.declared.codec.Codec.the-variants.{Evt2, Evt3}
 use Rattle.evt_types.specs.declared.vector.Vector.{Vector}
 use Rattle.evt_types.specs.Event.{Event, eventAt, eventsOf}
-use Rattle.evt_types.specs.Layout.{type2, type3}
+use Rattle.evt_types.specs.Layout.{type2, type3, wordSize2, wordSize3}
 use Rattle.evt2_decoder.specs.Evt2 as Evt2
 use Rattle.evt2_decoder.specs.Evt2.{step2, vector2, reader2}
 use Rattle.evt3_decoder.specs.Evt3 as Evt3
@@ -31,7 +31,7 @@ use Rattle.read_columns.specs.Inside.{clock, all-mapped}
 use Rattle.read_fill.specs.Decode.{insideEvents, Bounded}
 use Rattle.read_fill.specs.Laws.{inside-bytes}
 use Rattle.read_window.specs.declared.Window.{Window}
-use Rattle.read_window.specs.Window.{spanOf, reading2, reading3}
+use Rattle.read_window.specs.Window.{selectionOf, reading2, reading3}
 use Rattle.read_select.specs.Pass.{handedOver, Able, Ready}
 use Rattle.read_select.specs.Uses.{isTimely, untilOver, over-by-time, able-bounded3}
 use Rattle.read_seek.specs.declared.Sought.{Sought}
@@ -92,10 +92,10 @@ wakes3 d r off = ap (λ (d : Decoder). d .time) (r .unstarted off)
 -- ---- how far
 
 within2 : (t₀ t₁ : ℕ) (d : Evt2Decoder) (l : List ℕ) → reach2 t₀ t₁ d l .words * 4 ≤ length l
-within2 t₀ t₁ d l = omega (arith, reach-most reader2 (λ d. d .time) carries2 t₀ t₁ d (wordsOf 4 l), length-words 4 l)
+within2 t₀ t₁ d l = omega (arith, reach-most reader2 (λ d. d .time) carries2 t₀ t₁ d (wordsOf wordSize2 l), length-words 4 l)
 
 within3 : (t₀ t₁ : ℕ) (d : Decoder) (l : List ℕ) → reach3 t₀ t₁ d l .words * 2 ≤ length l
-within3 t₀ t₁ d l = omega (arith, reach-most reader3 (λ d. d .time) carries3 t₀ t₁ d (wordsOf 2 l), length-words 2 l)
+within3 t₀ t₁ d l = omega (arith, reach-most reader3 (λ d. d .time) carries3 t₀ t₁ d (wordsOf wordSize3 l), length-words 2 l)
 
 pub sought-within : (t₀ t₁ : ℕ) (c : Codec) (l : List ℕ) → soughtOf t₀ t₁ c l .at ≤ length l
 sought-within t₀ t₁ (Evt2 d) l = within2 t₀ t₁ d l
@@ -112,17 +112,17 @@ module _ (win : Window) (k : ℕ) (low : win .n0 ≤ k) where
       let cut = drop-words reader2 4 (omega arith) (r .words) l (within2 t₀ (win .t0) d l) in
       let all = inside-bytes (win .width) (win .height) (Evt2 d) l in
       let left = inside-bytes (win .width) (win .height) (Evt2 (r .state)) (drop (r .words * 4) l) in
-      let fewer : k + length (Select.numbered (reading2 win) (r .state) (drop (r .words) (wordsOf 4 l))) < win .n1 = rw (← cut) (omega (arith, left, length-drop (r .words * 4) l)) in
-      handed-from (reading2 win) carries2 stamped2 (spanOf win) t₀ (win .t0) (omega arith) order k k d (wordsOf 4 l) low (omega (arith, all)) low fewer
-      ∙ ap (Select.handed (reading2 win) (spanOf win) k (r .state)) (sym cut)
+      let fewer : k + length (Select.numbered (reading2 win) (r .state) (drop (r .words) (wordsOf wordSize2 l))) < win .n1 = rw (← cut) (omega (arith, left, length-drop (r .words * 4) l)) in
+      handed-from (reading2 win) carries2 stamped2 (selectionOf win) t₀ (win .t0) (omega arith) order k k d (wordsOf wordSize2 l) low (omega (arith, all)) low fewer
+      ∙ ap (Select.handed (reading2 win) (selectionOf win) k (r .state)) (sym cut)
   sought-from t₀ (Evt3 d) l order high =
       let r = reach3 t₀ (win .t0) d l in
       let cut = drop-words reader3 2 (omega arith) (r .words) l (within3 t₀ (win .t0) d l) in
       let all = inside-bytes (win .width) (win .height) (Evt3 d) l in
       let left = inside-bytes (win .width) (win .height) (Evt3 (r .state)) (drop (r .words * 2) l) in
-      let fewer : k + length (Select.numbered (reading3 win) (r .state) (drop (r .words) (wordsOf 2 l))) < win .n1 = rw (← cut) (omega (arith, left, length-drop (r .words * 2) l)) in
-      handed-from (reading3 win) carries3 stamped3 (spanOf win) t₀ (win .t0) (omega arith) order k k d (wordsOf 2 l) low (omega (arith, all)) low fewer
-      ∙ ap (Select.handed (reading3 win) (spanOf win) k (r .state)) (sym cut)
+      let fewer : k + length (Select.numbered (reading3 win) (r .state) (drop (r .words) (wordsOf wordSize3 l))) < win .n1 = rw (← cut) (omega (arith, left, length-drop (r .words * 2) l)) in
+      handed-from (reading3 win) carries3 stamped3 (selectionOf win) t₀ (win .t0) (omega arith) order k k d (wordsOf wordSize3 l) low (omega (arith, all)) low fewer
+      ∙ ap (Select.handed (reading3 win) (selectionOf win) k (r .state)) (sym cut)
 
   module _ (c : Codec) (l : List ℕ) (high : k + 6 * length l < win .n1) where
     -- UP TO its last
@@ -134,11 +134,11 @@ module _ (win : Window) (k : ℕ) (low : win .n0 ≤ k) where
             → handedOver win k c l ≡ insideEvents (win .width) (win .height) c (take (soughtOf (win .t0) (win .t1) c l .at) l)
         go (Evt2 d) few able some z =
             let r = reach2 (win .t0) (win .t1) d l in
-            handed-upto (reading2 win) carries2 stamped2 (spanOf win) Regular2 regular-step2 wakes2 silent2 some k d (wordsOf 4 l) (able .regular) low (omega arith) z
+            handed-upto (reading2 win) carries2 stamped2 (selectionOf win) Regular2 regular-step2 wakes2 silent2 some k d (wordsOf wordSize2 l) (able .regular) low (omega arith) z
             ∙ ap (Select.numbered (reading2 win) d) (sym (take-words reader2 4 (omega arith) (r .words) l (within2 (win .t0) (win .t1) d l)))
         go (Evt3 d) few able some z =
             let r = reach3 (win .t0) (win .t1) d l in
-            handed-upto (reading3 win) carries3 stamped3 (spanOf win) Regular3 regular-step3 wakes3 silent3 some k d (wordsOf 2 l) (able .regular) low (omega arith) z
+            handed-upto (reading3 win) carries3 stamped3 (selectionOf win) Regular3 regular-step3 wakes3 silent3 some k d (wordsOf wordSize3 l) (able .regular) low (omega arith) z
             ∙ ap (Select.numbered (reading3 win) d) (sym (take-words reader3 2 (omega arith) (r .words) l (within3 (win .t0) (win .t1) d l)))
 
     -- EMPTY, where the last time isn't past the first

@@ -7,12 +7,12 @@ use native.Mathlib.Omega.{arith}
 use lib.Dec.{ltb}
 use lib.ListN.{length, drop}
 use Rattle.laws_stream.specs.Words.{length-words}
-use Rattle.words.specs.Ahead.{ahead, ahead-some}
+use Rattle.evt_types.specs.Ahead.{ahead, ahead-some}
 use Rattle.laws_stream.specs.Seek.{Reach}
 use Rattle.evt2_decoder.specs.declared.Evt2Decoder.{Evt2Decoder}
 use Rattle.evt3_decoder.specs.declared.Decoder.{Decoder}
 use Rattle.evt_codec.specs.declared.codec.Codec.the-variants.{Evt2, Evt3}
-use Rattle.evt_types.specs.Layout.{type2, type3}
+use Rattle.evt_types.specs.Layout.{type2, type3, wordSize2, wordSize3}
 use Rattle.evt2_decoder.specs.Evt2.{step2, reader2}
 use Rattle.evt3_decoder.specs.Evt3.{step3, reader3}
 use Rattle.evt2_decoder.specs.Range.{Bounded2, bounded-step2}
@@ -20,7 +20,7 @@ use Rattle.evt3_decoder.specs.Range.{Bounded3, bounded-step3, bounded-sane3}
 use Rattle.read_seek.specs.declared.times.Times.{Times}
 use Rattle.read_seek.specs.Seek.{carries2, carriesAs, carries3, soughtOf, reach3}
 use Rattle.read_seek.specs.Turn.{Seeking, Found, seeking-start, seeking-end, seeking-stop, seeking-turn, found-is}
-use Rattle.read_seek.specs.Times.{timesOf, Slow, ticked, passedOf, step-on, step-times}
+use Rattle.read_seek.specs.Times.{timesOf, Slow, ticked, spannedOf, step-on, step-times}
 
 -- ---- EVT2
 
@@ -30,9 +30,9 @@ module _ (t₀ t₁ : ℕ) (d : Evt2Decoder) (bytes : List ℕ) where
 
   -- what is owed at the end
   abbrev pub Ends2 : Evt2Decoder → Bool → ℕ → Type 0
-  Ends2 s f i = (record { at = i; stray = f; codec = Evt2 s } ≡ soughtOf t₀ t₁ (Evt2 d) bytes) × Bounded2 (length (drop i bytes) / 4) s
+  Ends2 s f i = (record { at = i; stray = f; codec = Evt2 s } ≡ soughtOf t₀ t₁ (Evt2 d) bytes) × Bounded2 (length (drop i bytes) / wordSize2) s
 
-  pub start2 : Bounded2 (length bytes / 4) d → Seeking2 d false 0
+  pub start2 : Bounded2 (length bytes / wordSize2) d → Seeking2 d false 0
   start2 b = seeking-start (omega arith) bounded-step2 (rw (length-words 4 bytes) b)
 
   module _ {s : Evt2Decoder} {f : Bool} {i : ℕ} (u : Seeking2 s f i) where
@@ -53,12 +53,12 @@ module _ (t₀ t₁ : ℕ) (d : Evt2Decoder) (bytes : List ℕ) where
 
 module _ (t₀ t₁ : ℕ) (d : Decoder) (bytes : List ℕ) where
   abbrev pub Seeking3 : Decoder → Bool → ℕ → Type 0
-  Seeking3 = Seeking 2 reader3 (λ d. d .time) carries3 Bounded3 t₀ t₁ d bytes
+  Seeking3 = Seeking wordSize3 reader3 (λ d. d .time) carries3 Bounded3 t₀ t₁ d bytes
 
   abbrev pub Ends3 : Decoder → Bool → ℕ → Type 0
-  Ends3 s f i = (record { at = i; stray = f; codec = Evt3 s } ≡ soughtOf t₀ t₁ (Evt3 d) bytes) × Bounded3 (length (drop i bytes) / 2) s
+  Ends3 s f i = (record { at = i; stray = f; codec = Evt3 s } ≡ soughtOf t₀ t₁ (Evt3 d) bytes) × Bounded3 (length (drop i bytes) / wordSize3) s
 
-  pub start3 : Bounded3 (length bytes / 2) d → Seeking3 d false 0
+  pub start3 : Bounded3 (length bytes / wordSize3) d → Seeking3 d false 0
   start3 b = seeking-start (omega arith) bounded-step3 (rw (length-words 2 bytes) b)
 
   -- by the times alone: of some started decoder
@@ -69,15 +69,15 @@ module _ (t₀ t₁ : ℕ) (d : Decoder) (bytes : List ℕ) where
     pub seeking : Seeking3 state f i
 
   abbrev pub Passes : Times → Bool → ℕ → Type 0
-  Passes c f i = (record { at = i; stray = f; times = c } ≡ passedOf (reach3 t₀ t₁ d bytes)) × Bounded3 (length (drop i bytes) / 2) (reach3 t₀ t₁ d bytes .state)
+  Passes c f i = (record { at = i; stray = f; times = c } ≡ spannedOf (reach3 t₀ t₁ d bytes)) × Bounded3 (length (drop i bytes) / wordSize3) (reach3 t₀ t₁ d bytes .state)
 
-  pub passing-start : d .initialised ≡ true → Bounded3 (length bytes / 2) d → Passing (timesOf d) false 0
+  pub passing-start : d .initialised ≡ true → Bounded3 (length bytes / wordSize3) d → Passing (timesOf d) false 0
   passing-start on b = record { state = d; on = on; is = refl; seeking = start3 b }
 
   module _ {s : Decoder} {f : Bool} {i : ℕ} where
-    passes : {c : Times} → c ≡ timesOf s → Found 2 reader3 (λ d. d .time) carries3 Bounded3 t₀ t₁ d bytes s f i → Passes c f i
+    passes : {c : Times} → c ≡ timesOf s → Found wordSize3 reader3 (λ d. d .time) carries3 Bounded3 t₀ t₁ d bytes s f i → Passes c f i
     passes is p = (
-      rw is (ap (λ (k : ℕ). record { at = k; stray = f; times = timesOf s }) (p .is-at) ∙ ap passedOf (p .ends)),
+      rw is (ap (λ (k : ℕ). record { at = k; stray = f; times = timesOf s }) (p .is-at) ∙ ap spannedOf (p .ends)),
       rw (length-words 2 (drop i bytes)) at (rw (ap (λ (r : Reach Decoder). r .state) (p .ends)) at (p .inv)),
     )
 
@@ -93,7 +93,7 @@ module _ (t₀ t₁ : ℕ) (d : Decoder) (bytes : List ℕ) where
 
     module _ (h : i + 1 < length bytes) (w : ℕ) (is-word : w ≡ ahead 2 bytes i) where
       module _ {s : Decoder} (u : Seeking3 s f i) (s′ : Decoder) (is-next : s′ ≡ step3 s w) where
-        found-stop : t₁ ≤ s′ .time → Found 2 reader3 (λ d. d .time) carries3 Bounded3 t₀ t₁ d bytes s f i
+        found-stop : t₁ ≤ s′ .time → Found wordSize3 reader3 (λ d. d .time) carries3 Bounded3 t₀ t₁ d bytes s f i
         found-stop l = seeking-stop (omega arith) bounded-step3 u (omega arith) w (is-word ∙ ahead-some 2 bytes i (omega arith)) s′ is-next l
 
         pub stop3 : t₁ ≤ s′ .time → Ends3 s f i

@@ -5,6 +5,7 @@ use mathlib.Core.List.{List}
 use Prim.Native.Nat.{ℕ, _*_, _/_, _≤_, _<_, _^_}
 use native.Mathlib.Omega.{arith}
 use lib.ListN.{length, take, drop}
+use Rattle.evt_types.specs.Layout.{wordSize3}
 use Rattle.laws_stream.specs.Machine.{run}
 use Rattle.laws_stream.specs.Words.{wordsOf, length-words}
 use Rattle.laws_stream.specs.Seek.{Reach, reach-state, reach-most}
@@ -12,9 +13,9 @@ use Rattle.evt3_decoder.specs.declared.Decoder.{Decoder}
 use Rattle.evt_codec.specs.declared.codec.Codec.the-variants.{Evt3}
 use Rattle.evt3_decoder.specs.Evt3.{reader3}
 use Rattle.evt3_decoder.specs.Range.{Bounded3}
-use Rattle.read_seek.specs.declared.evt3.Passed.{Passed}
+use Rattle.read_seek.specs.declared.evt3.Spanned.{Spanned}
 use Rattle.read_seek.specs.Seek.{carries3, reach3, soughtOf}
-use Rattle.read_seek.specs.Times.{timesOf, passedOf}
+use Rattle.read_seek.specs.Times.{timesOf, spannedOf}
 use Rattle.read_seek.specs.Back.{putBehind, put-is}
 use Rattle.read_seek.specs.Cut.{take-words}
 
@@ -23,20 +24,20 @@ module _ (t₀ t₁ : ℕ) (d : Decoder) (bytes : List ℕ) where
   end = reach3 t₀ t₁ d bytes
 
   within : end .words * 2 ≤ length bytes
-  within = omega (arith, reach-most reader3 (λ d. d .time) carries3 t₀ t₁ d (wordsOf 2 bytes), length-words 2 bytes)
+  within = omega (arith, reach-most reader3 (λ d. d .time) carries3 t₀ t₁ d (wordsOf wordSize3 bytes), length-words 2 bytes)
 
-  pub passed-within : (r : Passed) → r ≡ passedOf end → r .at ≤ length bytes
+  pub passed-within : (r : Spanned) → r ≡ spannedOf end → r .at ≤ length bytes
   passed-within r is = rw is within
 
   -- the state is what the bytes passed over lead to
-  state-is : end .state ≡ run reader3 d (wordsOf 2 (take (end .words * 2) bytes))
-  state-is = reach-state reader3 (λ d. d .time) carries3 t₀ t₁ d (wordsOf 2 bytes) ∙ ap (run reader3 d) (sym (take-words reader3 2 (omega arith) (end .words) bytes within))
+  state-is : end .state ≡ run reader3 d (wordsOf wordSize3 (take (end .words * 2) bytes))
+  state-is = reach-state reader3 (λ d. d .time) carries3 t₀ t₁ d (wordsOf wordSize3 bytes) ∙ ap (run reader3 d) (sym (take-words reader3 2 (omega arith) (end .words) bytes within))
 
-  module _ (on : d .initialised ≡ true) (column : d .«base_x» < 2 ^ 16) (r : Passed) (is : r ≡ passedOf end) (left : Bounded3 (length (drop (r .at) bytes) / 2) (end .state))
+  module _ (on : d .initialised ≡ true) (column : d .«base_x» < 2 ^ 16) (r : Spanned) (is : r ≡ spannedOf end) (left : Bounded3 (length (drop (r .at) bytes) / wordSize3) (end .state))
       (e : Decoder) (is-put : e ≡ putBehind d (take (r .at) bytes) (r .times)) where
     whole : e ≡ end .state
-    whole = is-put ∙ ap (λ (r : Passed). putBehind d (take (r .at) bytes) (r .times)) is
+    whole = is-put ∙ ap (λ (r : Spanned). putBehind d (take (r .at) bytes) (r .times)) is
         ∙ put-is d (take (end .words * 2) bytes) (end .state) on column state-is (timesOf (end .state)) refl
 
-    pub put-found : (record { at = r .at; stray = r .stray; codec = Evt3 e } ≡ soughtOf t₀ t₁ (Evt3 d) bytes) × Bounded3 (length (drop (r .at) bytes) / 2) e
+    pub put-found : (record { at = r .at; stray = r .stray; codec = Evt3 e } ≡ soughtOf t₀ t₁ (Evt3 d) bytes) × Bounded3 (length (drop (r .at) bytes) / wordSize3) e
     put-found = (λ i. record { at = is i .at; stray = is i .stray; codec = Evt3 (whole i) }, rw whole left)

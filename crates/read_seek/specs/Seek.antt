@@ -11,7 +11,7 @@ use Rattle.evt2_decoder.specs.declared.Evt2Decoder.{Evt2Decoder}
 use Rattle.evt3_decoder.specs.declared.Decoder.{Decoder}
 use Rattle.evt_codec.specs.declared.codec.Codec.{Codec}
 use Rattle.evt_codec.specs.declared.codec.Codec.the-variants.{Evt2, Evt3}
-use Rattle.evt_types.specs.Layout.{type2, type3}
+use Rattle.evt_types.specs.Layout.{type2, type3, wordSize2, wordSize3}
 use Rattle.evt2_decoder.specs.Evt2.{reader2}
 use Rattle.evt3_decoder.specs.Evt3.{reader3}
 use Rattle.read_fill.specs.Decode.{Bounded}
@@ -29,10 +29,10 @@ carries3 w = carriesAs (type3 w)
 
 -- over the words before the first that takes the decoder's time to t1 or later
 abbrev pub reach2 : (t0 t1 : ℕ) → Evt2Decoder → List ℕ → Reach Evt2Decoder
-reach2 t0 t1 d l = reach reader2 (λ d. d .time) carries2 t0 t1 d (wordsOf 4 l)
+reach2 t0 t1 d l = reach reader2 (λ d. d .time) carries2 t0 t1 d (wordsOf wordSize2 l)
 
 abbrev pub reach3 : (t0 t1 : ℕ) → Decoder → List ℕ → Reach Decoder
-reach3 t0 t1 d l = reach reader3 (λ d. d .time) carries3 t0 t1 d (wordsOf 2 l)
+reach3 t0 t1 d l = reach reader3 (λ d. d .time) carries3 t0 t1 d (wordsOf wordSize3 l)
 
 -- of words of n bytes
 abbrev pub soughtAs : {S : Type 0} → (n : ℕ) → (S → Codec) → Reach S → Sought

@@ -9,11 +9,11 @@ use lib.ListN.{length, take, drop}
 use borrow.Author.Tests.{ne-eqb, le-ltb}
 use Rattle.laws_stream.specs.Machine.{run}
 use Rattle.laws_stream.specs.Words.{wordsOf, length-words}
-use Rattle.words.specs.Ahead.{ahead}
+use Rattle.evt_types.specs.Ahead.{ahead}
 use Rattle.evt2_decoder.specs.declared.Evt2Decoder.{Evt2Decoder}
 use Rattle.evt3_decoder.specs.declared.Decoder.{Decoder}
 use Rattle.evt_codec.specs.declared.codec.Codec.the-variants.{Evt2, Evt3}
-use Rattle.evt_types.specs.Layout.{type2, type3}
+use Rattle.evt_types.specs.Layout.{type2, type3, wordSize2, wordSize3}
 use Rattle.evt2_decoder.specs.Evt2 as Evt2
 use Rattle.evt2_decoder.specs.Evt2.{step2}
 use Rattle.evt3_decoder.specs.Evt3.{step3, reader3}
@@ -73,7 +73,7 @@ module _ (t : ℕ) (d : Evt2Decoder) (bytes : List ℕ) where
   pub midway2 : {s : Evt2Decoder} {at : ℕ} → Seeking2 0 t d bytes s false at → Midway t (Evt2 d) bytes at (Evt2 s)
   midway2 {s} {at} u = record { within = u .within; able = rw (length-words 4 (drop at bytes)) at (u .inv); same = seeking-same (omega arith) bounded-step2 u refl Evt2 }
 
-  pub skip-start2 : Bounded2 (length bytes / 4) d → d .«time_high» + 64 ≤ t → Skipping2 d 0 0
+  pub skip-start2 : Bounded2 (length bytes / wordSize2) d → d .«time_high» + 64 ≤ t → Skipping2 d 0 0
   skip-start2 b room = record { marked = start2 0 t d bytes b; u = d; here = start2 0 t d bytes b; like = record { high = refl; loops = refl }; room = room }
 
   module _ {s : Evt2Decoder} {at i : ℕ} (p : Skipping2 s at i) (h : i + 3 < length bytes) (w : ℕ)
@@ -134,7 +134,7 @@ module _ (t : ℕ) (d : Decoder) (bytes : List ℕ) where
   near3 : {c : Times} {i : ℕ} → Passing 0 t d bytes c false i → c .time < c .base + 4096
   near3 u = rw (u .is) (u .seeking .inv .regular .started (u .on) .0 .near)
 
-  pub skip-start3 : d .initialised ≡ true → Bounded3 (length bytes / 2) d → d .«time_base» + 4096 ≤ t → Skipping3 (timesOf d) 0 0
+  pub skip-start3 : d .initialised ≡ true → Bounded3 (length bytes / wordSize3) d → d .«time_base» + 4096 ≤ t → Skipping3 (timesOf d) 0 0
   skip-start3 on b room =
       let p = passing-start 0 t d bytes on b in
       record { marked = p; e = timesOf d; here = p; like = record { base = refl; loops = refl }; room = room }
@@ -182,13 +182,13 @@ module _ (t : ℕ) (d : Decoder) (bytes : List ℕ) where
       → Midway t (Evt3 d) bytes at (Evt3 e)
   midway3 {c} {at} on column u e is-put =
       let q = u .seeking in
-      let came : u .state ≡ run reader3 d (wordsOf 2 (take at bytes))
-      = q .came ∙ ap (run reader3 d) (sym (take-words reader3 2 (omega arith) (q .words) bytes (omega (arith, q .is-at, q .within))) ∙ ap (λ (k : ℕ). wordsOf 2 (take k bytes)) (sym (q .is-at))) in
+      let came : u .state ≡ run reader3 d (wordsOf wordSize3 (take at bytes))
+      = q .came ∙ ap (run reader3 d) (sym (take-words reader3 2 (omega arith) (q .words) bytes (omega (arith, q .is-at, q .within))) ∙ ap (λ (k : ℕ). wordsOf wordSize3 (take k bytes)) (sym (q .is-at))) in
       let is : e ≡ u .state = is-put ∙ put-is d (take at bytes) (u .state) on column came c (u .is) in
       rw is (record { within = q .within; able = rw (length-words 2 (drop at bytes)) at (q .inv); same = seeking-same (omega arith) bounded-step3 q refl Evt3 })
 
   -- none
-  pub midway-none3 : Bounded3 (length bytes / 2) d → Midway t (Evt3 d) bytes 0 (Evt3 d)
+  pub midway-none3 : Bounded3 (length bytes / wordSize3) d → Midway t (Evt3 d) bytes 0 (Evt3 d)
   midway-none3 b =
       let q : Seeking3 0 t d bytes d false 0 = seeking-start (omega arith) bounded-step3 (rw (length-words 2 bytes) b) in
       record { within = omega arith; able = b; same = seeking-same (omega arith) bounded-step3 q refl Evt3 }

@@ -11,7 +11,7 @@ use Rattle.evt_types.specs.Layout.{type3, time3}
 use Rattle.evt3_decoder.specs.Evt3.{kindOn, kindOf, stepAs, step3, period3, threshold3}
 pub use Rattle.read_seek.specs.Seek.{carriesAs}
 use Rattle.read_seek.specs.declared.times.Times.{Times}
-use Rattle.read_seek.specs.declared.evt3.Passed.{Passed}
+use Rattle.read_seek.specs.declared.evt3.Spanned.{Spanned}
 
 abbrev pub timesOf : Decoder → Times
 timesOf d = record { base = d .«time_base»; time = d .time; loops = d .«high_loops» }
@@ -35,8 +35,8 @@ abbrev pub ticked : Times → ℕ → Times
 ticked c w = tickedAs (type3 w) c w
 
 -- what the loop by times alone tells of where a seek ends
-abbrev pub passedOf : Reach Decoder → Passed
-passedOf r = record { at = r .words * 2; stray = r .stray; times = timesOf (r .state) }
+abbrev pub spannedOf : Reach Decoder → Spanned
+spannedOf r = record { at = r .words * 2; stray = r .stray; times = timesOf (r .state) }
 
 -- a type that has a rule, or none of these
 pub by-type : (P : ℕ → Type 0) (k : ℕ) → P 0 → P 2 → P 3 → P 4 → P 5 → P 6 → P 8

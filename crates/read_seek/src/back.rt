@@ -1,10 +1,12 @@
 // The row, the base column and the polarity of a started EVT3 decoder behind some words, looked for
 // from their end back: the last words that set them are near.
 ghost use mathlib.Core.Path.{_≡_};
-ghost use Prim.Native.Nat.{_+_, _≤_, min};
+ghost use Rattle.evt_types.specs.Layout.{wordSize3};
 ghost use Rattle.laws_stream.specs.Words.{wordsOf};
 ghost use Rattle.read_seek.specs.Back.{rowAfter, baseAfter, width};
 use evt_types::fields::bits;
+use evt_types::num::saturating_add;
+use evt_types::words;
 
 pub struct Column {
     pub x: u16,
@@ -13,7 +15,7 @@ pub struct Column {
 
 // The last row word's, or y.
 pub fn row(front: &[u8], y: u16) -> u16
-    ensures { λ r. ⌜ r ≡ rowAfter y (wordsOf 2 (now (front .entry))) ⌝ }
+    ensures { λ r. ⌜ r ≡ rowAfter y (wordsOf wordSize3 (now (front .entry))) ⌝ }
 {
     let mut k = front.len() / 2;
     while 0 < k {
@@ -26,14 +28,6 @@ pub fn row(front: &[u8], y: u16) -> u16
         }
     }
     y
-}
-
-// At most 65,535.
-fn held(x: u64, n: u64) -> u64
-    requires { ⌜ n ≤ 65535 ⌝ }
-    ensures { λ r. ⌜ r ≡ min (x + n) 65535 ⌝ }
-{
-    if x <= 65535 - n { x + n } else { 65535 }
 }
 
 // By how much a word moves the base column.
@@ -49,7 +43,7 @@ fn moves(kind: u64) -> u64
 
 // The last base word's and what vectors after it add, or x and p with all vectors.
 pub fn base(front: &[u8], x: u16, p: bool) -> Column
-    ensures { λ r. ⌜ r ≡ baseAfter (record { x = x; p = p }) (wordsOf 2 (now (front .entry))) ⌝ }
+    ensures { λ r. ⌜ r ≡ baseAfter (record { x = x; p = p }) (wordsOf wordSize3 (now (front .entry))) ⌝ }
 {
     let mut by: u64 = 0;
     let mut k = front.len() / 2;
@@ -61,14 +55,14 @@ pub fn base(front: &[u8], x: u16, p: bool) -> Column
         if kind == 3 {
             let sign = bits(w, 11, 1);
             return Column {
-                x: held(bits(w, 0, 11), by) as u16,
+                x: saturating_add(bits(w, 0, 11), by) as u16,
                 p: sign == 1,
             };
         }
-        by = held(by, moves(kind));
+        by = saturating_add(by, moves(kind));
     }
     Column {
-        x: held(x as u64, by) as u16,
+        x: saturating_add(x as u64, by) as u16,
         p,
     }
 }

@@ -2,6 +2,7 @@
 ghost use mathlib.Core.Path.{_≡_};
 ghost use Prim.Native.Nat.{_/_, _≤_, _^_};
 ghost use lib.ListN.{length, drop};
+ghost use Rattle.evt_types.specs.Layout.{wordSize2};
 ghost use Rattle.evt_codec.specs.declared.codec.Codec.the-variants.{Evt2};
 ghost use Rattle.evt2_decoder.specs.Range.{Bounded2};
 ghost use Rattle.read_fill.specs.Decode.{Bounded};
@@ -11,11 +12,12 @@ use crate::Sought;
 use crate::strays;
 use evt_codec::Codec;
 use evt_types::fields::bits;
+use evt_types::words;
 use evt2_decoder::Evt2Decoder;
 use evt2_decoder::advance;
 
 pub fn span2(bytes: &[u8], d: Evt2Decoder, t0: u64, t1: u64) -> Sought
-    requires { ⌜ Bounded2 (length (now bytes) / 4) d ⌝ ∗ ⌜ length (now bytes) ≤ 2 ^ 30 ⌝ }
+    requires { ⌜ Bounded2 (length (now bytes) / wordSize2) d ⌝ ∗ ⌜ length (now bytes) ≤ 2 ^ 30 ⌝ }
     ensures { λ r. ⌜ (r ≡ soughtOf t0 t1 (Evt2 d) (now (bytes .entry))) × Bounded (length (drop (r .at) (now (bytes .entry)))) (r .codec) ⌝ }
 {
     let mut s = d;
@@ -43,7 +45,7 @@ pub fn span2(bytes: &[u8], d: Evt2Decoder, t0: u64, t1: u64) -> Sought
 // To the last time word before t behind which no word reaches t without another: a word's time is
 // less than 64 past the time word's.
 pub fn skip2(bytes: &[u8], d: Evt2Decoder, t: u64) -> Marked
-    requires { ⌜ Bounded2 (length (now bytes) / 4) d ⌝ ∗ ⌜ length (now bytes) ≤ 2 ^ 30 ⌝ }
+    requires { ⌜ Bounded2 (length (now bytes) / wordSize2) d ⌝ ∗ ⌜ length (now bytes) ≤ 2 ^ 30 ⌝ }
     ensures { λ r. ⌜ Midway t (Evt2 d) (now (bytes .entry)) (r .at) (r .codec) ⌝ }
 {
     let mut s = d;

@@ -3,12 +3,13 @@ ghost use mathlib.Core.Path.{_≡_};
 ghost use mathlib.Core.Bool.{true, false};
 ghost use Prim.Native.Nat.{_/_, _≤_, _^_};
 ghost use lib.ListN.{length, drop};
+ghost use Rattle.evt_types.specs.Layout.{wordSize3};
 ghost use Rattle.evt_codec.specs.declared.codec.Codec.the-variants.{Evt3};
 ghost use Rattle.evt3_decoder.specs.Range.{Bounded3};
 ghost use Rattle.read_select.specs.Pass.{Paced3};
 ghost use Rattle.read_fill.specs.Decode.{Bounded};
 ghost use Rattle.read_seek.specs.Seek.{soughtOf, reach3, Midway};
-ghost use Rattle.read_seek.specs.Times.{passedOf};
+ghost use Rattle.read_seek.specs.Times.{spannedOf};
 ghost use Rattle.read_seek.specs.Back.{putBehind};
 ghost use Rattle.read_seek.specs.Loops.{Passing};
 use crate::Marked;
@@ -19,20 +20,21 @@ use crate::times;
 use crate::times::Times;
 use evt_codec::Codec;
 use evt_types::fields::bits;
+use evt_types::words;
 use evt3_decoder::Decoder;
 use evt3_decoder::widen;
 
 // Behind the words that were passed over.
-pub struct Passed {
+pub struct Spanned {
     pub at: usize,
     pub stray: bool,
     pub times: Times,
 }
 
 // From a started decoder, by its times alone.
-fn pass(bytes: &[u8], d: Decoder, t0: u64, t1: u64) -> Passed
-    requires { ⌜ d .initialised ≡ true ⌝ ∗ ⌜ Bounded3 (length (now bytes) / 2) d ⌝ ∗ ⌜ length (now bytes) ≤ 2 ^ 30 ⌝ }
-    ensures { λ r. ⌜ (r ≡ passedOf (reach3 t0 t1 d (now (bytes .entry))))
+fn pass(bytes: &[u8], d: Decoder, t0: u64, t1: u64) -> Spanned
+    requires { ⌜ d .initialised ≡ true ⌝ ∗ ⌜ Bounded3 (length (now bytes) / wordSize3) d ⌝ ∗ ⌜ length (now bytes) ≤ 2 ^ 30 ⌝ }
+    ensures { λ r. ⌜ (r ≡ spannedOf (reach3 t0 t1 d (now (bytes .entry))))
         × Bounded3 (length (drop (r .at) (now (bytes .entry))) / 2) (reach3 t0 t1 d (now (bytes .entry)) .state) ⌝ }
 {
     let mut c = times::of(d);
@@ -49,7 +51,7 @@ fn pass(bytes: &[u8], d: Decoder, t0: u64, t1: u64) -> Passed
         c = next;
         i += 2;
     }
-    Passed {
+    Spanned {
         at: i,
         stray,
         times: c,
@@ -59,7 +61,7 @@ fn pass(bytes: &[u8], d: Decoder, t0: u64, t1: u64) -> Passed
 // From any decoder, by all that a word does: only the first record of an index has one that isn't
 // started.
 fn walk(bytes: &[u8], d: Decoder, t0: u64, t1: u64) -> Sought
-    requires { ⌜ Bounded3 (length (now bytes) / 2) d ⌝ ∗ ⌜ length (now bytes) ≤ 2 ^ 30 ⌝ }
+    requires { ⌜ Bounded3 (length (now bytes) / wordSize3) d ⌝ ∗ ⌜ length (now bytes) ≤ 2 ^ 30 ⌝ }
     ensures { λ r. ⌜ (r ≡ soughtOf t0 t1 (Evt3 d) (now (bytes .entry))) × Bounded (length (drop (r .at) (now (bytes .entry)))) (r .codec) ⌝ }
 {
     let mut s = widen(d);
@@ -103,7 +105,7 @@ fn put(front: &[u8], d: Decoder, times: Times) -> Decoder
 }
 
 pub fn span3(bytes: &[u8], d: Decoder, t0: u64, t1: u64) -> Sought
-    requires { ⌜ Paced3 (length (now bytes) / 2) d ⌝ ∗ ⌜ length (now bytes) ≤ 2 ^ 30 ⌝ }
+    requires { ⌜ Paced3 (length (now bytes) / wordSize3) d ⌝ ∗ ⌜ length (now bytes) ≤ 2 ^ 30 ⌝ }
     ensures { λ r. ⌜ (r ≡ soughtOf t0 t1 (Evt3 d) (now (bytes .entry))) × Bounded (length (drop (r .at) (now (bytes .entry)))) (r .codec) ⌝ }
 {
     if d.initialised {
@@ -129,7 +131,7 @@ pub struct Stood {
 // From a started decoder to the last time word before t behind which no word reaches t without
 // another: a word's time is less than 4,096 past the time word's.
 fn stride(bytes: &[u8], d: Decoder, t: u64) -> Stood
-    requires { ⌜ d .initialised ≡ true ⌝ ∗ ⌜ Bounded3 (length (now bytes) / 2) d ⌝ ∗ ⌜ length (now bytes) ≤ 2 ^ 30 ⌝ }
+    requires { ⌜ d .initialised ≡ true ⌝ ∗ ⌜ Bounded3 (length (now bytes) / wordSize3) d ⌝ ∗ ⌜ length (now bytes) ≤ 2 ^ 30 ⌝ }
     ensures { λ r. ⌜ Passing 0 t d (now (bytes .entry)) (r .times) false (r .at) ⌝ }
 {
     let mut c = times::of(d);
@@ -158,7 +160,7 @@ fn stride(bytes: &[u8], d: Decoder, t: u64) -> Stood
 }
 
 pub fn skip3(bytes: &[u8], d: Decoder, t: u64) -> Marked
-    requires { ⌜ Paced3 (length (now bytes) / 2) d ⌝ ∗ ⌜ length (now bytes) ≤ 2 ^ 30 ⌝ }
+    requires { ⌜ Paced3 (length (now bytes) / wordSize3) d ⌝ ∗ ⌜ length (now bytes) ≤ 2 ^ 30 ⌝ }
     ensures { λ r. ⌜ Midway t (Evt3 d) (now (bytes .entry)) (r .at) (r .codec) ⌝ }
 {
     if d.initialised {

@@ -17,7 +17,7 @@ use Rattle.read_window.specs.Trim.{Picked, masked, masked-count}
 use Rattle.read_window.specs.Extent.{extentOf, extentWith, extent-none, extent-start, extent-append}
 use Rattle.read_select.specs.declared.word.Notes.{Notes}
 use Rattle.read_select.specs.Word.{Notable, noted, seenIn}
-use Rattle.read_select.specs.Pass.{endOf, tallyOf}
+use Rattle.read_select.specs.Pass.{endOf, surveyOf}
 use Rattle.read_select.specs.Turn.{Source, Laws, Turned, At, all, left, last, leftIf, lastIf, stops, stand-start, stand-end, none-left, narrow-here, number-here, given-left, pend-turn, done-end, done-count}
 
 module _ (Q : Source) (win : Window) (number : ℕ) (s₀ : Q .State) (bytes : List ℕ) where
@@ -49,12 +49,12 @@ module _ {Q : Source} (L : Laws Q) {win : Window} {number : ℕ} {s₀ : Q .Stat
 
     pub counted : Counted Q win number s₀ bytes s t i
         → record { number = t .number; count = t .count; latest = t .latest; width = t .width; height = t .height; consumed = i / Q .size; codec = Q .codec s }
-        ≡ tallyOf (endOf (Q .codec) (last Q win number s₀ bytes number s₀ 0)) (all Q win number s₀ bytes)
+        ≡ surveyOf (endOf (Q .codec) (last Q win number s₀ bytes number s₀ 0)) (all Q win number s₀ bytes)
     counted p =
         let is-seen : seenIn t ≡ extentOf (all Q win number s₀ bytes) = sym (extent-none (seenIn t)) ∙ p .notes in
         ap (λ (m : ℕ). record { number = t .number; count = m; latest = t .latest; width = t .width; height = t .height; consumed = i / Q .size; codec = Q .codec s }) (done-count L (p .at))
         ∙ ap (λ (x : Extent). record { number = t .number; count = length (all Q win number s₀ bytes); latest = x .latest; width = x .width; height = x .height; consumed = i / Q .size; codec = Q .codec s }) is-seen
-        ∙ ap (λ (e : End (Q .State)). tallyOf (endOf (Q .codec) e) (all Q win number s₀ bytes)) (done-end L (p .at))
+        ∙ ap (λ (e : End (Q .State)). surveyOf (endOf (Q .codec) e) (all Q win number s₀ bytes)) (done-end L (p .at))
 
     module _ (u : Counts Q win number s₀ bytes s t i) where
       pub counts-end : length bytes < i + Q .size → Counted Q win number s₀ bytes s t i

@@ -5,6 +5,7 @@ use mathlib.Core.List.{List, _++_}
 use Prim.Native.Nat.{ℕ, _+_, _-_, _*_, _^_, _≤_, _<_}
 use native.Mathlib.Omega.{arith}
 use lib.ListN.{length, take, drop}
+use Rattle.evt_types.specs.Layout.{wordSize2, wordSize3}
 use Rattle.laws_stream.specs.Machine.{All}
 use Rattle.laws_stream.specs.Words.{wordsOf, wordsOf-append}
 use Rattle.laws_stream.specs.Slice.{sift}
@@ -14,7 +15,7 @@ use Rattle.evt_codec.specs.declared.codec.Codec.{Codec}
 use Rattle.evt_codec.specs.declared.codec.Codec.the-variants.{Evt2, Evt3}
 use Rattle.evt_codec.specs.Codec.{wordSize, codecAfter}
 use Rattle.read_window.specs.declared.Window.{Window}
-use Rattle.read_window.specs.Window.{spanOf, reading2, reading3}
+use Rattle.read_window.specs.Window.{selectionOf, reading2, reading3}
 use Rattle.read_select.specs.Pass.{handedOver, Able}
 use Rattle.read_select.specs.Uses.{numberedOver, isTimely, untilOver, PastOver, over-by-number, over-by-time}
 
@@ -28,10 +29,10 @@ module _ (a b : List ℕ) (j : ℕ) where
     number-from : (c : Codec) → Whole c → length (numberedOver win c a) ≤ win .n0
         → byNumber (win .n0) (win .n1) (length (numberedOver win c a)) (numberedOver win (codecAfter c a) b) ≡ take (win .n1 - win .n0) (drop (win .n0) (numberedOver win c (a ++ b)))
     number-from (Evt2 d) h l =
-        Select.by-number-from (reading2 win) (spanOf win) d (wordsOf 4 a) (wordsOf 4 b) l
+        Select.by-number-from (reading2 win) (selectionOf win) d (wordsOf wordSize2 a) (wordsOf wordSize2 b) l
         ∙ ap (λ (ws : List ℕ). take (win .n1 - win .n0) (drop (win .n0) (Select.numbered (reading2 win) d ws))) (sym (wordsOf-append 4 (omega arith) j a b h))
     number-from (Evt3 d) h l =
-        Select.by-number-from (reading3 win) (spanOf win) d (wordsOf 2 a) (wordsOf 2 b) l
+        Select.by-number-from (reading3 win) (selectionOf win) d (wordsOf wordSize3 a) (wordsOf wordSize3 b) l
         ∙ ap (λ (ws : List ℕ). take (win .n1 - win .n0) (drop (win .n0) (Select.numbered (reading3 win) d ws))) (sym (wordsOf-append 2 (omega arith) j a b h))
 
     pub handed-number-from : (c : Codec) → Whole c → Able (length b) (codecAfter c a) → win .t0 ≡ 0 → 2 ^ 63 ≤ win .t1 → length (numberedOver win c a) ≤ win .n0
@@ -44,11 +45,11 @@ module _ (a b : List ℕ) (j : ℕ) where
         → sift (isTimely win) (untilOver win (codecAfter c a) b) ≡ sift (isTimely win) (numberedOver win c (a ++ b))
     time-from (Evt2 d) h e p =
         let ws = wordsOf-append 4 (omega arith) j a b h in
-        Select.by-time-from (reading2 win) (spanOf win) d (wordsOf 4 a) (wordsOf 4 b) e (rw ws at p)
+        Select.by-time-from (reading2 win) (selectionOf win) d (wordsOf wordSize2 a) (wordsOf wordSize2 b) e (rw ws at p)
         ∙ ap (λ (ws : List ℕ). sift (isTimely win) (Select.numbered (reading2 win) d ws)) (sym ws)
     time-from (Evt3 d) h e p =
         let ws = wordsOf-append 2 (omega arith) j a b h in
-        Select.by-time-from (reading3 win) (spanOf win) d (wordsOf 2 a) (wordsOf 2 b) e (rw ws at p)
+        Select.by-time-from (reading3 win) (selectionOf win) d (wordsOf wordSize3 a) (wordsOf wordSize3 b) e (rw ws at p)
         ∙ ap (λ (ws : List ℕ). sift (isTimely win) (Select.numbered (reading3 win) d ws)) (sym ws)
 
     pub handed-time-from : (k : ℕ) (c : Codec) → Whole c → win .n0 ≤ k → k + length (numberedOver win (codecAfter c a) b) < win .n1

@@ -2,6 +2,7 @@
 use mathlib.Core.List.{List}
 use Prim.Native.Nat.{ℕ, _+_, _*_, _/_, _^_, _≤_}
 use lib.ListN.{length}
+use Rattle.evt_types.specs.Layout.{wordSize2, wordSize3}
 use Rattle.laws_stream.specs.Words.{wordsOf}
 use Rattle.laws_stream.specs.Select.{End, handed, ended}
 use Rattle.evt3_decoder.specs.declared.Decoder.{Decoder}
@@ -12,26 +13,26 @@ use Rattle.evt_types.specs.Event.{Event}
 use Rattle.evt2_decoder.specs.Range.{Bounded2}
 use Rattle.evt3_decoder.specs.Range.{Regular3}
 use Rattle.read_window.specs.declared.Window.{Window}
-use Rattle.read_select.specs.declared.Tally.{Tally}
+use Rattle.read_select.specs.declared.SurveyTotals.{SurveyTotals}
 use Rattle.read_select.specs.declared.Filled.{Filled}
-use Rattle.read_window.specs.Window.{spanOf, reading2, reading3}
+use Rattle.read_window.specs.Window.{selectionOf, reading2, reading3}
 use Rattle.read_window.specs.Extent.{extentOf}
 
 -- the events handed over, where the next event has the number k
 abbrev pub handedOver : Window → ℕ → Codec → List ℕ → List Event
-handedOver win k (Evt2 d) l = handed (reading2 win) (spanOf win) k d (wordsOf 4 l)
-handedOver win k (Evt3 d) l = handed (reading3 win) (spanOf win) k d (wordsOf 2 l)
+handedOver win k (Evt2 d) l = handed (reading2 win) (selectionOf win) k d (wordsOf wordSize2 l)
+handedOver win k (Evt3 d) l = handed (reading3 win) (selectionOf win) k d (wordsOf wordSize3 l)
 
 abbrev pub endOf : {S : Type 0} → (S → Codec) → End S → End Codec
 endOf codec e = record { number = e .number; state = codec (e .state); consumed = e .consumed }
 
 -- where it ends
 abbrev pub endOver : Window → ℕ → Codec → List ℕ → End Codec
-endOver win k (Evt2 d) l = endOf Evt2 (ended (reading2 win) (spanOf win) k d (wordsOf 4 l))
-endOver win k (Evt3 d) l = endOf Evt3 (ended (reading3 win) (spanOf win) k d (wordsOf 2 l))
+endOver win k (Evt2 d) l = endOf Evt2 (ended (reading2 win) (selectionOf win) k d (wordsOf wordSize2 l))
+endOver win k (Evt3 d) l = endOf Evt3 (ended (reading3 win) (selectionOf win) k d (wordsOf wordSize3 l))
 
-abbrev pub tallyOf : End Codec → List Event → Tally
-tallyOf e es = record {
+abbrev pub surveyOf : End Codec → List Event → SurveyTotals
+surveyOf e es = record {
   number = e .number;
   count = length es;
   latest = extentOf es .latest;
@@ -45,8 +46,8 @@ abbrev pub filledOf : End Codec → List Event → Filled
 filledOf e es = record { number = e .number; count = length es; consumed = e .consumed; codec = e .state }
 
 -- what `survey` and `fill` answer
-abbrev pub surveyed : Window → ℕ → Codec → List ℕ → Tally
-surveyed win k c l = tallyOf (endOver win k c l) (handedOver win k c l)
+abbrev pub surveyed : Window → ℕ → Codec → List ℕ → SurveyTotals
+surveyed win k c l = surveyOf (endOver win k c l) (handedOver win k c l)
 
 abbrev pub filled : Window → ℕ → Codec → List ℕ → Filled
 filled win k c l = filledOf (endOver win k c l) (handedOver win k c l)

@@ -8,13 +8,13 @@ use Rattle.laws_stream.specs.Words.{wordsOf, length-words}
 use Rattle.evt2_decoder.specs.declared.Evt2Decoder.{Evt2Decoder}
 use Rattle.evt3_decoder.specs.declared.Decoder.{Decoder}
 use Rattle.evt_codec.specs.declared.codec.Codec.the-variants.{Evt2, Evt3}
-use Rattle.evt_types.specs.Layout.{type2}
+use Rattle.evt_types.specs.Layout.{type2, wordSize2, wordSize3}
 use Rattle.evt_types.specs.declared.vector.Vector.{Vector}
 use Rattle.evt2_decoder.specs.Evt2.{step2, reader2, vector2, vectorAs, by-kinds}
 use Rattle.evt3_decoder.specs.Evt3.{step3, reader3, vector3}
 use Rattle.evt2_decoder.specs.Range.{Bounded2, bounded-step2, bounded-narrow2}
 use Rattle.evt3_decoder.specs.Range.{Bounded3, bounded-step3, bounded-narrow3}
-use Rattle.words.specs.Ahead.{ahead, ahead-some}
+use Rattle.evt_types.specs.Ahead.{ahead, ahead-some}
 use Rattle.read_select.specs.Pass.{Ready}
 use Rattle.read_select.specs.Turn.{Source, Laws, Turned}
 
@@ -49,10 +49,10 @@ pub laws3 : Laws source3
 laws3 = record { some = omega arith; emits = λ d w. refl; steps = bounded-step3; narrow = λ n d w b. bounded-narrow3 w b }
 
 -- a pass that is asked for what it may be
-pub inv2 : {number : ℕ} (d : Evt2Decoder) (l : List ℕ) → Ready (Evt2 d) number (length l) → Bounded2 (length (wordsOf 4 l)) d
+pub inv2 : {number : ℕ} (d : Evt2Decoder) (l : List ℕ) → Ready (Evt2 d) number (length l) → Bounded2 (length (wordsOf wordSize2 l)) d
 inv2 d l r = rw (length-words 4 l) (r .able)
 
-pub inv3 : {number : ℕ} (d : Decoder) (l : List ℕ) → Ready (Evt3 d) number (length l) → d .«base_x» < 2 ^ 16 → Bounded3 (length (wordsOf 2 l)) d
+pub inv3 : {number : ℕ} (d : Decoder) (l : List ℕ) → Ready (Evt3 d) number (length l) → d .«base_x» < 2 ^ 16 → Bounded3 (length (wordsOf wordSize3 l)) d
 inv3 d l r x = rw (length-words 2 l) (record { regular = r .able .regular; loops = r .able .loops; column = x })
 
 -- an EVT2 word has one event at most

@@ -17,7 +17,7 @@ use Rattle.evt_types.specs.Event.{Event, eventsOf, Narrow}
 use Rattle.read_columns.specs.Inside.{inside, sift-few}
 use Rattle.read_window.specs.declared.Window.{Window}
 use Rattle.read_window.specs.declared.trim.Trimmed.{Trimmed}
-use Rattle.read_window.specs.Window.{spanOf, reading, choose, chosen-choose}
+use Rattle.read_window.specs.Window.{selectionOf, reading, choose, chosen-choose}
 use Rattle.read_window.specs.Trim.{Picked, masked, eventsIn, insideIn, events-few}
 
 -- a decoder: its machine over words of `size` bytes, the vector that a word carries, and what holds of a state that takes n words more
@@ -66,13 +66,13 @@ module _ (Q : Source) (win : Window) (number : ℕ) (s₀ : Q .State) (bytes : L
   rest i = wordsOf (Q .size) (drop i bytes)
 
   abbrev pub left : ℕ → Q .State → ℕ → List Event
-  left k s i = handed source (spanOf win) k s (rest i)
+  left k s i = handed source (selectionOf win) k s (rest i)
 
   abbrev pub last : ℕ → Q .State → ℕ → End (Q .State)
-  last k s i = ended source (spanOf win) k s (rest i)
+  last k s i = ended source (selectionOf win) k s (rest i)
 
   abbrev pub stops : ℕ → Q .State → Bool
-  stops k s = Select.isStopped source (spanOf win) k s
+  stops k s = Select.isStopped source (selectionOf win) k s
 
   -- after a word, before it is asked whether the pass stops
   abbrev pub leftIf : Bool → ℕ → Q .State → ℕ → List Event
@@ -183,7 +183,7 @@ module _ {Q : Source} (L : Laws Q) {win : Window} {number : ℕ} {s₀ : Q .Stat
         splits k′ e =
             let t = Q .machine .step s w in
             let here = Select.numberedOf (source Q win number s₀ bytes) s w in
-            ap (handed (source Q win number s₀ bytes) (spanOf win) k s) words-here
+            ap (handed (source Q win number s₀ bytes) (selectionOf win) k s) words-here
             ∙ ap (λ (l : List Event). l ++ leftIf Q win number s₀ bytes (stops Q win number s₀ bytes (k + length here) t) (k + length here) t j)
             (chosen-choose (Q .machine) (Q .live) (Q .time) win k here ∙ ap (choose win k) numbered-is)
             ∙ ap (λ (x : ℕ). choose win k numbered ++ leftIf Q win number s₀ bytes (stops Q win number s₀ bytes x t) x t j) (ap (λ (l : List Event). k + length l) numbered-is ∙ sym e)
@@ -194,7 +194,7 @@ module _ {Q : Source} (L : Laws Q) {win : Window} {number : ℕ} {s₀ : Q .Stat
         unfolding ended
         finishes k′ e =
             let t = Q .machine .step s w in
-            ap (ended (source Q win number s₀ bytes) (spanOf win) k s) words-here
+            ap (ended (source Q win number s₀ bytes) (selectionOf win) k s) words-here
             ∙ ap (λ (x : ℕ). oneMore (lastIf Q win number s₀ bytes (stops Q win number s₀ bytes x t) x t j)) (ap (λ (l : List Event). k + length l) numbered-is ∙ sym e)
             ∙ ap (λ (x : Q .State). oneMore (lastIf Q win number s₀ bytes (stops Q win number s₀ bytes k′ x) k′ x j)) (sym (o .is-next))
 

@@ -18,7 +18,7 @@ use Rattle.evt_codec.specs.declared.codec.Codec.{Codec}
 use Rattle.evt_codec.specs.declared.codec.Codec.the-variants.{Evt2, Evt3}
 use Rattle.evt_types.specs.declared.vector.Vector.{Vector}
 use Rattle.evt_types.specs.Event.{Event, eventAt, eventsOf}
-use Rattle.evt_types.specs.Layout.{type3, time3}
+use Rattle.evt_types.specs.Layout.{type3, time3, wordSize2, wordSize3}
 use Rattle.evt2_decoder.specs.Evt2.{reader2, vector2}
 use Rattle.evt3_decoder.specs.Evt3 as Evt3
 use Rattle.evt3_decoder.specs.Evt3.{reader3, step3, vector3, period3, threshold3}
@@ -27,7 +27,7 @@ use Rattle.evt2_decoder.specs.Range.{Bounded2, bounded-range2, bounded-step2, b
 use Rattle.evt3_decoder.specs.Range.{Bounded3, regular-range3, regular-step3}
 use Rattle.read_columns.specs.Inside.{inside, clock}
 use Rattle.read_window.specs.declared.Window.{Window}
-use Rattle.read_window.specs.Window.{spanOf, reading, reading2, reading3}
+use Rattle.read_window.specs.Window.{selectionOf, reading, reading2, reading3}
 use Rattle.read_window.specs.Trim.{all-mapped}
 use Rattle.read_select.specs.Pass.{handedOver, endOver, endOf, Paced3, Able}
 
@@ -92,14 +92,14 @@ timed3 = record {
 
 module _ {S : Type 0} {M : Machine S ℕ Event} {time : S → ℕ} {Inv : ℕ → S → Type 0} (T : Timed M time Inv) (live : S → Bool) (win : Window) (no-end : 2 ^ 63 ≤ win .t1)
     (s : S) (ws : List ℕ) (inv : Inv (length ws) s) where
-  calm : Select.Calm (reading M live time win) (spanOf win) s ws
-  calm = Select.calm-bounded (reading M live time win) (spanOf win) Inv (T .keeps) (λ n u i. omega (arith, T .state n u i)) s ws inv
+  calm : Select.Calm (reading M live time win) (selectionOf win) s ws
+  calm = Select.calm-bounded (reading M live time win) (selectionOf win) Inv (T .keeps) (λ n u i. omega (arith, T .state n u i)) s ws inv
 
-  in-window : win .t0 ≡ 0 → All (λ e. Select.inTime (reading M live time win) (spanOf win) e ≡ true) (Select.numbered (reading M live time win) s ws)
+  in-window : win .t0 ≡ 0 → All (λ e. Select.inTime (reading M live time win) (selectionOf win) e ≡ true) (Select.numbered (reading M live time win) s ws)
   in-window z = all-sift (inside (win .width) (win .height)) _ (emits M s ws)
       (emits-all M Inv (T .keeps) _ (λ n u w i. all-timely (M .emit u w) (T .events n u w i)) s ws inv)
     where
-      all-timely : (es : List Event) → All (λ e. e .t < 2 ^ 63) es → All (λ e. Select.inTime (reading M live time win) (spanOf win) e ≡ true) es
+      all-timely : (es : List Event) → All (λ e. e .t < 2 ^ 63) es → All (λ e. Select.inTime (reading M live time win) (selectionOf win) e ≡ true) es
       all-timely [] h = tt
       all-timely (e ∷ es) h = (timely clock (win .t0) (win .t1) e (omega arith) (omega (arith, h .0)), all-timely es (h .1))
 
@@ -115,13 +115,13 @@ isTimely win = within clock (win .t0) (win .t1)
 
 -- those up to the first word after which the decoder is started and its time is t1 or more
 abbrev pub untilOver : Window → Codec → List ℕ → List Event
-untilOver win (Evt2 d) l = Select.numbered (reading2 win) d (until reader2 (Select.isOver (reading2 win) (spanOf win)) d (wordsOf 4 l))
-untilOver win (Evt3 d) l = Select.numbered (reading3 win) d (until reader3 (Select.isOver (reading3 win) (spanOf win)) d (wordsOf 2 l))
+untilOver win (Evt2 d) l = Select.numbered (reading2 win) d (until reader2 (Select.isOver (reading2 win) (selectionOf win)) d (wordsOf wordSize2 l))
+untilOver win (Evt3 d) l = Select.numbered (reading3 win) d (until reader3 (Select.isOver (reading3 win) (selectionOf win)) d (wordsOf wordSize3 l))
 
 -- after that word no event inside is in time
 abbrev pub PastOver : Window → Codec → List ℕ → Type 0
-PastOver win (Evt2 d) l = Past reader2 (andThen (inside (win .width) (win .height)) (isTimely win)) (Select.isOver (reading2 win) (spanOf win)) d (wordsOf 4 l)
-PastOver win (Evt3 d) l = Past reader3 (andThen (inside (win .width) (win .height)) (isTimely win)) (Select.isOver (reading3 win) (spanOf win)) d (wordsOf 2 l)
+PastOver win (Evt2 d) l = Past reader2 (andThen (inside (win .width) (win .height)) (isTimely win)) (Select.isOver (reading2 win) (selectionOf win)) d (wordsOf wordSize2 l)
+PastOver win (Evt3 d) l = Past reader3 (andThen (inside (win .width) (win .height)) (isTimely win)) (Select.isOver (reading3 win) (selectionOf win)) d (wordsOf wordSize3 l)
 
 -- after all words
 abbrev pub endAfterAll : Window → ℕ → Codec → List ℕ → End Codec
@@ -129,22 +129,22 @@ endAfterAll win k c l = record { number = k + length (numberedOver win c l); sta
 
 module _ (win : Window) where
   abbrev pub Calm2 : Evt2Decoder → List ℕ → Type 0
-  Calm2 d l = Select.Calm (reading2 win) (spanOf win) d (wordsOf 4 l)
+  Calm2 d l = Select.Calm (reading2 win) (selectionOf win) d (wordsOf wordSize2 l)
 
   abbrev pub Calm3 : Decoder → List ℕ → Type 0
-  Calm3 d l = Select.Calm (reading3 win) (spanOf win) d (wordsOf 2 l)
+  Calm3 d l = Select.Calm (reading3 win) (selectionOf win) d (wordsOf wordSize3 l)
 
   -- no decoder on the way reaches t1
   pub calm2 : 2 ^ 63 ≤ win .t1 → (d : Evt2Decoder) (l : List ℕ) → Able (length l) (Evt2 d) → Calm2 d l
-  calm2 no-end d l a = calm timed2 (λ d. d .initialised) win no-end d (wordsOf 4 l) (rw (length-words 4 l) a)
+  calm2 no-end d l a = calm timed2 (λ d. d .initialised) win no-end d (wordsOf wordSize2 l) (rw (length-words 4 l) a)
 
   pub calm3 : 2 ^ 63 ≤ win .t1 → (d : Decoder) (l : List ℕ) → Able (length l) (Evt3 d) → Calm3 d l
-  calm3 no-end d l a = calm timed3 (λ d. d .initialised) win no-end d (wordsOf 2 l) (rw (length-words 2 l) a)
+  calm3 no-end d l a = calm timed3 (λ d. d .initialised) win no-end d (wordsOf wordSize3 l) (rw (length-words 2 l) a)
 
   -- every event is in time
   pub all-timely : (c : Codec) (l : List ℕ) → Able (length l) c → win .t0 ≡ 0 → 2 ^ 63 ≤ win .t1 → All (λ e. isTimely win e ≡ true) (numberedOver win c l)
-  all-timely (Evt2 d) l a z no-end = in-window timed2 (λ d. d .initialised) win no-end d (wordsOf 4 l) (rw (length-words 4 l) a) z
-  all-timely (Evt3 d) l a z no-end = in-window timed3 (λ d. d .initialised) win no-end d (wordsOf 2 l) (rw (length-words 2 l) a) z
+  all-timely (Evt2 d) l a z no-end = in-window timed2 (λ d. d .initialised) win no-end d (wordsOf wordSize2 l) (rw (length-words 4 l) a) z
+  all-timely (Evt3 d) l a z no-end = in-window timed3 (λ d. d .initialised) win no-end d (wordsOf wordSize3 l) (rw (length-words 2 l) a) z
 
   -- ---- where the window has all times
 
@@ -154,16 +154,16 @@ module _ (win : Window) where
     over-by-number k = go c able (all-timely c l able no-start no-end)
       where
         go : (c : Codec) → Able (length l) c → All (λ e. isTimely win e ≡ true) (numberedOver win c l) → handedOver win k c l ≡ byNumber (win .n0) (win .n1) k (numberedOver win c l)
-        go (Evt2 d) a t = Select.handed-by-number (reading2 win) (spanOf win) k d (wordsOf 4 l) (calm2 no-end d l a) t
-        go (Evt3 d) a t = Select.handed-by-number (reading3 win) (spanOf win) k d (wordsOf 2 l) (calm3 no-end d l a) t
+        go (Evt2 d) a t = Select.handed-by-number (reading2 win) (selectionOf win) k d (wordsOf wordSize2 l) (calm2 no-end d l a) t
+        go (Evt3 d) a t = Select.handed-by-number (reading3 win) (selectionOf win) k d (wordsOf wordSize3 l) (calm3 no-end d l a) t
 
     -- THE LIMIT
     pub over-limit : win .n0 ≡ 0 → handedOver win 0 c l ≡ take (win .n1) (numberedOver win c l)
     over-limit z = go c able (all-timely c l able no-start no-end)
       where
         go : (c : Codec) → Able (length l) c → All (λ e. isTimely win e ≡ true) (numberedOver win c l) → handedOver win 0 c l ≡ take (win .n1) (numberedOver win c l)
-        go (Evt2 d) a t = Select.handed-limit (reading2 win) (spanOf win) d (wordsOf 4 l) z (calm2 no-end d l a) t
-        go (Evt3 d) a t = Select.handed-limit (reading3 win) (spanOf win) d (wordsOf 2 l) z (calm3 no-end d l a) t
+        go (Evt2 d) a t = Select.handed-limit (reading2 win) (selectionOf win) d (wordsOf wordSize2 l) z (calm2 no-end d l a) t
+        go (Evt3 d) a t = Select.handed-limit (reading3 win) (selectionOf win) d (wordsOf wordSize3 l) z (calm3 no-end d l a) t
 
     -- ALL: and all numbers
     pub over-all : (k : ℕ) → win .n0 ≤ k → k + length (numberedOver win c l) ≤ win .n1 → handedOver win k c l ≡ numberedOver win c l
@@ -171,33 +171,33 @@ module _ (win : Window) where
       where
         go : (c : Codec) → Able (length l) c → win .n0 ≤ k → k + length (numberedOver win c l) ≤ win .n1 → All (λ e. isTimely win e ≡ true) (numberedOver win c l)
             → handedOver win k c l ≡ numberedOver win c l
-        go (Evt2 d) a lo hi t = Select.handed-all (reading2 win) (spanOf win) k d (wordsOf 4 l) lo hi (calm2 no-end d l a) t
-        go (Evt3 d) a lo hi t = Select.handed-all (reading3 win) (spanOf win) k d (wordsOf 2 l) lo hi (calm3 no-end d l a) t
+        go (Evt2 d) a lo hi t = Select.handed-all (reading2 win) (selectionOf win) k d (wordsOf wordSize2 l) lo hi (calm2 no-end d l a) t
+        go (Evt3 d) a lo hi t = Select.handed-all (reading3 win) (selectionOf win) k d (wordsOf wordSize3 l) lo hi (calm3 no-end d l a) t
 
   -- nothing stops it
   pub over-all-end : (c : Codec) (l : List ℕ) → Able (length l) c → 2 ^ 63 ≤ win .t1 → (k : ℕ) → k + length (numberedOver win c l) < win .n1
       → endOver win k c l ≡ endAfterAll win k c l
   over-all-end (Evt2 d) l a no-end k hi =
-      ap (endOf Evt2) (Select.ended-all (reading2 win) (spanOf win) k d (wordsOf 4 l) hi (calm2 no-end d l a)) ∙ rw (length-words 4 l)
+      ap (endOf Evt2) (Select.ended-all (reading2 win) (selectionOf win) k d (wordsOf wordSize2 l) hi (calm2 no-end d l a)) ∙ rw (length-words 4 l)
   over-all-end (Evt3 d) l a no-end k hi =
-      ap (endOf Evt3) (Select.ended-all (reading3 win) (spanOf win) k d (wordsOf 2 l) hi (calm3 no-end d l a)) ∙ rw (length-words 2 l)
+      ap (endOf Evt3) (Select.ended-all (reading3 win) (selectionOf win) k d (wordsOf wordSize3 l) hi (calm3 no-end d l a)) ∙ rw (length-words 2 l)
 
   -- ---- BY TIME: where the window has all numbers
 
   pub over-by-time : (k : ℕ) (c : Codec) (l : List ℕ) → win .n0 ≤ k → k + length (numberedOver win c l) < win .n1
       → handedOver win k c l ≡ sift (isTimely win) (untilOver win c l)
-  over-by-time k (Evt2 d) l lo hi = Select.handed-by-time (reading2 win) (spanOf win) k d (wordsOf 4 l) lo hi
-  over-by-time k (Evt3 d) l lo hi = Select.handed-by-time (reading3 win) (spanOf win) k d (wordsOf 2 l) lo hi
+  over-by-time k (Evt2 d) l lo hi = Select.handed-by-time (reading2 win) (selectionOf win) k d (wordsOf wordSize2 l) lo hi
+  over-by-time k (Evt3 d) l lo hi = Select.handed-by-time (reading3 win) (selectionOf win) k d (wordsOf wordSize3 l) lo hi
 
   -- of all the bytes, where no event that is in time follows the stop
   pub over-in-time : (k : ℕ) (c : Codec) (l : List ℕ) → win .n0 ≤ k → k + length (numberedOver win c l) < win .n1 → PastOver win c l
       → handedOver win k c l ≡ sift (isTimely win) (numberedOver win c l)
-  over-in-time k (Evt2 d) l lo hi p = Select.handed-in-time (reading2 win) (spanOf win) k d (wordsOf 4 l) lo hi p
-  over-in-time k (Evt3 d) l lo hi p = Select.handed-in-time (reading3 win) (spanOf win) k d (wordsOf 2 l) lo hi p
+  over-in-time k (Evt2 d) l lo hi p = Select.handed-in-time (reading2 win) (selectionOf win) k d (wordsOf wordSize2 l) lo hi p
+  over-in-time k (Evt3 d) l lo hi p = Select.handed-in-time (reading3 win) (selectionOf win) k d (wordsOf wordSize3 l) lo hi p
 
 -- ---- no more are handed over than have a number
 
-module _ {S : Type 0} (R : Select.Reading S ℕ Event) (span : Select.Window) where
+module _ {S : Type 0} (R : Select.Reading S ℕ Event) (span : Select.Selection) where
   handed-most : (k : ℕ) (s : S) (ws : List ℕ) → length (Select.handed R span k s ws) ≤ length (Select.numbered R s ws)
   handed-most k s ws =
       let n = Select.ended R span k s ws .consumed in
@@ -207,5 +207,5 @@ module _ {S : Type 0} (R : Select.Reading S ℕ Event) (span : Select.Window) wh
       rw Select.handed-after (omega (arith, Select.chosen-few R span k a, ap length e, length-append a b))
 
 pub over-few : (win : Window) (k : ℕ) (c : Codec) (l : List ℕ) → length (handedOver win k c l) ≤ length (numberedOver win c l)
-over-few win k (Evt2 d) l = handed-most (reading2 win) (spanOf win) k d (wordsOf 4 l)
-over-few win k (Evt3 d) l = handed-most (reading3 win) (spanOf win) k d (wordsOf 2 l)
+over-few win k (Evt2 d) l = handed-most (reading2 win) (selectionOf win) k d (wordsOf wordSize2 l)
+over-few win k (Evt3 d) l = handed-most (reading3 win) (selectionOf win) k d (wordsOf wordSize3 l)

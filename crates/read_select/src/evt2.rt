@@ -5,17 +5,18 @@ ghost use Rattle.evt_codec.specs.declared.codec.Codec.the-variants.{Evt2};
 ghost use Rattle.evt_types.specs.Columns.{Wrote};
 ghost use Rattle.read_select.specs.Pass.{Ready, Fits, handedOver, surveyed, filled};
 use crate::Filled;
-use crate::Tally;
+use crate::SurveyTotals;
 use crate::word;
 use crate::word::Notes;
 use evt_codec::Codec;
+use evt_types::words;
 use evt2_decoder::Evt2Decoder;
 use evt2_decoder::advance;
 use read_window::Window;
 use read_window::trim;
 
 // Counts the events that the window leaves of each word.
-pub fn survey2(bytes: &[u8], d: Evt2Decoder, win: Window, number: u64) -> Tally
+pub fn survey2(bytes: &[u8], d: Evt2Decoder, win: Window, number: u64) -> SurveyTotals
     requires { ⌜ Ready (Evt2 d) number (length (now bytes)) ⌝ }
     ensures { λ r. ⌜ r ≡ surveyed win number (Evt2 d) (now (bytes .entry)) ⌝ }
 {
@@ -40,7 +41,7 @@ pub fn survey2(bytes: &[u8], d: Evt2Decoder, win: Window, number: u64) -> Tally
             break;
         }
     }
-    Tally {
+    SurveyTotals {
         number: t.number,
         count: t.count,
         latest: t.latest,

@@ -5,17 +5,18 @@ ghost use Rattle.evt_codec.specs.declared.codec.Codec.the-variants.{Evt3};
 ghost use Rattle.evt_types.specs.Columns.{Wrote};
 ghost use Rattle.read_select.specs.Pass.{Ready, Fits, handedOver, surveyed, filled};
 use crate::Filled;
-use crate::Tally;
+use crate::SurveyTotals;
 use crate::word;
 use crate::word::Notes;
 use evt_codec::Codec;
+use evt_types::words;
 use evt3_decoder::Decoder;
 use evt3_decoder::widen;
 use read_window::Window;
 use read_window::trim;
 
 // Counts the events that the window leaves of each word.
-pub fn survey3(bytes: &[u8], d: Decoder, win: Window, number: u64) -> Tally
+pub fn survey3(bytes: &[u8], d: Decoder, win: Window, number: u64) -> SurveyTotals
     requires { ⌜ Ready (Evt3 d) number (length (now bytes)) ⌝ }
     ensures { λ r. ⌜ r ≡ surveyed win number (Evt3 d) (now (bytes .entry)) ⌝ }
 {
@@ -41,7 +42,7 @@ pub fn survey3(bytes: &[u8], d: Decoder, win: Window, number: u64) -> Tally
         }
     }
     let decoder = s.slim();
-    Tally {
+    SurveyTotals {
         number: t.number,
         count: t.count,
         latest: t.latest,

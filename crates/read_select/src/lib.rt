@@ -12,7 +12,7 @@ pub use read_window::Window;
 
 // What a survey tells: the next event's number, how many events were handed over, their greatest
 // time, column plus 1 and row plus 1 (0 of no events), the words consumed, and the decoder.
-pub struct Tally {
+pub struct SurveyTotals {
     pub number: u64,
     pub count: usize,
     pub latest: u64,
@@ -37,7 +37,7 @@ mod word;
 // Counts what a pass hands over, from a decoder and the next event's number, and alters nothing.
 // `Ready` is every caller's to show: it refuses a decoder out of range (10) and more than 2^30
 // bytes (4) first.
-pub fn survey(bytes: &[u8], codec: Codec, win: Window, number: u64) -> Tally
+pub fn survey(bytes: &[u8], codec: Codec, win: Window, number: u64) -> SurveyTotals
     requires { ⌜ Ready codec number (length (now bytes)) ⌝ }
     ensures { λ r. ⌜ r ≡ surveyed win number codec (now (bytes .entry)) ⌝ }
 {

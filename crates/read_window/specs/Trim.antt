@@ -14,10 +14,11 @@ use Rattle.laws_stream.specs.Slice.{sift, sift-all, sift-none}
 use Rattle.laws_stream.specs.Select as Select
 use Rattle.evt_types.specs.declared.vector.Vector.{Vector}
 use Rattle.evt_types.specs.Event.{Event, eventAt, eventsOf, Narrow}
-use Rattle.read_columns.specs.Inside.{isInside, inside}
+use Rattle.read_columns.specs.Inside.{inside}
+use Rattle.evt_types.specs.Num.{isInside}
 use Rattle.read_window.specs.declared.Window.{Window}
 use Rattle.read_window.specs.declared.trim.Trimmed.{Trimmed}
-use Rattle.read_window.specs.Window.{isWithin, isSpanned, spanOf, anyReading, choose}
+use Rattle.read_window.specs.Window.{isWithin, isSpanned, selectionOf, anyReading, choose}
 
 -- a word's events, with n bits of the mask looked at
 abbrev pub eventsIn : ℕ → Vector → List Event
@@ -74,7 +75,7 @@ module _ (win : Window) where
 
   -- every time and number is in the window
   choose-all : (k : ℕ) (es : List Event) → win .n0 ≤ k → k + length es ≤ win .n1 → All (λ e. isWithin win (e .t) ≡ true) es → choose win k es ≡ es
-  choose-all k es a b h = Select.chosen-time (anyReading win) (spanOf win) k es a b ∙ sift-all (λ e. isWithin win (e .t)) es h
+  choose-all k es a b h = Select.chosen-time (anyReading win) (selectionOf win) k es a b ∙ sift-all (λ e. isWithin win (e .t)) es h
 
 pub all-mapped : (P : Event → Type 0) (f : ℕ → Event) (l : List ℕ) → All (λ c. P (f c)) l → All P (map f l)
 all-mapped P f [] h = tt

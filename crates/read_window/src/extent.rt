@@ -1,22 +1,16 @@
 // The greatest time, column and row of events, for a recording that names no size.
 ghost use mathlib.Core.Path.{_≡_};
-ghost use Prim.Native.Nat.{max};
 ghost use Rattle.evt_types.specs.Event.{Narrow, eventsOf};
 ghost use Rattle.read_window.specs.Extent.{extentWith};
+use evt_types::num::max_u64;
+use evt_types::num::saturate;
 use evt_types::vector::Vector;
-use evt_types::vector::held;
 
 // The greatest time, and the greatest column and row plus 1; 0 of no events.
 pub struct Extent {
     pub latest: u64,
     pub width: u64,
     pub height: u64,
-}
-
-pub fn greater(a: u64, b: u64) -> u64
-    ensures { λ r. ⌜ r ≡ max a b ⌝ }
-{
-    if a < b { b } else { a }
 }
 
 // With the events of v too.
@@ -29,10 +23,10 @@ pub fn see(e: Extent, v: Vector) -> Extent
         return e;
     }
     let top = 63 - u64::leading_zeros(mask) as u64;
-    let x = held(v.x + top);
+    let x = saturate(v.x + top);
     Extent {
-        latest: greater(e.latest, v.t),
-        width: greater(e.width, x + 1),
-        height: greater(e.height, v.y + 1),
+        latest: max_u64(e.latest, v.t),
+        width: max_u64(e.width, x + 1),
+        height: max_u64(e.height, v.y + 1),
     }
 }

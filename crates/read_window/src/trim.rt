@@ -2,23 +2,17 @@
 ghost use mathlib.Core.Path.{_≡_};
 ghost use Prim.Native.Nat.{_+_, _<_, _^_};
 ghost use Rattle.evt_types.specs.Event.{Narrow};
-ghost use Rattle.read_columns.specs.Inside.{isInside};
 ghost use Rattle.read_window.specs.Window.{isWithin, isSpanned, isStopped};
 ghost use Rattle.read_window.specs.Trim.{Pickable, Picked, isWhole, isSkipped};
 use crate::Window;
+use evt_types::num::inside;
+use evt_types::num::saturate;
 use evt_types::vector::Vector;
-use evt_types::vector::held;
 
 // The bits of the events that are handed over, and how many events are numbered besides.
 pub struct Trimmed {
     pub mask: u64,
     pub extra: u64,
-}
-
-fn inside(win: Window, x: u64, y: u64) -> bool
-    ensures { λ r. ⌜ r ≡ isInside (win .width) (win .height) x y ⌝ }
-{
-    if x < win.width { y < win.height } else { false }
 }
 
 fn within(win: Window, t: u64) -> bool
@@ -120,7 +114,7 @@ fn pick(v: Vector, win: Window, k: u64) -> Trimmed
             extra: r.extra,
         };
     }
-    if win.width <= held(v.x) {
+    if win.width <= saturate(v.x) {
         let r = pick(rest, win, k);
         return Trimmed {
             mask: r.mask * 2,
@@ -160,7 +154,7 @@ pub fn single(v: Vector, win: Window, k: u64) -> Trimmed
     requires { ⌜ (v .mask ≡ 1) × (v .x < 65536) ⌝ }
     ensures { λ r. ⌜ Picked v win k r ⌝ }
 {
-    if inside(win, v.x, v.y) {
+    if inside(v.x, v.y, win.width, win.height) {
         if spans(win, k, v.t) {
             Trimmed { mask: 1, extra: 0 }
         } else {

@@ -23,8 +23,8 @@ use Rattle.evt_types.specs.Told.{accepted, refused, short}
 use Rattle.header.specs.Header.{hasZero}
 use Rattle.read_fill.specs.Loops.{few2, few3}
 use Rattle.read_window.specs.declared.Window.{Window}
-use Rattle.read_window.specs.Window.{spanOf, reading2, reading3}
-use Rattle.read_select.specs.declared.Tally.{Tally}
+use Rattle.read_window.specs.Window.{selectionOf, reading2, reading3}
+use Rattle.read_select.specs.declared.SurveyTotals.{SurveyTotals}
 use Rattle.read_select.specs.declared.Filled.{Filled}
 use Rattle.read_select.specs.Pass.{Ready, Able, handedOver, surveyed, filled}
 use Rattle.read_select.specs.Uses.{able-range, numberedOver, over-few, over-by-number, over-by-time}

@@ -7,6 +7,7 @@ use lib.Dec.{leb, ltb}
 use lib.IntN.{ℤ, pos}
 use lib.ListN.{length, drop}
 use lib.Signed.{leZ, ltZ}
+use Rattle.evt_types.specs.Layout.{wordSize2, wordSize3}
 use Rattle.laws_stream.specs.Machine.{emits}
 use Rattle.laws_stream.specs.Select.{byNumber}
 use Rattle.laws_stream.specs.Slice.{sift, until}
@@ -68,8 +69,8 @@ isAt t1 started time = started && leZ t1 (pos time)
 
 -- the events of the words up to the first after which the decoder is started and its time is t1 or more, that word's too
 abbrev pub eventsUntil : ℤ → Codec → List ℕ → List Event
-eventsUntil t1 (Evt2 d) l = emits reader2 d (until reader2 (λ d. isAt t1 (d .initialised) (d .time)) d (wordsOf 4 l))
-eventsUntil t1 (Evt3 d) l = emits reader3 d (until reader3 (λ d. isAt t1 (d .initialised) (d .time)) d (wordsOf 2 l))
+eventsUntil t1 (Evt2 d) l = emits reader2 d (until reader2 (λ d. isAt t1 (d .initialised) (d .time)) d (wordsOf wordSize2 l))
+eventsUntil t1 (Evt3 d) l = emits reader3 d (until reader3 (λ d. isAt t1 (d .initialised) (d .time)) d (wordsOf wordSize3 l))
 
 -- from the last record whose time is below t0; kept are those with t0 ≤ t < t1
 unfoldable pub timeEvents : List ℕ → RawSliceSource → List Checkpoint → (t0 t1 : ℤ) → List Event

@@ -8,6 +8,7 @@ use lib.Dec.{leb, ltb, leb·zero}
 use lib.IntN.{ℤ, pos, negsuc}
 use lib.Signed.{leZ, ltZ}
 use borrow.Author.Tests.{le-ltb}
+use Rattle.evt_types.specs.Layout.{wordSize2, wordSize3}
 use Rattle.laws_stream.specs.Machine.{emits}
 use Rattle.laws_stream.specs.Slice.{sift, until, within}
 use Rattle.laws_stream.specs.Words.{wordsOf}
@@ -17,7 +18,7 @@ use Rattle.evt_codec.specs.declared.codec.Codec.the-variants.{Evt2, Evt3}
 use Rattle.evt2_decoder.specs.Evt2.{reader2}
 use Rattle.evt3_decoder.specs.Evt3.{reader3}
 use Rattle.read_columns.specs.Inside.{inside, clock}
-pub use Rattle.write_buffer.specs.Columns.{natural}
+pub use Rattle.evt_types.specs.Num.{natural}
 use Rattle.read_window.specs.declared.Window.{Window}
 use Rattle.read_select.specs.Uses.{isTimely, untilOver}
 use Rattle.read_rules.specs.Read.{kept}
@@ -43,5 +44,5 @@ module _ (w h n0 n1 : ℕ) (t0 t1 : ℤ) where
   timeWindow = record { width = w; height = h; n0 = n0; n1 = n1; t0 = natural t0; t1 = natural t1 }
 
   pub time-over : (c : Codec) (l : List ℕ) → sift (isDuring t0 t1) (kept (Known w h) (eventsUntil t1 c l)) ≡ sift (isTimely timeWindow) (untilOver timeWindow c l)
-  time-over (Evt2 d) l = λ i. sift (during-natural t0 t1 i) (sift (inside w h) (emits reader2 d (until reader2 (λ d. at-natural t1 i (d .initialised) (d .time)) d (wordsOf 4 l))))
-  time-over (Evt3 d) l = λ i. sift (during-natural t0 t1 i) (sift (inside w h) (emits reader3 d (until reader3 (λ d. at-natural t1 i (d .initialised) (d .time)) d (wordsOf 2 l))))
+  time-over (Evt2 d) l = λ i. sift (during-natural t0 t1 i) (sift (inside w h) (emits reader2 d (until reader2 (λ d. at-natural t1 i (d .initialised) (d .time)) d (wordsOf wordSize2 l))))
+  time-over (Evt3 d) l = λ i. sift (during-natural t0 t1 i) (sift (inside w h) (emits reader3 d (until reader3 (λ d. at-natural t1 i (d .initialised) (d .time)) d (wordsOf wordSize3 l))))

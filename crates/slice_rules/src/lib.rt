@@ -2,11 +2,14 @@
 // specs/Slice.antt has what slices answer and hand over, by document 01's table; specs/From.antt what
 // the parts say, each proved; specs/Laws.antt that the parts come to it.
 ghost use mathlib.Core.Path.{_≡_};
-ghost use Prim.Native.Nat.{max};
 ghost use Rattle.index_records.specs.Judge.{firstJudging};
 ghost use Rattle.slice_rules.specs.From.{askedByNumber, askedByTime, answerOf, startOf};
+use evt_types::MOST_BYTES;
 use evt_types::Refusal;
 use evt_types::SensorSize;
+use evt_types::num::max_usize;
+use evt_types::num::min_usize;
+use evt_types::num::natural_time;
 use index_build::RawSliceSource;
 use index_records::Choice;
 use index_records::Judging;
@@ -32,12 +35,6 @@ pub struct Asked {
     pub window: Window,
 }
 
-fn greater(a: usize, b: usize) -> usize
-    ensures { λ r. ⌜ r ≡ max a b ⌝ }
-{
-    if a < b { b } else { a }
-}
-
 // Before the first of n records.
 fn first_judging(source: RawSliceSource, n: usize) -> Judging
     ensures { λ r. ⌜ r ≡ firstJudging source n ⌝ }
@@ -59,8 +56,8 @@ fn first_judging(source: RawSliceSource, n: usize) -> Judging
 pub fn by_number(source: RawSliceSource, n: usize, i0: usize, i1: usize) -> Asked
     ensures { λ r. ⌜ r ≡ askedByNumber source n i0 i1 ⌝ }
 {
-    let first = read_capacity::less(i0, source.n_events);
-    let end = greater(first, read_capacity::less(i1, source.n_events));
+    let first = min_usize(i0, source.n_events);
+    let end = max_usize(first, min_usize(i1, source.n_events));
     let judging = first_judging(source, n);
     let choice = Choice {
         by_time: false,
@@ -97,8 +94,8 @@ pub fn by_time(source: RawSliceSource, n: usize, t0: i64, t1: i64) -> Asked
         height: source.height as u64,
         n0: 0,
         n1: 18446744073709551615,
-        t0: write_buffer::time_of(t0),
-        t1: write_buffer::time_of(t1),
+        t0: natural_time(t0),
+        t1: natural_time(t1),
     };
     Asked {
         judging,
@@ -121,7 +118,7 @@ pub fn answer_of(delivered: Delivered) -> SliceAnswer
 pub fn start_of(len: usize, source: RawSliceSource, ok: bool, offset: usize) -> Start
     ensures { λ r. ⌜ r ≡ startOf len source ok offset ⌝ }
 {
-    if 1073741824 < len {
+    if MOST_BYTES < len {
         return Start::Not(Refusal::TooLong);
     }
     if header::has_zero(SensorSize::Known(source.width, source.height)) {
@@ -130,7 +127,7 @@ pub fn start_of(len: usize, source: RawSliceSource, ok: bool, offset: usize) -> 
     let encoding = source.encoding;
     if index_build::spacing_ok(encoding, source.spacing) {
         if ok {
-            return Start::At(read_capacity::less(offset, len));
+            return Start::At(min_usize(offset, len));
         }
         return Start::Not(Refusal::StateOutOfRange);
     }

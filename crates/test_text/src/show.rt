@@ -2,6 +2,7 @@
 use evt_types::Encoding;
 use evt_types::RawEvent;
 use evt_types::Refusal;
+use evt_types::encoding_number;
 use evt_types::refusal_number;
 use libc::STDOUT_FILENO;
 
@@ -76,14 +77,7 @@ pub fn refusal(r: Refusal) {
     }
 }
 
-pub fn version(e: Encoding) -> u64 {
-    match e {
-        Encoding::Evt2 => 2,
-        Encoding::Evt3 => 3,
-    }
-}
-
 pub fn encoding(e: Encoding) {
     text(b"EVT");
-    number(version(e));
+    number(encoding_number(e) as u64);
 }

@@ -71,7 +71,7 @@ pub fn show(sink: RawEventSink) {
     let high = state.time_high;
     let low = state.time_low;
     let row = state.y;
-    show::number(show::version(version));
+    show::number(evt_types::encoding_number(version) as u64);
     show::next(b':', sink.header_written as u64);
     show::next(b',', sink.n_events as u64);
     show_last(last);

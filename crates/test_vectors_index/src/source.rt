@@ -20,7 +20,7 @@ pub fn read(s: &[u8]) -> RawSliceSource {
 
 pub fn show(source: RawSliceSource) {
     let encoding = source.encoding;
-    show::number(show::version(encoding));
+    show::number(evt_types::encoding_number(encoding) as u64);
     show::next(b':', source.spacing as u64);
     show::next(b',', source.data_offset as u64);
     show::next(b',', source.len as u64);

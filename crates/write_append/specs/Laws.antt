@@ -17,10 +17,11 @@ use Rattle.evt_types.specs.declared.Encoding.the-variants.{Evt2, Evt3}
 use Rattle.evt_types.specs.declared.Sent.{Sent}
 use Rattle.evt_types.specs.declared.Sent.the-variants.{Nothing, Value}
 use Rattle.write_buffer.specs.declared.EncoderState.{EncoderState}
-use Rattle.write_buffer.specs.Columns.{natural, event, eventsIn, Sized}
+use Rattle.write_buffer.specs.Columns.{event, eventsIn, Sized}
+use Rattle.evt_types.specs.Num.{natural}
 use Rattle.write_words.specs.Encode.{encodeState, encodeBytes}
 use Rattle.evt2_encoder.specs.Evt2.{writer2}
-use Rattle.evt3_run_rules.specs.Runs.{Run, goes, goes-true, firstOf, single, before, glue, runs, runAt, runs-at, follow}
+use Rattle.evt3_run_rules.specs.Runs.{Run, goes, goes-true, firstOf, single, prepend, glue, runs, runAt, runs-at, follow}
 use Rattle.evt3_lead_words.specs.Evt3.{writer3}
 use Rattle.write_rules.specs.declared.Check.{Check}
 use Rattle.write_rules.specs.declared.Check.the-variants.{Passed, Failed}
@@ -89,7 +90,7 @@ abbrev sent3 : Event → EncoderState
 sent3 e = record { «time_high» = Value (e .t / 4096); «time_low» = Value (e .t % 4096); y = Value (e .y) }
 
 glue-go : (b : Bool) (v u : EncoderState) (e : Event) (r : Run) (rs : List Run) → goes (e .t) (e .y) (e .p) (e .x) (firstOf r) ≡ b
-    → run writer3 v (cond b (before e r ∷ rs) (single e ∷ r ∷ rs)) ≡ run writer3 u (r ∷ rs)
+    → run writer3 v (cond b (prepend e r ∷ rs) (single e ∷ r ∷ rs)) ≡ run writer3 u (r ∷ rs)
 glue-go true v u e r rs q = let g = goes-true (e .t) (e .y) (e .p) (e .x) (firstOf r) q in rw (g .is-t, g .is-y)
 glue-go false v u e r rs q = refl
 

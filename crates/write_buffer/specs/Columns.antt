@@ -9,13 +9,9 @@ use lib.ListN.{length, getD, drop, length-drop, drop-of-length-le, length-map}
 use lib.Seq.{drop-cons, drop-drop}
 use lib.IntN.{ℤ, pos, negsuc}
 use lib.Signed.{mag, nonNeg}
+use Rattle.evt_types.specs.Num.{natural}
 use Rattle.evt_types.specs.Event.{Event}
 use Rattle.evt_types.specs.Columns.{colX}
-
--- a time as a natural number: 0 where it is negative
-abbrev pub natural : ℤ → ℕ
-natural (pos n) = n
-natural (negsuc n) = 0
 
 abbrev pub event : (x y t p : ℕ) → Event
 event x y t p = record { t = t; x = x; y = y; p = p }
@@ -40,10 +36,6 @@ abbrev pub Whole : List ℤ → Type 0
 Whole ts = (i : ℕ) → nonNeg (getD ts i (pos 0)) ≡ true
 
 -- ---- laws
-
-pub natural-small : (z : ℤ) → mag z < 2 ^ 63 → natural z < 2 ^ 64
-natural-small (pos n) h = omega arith
-natural-small (negsuc n) h = omega arith
 
 -- the events from i on
 module _ (xs ys : List ℕ) (ts : List ℤ) (ps : List ℕ) where

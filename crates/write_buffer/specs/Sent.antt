@@ -35,10 +35,10 @@ due false w = quiet w ∷ []
 
 -- ---- inside a loop what was sent is one number: nothing is 2^64 - 1, which no half and no row is
 
-abbrev pub held : Sent → ℕ
-held Nothing = 2 ^ 64 - 1
-held (Value g) = g
+abbrev pub sentNumber : Sent → ℕ
+sentNumber Nothing = 2 ^ 64 - 1
+sentNumber (Value g) = g
 
-pub held-is : (s : Sent) (q : ℕ) → q < 2 ^ 60 → eqb (held s) q ≡ sentIs s q
+pub held-is : (s : Sent) (q : ℕ) → q < 2 ^ 60 → eqb (sentNumber s) q ≡ sentIs s q
 held-is Nothing q h = ne-eqb (2 ^ 64 - 1) q (λ e. omega arith)
 held-is (Value g) q h = refl

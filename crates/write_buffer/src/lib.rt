@@ -10,8 +10,9 @@ ghost use lib.IntN.{pos};
 ghost use lib.ListN.{length, getD, set};
 ghost use lib.Seq.{sets};
 ghost use Rattle.laws_stream.specs.Words.{bytes};
-ghost use Rattle.write_buffer.specs.Columns.{natural, Whole};
-ghost use Rattle.write_buffer.specs.Sent.{held};
+ghost use Rattle.write_buffer.specs.Columns.{Whole};
+ghost use Rattle.evt_types.specs.Num.{natural};
+ghost use Rattle.write_buffer.specs.Sent.{sentNumber};
 ghost use Rattle.write_buffer.specs.Storing.{Roomy};
 use evt_types::Sent;
 
@@ -29,20 +30,13 @@ pub struct Put {
 }
 
 // What was sent as one number, for the loops: nothing is 2^64 - 1, which no half and no row is.
-pub fn held_of(s: Sent) -> u64
-    ensures { λ r. ⌜ r ≡ held s ⌝ }
+pub fn sent_number(s: Sent) -> u64
+    ensures { λ r. ⌜ r ≡ sentNumber s ⌝ }
 {
     match s {
         Sent::Nothing => 18446744073709551615,
         Sent::Value(g) => g,
     }
-}
-
-// A time as a natural number: 0 where it is negative.
-pub fn time_of(t: i64) -> u64
-    ensures { λ r. ⌜ r ≡ natural t ⌝ }
-{
-    if t < 0 { 0 } else { t as u64 }
 }
 
 // A time of a column in which none is negative.

@@ -18,7 +18,8 @@ use Rattle.evt_types.specs.declared.Encoding.the-variants.{Evt2, Evt3}
 use Rattle.evt_types.specs.declared.Refusal.{Refusal}
 use Rattle.evt_types.specs.declared.Refusal.the-variants.{TooLong, TimeOrder, EventOutOfRange, StateOutOfRange, ColumnLengths}
 use Rattle.write_buffer.specs.declared.EncoderState.{EncoderState}
-use Rattle.write_buffer.specs.Columns.{natural, Sized, Whole}
+use Rattle.write_buffer.specs.Columns.{Sized, Whole}
+use Rattle.evt_types.specs.Num.{natural}
 use Rattle.write_rules.specs.declared.Check.{Check}
 use Rattle.write_rules.specs.declared.Check.the-variants.{Passed, Failed}
 use Rattle.write_rules.specs.declared.LastTime.{LastTime}

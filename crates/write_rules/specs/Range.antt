@@ -11,7 +11,7 @@ use Rattle.evt_types.specs.declared.Encoding.the-variants.{Evt2, Evt3}
 use Rattle.evt_types.specs.declared.Sent.{Sent}
 use Rattle.evt_types.specs.declared.Sent.the-variants.{Nothing, Value}
 use Rattle.write_buffer.specs.declared.EncoderState.{EncoderState}
-use Rattle.write_buffer.specs.Columns.{natural}
+use Rattle.evt_types.specs.Num.{natural}
 use Rattle.write_rules.specs.declared.LastTime.{LastTime}
 use Rattle.write_rules.specs.declared.LastTime.the-variants.{Never, At}
 use Rattle.write_rules.specs.declared.RawEventSink.{RawEventSink}

@@ -5,6 +5,7 @@ ghost use Rattle.write_rules.specs.Range.{timeBound, timeInRange, isNoth
 use crate::LastTime;
 use evt_types::Encoding;
 use evt_types::Sent;
+use evt_types::num::natural_time;
 use write_buffer::EncoderState;
 
 fn is_nothing(s: Sent) -> bool
@@ -63,7 +64,7 @@ pub fn time(version: Encoding, t: i64) -> bool
     if t < 0 {
         false
     } else {
-        write_buffer::time_of(t) < time_bound(version)
+        natural_time(t) < time_bound(version)
     }
 }
 
@@ -102,7 +103,7 @@ pub fn last(version: Encoding, state: EncoderState, n: usize, last: LastTime) ->
         LastTime::At(t) => and3(
             time(version, t),
             n <= 4611686018427387904,
-            sent(version, state, write_buffer::time_of(t)),
+            sent(version, state, natural_time(t)),
         ),
     }
 }

@@ -11,7 +11,7 @@ use Rattle.evt_types.specs.Event.{Event}
 use Rattle.evt_types.specs.declared.Sent.the-variants.{Value}
 use Rattle.laws_stream.specs.Machine.{run}
 use Rattle.laws_stream.specs.Words.{stream}
-use Rattle.write_buffer.specs.Sent.{held}
+use Rattle.write_buffer.specs.Sent.{sentNumber}
 use Rattle.write_buffer.specs.declared.EncoderState.{EncoderState}
 use Rattle.write_buffer.specs.declared.Put.{Put}
 use Rattle.evt_types.specs.Columns.{colX}
@@ -51,9 +51,9 @@ state-none3 v (suc i) high low row h = absurd (omega arith)
 pub record Under3 (v₀ : EncoderState) (xs ys : List ℕ) (ts : List ℤ) (ps : List ℕ) (at₀ : ℕ) (out₀ out : List ℕ) (high low row at i mask : ℕ) : Type 0 where
   pub within : i ≤ length xs
   pub small : at ≤ at₀ + 8 * i
-  pub is-high : high ≡ held (stateAt3 v₀ i high low row .«time_high»)
-  pub is-low : low ≡ held (stateAt3 v₀ i high low row .«time_low»)
-  pub is-row : row ≡ held (stateAt3 v₀ i high low row .y)
+  pub is-high : high ≡ sentNumber (stateAt3 v₀ i high low row .«time_high»)
+  pub is-low : low ≡ sentNumber (stateAt3 v₀ i high low row .«time_low»)
+  pub is-row : row ≡ sentNumber (stateAt3 v₀ i high low row .y)
   pub marked : Marked xs ys ts ps i mask
   pub going : Going 2 writer3 v₀ (runs (eventsIn xs ys ts ps)) at₀ out₀ (runs (eventsPast xs ys ts ps i)) (stateAt3 v₀ i high low row) at out
 
@@ -79,14 +79,14 @@ module _ {xs ys : List ℕ} {ts : List ℤ} {ps : List ℕ} (sized : Sized xs ys
       ap runs (events-at xs ys ts ps sized i h) ∙ runs-at a es ∙ rw (part, left)
 
   module _ {v₀ : EncoderState} {at₀ : ℕ} {out₀ : List ℕ} (near : at₀ ≤ 2 ^ 32) where
-    pub under-start3 : (high low row : ℕ) → high ≡ held (v₀ .«time_high») → low ≡ held (v₀ .«time_low») → row ≡ held (v₀ .y) → Under3 v₀ xs ys ts ps at₀ out₀ out₀ high low row at₀ 0 0
+    pub under-start3 : (high low row : ℕ) → high ≡ sentNumber (v₀ .«time_high») → low ≡ sentNumber (v₀ .«time_low») → row ≡ sentNumber (v₀ .y) → Under3 v₀ xs ys ts ps at₀ out₀ out₀ high low row at₀ 0 0
     under-start3 high low row h l r = record { within = omega arith; small = omega arith; is-high = h; is-low = l; is-row = r; marked = marks-start xs ys ts ps; going = going-start 2 writer3 }
 
     module _ {out : List ℕ} {high low row at i mask : ℕ} (u : Under3 v₀ xs ys ts ps at₀ out₀ out high low row at i mask) where
       pub under-part3 : (e : ℕ) → i < length xs → e ≡ i + 1 + goOn xs ys ts ps i → Part xs i e (at + 8)
       under-part3 e h q = record { low = omega arith; high = end-within i e h q; few = sized .few; place = omega (arith, u .small, sized .few, near) }
 
-      -- by what is held of the state, or by the state
+      -- by the numbers of what was sent, or by the state
       words-are : (t y p : ℕ) (part : List ℕ) → t < 2 ^ 64 → y < 2 ^ 16 → leadsBytes high low row t y ++ stream 2 (bodyWords p part) ≡ bytes3 (stateAt3 v₀ i high low row) (runOf t y p part)
       words-are t y p part t< y< =
           let v = stateAt3 v₀ i high low row in

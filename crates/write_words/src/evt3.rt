@@ -11,7 +11,7 @@ use evt3_run_ends::run_at;
 use evt3_run_words::put_run;
 use write_buffer::EncoderState;
 use write_buffer::Put;
-use write_buffer::held_of;
+use write_buffer::sent_number;
 use write_buffer::time_at;
 
 // What has been sent after n events, where `high`, `low` and `row` were sent last.
@@ -48,9 +48,9 @@ pub fn pass(
     let sent_high = state.time_high;
     let sent_low = state.time_low;
     let sent_row = state.y;
-    let mut high = held_of(sent_high);
-    let mut low = held_of(sent_low);
-    let mut row = held_of(sent_row);
+    let mut high = sent_number(sent_high);
+    let mut low = sent_number(sent_low);
+    let mut row = sent_number(sent_row);
     let mut at = start;
     let mut i: usize = 0;
     let mut mask: u64 = 0;

@@ -15,7 +15,7 @@ abbrev μ-loop : tie.MeasureT-loop
 μ-loop state xs ys ts ps out₀ start high₀ at₀ i₀ out high at i = length xs - i
 
 loop-holds : tie.Need-loop-holds Inv-loop μ-loop
-loop-holds c = under-start2 (c .before .before .before .before .before .pre .0) _ (c .held-of .ensures)
+loop-holds c = under-start2 (c .before .before .before .before .before .pre .0) _ (c .sent-number .ensures)
 
 time-at-requires : tie.Need-time-at-requires Inv-loop μ-loop
 time-at-requires c κs = let s = c .before .before .before .before .before .before .before .pre in time-asks2 (s .0) (s .2) (omega arith)

@@ -5,7 +5,7 @@ use native.Mathlib.Omega.{arith}
 use borrow.Author.Needs.{needs}
 use lib.ListN.{getD}
 use lib.IntN.{pos}
-use Rattle.write_buffer.specs.Columns.{natural}
+use Rattle.evt_types.specs.Num.{natural}
 use Rattle.listing_text.specs.Laws.{Listing, listing-start, listing-turn, listing-end}
 use Rattle.listing_text.proofs.lines_text.Statement.{statement}
 use Rattle.listing_text.proofs.lines_text.Tie as tie
@@ -21,8 +21,8 @@ loop-again c =
     let b = c .before .before .before .before .before .before .before in
     let a = b .before .before .before .before .before .before .before .before .args in
     let l = b .before .before .before .loop in
-    let t : b .time-of .result ≡ natural (getD (a .ts .now) (l .i) (pos 0)) =
-    b .time-of .ensures ∙ ap natural (toZ-ofZ w64 (getD (a .ts .now) (l .i) (pos 0)) (record { sfits = b .before .time-of-arg .given })) in
+    let t : b .natural-time .result ≡ natural (getD (a .ts .now) (l .i) (pos 0)) =
+    b .natural-time .ensures ∙ ap natural (toZ-ofZ w64 (getD (a .ts .now) (l .i) (pos 0)) (record { sfits = b .before .time-of-arg .given })) in
     listing-turn (c .before .before .event-at .result) _ (b .before .before .loop-test .taken) (rw t at (c .before .before .event-at .ensures)) (l .inv)
 
 returns : tie.Need-returns Inv-loop μ-loop

@@ -8,8 +8,8 @@ returns : tie.Need-returns
 returns c =
     let s = c .before .before .before in
     rw (
-      c .time-of2 .ensures,
-      c .before .time-of .ensures,
+      c .natural-time2 .ensures,
+      c .before .natural-time .ensures,
       c .before .before .first-judging .ensures,
       toZ-ofZ w64 (s .args .t0) (s .fits .t0),
       toZ-ofZ w64 (s .args .t1) (s .fits .t1),

@@ -18,7 +18,7 @@ returns-3 c =
       sym (c .before .before .before .before .before .has-zero .ensures) ∙ c .before .before .before .before .if2 .left,
       sym (c .before .before .before .spacing-ok .ensures) ∙ c .before .before .if3 .taken,
       c .before .if4 .taken,
-      c .less .ensures,
+      c .min-usize .ensures,
     )
 
 returns-4 : tie.Need-returns-4

@@ -9,7 +9,7 @@ use lib.Signed.{nonNeg, mag}
 use mir.Syntax.{w64}
 use mir.Val.{Fits}
 use mir.ValLaws.{toZ-ofZ}
-use Rattle.write_buffer.specs.Columns.{natural}
+use Rattle.evt_types.specs.Num.{natural}
 use borrow.Author.Needs.{needs}
 use Rattle.write_buffer.proofs.time_at.Statement.{statement}
 use Rattle.write_buffer.proofs.time_at.Tie as tie

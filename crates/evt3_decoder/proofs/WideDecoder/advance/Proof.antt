@@ -32,14 +32,14 @@ returns-4 c =
     let b = c .before .before .before .before .before .before .before in
     let e = started-word (slimmed (b .before .before .args .self)) (b .before .before .args .word) (b .before .bits .result)
     (b .before .bits .ensures) 4 (c .before .before .match .keys4) (c .before .before .before .if1 .taken) in
-    rw (e .0, e .1, c .advanced .ensures, c .before .many .ensures, b .bits2 .ensures) (refl, refl)
+    rw (e .0, e .1, c .saturating-add .ensures, c .before .many .ensures, b .bits2 .ensures) (refl, refl)
 
 returns-5 : tie.Need-returns-5
 returns-5 c =
     let b = c .before .before .before .before .before .before .before .before .before in
     let e = started-word (slimmed (b .before .args .self)) (b .before .args .word) (b .bits .result) (b .bits .ensures) 5
     (c .before .before .before .match .keys5) (c .before .before .before .before .if1 .taken) in
-    rw (e .0, e .1, c .advanced2 .ensures, c .before .many2 .ensures, c .before .before .bits5 .ensures) (refl, refl)
+    rw (e .0, e .1, c .saturating-add2 .ensures, c .before .many2 .ensures, c .before .before .bits5 .ensures) (refl, refl)
 
 returns-6 : tie.Need-returns-6
 returns-6 c =

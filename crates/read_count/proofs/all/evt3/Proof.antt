@@ -5,11 +5,12 @@ use native.Mathlib.Omega.{arith}
 use borrow.Author.Needs.{needs}
 use lib.ListN.{length}
 use denote.Ref.{now}
+use Rattle.evt_types.specs.Layout.{wordSize3}
 use Rattle.evt3_decoder.specs.Evt3.{reader3, slimmed}
 use Rattle.evt3_decoder.specs.Range.{Bounded3, bounded-step3, bounded-sane3, bounded-slim3}
 use Rattle.read_count.specs.Counting.{Counting, counting-start}
-use Rattle.words.specs.Ahead.{ahead}
-use Rattle.read_count_word.specs.Glance.{scanned}
+use Rattle.evt_types.specs.Ahead.{ahead}
+use Rattle.read_count.specs.Glance.{scanned}
 use Rattle.read_fill.specs.Loops.{few3}
 use Rattle.read_count.specs.Loops.{started3, ended3, glance-few, glance-turn}
 use Rattle.read_count.proofs.all.evt3.Statement.{statement}
@@ -17,7 +18,7 @@ use Rattle.read_count.proofs.all.evt3.Tie as tie
 
 abbrev Inv-loop : tie.InvT-loop
 Inv-loop bytes width height spans vects table wide s₀ n₀ top₀ i₀ w₀ s n top i w =
-    Counting 2 reader3 Bounded3 width height (slimmed (scanned s₀)) bytes (slimmed (scanned s)) n top i × (w ≡ ahead 2 bytes i)
+    Counting wordSize3 reader3 Bounded3 width height (slimmed (scanned s₀)) bytes (slimmed (scanned s)) n top i × (w ≡ ahead 2 bytes i)
 
 abbrev μ-loop : tie.MeasureT-loop
 μ-loop bytes width height spans vects table wide s₀ n₀ top₀ i₀ w₀ s n top i w = length bytes - i

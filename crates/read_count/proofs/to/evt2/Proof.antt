@@ -9,8 +9,8 @@ use denote.Ref.{now}
 use Rattle.evt2_decoder.specs.Evt2.{reader2}
 use Rattle.evt2_decoder.specs.Range.{Bounded2, bounded-step2, bounded-sane2}
 use Rattle.read_count.specs.Passing.{Passing, passing-start, passing-end}
-use Rattle.words.specs.Ahead.{ahead}
-use Rattle.read_count_word.specs.Quick.{limitOf}
+use Rattle.evt_types.specs.Ahead.{ahead}
+use Rattle.read_count.specs.Quick.{limitOf}
 use Rattle.read_fill.specs.Loops.{start2}
 use Rattle.read_count.specs.Loops.{Word2, seen-stop, seen-pass, unseen-pass}
 use Rattle.read_count.proofs.to.evt2.Statement.{statement}

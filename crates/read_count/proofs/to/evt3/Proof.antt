@@ -6,18 +6,19 @@ use native.Mathlib.Omega.{arith}
 use borrow.Author.Needs.{needs}
 use lib.ListN.{length}
 use denote.Ref.{now}
+use Rattle.evt_types.specs.Layout.{wordSize3}
 use Rattle.evt3_decoder.specs.Evt3.{reader3, slimmed}
 use Rattle.evt3_decoder.specs.Range.{Bounded3, bounded-step3, bounded-sane3, bounded-slim3}
 use Rattle.read_count.specs.Passing.{Passing, passing-start, passing-end}
-use Rattle.words.specs.Ahead.{ahead}
-use Rattle.read_count_word.specs.Glance.{scanned}
+use Rattle.evt_types.specs.Ahead.{ahead}
+use Rattle.read_count.specs.Glance.{scanned}
 use Rattle.read_count.specs.Loops.{started3, reached3, glance-stop, glance-pass}
 use Rattle.read_count.proofs.to.evt3.Statement.{statement}
 use Rattle.read_count.proofs.to.evt3.Tie as tie
 
 abbrev Inv-loop : tie.InvT-loop
 Inv-loop bytes width height most spans vects table wide s₀ n₀ i₀ w₀ s n i w =
-    Passing 2 reader3 Bounded3 width height most (slimmed (scanned s₀)) bytes (slimmed (scanned s)) n i × (w ≡ ahead 2 bytes i)
+    Passing wordSize3 reader3 Bounded3 width height most (slimmed (scanned s₀)) bytes (slimmed (scanned s)) n i × (w ≡ ahead 2 bytes i)
 
 abbrev μ-loop : tie.MeasureT-loop
 μ-loop bytes width height most spans vects table wide s₀ n₀ i₀ w₀ s n i w = length bytes - i

@@ -1,6 +1,6 @@
 use native.Mathlib.Omega.{arith}
 use lib.ListN.{length}
-use Rattle.read_pass_over.specs.Laws.{steady-able}
+use Rattle.read_deliver.specs.PassOver.{steady-able}
 use Rattle.read_deliver.specs.Plan.{few-number, planned-number}
 use borrow.Author.Needs.{needs}
 use Rattle.read_deliver.proofs.plan.plan_number.Statement.{statement}

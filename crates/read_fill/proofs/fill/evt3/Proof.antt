@@ -4,6 +4,7 @@ use native.Mathlib.Omega.{arith}
 use borrow.Author.Needs.{needs}
 use lib.ListN.{length}
 use denote.Ref.{now}
+use Rattle.evt_types.specs.Layout.{wordSize3}
 use Rattle.evt_types.specs.Event.{Narrow}
 use Rattle.evt3_decoder.specs.Evt3.{reader3, slimmed}
 use Rattle.evt3_decoder.specs.Range.{Bounded3, bounded-step3, bounded-sane3, bounded-slim3}
@@ -14,7 +15,7 @@ use Rattle.read_fill.proofs.fill.evt3.Tie as tie
 
 abbrev Inv-loop : tie.InvT-loop
 Inv-loop bytes width height xs₀ ys₀ ts₀ ps₀ s₀ n₀ i₀ xs ys ts ps s n i =
-    Filling 2 reader3 Bounded3 width height (slimmed s₀) bytes xs₀ ys₀ ts₀ ps₀ xs ys ts ps (slimmed s) n i
+    Filling wordSize3 reader3 Bounded3 width height (slimmed s₀) bytes xs₀ ys₀ ts₀ ps₀ xs ys ts ps (slimmed s) n i
 
 abbrev μ-loop : tie.MeasureT-loop
 μ-loop bytes width height xs₀ ys₀ ts₀ ps₀ s₀ n₀ i₀ xs ys ts ps s n i = length bytes - i
@@ -22,14 +23,14 @@ abbrev μ-loop : tie.MeasureT-loop
 -- the room, over the decoder as the loop has it
 fits-at : (c : tie.After-widen Inv-loop μ-loop) →
     let a = c .before .before .before .before .before .args in
-    Fits (length (insideAll 2 reader3 (a .width) (a .height) (slimmed (c .widen .result)) (now (a .bytes)))) (length (now (a .xs)))
+    Fits (length (insideAll wordSize3 reader3 (a .width) (a .height) (slimmed (c .widen .result)) (now (a .bytes)))) (length (now (a .xs)))
     (length (now (a .ys))) (length (now (a .ts))) (length (now (a .ps)))
 fits-at c = rw (c .widen .ensures .0) (c .before .before .before .before .before .pre .1)
 
 -- the word's step, and its events
 turn : (c : tie.After-clean Inv-loop μ-loop) →
     let k = c .before .before .before .before .before .loop in
-    Turn 2 reader3 (now (c .before .before .before .before .before .before .before .before .before .before .before .args .bytes))
+    Turn wordSize3 reader3 (now (c .before .before .before .before .before .before .before .before .before .before .before .args .bytes))
     (slimmed (k .s)) (k .i) (slimmed (c .before .before .advance .result .next)) (c .before .before .advance .result .events)
 turn c =
     turn3 (c .before .before .before .before .loop-test .taken) (c .before .before .before .two-at .result)

@@ -18,12 +18,12 @@ returns c =
     let a = c .before .before .before .before .before .before .before .before .before .args in
     let k = c .before .before .before .before .before .before .before .loop in
     let two-at = c .before .before .before .before .before .two-at in
-    rw (c .held .ensures, c .before .bits3 .ensures, c .before .before .bits2 .ensures) (base-found (now (a .front)) (k .k) (k .k - 1)
+    rw (c .saturating-add .ensures, c .before .bits3 .ensures, c .before .before .bits2 .ensures) (base-found (now (a .front)) (k .k) (k .k - 1)
     (omega arith) (two-at .result) (two-at .ensures) (c .before .before .before .before .bits .result)
     (c .before .before .before .before .bits .ensures) (record { x = a .x; p = a .p }) (k .inv) (c .before .before .before .if1 .taken))
 
-held-requires-2 : tie.Need-held-requires-2 Inv-loop μ-loop
-held-requires-2 c κs = omega (arith, width-small (c .before .before .bits .result))
+saturating-add-requires-2 : tie.Need-saturating-add-requires-2 Inv-loop μ-loop
+saturating-add-requires-2 c κs = omega (arith, width-small (c .before .before .bits .result))
 
 loop-again : tie.Need-loop-again Inv-loop μ-loop
 loop-again c =
@@ -31,13 +31,13 @@ loop-again c =
     let two-at = c .before .before .before .before .two-at in
     baseless-turn (now (c .before .before .before .before .before .before .before .before .args .front)) (k .k) (k .k - 1) (omega arith)
     (two-at .result) (two-at .ensures) (c .before .before .before .bits .result) (c .before .before .before .bits .ensures) (k .inv)
-    (c .before .before .if1 .left) (c .held2 .result) (c .held2 .ensures ∙ rw (c .before .moves .ensures))
+    (c .before .before .if1 .left) (c .saturating-add2 .result) (c .saturating-add2 .ensures ∙ rw (c .before .moves .ensures))
 
 returns-2 : tie.Need-returns-2 Inv-loop μ-loop
 returns-2 c =
     let a = c .before .before .before .before .args in
     let z : c .before .before .loop .k ≡ 0 = omega arith in
-    rw (c .held3 .ensures)
+    rw (c .saturating-add3 .ensures)
     (base-none (now (a .front)) (record { x = a .x; p = a .p }) (c .before .before .loop .by) (omega arith) (rw z at (c .before .before .loop .inv)))
 
 pub base-spec : {M : Type 1} → statement M
@@ -50,7 +50,7 @@ base-spec =
     (λ c κs. search needs) (λ c κs. search needs) (λ c κs. search needs) (λ c κs. omega arith) (λ c. omega arith)
     returns
     (λ c κs. search needs)
-    held-requires-2
+    saturating-add-requires-2
     (λ c. omega arith)
     loop-again
     (λ c κs. omega arith) (λ c. omega arith)

@@ -5,6 +5,7 @@ use lib.ListN.{length}
 use denote.Ref.{now}
 use mathlib.Core.Path.{_≡_, _∙_}
 use mathlib.Core.Bool.{true}
+use Rattle.evt_types.specs.Layout.{wordSize3}
 use Rattle.evt3_decoder.specs.declared.Decoder.{Decoder}
 use Rattle.evt3_decoder.specs.Range.{Bounded3}
 use Rattle.read_seek.specs.Times.{timesOf}
@@ -14,7 +15,7 @@ use Rattle.read_seek.proofs.evt3.pass.Tie as tie
 
 abbrev Inv-loop : tie.InvT-loop
 Inv-loop bytes t0 t1 c₀ stray₀ i₀ c stray i =
-    (d : Decoder) → d .initialised ≡ true → c₀ ≡ timesOf d → Bounded3 (length bytes / 2) d → Passing t0 t1 d bytes c stray i
+    (d : Decoder) → d .initialised ≡ true → c₀ ≡ timesOf d → Bounded3 (length bytes / wordSize3) d → Passing t0 t1 d bytes c stray i
 
 abbrev μ-loop : tie.MeasureT-loop
 μ-loop bytes t0 t1 c₀ stray₀ i₀ c stray i = length bytes - i

@@ -5,6 +5,7 @@ use lib.ListN.{length}
 use denote.Ref.{now}
 use mathlib.Core.Path.{_≡_, sym, ap, _∙_}
 use mathlib.Core.Bool.{true}
+use Rattle.evt_types.specs.Layout.{wordSize3}
 use Rattle.evt3_decoder.specs.declared.Decoder.{Decoder}
 use Rattle.evt3_decoder.specs.Range.{Bounded3, bounded-sane3}
 use Rattle.read_seek.specs.declared.times.Times.{Times}
@@ -15,7 +16,7 @@ use Rattle.read_seek.proofs.evt3.stride.Statement.{statement}
 use Rattle.read_seek.proofs.evt3.stride.Tie as tie
 
 abbrev Inv-loop : tie.InvT-loop
-Inv-loop bytes t c₀ at₀ i₀ c at i = (d : Decoder) → d .initialised ≡ true → c₀ ≡ timesOf d → Bounded3 (length bytes / 2) d → Skipping3 t d bytes c at i
+Inv-loop bytes t c₀ at₀ i₀ c at i = (d : Decoder) → d .initialised ≡ true → c₀ ≡ timesOf d → Bounded3 (length bytes / wordSize3) d → Skipping3 t d bytes c at i
 
 abbrev μ-loop : tie.MeasureT-loop
 μ-loop bytes t c₀ at₀ i₀ c at i = length bytes - i

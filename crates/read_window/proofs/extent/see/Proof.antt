@@ -21,10 +21,10 @@ returns-2 : tie.Need-returns-2
 returns-2 c =
     let b = c .before .before .before .before .before .before in
     rw (
-      c .before .before .before .greater .ensures,
-      c .before .before .greater2 .ensures,
-      c .greater3 .ensures,
-      c .before .before .before .before .held .ensures,
+      c .before .before .before .max-u64 .ensures,
+      c .before .before .max-u642 .ensures,
+      c .max-u643 .ensures,
+      c .before .before .before .before .saturate .ensures,
     ) (sym (extent-top (b .before .args .v) (b .if1 .left) (b .before .pre .mask<) (b .before .args .e)))
 
 pub see-spec : {M : Type 1} → statement M

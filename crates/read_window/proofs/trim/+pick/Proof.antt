@@ -11,7 +11,7 @@ use borrow.Fn.PlainCycle.{Measures, is, falls, and}
 use Rattle.read_window.proofs.trim.pick.Reads as pick
 use Rattle.read_window.proofs.trim.pick.Kinds as pick-kinds
 use Rattle.read_window.proofs.trim.+pick.Lts-pick as pick-lts
-use Rattle.evt_types.proofs.vector.held.Reads as held-reads
+use Rattle.evt_types.proofs.num.saturate.Reads as saturate-reads
 use Rattle.read_window.proofs.trim.skips.Reads as skips-reads
 use Rattle.read_window.proofs.trim.spans.Reads as spans-reads
 use Rattle.read_window.proofs.trim.+pick.{statement}
@@ -32,8 +32,8 @@ claims t = (
   skips-reads.Learnt,
   pick-below t,
   pick.Post,
-  held-reads.Asked,
-  held-reads.Learnt,
+  saturate-reads.Asked,
+  saturate-reads.Learnt,
   spans-reads.Asked,
   spans-reads.Learnt,
 )
@@ -78,8 +78,8 @@ pick-returns-4 t c =
     picked-even (a .v) (a .win) (a .k) (c .before .pick .result) (omega arith) (c .before .before .if4 .taken)
     (rw (add-one (a .v .x)) at (c .before .pick .ensures))
 
-pick-held-requires : (t : ℕ) → pick-lts.Need-held-requires (claims t) (pick-at t) pick.Post
-pick-held-requires t c κs = search needs
+pick-saturate-requires : (t : ℕ) → pick-lts.Need-saturate-requires (claims t) (pick-at t) pick.Post
+pick-saturate-requires t c κs = search needs
 
 pick-pick-requires-2 : (t : ℕ) → pick-lts.Need-pick-requires-2 (claims t) (pick-at t) pick.Post
 pick-pick-requires-2 t c κs =
@@ -153,7 +153,7 @@ pub +pick-spec : {M : Type 1} → statement M
     (pick-pick-requires t)
     (pick-mul-t15 t)
     (pick-returns-4 t)
-    (pick-held-requires t)
+    (pick-saturate-requires t)
     (pick-pick-requires-2 t)
     (pick-mul-t16 t)
     (pick-returns-5 t)

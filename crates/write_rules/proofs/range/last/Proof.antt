@@ -1,6 +1,6 @@
 use mir.Syntax.{w64}
 use mir.ValLaws.{toZ-ofZ}
-use Rattle.write_buffer.specs.Columns.{natural}
+use Rattle.evt_types.specs.Num.{natural}
 use Rattle.write_rules.specs.Range.{timeInRange, sentInRange}
 use mathlib.Core.Path.{_≡_, refl, sym, ap, _∙_}
 use borrow.Author.Needs.{needs}
@@ -8,7 +8,7 @@ use Rattle.write_rules.proofs.range.last.Statement.{statement}
 use Rattle.write_rules.proofs.range.last.Tie as tie
 use Rattle.write_rules.proofs.range.last.Reads as reads
 use Rattle.write_rules.proofs.range.last.Lts as lts
-use Rattle.write_buffer.proofs.time_of.Reads as time-of-reads
+use Rattle.evt_types.proofs.num.natural_time.Reads as natural-time-reads
 use Rattle.write_rules.proofs.range.and2.Reads as and2-reads
 use Rattle.write_rules.proofs.range.and3.Reads as and3-reads
 use Rattle.write_rules.proofs.range.is_nothing.Reads as is-nothing-reads
@@ -48,8 +48,8 @@ time-requires : tie.Need-time-requires
 time-requires c κs = search needs
 
 -- src/range.rt:94:98
-time-of-requires : tie.Need-time-of-requires
-time-of-requires c κs = search needs
+natural-time-requires : tie.Need-natural-time-requires
+natural-time-requires c κs = search needs
 
 -- src/range.rt:94:77
 sent-requires : tie.Need-sent-requires
@@ -71,7 +71,7 @@ returns-2 c =
     let v = c .before .before .before .before .before .before .before .args .state in
     let z = toZ-ofZ w64 t (record { sfits = c .before .before .before .before .known-told .given .0 .1 }) in
     let f : c .before .before .before .time .result ≡ timeInRange e t = c .before .before .before .time .ensures ∙ ap (timeInRange e) z in
-    let g : c .before .sent .result ≡ sentInRange e v (natural t) = c .before .sent .ensures ∙ ap (sentInRange e v) (c .before .before .time-of .ensures ∙ ap natural z) in
+    let g : c .before .sent .result ≡ sentInRange e v (natural t) = c .before .sent .ensures ∙ ap (sentInRange e v) (c .before .before .natural-time .ensures ∙ ap natural z) in
     c .and32 .ensures ∙ rw (c .before .before .before .before .before .last .given .1, f, g)
 
 pub last-spec : {M : Type 1} → statement M
@@ -86,7 +86,7 @@ last-spec =
     and3-requires
     enum-known-last
     time-requires
-    time-of-requires
+    natural-time-requires
     sent-requires
     and3-requires-2
     returns

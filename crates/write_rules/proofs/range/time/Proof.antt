@@ -1,7 +1,7 @@
 use mathlib.Core.Path.{_≡_, ap, _∙_}
 use mir.Syntax.{w64}
 use mir.ValLaws.{toZ-ofZ}
-use Rattle.write_buffer.specs.Columns.{natural}
+use Rattle.evt_types.specs.Num.{natural}
 use Rattle.write_rules.specs.Checks.{time-early, time-late}
 use borrow.Author.Needs.{needs}
 use Rattle.write_rules.proofs.range.time.Statement.{statement}
@@ -13,7 +13,7 @@ returns c = let s = c .before in time-early (s .args .version) (s .args .t) (rw 
 returns-2 : tie.Need-returns-2
 returns-2 c =
     let s = c .before .before .before in
-    let e : c .before .time-of .result ≡ natural (s .args .t) = c .before .time-of .ensures ∙ ap natural (toZ-ofZ w64 (s .args .t) (s .fits .t)) in
+    let e : c .before .natural-time .result ≡ natural (s .args .t) = c .before .natural-time .ensures ∙ ap natural (toZ-ofZ w64 (s .args .t) (s .fits .t)) in
     rw (e, c .time-bound .ensures) (time-late (s .args .version) (s .args .t) (rw (toZ-ofZ w64 (s .args .t) (s .fits .t)) at (c .before .before .if1 .left)))
 
 pub time-spec : {M : Type 1} → statement M

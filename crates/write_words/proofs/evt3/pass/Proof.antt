@@ -16,7 +16,7 @@ abbrev μ-loop : tie.MeasureT-loop
 loop-holds : tie.Need-loop-holds Inv-loop μ-loop
 loop-holds c =
     let p = c .before .before .before .before .before .before .before .pre in
-    under-start3 (p .0) (p .1) _ _ _ (c .before .before .held-of .ensures) (c .before .held-of2 .ensures) (c .held-of3 .ensures)
+    under-start3 (p .0) (p .1) _ _ _ (c .before .before .sent-number .ensures) (c .before .sent-number2 .ensures) (c .sent-number3 .ensures)
 
 time-at-requires : tie.Need-time-at-requires Inv-loop μ-loop
 time-at-requires c κs = (omega arith, omega arith, c .before .before .before .before .before .before .before .before .before .pre .2)

@@ -17,7 +17,7 @@ returns-2 : tie.Need-returns-2
 returns-2 c =
     rw (
       ne-eqb _ _ (c .before .before .before .if1 .left),
-      c .held .ensures,
+      c .saturate .ensures,
       toZ-ofZ w64 (c .before .before .before .before .args .self .t) (record { sfits = c .before .struct-told .given .1 .1 .0 .1 }),
     )
 

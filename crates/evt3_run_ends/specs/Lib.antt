@@ -1,0 +1,3 @@
+-- What each file is stands at its head.
+pub mod Blocks
+pub mod Flags

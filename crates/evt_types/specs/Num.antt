@@ -1,0 +1,31 @@
+-- What the small functions on numbers tell, and the bounds that every crate shares.
+use mathlib.Core.Bool.{Bool, _&&_}
+use Prim.Native.Nat.{ℕ, _^_, _<_}
+use native.Mathlib.Omega.{arith}
+use lib.Dec.{ltb}
+use lib.IntN.{ℤ, pos, negsuc}
+use lib.Signed.{mag}
+use Rattle.evt_types.specs.declared.Encoding.{Encoding}
+use Rattle.evt_types.specs.declared.Encoding.the-variants.{Evt2, Evt3}
+
+-- more bytes than this aren't read (4)
+abbrev pub mostBytes : ℕ
+mostBytes = 2 ^ 30
+
+-- an encoding's number
+abbrev pub encodingNumber : Encoding → ℕ
+encodingNumber Evt2 = 2
+encodingNumber Evt3 = 3
+
+-- inside a sensor of width x height
+abbrev pub isInside : (width height x y : ℕ) → Bool
+isInside width height x y = ltb x width && ltb y height
+
+-- a time as a natural number: 0 where it is negative
+abbrev pub natural : ℤ → ℕ
+natural (pos n) = n
+natural (negsuc n) = 0
+
+pub natural-small : (z : ℤ) → mag z < 2 ^ 63 → natural z < 2 ^ 64
+natural-small (pos n) h = omega arith
+natural-small (negsuc n) h = omega arith

@@ -1,2 +1,0 @@
--- What each file is stands at its head.
-pub mod Laws

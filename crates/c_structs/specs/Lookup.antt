@@ -1,4 +1,4 @@
--- Records read from entries, one after another and by halves.
+-- Records read from entries, one after another and by binary search.
 use mathlib.Core.Path.{_≡_, refl, sym, ap, subst, _∙_}
 use mathlib.Core.Bool.{Bool, true, false, cond}
 use mathlib.Core.List.{List, [], _∷_, _++_}
@@ -84,7 +84,7 @@ module _ (e : Encoding) (l : List ℕ) where
   abbrev apart : Search → ℕ
   apart t = t .hi - t .lo
 
-  -- how many turns of halving are left at most
+  -- how many iterations of the binary search are left at most
   abbrev pub left-of : Search → ℕ
   left-of t = cond (t .more) (suc (apart t)) 0
 

@@ -64,7 +64,7 @@ entriesAll (c ∷ cs) = entriesOf (flatRecord c) ++ entriesAll cs
 abbrev pub timeOf : ℕ → ℤ
 timeOf n = cond (ltb n (2 ^ 63)) (pos n) (negsuc 0)
 
--- a row or a column over 65,535 is held there; in EVT2 the last three don't count
+-- a row or a column over 65,535 saturates; in EVT2 the last three don't count
 abbrev pub codecOf : Encoding → PropheseeRecord → Codec
 codecOf Enc.Evt2 r = Evt2 (record { initialised = flag (r .initialised); «time_high» = r .«time_base»; time = r .«decoder_time»; «high_loops» = r .«high_loops» })
 codecOf Enc.Evt3 r = Evt3 (record {

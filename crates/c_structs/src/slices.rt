@@ -59,7 +59,7 @@ pub fn judge_entries(encoding: Encoding, records: &[u64], s: Judging) -> bool
     t.ok
 }
 
-// The record that a slice starts at, by halves.
+// The record that a slice starts at, by binary search.
 pub fn choose_entries(encoding: Encoding, records: &[u64], asked: Choice) -> Checkpoint
     ensures { λ r. ⌜ Chose asked (recordsIn encoding (now (records .entry))) r ⌝ }
 {

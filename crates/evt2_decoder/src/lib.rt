@@ -23,7 +23,7 @@ pub struct Evt2Step {
     pub events: Vector,
 }
 
-// What `step` leaves: the decoder to go on with, and the answer.
+// What `step` leaves: the next decoder, and the answer.
 pub struct Evt2Decoded {
     pub next: Evt2Decoder,
     pub answer: DecodeAnswer,

@@ -38,7 +38,7 @@ pub struct WideStep {
     pub events: Vector,
 }
 
-// What `step` leaves: the decoder to go on with, and the answer.
+// What `step` leaves: the next decoder, and the answer.
 pub struct Decoded {
     pub next: Decoder,
     pub answer: DecodeAnswer,

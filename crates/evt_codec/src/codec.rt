@@ -18,7 +18,7 @@ pub enum Codec {
     Evt3(Decoder),
 }
 
-// What `step` leaves: the decoder to go on with, and the answer.
+// What `step` leaves: the next decoder, and the answer.
 pub struct CodecDecoded {
     pub next: Codec,
     pub answer: DecodeAnswer,

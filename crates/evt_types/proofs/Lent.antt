@@ -68,7 +68,7 @@ ofEnum T L F P =
       makes = λ 𝓤 H A. EL.makes T P 𝓤 H A;
     }
 
--- ---- a struct of two of them: the value to go on with, and the answer
+-- ---- a struct of two of them: the next value, and the answer
 pub record Answered (D B : Datum) : Type 2 where
   pub row : RattleType
   pub name : Sym

@@ -1,4 +1,4 @@
--- The word at an index of some bytes, which a loop may have read before its turn: 0 where none is whole.
+-- The word at an index of some bytes, which a loop may have read in the iteration before: 0 where none is whole.
 use mathlib.Core.Path.{_≡_, sym, _∙_}
 use mathlib.Core.Bool.{cond}
 use mathlib.Core.List.{List}

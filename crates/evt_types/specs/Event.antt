@@ -26,7 +26,7 @@ pub record Event : Type 0 where
 abbrev pub rawOf : Event → RawEvent
 rawOf e = record { x = e .x; y = e .y; t = pos (e .t); p = e .p }
 
--- the event of a vector at column c, held at 65,535
+-- the event of a vector at column c, saturated at 65,535
 abbrev pub eventAt : Vector → ℕ → Event
 eventAt v c = record { t = v .t; x = min c 65535; y = v .y; p = v .p }
 

@@ -17,8 +17,8 @@ pub fn four(a: u8, b: u8, c: u8, d: u8) -> u64
     a as u64 + b as u64 * 256 + c as u64 * 65536 + d as u64 * 16777216
 }
 
-// The word at index i, 0 if none is whole there. A loop that has its word from the turn before loads
-// it at once; from its own bytes it would take each field.
+// The word at index i, 0 if none is whole there. A loop that has its word from the iteration before
+// loads it in one instruction; from its own bytes it would load each field.
 pub fn two_at(bytes: &[u8], i: usize) -> u64
     requires { ⌜ i + 1 < 2 ^ 64 ⌝ }
     ensures { λ r. ⌜ r ≡ ahead 2 (now (bytes .entry)) i ⌝ }

@@ -56,7 +56,7 @@ trimOf s = trimEnd (trimStart s)
 unfoldable pub lowerOf : ℕ → ℕ
 lowerOf b = cond (ltb b 65) b (cond (ltb 90 b) b (b + 32))
 
--- a text begins with a name in small letters, the text's case ignored
+-- a text begins with a name in lowercase, the text's case ignored
 unfoldable pub begins : List ℕ → List ℕ → Bool
 begins [] s = true
 begins (n ∷ ns) [] = false

@@ -96,7 +96,7 @@ fn lower(b: u8) -> u8
     b + 32
 }
 
-// `name` is in small letters.
+// `name` is in lowercase.
 pub fn begins_with(s: &[u8], name: &[u8]) -> bool
     ensures { λ r. ⌜ r ≡ begins (now (name .entry)) (now (s .entry)) ⌝ }
 {

@@ -1,5 +1,5 @@
 -- Appends to a writer, one after another, in either encoding: the words, the cut, the resumption, and slices by time.
--- All laws are over streams that a decoder understands, and what is left of one and gone on with is such a one again.
+-- All laws are over streams that a decoder understands, and what is left of one and resumed is such a one again.
 use mathlib.Core.Path.{_≡_, refl, ap, _∙_}
 use mathlib.Core.Bool.{Bool, true}
 use mathlib.Core.List.{List, [], _∷_, _++_, append-nil}

@@ -21,7 +21,7 @@ use Rattle.laws_handover.specs.Proof.{Sent, fresh-sent, joinedWords, joi
 pub full : (e : Encoding) (calls : List Call) → Exact e (streamOf (fresh e) calls) (acceptedEvents (fresh e) calls)
 full e calls = exact-whole e (streamOf (fresh e) calls) (streamWords (fresh e) calls) (acceptedEvents (fresh e) calls) (fresh-sent e calls)
 
--- ---- ANY NUMBER OF HANDOVERS: what is joined is again a stream that can be cut, read and gone on with
+-- ---- ANY NUMBER OF HANDOVERS: what is joined is again a stream that can be cut, read and resumed
 
 -- where the stream so far is cut, and the list of the writer that goes on
 pub record Turn : Type 0 where

@@ -1,4 +1,4 @@
--- DEMAND 3, proved: what a fresh writer sends is a stream that a fresh decoder understands, so is what is left of such a stream and gone on with, and all such streams are as claimed.
+-- DEMAND 3, proved: what a fresh writer sends is a stream that a fresh decoder understands, so is what is left of such a stream and resumed, and all such streams are as claimed.
 use mathlib.Core.Path.{_≡_, refl, ap, _∙_}
 use mathlib.Core.Bool.{true}
 use mathlib.Core.List.{List, _++_}
@@ -57,7 +57,7 @@ module _ (e : Encoding) where
   joinedWords cut ws second = take (cut / encodeSize e) ws ++ streamWords (fresh e) second
 
   module _ (bytes : List ℕ) (ws : List (Note ℕ Event)) (es : List Event) (sent : Sent e bytes ws es) (cut : ℕ) where
-    -- gone on with by a fresh writer
+    -- resumed by a fresh writer
     pub joined-sent : (second : List Call) → acceptedEvents (fresh e) second ≡ others e cut ws → Sent e (joined e cut bytes second) (joinedWords cut ws second) es
     joined-sent second rest =
         let size = encodeSize e in

@@ -1,4 +1,4 @@
-// Demand 3: lists of appends to a fresh writer, cut at any byte and gone on with by a second one,
+// Demand 3: lists of appends to a fresh writer, cut at any byte and resumed by a second one,
 // decode and slice exactly. The crate has no code: it says of the definitions that the contracts of
 // `append`, `decode_words`, `open_words`, `slice_index` and `slice_time` cite what holds of them together.
 // specs/Handover.antt is the statement, from top to bottom (`DemandThree`); specs/Proof.antt proves it,

@@ -64,7 +64,7 @@ module _ {S Q I E : Type 0} (F : Format S Q I E) (L : Lawful F) where
   pub sent-good : (s : S) (is : List I) (more : List E) → All (F .Valid) is → F .Ready s (givens F is ++ more) → Good F s (sent F is) more
   sent-good s is more va rd = writes (F .fresh) s is more va (L .starts s) rd .0
 
-  -- a stream that is cut after k words and gone on with by a fresh writer, given the events that were cut off, is understood too
+  -- a stream that is cut after k words and resumed by a fresh writer, given the events that were cut off, is understood too
   pub resumes : (k : ℕ) (s : S) (ns : List (Note ℕ E)) (is : List I) (more : List E) → All (F .Valid) is → Good F s ns more → givens F is ≡ notes (drop k ns)
       → Good F s (take k ns ++ sent F is) more
   resumes k s ns is more va p e =

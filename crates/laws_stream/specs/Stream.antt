@@ -71,7 +71,7 @@ module _ {S Q I E : Type 0} (F : Format S Q I E) (L : Lawful F) where
       decode-append (F .size) (F .reader) (L .sized) s k l (notedBytes (sent F is)) h
       ∙ rw (decode-whole (after (F .size) (F .reader) s l) (sent F is) g, written-notes F L (F .fresh) is va)
 
-  -- the bytes of a stream that was cut and gone on with
+  -- the bytes of a stream that was cut and resumed
   pub bytes-resumed : (c : ℕ) (ns ms : List (Note ℕ E)) → take (c / F .size * F .size) (notedBytes ns) ++ notedBytes ms ≡ notedBytes (take (c / F .size) ns ++ ms)
   bytes-resumed c ns ms = rw (take-stream-words (F .size), ← stream-append, words-append, words-take)
 

@@ -21,7 +21,7 @@
 //
 // Writing. `RawEventSink::to_writer` is a fresh writer, which sends a header before its first words or
 // none. `append` writes events in four columns into an output that the caller lends, and answers how
-// many bytes it wrote and the writer to go on with. The size given is for the header. Appending no
+// many bytes it wrote and the next writer. The size given is for the header. Appending no
 // events writes nothing. Examples: `write_words`, `write_recording`.
 //
 // Cutting and resuming. A stream without a header may break off at any byte. Read what has arrived as

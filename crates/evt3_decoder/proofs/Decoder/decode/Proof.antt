@@ -1,4 +1,4 @@
--- `evt_codec::evt3::Decoder::decode` meets its contract: the walk is `Lent.antt`'s, at the callee `step`.
+-- `evt3_decoder::Decoder::decode` meets its contract: the walk is `Lent.antt`'s, at the callee `step`.
 -- Assumes nothing.
 use mathlib.Core.Path.{refl}
 use Prim.Native.Nat.{ℕ}

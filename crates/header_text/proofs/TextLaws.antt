@@ -45,14 +45,6 @@ lt-upTo p (b ∷ s) =
     by-bool (p b) (λ e. rw e (lt-ltb 0 (suc (length s)) (omega arith)))
     (λ e. rw e (leb·suc-suc (suc (length (upTo p s))) (length s) ∙ lt-upTo p s))
 
-pub upTo-stop : (p : ℕ → Bool) (b : ℕ) (s : List ℕ) → p b ≡ true → length (upTo p (b ∷ s)) ≡ 0
-unfolding upTo
-upTo-stop p b s e = rw e
-
-pub upTo-step : (p : ℕ → Bool) (b : ℕ) (s : List ℕ) → p b ≡ false → length (upTo p (b ∷ s)) ≡ suc (length (upTo p s))
-unfolding upTo
-upTo-step p b s e = rw e
-
 module _ (p : ℕ → Bool) (s : List ℕ) (i : ℕ) (inv : i + length (upTo p (drop i s)) ≡ length (upTo p s)) where
   pub until-end : length s ≤ i → i ≡ length (upTo p s)
   unfolding upTo
@@ -60,14 +52,12 @@ module _ (p : ℕ → Bool) (s : List ℕ) (i : ℕ) (inv : i + length (upTo p (
 
   module _ (h : i < length s) where
     pub until-found : p (getD s i 0) ≡ true → i ≡ length (upTo p s)
-    until-found e =
-        let q : i + 0 ≡ length (upTo p s) = rw (at-drop s i h, upTo-stop p _ _ e) at inv in
-        omega arith
+    unfolding upTo
+    until-found e = let q : i + 0 ≡ length (upTo p s) = rw (at-drop s i h, e) at inv in omega arith
 
     pub until-next : p (getD s i 0) ≡ false → (i + 1) + length (upTo p (drop (i + 1) s)) ≡ length (upTo p s)
-    until-next e =
-        let q : i + suc (length (upTo p (drop (i + 1) s))) ≡ length (upTo p s) = rw (at-drop s i h, upTo-step p _ _ e) at inv in
-        omega arith
+    unfolding upTo
+    until-next e = let q : i + suc (length (upTo p (drop (i + 1) s))) ≡ length (upTo p s) = rw (at-drop s i h, e) at inv in omega arith
 
 module _ (p : ℕ → Bool) (s : List ℕ) (n : ℕ) (e : n ≡ length (upTo p s)) where
   pub count-le : n ≤ length s

@@ -2,17 +2,16 @@
 use Prim.Native.Nat.{ℕ, _+_, _*_, _-_, _^_, _/_, _<_, _≤_}
 use mathlib.Core.Path.{_≡_, refl, sym, _∙_, ap}
 use mathlib.Core.List.{List, [], _∷_}
-use mathlib.Core.Bool.{true, false, and-false}
+use mathlib.Core.Bool.{false, and-false}
 use mathlib.Core.Logic.{_⊎_, ⊎-elim}
 use native.Mathlib.Omega.{arith}
 use lib.ListN.{length, getD, take, drop}
 use borrow.Author.Tests.{lt-ltb, le-ltb, le-leb, lt-leb, eq-eqb, ne-eqb}
-use Rattle.evt_types.specs.declared.SensorSize.{SensorSize}
 use Rattle.header_text.specs.declared.size.Number.the-variants.{Invalid, Value}
-use Rattle.header_text.specs.Text.{isByte, upTo, any}
-use Rattle.header_text.specs.Size.{isDigit, allDigits, digitsValue, numberFrom, digitsOf, numberOf, sizeAt, geometryOf}
+use Rattle.header_text.specs.Text.{isByte, upTo}
+use Rattle.header_text.specs.Size.{isDigit, allDigits, digitsValue, numberFrom, digitsOf, numberOf, sizeAt}
 use Rattle.header_text.specs.Parts.{halvesAt}
-use Rattle.header_text.proofs.TextLaws.{at-drop, at-end, tail-part, lt-upTo, count-take, rest-after}
+use Rattle.header_text.proofs.TextLaws.{at-drop, at-end, tail-part, count-take, rest-after}
 
 -- ---- digits
 
@@ -74,29 +73,7 @@ unfolding numberOf
 number-plain [] h e = absurd (h refl)
 number-plain (b ∷ s) h e = rw (ne-eqb b 43 e)
 
--- the first byte c, found or not
-
-module _ (c : ℕ) (s : List ℕ) (n : ℕ) (e : n ≡ length (upTo (isByte c) s)) where
-  found : n < length s → any (isByte c) s ≡ true
-  found h = sym (lt-upTo (isByte c) s) ∙ lt-ltb (length (upTo (isByte c) s)) (length s) (omega arith)
-
-  missing : length s ≤ n → any (isByte c) s ≡ false
-  missing h = sym (lt-upTo (isByte c) s) ∙ le-ltb (length (upTo (isByte c) s)) (length s) (omega arith)
-
-  parted : halvesAt n s ≡ sizeAt c s
-  unfolding halvesAt sizeAt
-  parted = rw (count-take (isByte c) s n e, rest-after (isByte c) s n e)
-
-module _ (s : List ℕ) (old r : SensorSize) (small : ℕ) (e : small ≡ length (upTo (isByte 120) s)) where
-  pub geometry-small : small < length s → r ≡ halvesAt small s → r ≡ geometryOf s old
-  unfolding geometryOf
-  geometry-small h k = rw (found 120 s small e h) (k ∙ parted 120 s small e)
-
-  module _ (h : length s ≤ small) (large : ℕ) (f : large ≡ length (upTo (isByte 88) s)) where
-    pub geometry-large : large < length s → r ≡ halvesAt large s → r ≡ geometryOf s old
-    unfolding geometryOf
-    geometry-large l k = rw (missing 120 s small e h, found 88 s large f l) (k ∙ parted 88 s large f)
-
-    pub geometry-none : length s ≤ large → r ≡ old → r ≡ geometryOf s old
-    unfolding geometryOf
-    geometry-none l k = rw (missing 120 s small e h, missing 88 s large f l) k
+-- the byte n is the first c
+pub halves-size : (c : ℕ) (s : List ℕ) (n : ℕ) → n ≡ length (upTo (isByte c) s) → halvesAt n s ≡ sizeAt c s
+unfolding halvesAt sizeAt
+halves-size c s n e = rw (count-take (isByte c) s n e, rest-after (isByte c) s n e)

@@ -59,6 +59,12 @@ module _ (p : ℕ → Bool) (s : List ℕ) (i : ℕ) (inv : i + length (upTo p (
     unfolding upTo
     until-next e = let q : i + suc (length (upTo p (drop (i + 1) s))) ≡ length (upTo p s) = rw (at-drop s i h, e) at inv in omega arith
 
+drop-one : (s : List ℕ) → drop 1 s ≡ restOf s
+unfolding restOf
+drop-one [] = refl
+drop-one (b ∷ s) = refl
+
+-- n bytes stand before the first with the property, or there is none
 module _ (p : ℕ → Bool) (s : List ℕ) (n : ℕ) (e : n ≡ length (upTo p s)) where
   pub count-le : n ≤ length s
   count-le = omega (arith, upTo-le p s)
@@ -69,15 +75,16 @@ module _ (p : ℕ → Bool) (s : List ℕ) (n : ℕ) (e : n ≡ length (upTo p s
   pub count-drop : take (length s - n) (drop n s) ≡ from p s
   count-drop = tail-part s n count-le ∙ rw e (drop-upTo p s)
 
-drop-one : (s : List ℕ) → drop 1 s ≡ restOf s
-unfolding restOf
-drop-one [] = refl
-drop-one (b ∷ s) = refl
+  pub rest-after : drop (n + 1) s ≡ restOf (from p s)
+  rest-after =
+      let d : drop n s ≡ from p s = rw e (drop-upTo p s) in
+      sym (drop-drop 1 n s) ∙ drop-one (drop n s) ∙ ap restOf d
 
-pub rest-after : (p : ℕ → Bool) (s : List ℕ) (n : ℕ) → n ≡ length (upTo p s) → drop (n + 1) s ≡ restOf (from p s)
-rest-after p s n e =
-    let d : drop n s ≡ from p s = rw e (drop-upTo p s) in
-    sym (drop-drop 1 n s) ∙ drop-one (drop n s) ∙ ap restOf d
+  pub found : n < length s → any p s ≡ true
+  found h = sym (lt-upTo p s) ∙ lt-ltb (length (upTo p s)) (length s) (omega arith)
+
+  pub missing : length s ≤ n → any p s ≡ false
+  missing h = sym (lt-upTo p s) ∙ le-ltb (length (upTo p s)) (length s) (omega arith)
 
 -- ---- trimming the end
 

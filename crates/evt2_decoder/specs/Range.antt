@@ -1,5 +1,5 @@
 -- What every decoder that started fresh keeps, and what follows: at most 2^30 bytes from a fresh decoder leave it in range, and from any
--- decoder in range no sum of so many words wraps and every event time fits an i64. (One step from the greatest number of loops may leave the range.)
+-- decoder in range no sum of so many words wraps and every event time fits an i64. (One step from the maximum number of loops may leave the range.)
 use mathlib.Core.Path.{_≡_, refl, sym, ap, _∙_}
 use mathlib.Core.Bool.{Bool, true, false, true≢false}
 use mathlib.Core.List.{List}
@@ -27,24 +27,29 @@ regular-fresh2 = record { unstarted = λ h. refl; started = λ h. absurd (true�
 pub regular-step2 : (d : Evt2Decoder) (w : ℕ) → Regular2 d → Regular2 (step2 d w)
 unfolding step2
 regular-step2 d w r = Evt2.by-kinds (λ k. Regular2 (Evt2.stepAs k d w)) (type2 w) (d .initialised)
-    (record { unstarted = λ h. absurd (true≢false h); started = λ h. ticking-word (2 ^ 28) grain2 (omega arith) (omega arith) threshold2 (d .«time_high») (d .«high_loops») (timeHigh2 w) (omega arith) })
+    (record {
+      unstarted = λ h. absurd (true≢false h);
+      started = λ h. ticking-word (2 ^ 28) grain2 (omega arith) (omega arith) threshold2 (d .«time_high») (d .«high_loops») (timeHigh2 w) (omega arith);
+    })
     (λ on q. record {
       unstarted = λ h. absurd (true≢false (sym on ∙ h));
       started = λ h. let t = r .started on in record { low = t .low; high = t .high; whole = t .whole; past = omega arith; near = omega arith };
     })
     r
 
-below2 : (d : Evt2Decoder) → Regular2 d → d .«time_high» < suc (d .«high_loops») * period2
+pub below2 : (d : Evt2Decoder) → Regular2 d → d .«time_high» < suc (d .«high_loops») * period2
 below2 d r = go (d .initialised) refl
   where
     go : (b : Bool) → d .initialised ≡ b → d .«time_high» < suc (d .«high_loops») * period2
     go true h = r .started h .high
     go false h = rw (r .unstarted h) (omega arith)
 
-slow2 : (d : Evt2Decoder) (w : ℕ) → Regular2 d
-    → charge period2 threshold2 (step2 d w .«time_high») (step2 d w .«high_loops») ≤ charge period2 threshold2 (d .«time_high») (d .«high_loops») + 1
+abbrev charge2 : Evt2Decoder → ℕ
+charge2 d = charge period2 threshold2 (d .«time_high») (d .«high_loops»)
+
+slow2 : (d : Evt2Decoder) (w : ℕ) → Regular2 d → charge2 (step2 d w) ≤ charge2 d + 1
 unfolding step2
-slow2 d w r = Evt2.by-kinds (λ k. charge period2 threshold2 (Evt2.stepAs k d w .«time_high») (Evt2.stepAs k d w .«high_loops») ≤ charge period2 threshold2 (d .«time_high») (d .«high_loops») + 1) (type2 w) (d .initialised)
+slow2 d w r = Evt2.by-kinds (λ k. charge2 (Evt2.stepAs k d w) ≤ charge2 d + 1) (type2 w) (d .initialised)
     (charge-one period2 threshold2 (d .«time_high») (d .«high_loops») (timeHigh2 w * grain2) (omega arith) (below2 d r))
     (λ on q. omega arith) (omega arith)
 
@@ -78,8 +83,9 @@ regular-range2 d h = go (d .initialised) refl
 -- at most 2^30 bytes from a fresh decoder
 pub fresh-range2 : (l : List ℕ) → length l ≤ 2 ^ 30 → inRange2 (run reader2 fresh2 (wordsOf wordSize2 l)) ≡ true
 fresh-range2 l h =
-    let few = charge-run period2 threshold2 reader2 (λ d. d .«time_high») (λ d. d .«high_loops») Regular2 regular-step2 slow2 fresh2 (wordsOf wordSize2 l) regular-fresh2 in
-    range2 (run reader2 fresh2 (wordsOf wordSize2 l)) (run-keeps reader2 Regular2 regular-step2 fresh2 (wordsOf wordSize2 l) regular-fresh2)
+    let ws = wordsOf wordSize2 l in
+    let few = charge-run period2 threshold2 reader2 (λ d. d .«time_high») (λ d. d .«high_loops») Regular2 regular-step2 slow2 fresh2 ws regular-fresh2 in
+    range2 (run reader2 fresh2 ws) (run-keeps reader2 Regular2 regular-step2 fresh2 ws regular-fresh2)
     (omega (arith, few, charge-fresh period2 threshold2 (omega arith), length-words 4 l))
 
 -- the decoder can take n words more, and no sum wraps

@@ -121,10 +121,26 @@ inRange3 d =
 -- ---- the same decoder in the loops' struct
 
 abbrev pub widened : Decoder → WideDecoder
-widened d = record { initialised = d .initialised; «time_base» = d .«time_base»; time = d .time; y = d .y; «base_x» = d .«base_x»; polarity = d .polarity; «high_loops» = d .«high_loops» }
+widened d = record {
+  initialised = d .initialised;
+  «time_base» = d .«time_base»;
+  time = d .time;
+  y = d .y;
+  «base_x» = d .«base_x»;
+  polarity = d .polarity;
+  «high_loops» = d .«high_loops»;
+}
 
 abbrev pub slimmed : WideDecoder → Decoder
-slimmed d = record { initialised = d .initialised; «time_base» = d .«time_base»; time = d .time; y = d .y; «base_x» = d .«base_x»; polarity = d .polarity; «high_loops» = d .«high_loops» }
+slimmed d = record {
+  initialised = d .initialised;
+  «time_base» = d .«time_base»;
+  time = d .time;
+  y = d .y;
+  «base_x» = d .«base_x»;
+  polarity = d .polarity;
+  «high_loops» = d .«high_loops»;
+}
 
 pub record Slim (d : WideDecoder) : Type 0 where
   pub row : d .y < 2 ^ 16
@@ -165,6 +181,6 @@ pub by-kinds : (P : Kind → Type 0) (type : ℕ) (started : Bool) → (started 
     → (started ≡ true → P addrY) → (started ≡ true → P addrX) → (started ≡ true → P baseX) → (started ≡ true → P vect12) → (started ≡ true → P vect8) → P skip
     → P (kindOf type started)
 by-kinds P type true f h l y x b v u k =
-    either P (eqb type 0) (y refl) (either P (eqb type 2) (x refl) (either P (eqb type 3) (b refl) (either P (eqb type 4) (v refl) (either P (eqb type 5) (u refl)
-    (either P (eqb type 6) (l refl) (either P (eqb type 8) (h refl) k))))))
+    either P (eqb type 0) (y refl) (either P (eqb type 2) (x refl) (either P (eqb type 3) (b refl) (either P (eqb type 4) (v refl)
+    (either P (eqb type 5) (u refl) (either P (eqb type 6) (l refl) (either P (eqb type 8) (h refl) k))))))
 by-kinds P type false f h l y x b v u k = either P (eqb type 8) (f refl) k

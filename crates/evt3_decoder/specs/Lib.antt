@@ -1,3 +1,4 @@
 pub mod Evt3
 pub mod Decode
 pub mod Range
+pub mod Loops

@@ -1,5 +1,5 @@
 -- What every decoder that started fresh keeps, and what follows: at most 2^30 bytes from a fresh decoder leave it in range, and from any
--- decoder in range no sum of so many words wraps and every event time fits an i64. (One step from the greatest number of loops may leave the range.)
+-- decoder in range no sum of so many words wraps and every event time fits an i64. (One step from the maximum number of loops may leave the range.)
 use mathlib.Core.Path.{_≡_, refl, sym, ap, _∙_}
 use mathlib.Core.Bool.{Bool, true, false, not, true≢false}
 use mathlib.Core.List.{List}
@@ -44,7 +44,8 @@ regular-step3 d w r =
     let raw : time3 w < 4096 = omega arith in
     Evt3.by-kinds (λ k. Regular3 (Evt3.stepAs k d w)) (type3 w) (d .initialised)
     (λ off. let z : d .«high_loops» ≡ 0 = ap (λ (e : Decoder). e .«high_loops») (r .unstarted off) in
-    sets3 d (time3 w * grain3) (d .«high_loops») (record { low = omega arith; high = omega arith; whole = omega arith; past = omega arith; near = omega arith }) (row3 d r))
+    sets3 d (time3 w * grain3) (d .«high_loops»)
+    (record { low = omega arith; high = omega arith; whole = omega arith; past = omega arith; near = omega arith }) (row3 d r))
     (λ on. sets3 d _ _ (ticking-word 4096 grain3 (omega arith) (omega arith) threshold3 (d .«time_base») (d .«high_loops») (time3 w) raw) (row3 d r))
     (λ on. let t = r .started on in
     goes-on3 _ on (record { low = t .0 .low; high = t .0 .high; whole = t .0 .whole; past = omega arith; near = omega arith }, t .1))
@@ -55,7 +56,7 @@ regular-step3 d w r =
     (λ on. goes-on3 _ on (r .started on))
     r
 
-below3 : (d : Decoder) → Regular3 d → d .«time_base» < suc (d .«high_loops») * period3
+pub below3 : (d : Decoder) → Regular3 d → d .«time_base» < suc (d .«high_loops») * period3
 below3 d r = go (d .initialised) refl
   where
     go : (b : Bool) → d .initialised ≡ b → d .«time_base» < suc (d .«high_loops») * period3
@@ -69,13 +70,16 @@ near3 d r = go (d .initialised) refl
     go true h = r .started h .0 .near
     go false h = rw (r .unstarted h) (omega arith)
 
-slow3 : (d : Decoder) (w : ℕ) → Regular3 d
-    → charge period3 threshold3 (step3 d w .«time_base») (step3 d w .«high_loops») ≤ charge period3 threshold3 (d .«time_base») (d .«high_loops») + 1
+abbrev charge3 : Decoder → ℕ
+charge3 d = charge period3 threshold3 (d .«time_base») (d .«high_loops»)
+
+slow3 : (d : Decoder) (w : ℕ) → Regular3 d → charge3 (step3 d w) ≤ charge3 d + 1
 unfolding step3
 slow3 d w r =
-    let same : charge period3 threshold3 (d .«time_base») (d .«high_loops») ≤ charge period3 threshold3 (d .«time_base») (d .«high_loops») + 1 = omega arith in
-    Evt3.by-kinds (λ k. charge period3 threshold3 (Evt3.stepAs k d w .«time_base») (Evt3.stepAs k d w .«high_loops») ≤ charge period3 threshold3 (d .«time_base») (d .«high_loops») + 1) (type3 w) (d .initialised)
-    (λ off. let z : d .«high_loops» ≡ 0 = ap (λ (e : Decoder). e .«high_loops») (r .unstarted off) in rw z (omega (arith, charge-le period3 threshold3 (time3 w * grain3) 0)))
+    let same : charge3 d ≤ charge3 d + 1 = omega arith in
+    Evt3.by-kinds (λ k. charge3 (Evt3.stepAs k d w) ≤ charge3 d + 1) (type3 w) (d .initialised)
+    (λ off. let z : d .«high_loops» ≡ 0 = ap (λ (e : Decoder). e .«high_loops») (r .unstarted off) in
+    rw z (omega (arith, charge-le period3 threshold3 (time3 w * grain3) 0)))
     (λ on. charge-one period3 threshold3 (d .«time_base») (d .«high_loops») (time3 w * grain3) (omega arith) (below3 d r))
     (λ on. same) (λ on. same) (λ on. same) (λ on. same) (λ on. same) (λ on. same) same
 
@@ -85,7 +89,8 @@ range3 d r h = go (d .initialised) refl
     go : (b : Bool) → d .initialised ≡ b → inRange3 d ≡ true
     go true e =
         let t = r .started e in
-        rw (e, ticking-range 4096 grain3 (omega arith) (omega arith) (2 ^ 28) (d .«time_base») (d .time) (d .«high_loops») (t .0) h, le-leb (d .y) 2047 (omega (arith, t .1)))
+        let c = ticking-range 4096 grain3 (omega arith) (omega arith) (2 ^ 28) (d .«time_base») (d .time) (d .«high_loops») (t .0) h in
+        rw (e, c, le-leb (d .y) 2047 (omega (arith, t .1)))
     go false e = ap inRange3 (r .unstarted e)
 
 is-off : (b : Bool) → not b ≡ true → b ≡ false
@@ -124,8 +129,9 @@ regular-range3 d h = go (d .initialised) refl
 -- at most 2^30 bytes from a fresh decoder
 pub fresh-range3 : (l : List ℕ) → length l ≤ 2 ^ 30 → inRange3 (run reader3 fresh3 (wordsOf wordSize3 l)) ≡ true
 fresh-range3 l h =
-    let few = charge-run period3 threshold3 reader3 (λ d. d .«time_base») (λ d. d .«high_loops») Regular3 regular-step3 slow3 fresh3 (wordsOf wordSize3 l) regular-fresh3 in
-    range3 (run reader3 fresh3 (wordsOf wordSize3 l)) (run-keeps reader3 Regular3 regular-step3 fresh3 (wordsOf wordSize3 l) regular-fresh3)
+    let ws = wordsOf wordSize3 l in
+    let few = charge-run period3 threshold3 reader3 (λ d. d .«time_base») (λ d. d .«high_loops») Regular3 regular-step3 slow3 fresh3 ws regular-fresh3 in
+    range3 (run reader3 fresh3 ws) (run-keeps reader3 Regular3 regular-step3 fresh3 ws regular-fresh3)
     (omega (arith, few, charge-fresh period3 threshold3 (omega arith), length-words 2 l))
 
 -- the decoder can take n words more, and no sum wraps
@@ -169,7 +175,8 @@ bounded-narrow3 {n} {d} w b =
     let l = b .loops in
     let late : d .time < 2 ^ 63 = omega arith in
     let none : Narrow (Evt3.vectorAs Evt3.skip d w) = record { x< = omega arith; y< = omega arith; t< = omega arith; p< = omega arith; mask< = omega arith } in
-    let some : (m : ℕ) → m < 2 ^ 32 → Narrow (Evt3.several d m) = λ m q. record { x< = b .column; y< = omega arith; t< = late; p< = number-lt (d .polarity); mask< = q } in
+    let some : (m : ℕ) → m < 2 ^ 32 → Narrow (Evt3.several d m) =
+    λ m q. record { x< = b .column; y< = omega arith; t< = late; p< = number-lt (d .polarity); mask< = q } in
     Evt3.by-kinds (λ k. Narrow (Evt3.vectorAs k d w)) (type3 w) (d .initialised)
     (λ off. none) (λ on. none) (λ on. none) (λ on. none)
     (λ on. record { x< = omega arith; y< = omega arith; t< = late; p< = omega arith; mask< = omega arith })

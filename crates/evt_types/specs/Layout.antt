@@ -145,3 +145,31 @@ module _ (type p x : ℕ) (type< : type < 16) (p< : p < 2) (x< : x < 2048) where
 
   pub column-fits3 : columnWord3 type p x < 2 ^ 16
   column-fits3 = omega arith
+
+-- ---- and a word is the word built of its fields, its unused bits 0
+
+pub event-whole2 : (w : ℕ) → w < 2 ^ 32 → eventWord2 (type2 w) (timeLow2 w) (x2 w) (y2 w) ≡ w
+event-whole2 w h =
+    let top : type2 w * 2 ^ 6 + timeLow2 w ≡ w / 2 ^ 22 = omega arith in
+    let upper : (type2 w * 2 ^ 6 + timeLow2 w) * 2 ^ 11 + x2 w ≡ w / 2 ^ 11 = omega arith in
+    omega arith
+
+pub time-whole2 : (w : ℕ) → w < 2 ^ 32 → type2 w ≡ 8 → timeWord2 (timeHigh2 w) ≡ w
+time-whole2 w h e = omega arith
+
+module _ (w : ℕ) (w< : w < 2 ^ 16) where
+  pub time-whole3 : word3 (type3 w) (time3 w) ≡ w
+  time-whole3 = omega arith
+
+  pub mask12-whole3 : word3 (type3 w) (mask12 w) ≡ w
+  mask12-whole3 = omega arith
+
+  pub mask8-whole3 : field 11 8 w ≡ 0 → word3 (type3 w) (mask8 w) ≡ w
+  mask8-whole3 unused = omega arith
+
+  pub row-whole3 : field 11 11 w ≡ 0 → word3 (type3 w) (y3 w) ≡ w
+  row-whole3 unused = omega arith
+
+  -- EVT_ADDR_X and VECT_BASE_X
+  pub column-whole3 : columnWord3 (type3 w) (polarity3 w) (x3 w) ≡ w
+  column-whole3 = omega arith

@@ -5,5 +5,6 @@ pub mod Outcome
 pub mod Event
 pub mod Layout
 pub mod Clock
+pub mod Tracking
 pub mod Columns
 pub mod Owed

@@ -2,45 +2,27 @@
 use Prim.Native.Nat.{ℕ, _+_, _*_, _-_, _^_, _/_, _<_, _≤_}
 use mathlib.Core.Path.{_≡_, refl, sym, _∙_, ap}
 use mathlib.Core.List.{List, [], _∷_}
-use mathlib.Core.Bool.{true, false, and-false}
+use mathlib.Core.Bool.{false, and-false}
 use mathlib.Core.Logic.{_⊎_, ⊎-elim}
 use native.Mathlib.Omega.{arith}
 use lib.ListN.{length, getD, take, drop}
-use lib.Dec.{ltb}
 use borrow.Author.Tests.{lt-ltb, le-ltb, le-leb, lt-leb, eq-eqb, ne-eqb}
-use Rattle.evt_types.specs.declared.SensorSize.{SensorSize}
-use Rattle.evt_types.specs.declared.SensorSize.the-variants.{Unknown, Known}
-use Rattle.header_text.specs.declared.size.Number.{Number}
 use Rattle.header_text.specs.declared.size.Number.the-variants.{Invalid, Value}
-use Rattle.header_text.specs.Text.{isByte, upTo, any, trimOf}
-use Rattle.header_text.specs.Size.{isDigit, allDigits, digitsValue, numberFrom, digitsOf, numberOf, both, sizeAt, geometryOf}
+use Rattle.header_text.specs.Text.{isByte, upTo}
+use Rattle.header_text.specs.Size.{isDigit, allDigits, digitsValue, numberFrom, digitsOf, numberOf, sizeAt}
 use Rattle.header_text.specs.Parts.{halvesAt}
-use Rattle.header_text.proofs.TextLaws.{at-drop, at-end, tail-part, lt-upTo, count-take, rest-after}
+use Rattle.header_text.proofs.TextLaws.{at-drop, at-end, tail-part, count-take, rest-after}
 
 -- ---- digits
 
-pub decimal-ge : (n : ℕ) (s : List ℕ) → n ≤ digitsValue n s
+value-ge : (n : ℕ) (s : List ℕ) → n ≤ digitsValue n s
 unfolding digitsValue
-decimal-ge n [] = omega arith
-decimal-ge n (b ∷ s) = omega (arith, decimal-ge (n * 10 + (b - 48)) s)
+value-ge n [] = omega arith
+value-ge n (b ∷ s) = omega (arith, value-ge (n * 10 + (b - 48)) s)
 
-pub value-big : (n : ℕ) (s : List ℕ) → 2 ^ 64 ≤ n → numberFrom n s ≡ Invalid
+value-big : (n : ℕ) (s : List ℕ) → 2 ^ 64 ≤ n → numberFrom n s ≡ Invalid
 unfolding numberFrom
-value-big n s h =
-    let e : ltb (digitsValue n s) (2 ^ 64) ≡ false = le-ltb (digitsValue n s) (2 ^ 64) (omega (arith, decimal-ge n s)) in
-    rw (e, and-false)
-
-pub value-end : (n : ℕ) → n < 2 ^ 64 → numberFrom n [] ≡ Value n
-unfolding numberFrom allDigits digitsValue
-value-end n h = rw (lt-ltb n (2 ^ 64) h)
-
-pub value-bad : (n b : ℕ) (s : List ℕ) → isDigit b ≡ false → numberFrom n (b ∷ s) ≡ Invalid
-unfolding numberFrom allDigits
-value-bad n b s e = rw e
-
-pub value-step : (n b : ℕ) (s : List ℕ) → isDigit b ≡ true → numberFrom n (b ∷ s) ≡ numberFrom (n * 10 + (b - 48)) s
-unfolding numberFrom allDigits digitsValue
-value-step n b s e = rw e
+value-big n s h = rw (le-ltb (digitsValue n s) (2 ^ 64) (omega (arith, value-ge n s)), and-false)
 
 pub digits-some : (s : List ℕ) → (length s ≡ 0 → ⊥) → numberFrom 0 s ≡ digitsOf s
 unfolding digitsOf
@@ -52,27 +34,27 @@ unfolding digitsOf
 digits-none [] h = refl
 digits-none (b ∷ s) h = absurd (omega arith)
 
-pub not-digit : (b : ℕ) → (b < 48) ⊎ (57 < b) → isDigit b ≡ false
+not-digit : (b : ℕ) → (b < 48) ⊎ (57 < b) → isDigit b ≡ false
 unfolding isDigit
 not-digit b h = ⊎-elim (λ l. rw (lt-leb 48 b l)) (λ l. rw (lt-leb b 57 l, and-false)) h
 
-pub a-digit : (b : ℕ) → 48 ≤ b → b ≤ 57 → isDigit b ≡ true
-unfolding isDigit
-a-digit b l u = rw (le-leb 48 b l, le-leb b 57 u)
-
 module _ (s : List ℕ) (n i : ℕ) (inv : numberFrom n (drop i s) ≡ digitsOf s) where
   pub digits-end : length s ≤ i → n < 2 ^ 64 → Value n ≡ digitsOf s
-  digits-end h k = sym (value-end n k) ∙ rw (at-end s i h) at inv
+  unfolding numberFrom allDigits digitsValue
+  digits-end h k = rw (at-end s i h, lt-ltb n (2 ^ 64) k) at inv
 
   module _ (h : i < length s) where
     pub digits-bad : (getD s i 0 < 48) ⊎ (57 < getD s i 0) → Invalid ≡ digitsOf s
-    digits-bad k = rw (at-drop s i h, value-bad n _ _ (not-digit _ k)) at inv
+    unfolding numberFrom allDigits
+    digits-bad k = rw (at-drop s i h, not-digit _ k) at inv
 
-    pub digits-next : 48 ≤ getD s i 0 → getD s i 0 ≤ 57 → numberFrom (n * 10 + (getD s i 0 - 48)) (drop (i + 1) s) ≡ digitsOf s
-    digits-next l u = rw (at-drop s i h, value-step n _ _ (a-digit _ l u)) at inv
+    module _ (l : 48 ≤ getD s i 0) (u : getD s i 0 ≤ 57) where
+      pub digits-next : numberFrom (n * 10 + (getD s i 0 - 48)) (drop (i + 1) s) ≡ digitsOf s
+      unfolding numberFrom allDigits digitsValue isDigit
+      digits-next = rw (at-drop s i h, le-leb 48 _ l, le-leb _ 57 u) at inv
 
-    pub digits-big : 48 ≤ getD s i 0 → getD s i 0 ≤ 57 → (2 ^ 64 - 1 - (getD s i 0 - 48)) / 10 < n → Invalid ≡ digitsOf s
-    digits-big l u k = sym (value-big _ (drop (i + 1) s) (omega arith)) ∙ digits-next l u
+      pub digits-big : (2 ^ 64 - 1 - (getD s i 0 - 48)) / 10 < n → Invalid ≡ digitsOf s
+      digits-big k = sym (value-big _ (drop (i + 1) s) (omega arith)) ∙ digits-next
 
 -- ---- numbers and sizes
 
@@ -91,57 +73,7 @@ unfolding numberOf
 number-plain [] h e = absurd (h refl)
 number-plain (b ∷ s) h e = rw (ne-eqb b 43 e)
 
--- a value that parts at its byte n, from what the trimmed halves are
-
-module _ (n : ℕ) (s : List ℕ) where
-  abbrev pub wide : Number
-  wide = numberOf (trimOf (take n s))
-
-  abbrev pub high : Number
-  high = numberOf (trimOf (drop (n + 1) s))
-
-  pub wide-is : (v m : Number) (part : List ℕ) → v ≡ numberOf part → part ≡ trimOf (take n s) → v ≡ m → wide ≡ m
-  wide-is v m part a b e = sym (a ∙ ap numberOf b) ∙ e
-
-  pub high-is : n < length s → (v m : Number) (part : List ℕ) → v ≡ numberOf part
-      → part ≡ trimOf (take (length s - (n + 1)) (drop (n + 1) s)) → v ≡ m → high ≡ m
-  high-is h v m part a b e = sym (a ∙ ap numberOf (b ∙ ap trimOf (tail-part s (n + 1) (omega arith)))) ∙ e
-
-  pub size-no-width : wide ≡ Invalid → Unknown ≡ halvesAt n s
-  unfolding halvesAt both
-  size-no-width e = rw e
-
-  pub size-no-height : (w : ℕ) → wide ≡ Value w → high ≡ Invalid → Unknown ≡ halvesAt n s
-  unfolding halvesAt both
-  size-no-height w e f = rw (e, f)
-
-  pub size-both : (w h : ℕ) → wide ≡ Value w → high ≡ Value h → Known w h ≡ halvesAt n s
-  unfolding halvesAt both
-  size-both w h e f = rw (e, f)
-
--- the first byte c, found or not
-
-module _ (c : ℕ) (s : List ℕ) (n : ℕ) (e : n ≡ length (upTo (isByte c) s)) where
-  found : n < length s → any (isByte c) s ≡ true
-  found h = sym (lt-upTo (isByte c) s) ∙ lt-ltb (length (upTo (isByte c) s)) (length s) (omega arith)
-
-  missing : length s ≤ n → any (isByte c) s ≡ false
-  missing h = sym (lt-upTo (isByte c) s) ∙ le-ltb (length (upTo (isByte c) s)) (length s) (omega arith)
-
-  parted : halvesAt n s ≡ sizeAt c s
-  unfolding halvesAt sizeAt
-  parted = rw (count-take (isByte c) s n e, rest-after (isByte c) s n e)
-
-module _ (s : List ℕ) (old r : SensorSize) (small : ℕ) (e : small ≡ length (upTo (isByte 120) s)) where
-  pub geometry-small : small < length s → r ≡ halvesAt small s → r ≡ geometryOf s old
-  unfolding geometryOf
-  geometry-small h k = rw (found 120 s small e h) (k ∙ parted 120 s small e)
-
-  module _ (h : length s ≤ small) (large : ℕ) (f : large ≡ length (upTo (isByte 88) s)) where
-    pub geometry-large : large < length s → r ≡ halvesAt large s → r ≡ geometryOf s old
-    unfolding geometryOf
-    geometry-large l k = rw (missing 120 s small e h, found 88 s large f l) (k ∙ parted 88 s large f)
-
-    pub geometry-none : length s ≤ large → r ≡ old → r ≡ geometryOf s old
-    unfolding geometryOf
-    geometry-none l k = rw (missing 120 s small e h, missing 88 s large f l) k
+-- the byte n is the first c
+pub halves-size : (c : ℕ) (s : List ℕ) (n : ℕ) → n ≡ length (upTo (isByte c) s) → halvesAt n s ≡ sizeAt c s
+unfolding halvesAt sizeAt
+halves-size c s n e = rw (count-take (isByte c) s n e, rest-after (isByte c) s n e)

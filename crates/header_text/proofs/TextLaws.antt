@@ -45,14 +45,6 @@ lt-upTo p (b ∷ s) =
     by-bool (p b) (λ e. rw e (lt-ltb 0 (suc (length s)) (omega arith)))
     (λ e. rw e (leb·suc-suc (suc (length (upTo p s))) (length s) ∙ lt-upTo p s))
 
-pub upTo-stop : (p : ℕ → Bool) (b : ℕ) (s : List ℕ) → p b ≡ true → length (upTo p (b ∷ s)) ≡ 0
-unfolding upTo
-upTo-stop p b s e = rw e
-
-pub upTo-step : (p : ℕ → Bool) (b : ℕ) (s : List ℕ) → p b ≡ false → length (upTo p (b ∷ s)) ≡ suc (length (upTo p s))
-unfolding upTo
-upTo-step p b s e = rw e
-
 module _ (p : ℕ → Bool) (s : List ℕ) (i : ℕ) (inv : i + length (upTo p (drop i s)) ≡ length (upTo p s)) where
   pub until-end : length s ≤ i → i ≡ length (upTo p s)
   unfolding upTo
@@ -60,15 +52,19 @@ module _ (p : ℕ → Bool) (s : List ℕ) (i : ℕ) (inv : i + length (upTo p (
 
   module _ (h : i < length s) where
     pub until-found : p (getD s i 0) ≡ true → i ≡ length (upTo p s)
-    until-found e =
-        let q : i + 0 ≡ length (upTo p s) = rw (at-drop s i h, upTo-stop p _ _ e) at inv in
-        omega arith
+    unfolding upTo
+    until-found e = let q : i + 0 ≡ length (upTo p s) = rw (at-drop s i h, e) at inv in omega arith
 
     pub until-next : p (getD s i 0) ≡ false → (i + 1) + length (upTo p (drop (i + 1) s)) ≡ length (upTo p s)
-    until-next e =
-        let q : i + suc (length (upTo p (drop (i + 1) s))) ≡ length (upTo p s) = rw (at-drop s i h, upTo-step p _ _ e) at inv in
-        omega arith
+    unfolding upTo
+    until-next e = let q : i + suc (length (upTo p (drop (i + 1) s))) ≡ length (upTo p s) = rw (at-drop s i h, e) at inv in omega arith
 
+drop-one : (s : List ℕ) → drop 1 s ≡ restOf s
+unfolding restOf
+drop-one [] = refl
+drop-one (b ∷ s) = refl
+
+-- n bytes stand before the first with the property, or there is none
 module _ (p : ℕ → Bool) (s : List ℕ) (n : ℕ) (e : n ≡ length (upTo p s)) where
   pub count-le : n ≤ length s
   count-le = omega (arith, upTo-le p s)
@@ -79,15 +75,16 @@ module _ (p : ℕ → Bool) (s : List ℕ) (n : ℕ) (e : n ≡ length (upTo p s
   pub count-drop : take (length s - n) (drop n s) ≡ from p s
   count-drop = tail-part s n count-le ∙ rw e (drop-upTo p s)
 
-drop-one : (s : List ℕ) → drop 1 s ≡ restOf s
-unfolding restOf
-drop-one [] = refl
-drop-one (b ∷ s) = refl
+  pub rest-after : drop (n + 1) s ≡ restOf (from p s)
+  rest-after =
+      let d : drop n s ≡ from p s = rw e (drop-upTo p s) in
+      sym (drop-drop 1 n s) ∙ drop-one (drop n s) ∙ ap restOf d
 
-pub rest-after : (p : ℕ → Bool) (s : List ℕ) (n : ℕ) → n ≡ length (upTo p s) → drop (n + 1) s ≡ restOf (from p s)
-rest-after p s n e =
-    let d : drop n s ≡ from p s = rw e (drop-upTo p s) in
-    sym (drop-drop 1 n s) ∙ drop-one (drop n s) ∙ ap restOf d
+  pub found : n < length s → any p s ≡ true
+  found h = sym (lt-upTo p s) ∙ lt-ltb (length (upTo p s)) (length s) (omega arith)
+
+  pub missing : length s ≤ n → any p s ≡ false
+  missing h = sym (lt-upTo p s) ∙ le-ltb (length (upTo p s)) (length s) (omega arith)
 
 -- ---- trimming the end
 

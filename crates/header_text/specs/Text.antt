@@ -52,7 +52,7 @@ trimEnd s = reverse (trimStart (reverse s))
 unfoldable pub trimOf : List ℕ → List ℕ
 trimOf s = trimEnd (trimStart s)
 
--- a letter `A` to `Z` as the small letter, any other byte as it is
+-- a letter `A` to `Z` in lowercase, any other byte as it is
 unfoldable pub lowerOf : ℕ → ℕ
 lowerOf b = cond (ltb b 65) b (cond (ltb 90 b) b (b + 32))
 

@@ -9,7 +9,8 @@ use crate::text::trim;
 use crate::text::until;
 use evt_types::SensorSize;
 
-enum Number {
+// What a text reads as; `pub` for the law that a written number is read back.
+pub enum Number {
     Invalid,
     Value(usize),
 }

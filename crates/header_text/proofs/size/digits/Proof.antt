@@ -24,25 +24,20 @@ returns-2 c = laws.digits-bad _ _ _ (c .before .before .before .loop .inv .1 .1)
 
 returns-3 : tie.Need-returns-3 Inv-loop μ-loop
 returns-3 c =
-    laws.digits-bad _ _ _ (c .before .before .before .before .before .loop .inv .1 .1) (c .before .before .before .before .loop-test .taken)
-    (inr (c .if3 .taken))
+    let b = c .before .before .before .before in
+    laws.digits-bad _ _ _ (b .before .loop .inv .1 .1) (b .loop-test .taken) (inr (c .if3 .taken))
 
 returns-4 : tie.Need-returns-4 Inv-loop μ-loop
 returns-4 c =
-    laws.digits-big _ _ _ (c .before .before .before .before .before .before .before .loop .inv .1 .1)
-    (c .before .before .before .before .before .before .loop-test .taken) (c .before .before .before .before .if2 .left)
+    let b = c .before .before .before .before in
+    laws.digits-big _ _ _ (b .before .before .before .loop .inv .1 .1) (b .before .before .loop-test .taken) (b .if2 .left)
     (c .before .before .if3 .left) (omega arith)
 
 loop-again : tie.Need-loop-again Inv-loop μ-loop
-loop-again c = (
-  omega arith,
-  (
-    omega arith,
-    laws.digits-next _ _ _ (c .before .before .before .before .before .before .before .loop .inv .1 .1)
-        (c .before .before .before .before .before .before .loop-test .taken) (c .before .before .before .before .if2 .left)
-        (c .before .before .if3 .left),
-  ),
-)
+loop-again c =
+    let b = c .before .before .before .before in
+    let u = c .before .before .if3 .left in
+    (omega arith, (omega arith, laws.digits-next _ _ _ (b .before .before .before .loop .inv .1 .1) (b .before .before .loop-test .taken) (b .if2 .left) u))
 
 returns-5 : tie.Need-returns-5 Inv-loop μ-loop
 returns-5 c = laws.digits-end _ _ _ (c .before .loop .inv .1 .1) (c .loop-test .left) (c .before .loop .inv .1 .0)

@@ -20,20 +20,15 @@ returns c = laws.begins-short _ _ _ (c .before .before .loop .inv .1 .1) (c .bef
 
 returns-2 : tie.Need-returns-2 Inv-loop μ-loop
 returns-2 c =
-    laws.begins-wrong _ _ _ (c .before .before .before .before .before .before .loop .inv .1 .1)
-    (c .before .before .before .before .before .loop-test .taken) (c .before .before .before .before .if1 .left)
+    let b = c .before .before .before .before in
+    laws.begins-wrong _ _ _ (b .before .before .loop .inv .1 .1) (b .before .loop-test .taken) (b .if1 .left)
     (λ e. c .if2 .taken (c .before .before .lower .ensures ∙ e))
 
 loop-again : tie.Need-loop-again Inv-loop μ-loop
-loop-again c = (
-  omega arith,
-  (
-    omega arith,
-    laws.begins-next _ _ _ (c .before .before .before .before .before .before .loop .inv .1 .1)
-        (c .before .before .before .before .before .loop-test .taken) (c .before .before .before .before .if1 .left)
-        (sym (c .before .before .lower .ensures) ∙ c .if2 .left),
-  ),
-)
+loop-again c =
+    let b = c .before .before .before .before in
+    let same = sym (c .before .before .lower .ensures) ∙ c .if2 .left in
+    (omega arith, (omega arith, laws.begins-next _ _ _ (b .before .before .loop .inv .1 .1) (b .before .loop-test .taken) (b .if1 .left) same))
 
 returns-3 : tie.Need-returns-3 Inv-loop μ-loop
 returns-3 c = laws.begins-end _ _ _ (c .before .loop .inv .1 .1) (c .loop-test .left)

@@ -18,15 +18,13 @@ abbrev μ-loop : tie.MeasureT-loop
 
 returns : tie.Need-returns Inv-loop μ-loop
 returns c =
-    laws.until-found _ _ _ (c .before .before .before .before .loop .inv .1) (c .before .before .before .loop-test .taken)
-    (sym (c .before .is-in .ensures) ∙ c .if1 .taken)
+    let b = c .before .before .before in
+    laws.until-found _ _ _ (b .before .loop .inv .1) (b .loop-test .taken) (sym (c .before .is-in .ensures) ∙ c .if1 .taken)
 
 loop-again : tie.Need-loop-again Inv-loop μ-loop
-loop-again c = (
-  omega arith,
-  laws.until-next _ _ _ (c .before .before .before .before .loop .inv .1) (c .before .before .before .loop-test .taken)
-      (sym (c .before .is-in .ensures) ∙ c .if1 .left),
-)
+loop-again c =
+    let b = c .before .before .before in
+    (omega arith, laws.until-next _ _ _ (b .before .loop .inv .1) (b .loop-test .taken) (sym (c .before .is-in .ensures) ∙ c .if1 .left))
 
 returns-2 : tie.Need-returns-2 Inv-loop μ-loop
 returns-2 c = laws.until-end _ _ _ (c .before .loop .inv .1) (c .loop-test .left)

@@ -24,7 +24,7 @@ use Rattle.write_buffer.specs.declared.EncoderState.{EncoderState}
 use Rattle.write_buffer.specs.Columns.{event}
 use Rattle.write_buffer.specs.Sent.{freshState, sentIs, due}
 use Rattle.evt3_run_rules.specs.Runs.{Run, given, spread, Rising, Valid, firstX, lastX}
-use Rattle.evt3_lead_words.specs.Evt3.{highWord3, lowWord3, rowWord3, lowHeld, highSent3, lowSent3, rowSent3, leads3, singleWord3, baseWord3, maskWord3, nearby, beyond, windows, vectored, singles, masks, vectors, body3, encode3, encoded3, writer3}
+use Rattle.evt3_lead_words.specs.Evt3.{highWord3, lowWord3, rowWord3, lowKept, highSent3, lowSent3, rowSent3, leads3, singleWord3, baseWord3, maskWord3, nearby, beyond, windows, vectored, singles, masks, vectors, body3, encode3, encoded3, writer3}
 use Rattle.evt3_run_words.specs.Windows.{near-inc}
 use Rattle.write_words.specs.Laws.{reach, spread-is, none-left, singles-notes, masks-notes, body-notes, due-notes, encode-notes3}
 use Rattle.laws_formats.specs.Ready.{limit, sayable, Ready, Holds, holds-sent, Sayable, sayable-true, no-event, one-event}
@@ -260,7 +260,7 @@ rise-run : (t y p from : ℕ) (xs : List ℕ) (more : List Event) → 1 ≤ leng
 rise-run t y p from [] more h r = absurd (omega arith)
 rise-run t y p from (x ∷ xs) more h r = ((record { rises = omega arith; fine = r .0 .fine }, r .1), r .0 .rises)
 
-low-sent : (b : Bool) (l : Sent) (q : ℕ) → sentIs (lowHeld b l) q ≡ true → (b ≡ true → sentIs l q ≡ true) × (b ≡ false → q ≡ 0)
+low-sent : (b : Bool) (l : Sent) (q : ℕ) → sentIs (lowKept b l) q ≡ true → (b ≡ true → sentIs l q ≡ true) × (b ≡ false → q ≡ 0)
 low-sent true l q e = ((λ f. e), (λ f. absurd (true≢false f)))
 low-sent false l q e = ((λ f. absurd (true≢false (sym f))), (λ f. sym (eqb-true 0 q e)))
 

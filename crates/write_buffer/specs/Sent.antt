@@ -39,6 +39,6 @@ abbrev pub sentNumber : Sent → ℕ
 sentNumber Nothing = 2 ^ 64 - 1
 sentNumber (Value g) = g
 
-pub held-is : (s : Sent) (q : ℕ) → q < 2 ^ 60 → eqb (sentNumber s) q ≡ sentIs s q
-held-is Nothing q h = ne-eqb (2 ^ 64 - 1) q (λ e. omega arith)
-held-is (Value g) q h = refl
+pub number-is : (s : Sent) (q : ℕ) → q < 2 ^ 60 → eqb (sentNumber s) q ≡ sentIs s q
+number-is Nothing q h = ne-eqb (2 ^ 64 - 1) q (λ e. omega arith)
+number-is (Value g) q h = refl

@@ -19,7 +19,7 @@ use Rattle.write_buffer.specs.Columns.{Sized, eventsIn, eventsPast, eventOf, ev
 use Rattle.write_buffer.specs.Storing.{Roomy, bytesFrom, Going, going-start, going-turn, going-room, going-end}
 use Rattle.evt3_run_rules.specs.Runs.{Run, Rising, runs, runs-are, runOf, runs-at, follow-le}
 use Rattle.evt3_lead_words.specs.Evt3.{writer3}
-use Rattle.evt3_lead_words.specs.Leads.{leadsBytes, leads-held}
+use Rattle.evt3_lead_words.specs.Leads.{leadsBytes, leads-number}
 use Rattle.evt3_run_words.specs.Parts.{bytes3, few3, bytes-parts, bodyWords, Part}
 use Rattle.evt3_run_rules.specs.Marks.{goOn, Marked, marks-start}
 
@@ -90,7 +90,7 @@ module _ {xs ys : List ℕ} {ts : List ℤ} {ps : List ℕ} (sized : Sized xs ys
       words-are : (t y p : ℕ) (part : List ℕ) → t < 2 ^ 64 → y < 2 ^ 16 → leadsBytes high low row t y ++ stream 2 (bodyWords p part) ≡ bytes3 (stateAt3 v₀ i high low row) (runOf t y p part)
       words-are t y p part t< y< =
           let v = stateAt3 v₀ i high low row in
-          ap (λ (l : List ℕ). l ++ stream 2 (bodyWords p part)) (leads-held v high low row t y t< y< (u .is-high) (u .is-low) (u .is-row)) ∙ sym (bytes-parts v (runOf t y p part))
+          ap (λ (l : List ℕ). l ++ stream 2 (bodyWords p part)) (leads-number v high low row t y t< y< (u .is-high) (u .is-low) (u .is-row)) ∙ sym (bytes-parts v (runOf t y p part))
 
       first-run : (e t y p : ℕ) → i < length xs → e ≡ i + 1 + goOn xs ys ts ps i → t ≡ eventOf xs ys ts ps i .t → y ≡ eventOf xs ys ts ps i .y → p ≡ eventOf xs ys ts ps i .p
           → runs (eventsPast xs ys ts ps i) ≡ runOf t y p (between xs i e) ∷ runs (eventsPast xs ys ts ps e)

@@ -68,12 +68,12 @@ abbrev pub span : List ℕ → ℕ
 span xs = lastX xs - firstX xs + 1
 
 -- span / 12, rounded up
-unfoldable pub windows : List ℕ → ℕ
-windows xs = (span xs + 11) / 12
+unfoldable pub maskCount : List ℕ → ℕ
+maskCount xs = (span xs + 11) / 12
 
 -- over 2 events, and fewer words as vectors than as single events
 unfoldable pub vectored : List ℕ → Bool
-vectored xs = ltb 2 (length xs) && ltb (1 + windows xs) (length xs)
+vectored xs = ltb 2 (length xs) && ltb (1 + maskCount xs) (length xs)
 
 module _ (t y p : ℕ) where
   -- type 2 each
@@ -81,14 +81,14 @@ module _ (t y p : ℕ) where
   singles [] = []
   singles (x ∷ xs) = carries (singleWord3 p x) (event x y t p) ∷ singles xs
 
-  -- type 4 for each of k windows of 12 columns from b on, empty ones too
+  -- type 4 for each of k masks of 12 columns from b on, empty ones too
   abbrev pub masks : (k b : ℕ) → List ℕ → List (Note ℕ Event)
   masks zero b xs = []
   masks (suc k) b xs = record { word = maskWord3 b (nearby (b + 12) xs); events = spread t y p (nearby (b + 12) xs) } ∷ masks k (b + 12) (beyond (b + 12) xs)
 
   -- type 3, and the masks
   abbrev pub vectors : List ℕ → List (Note ℕ Event)
-  vectors xs = quiet (baseWord3 p (firstX xs)) ∷ masks (windows xs) (firstX xs) xs
+  vectors xs = quiet (baseWord3 p (firstX xs)) ∷ masks (maskCount xs) (firstX xs) xs
 
   unfoldable pub body3 : List ℕ → List (Note ℕ Event)
   body3 xs = cond (vectored xs) (vectors xs) (singles xs)

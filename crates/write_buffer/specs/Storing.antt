@@ -1,19 +1,39 @@
 -- Bytes stored piece by piece, as far as a list reaches; and a loop that gives a writer its input piece by piece, and stores the bytes of its words.
 use mathlib.Core.Path.{_≡_, refl, sym, ap, _∙_}
 use mathlib.Core.List.{List, [], _∷_, _++_}
-use Prim.Native.Nat.{ℕ, suc, _+_, _≤_, _<_}
+use Prim.Native.Nat.{ℕ, suc, _+_, _/_, _%_, _^_, _≤_, _<_}
 use native.Mathlib.Omega.{arith}
 use native.Mathlib.Nat.{add-zero}
+use native.Mathlib.Numerals.{add-one, add-two, add-three}
 use lib.ListN.{length, set, length-append}
+use lib.Pow.{shr-shr}
 use lib.Seq.{sets, length-sets, set-out, set-set, set-comm}
 use Rattle.laws_stream.specs.Columns.{sets-append}
 use Rattle.laws_stream.specs.Machine.{Machine, Note, run, emits, words, words-append}
-use Rattle.laws_stream.specs.Words.{stream, stream-append}
+use Rattle.laws_stream.specs.Words.{stream, bytes, stream-append}
 
 -- nothing is stored past the end
 pub sets-out : (l : List ℕ) (i : ℕ) (vs : List ℕ) → length l ≤ i → sets l i vs ≡ l
 sets-out l i [] h = refl
 sets-out l i (v ∷ vs) h = ap (λ (k : List ℕ). sets k (suc i) vs) (set-out l i v h) ∙ sets-out l (suc i) vs (omega arith)
+
+-- the byte of a word from bit `lo` up
+abbrev pub byteAt : (w lo : ℕ) → ℕ
+byteAt w lo = w / 2 ^ lo % 256
+
+bytes-two : (w : ℕ) → byteAt w 0 ∷ byteAt w 8 ∷ [] ≡ bytes 2 w
+bytes-two w = let a : byteAt w 0 ≡ w % 256 = omega arith in rw a
+
+bytes-four : (w : ℕ) → byteAt w 0 ∷ byteAt w 8 ∷ byteAt w 16 ∷ byteAt w 24 ∷ [] ≡ bytes 4 w
+bytes-four w = let a : byteAt w 0 ≡ w % 256 = omega arith in rw (a, shr-shr w 8 8, shr-shr w 16 8)
+
+-- a word stored byte by byte
+module _ (out : List ℕ) (at w : ℕ) {a b : ℕ} (ea : a ≡ byteAt w 0) (eb : b ≡ byteAt w 8) where
+  pub stored-two : set (set out at a) (at + 1) b ≡ sets out at (bytes 2 w)
+  stored-two = rw (add-one, ea, eb) (ap (sets out at) (bytes-two w))
+
+  pub stored-four : {c d : ℕ} → c ≡ byteAt w 16 → d ≡ byteAt w 24 → set (set (set (set out at a) (at + 1) b) (at + 2) c) (at + 3) d ≡ sets out at (bytes 4 w)
+  stored-four ec ed = rw (add-one, add-two, add-three, ea, eb, ec, ed) (ap (sets out at) (bytes-four w))
 
 -- n bytes have room from `at` on, or there is no byte at all: then nothing is stored
 abbrev pub Roomy : (out : List ℕ) (at n : ℕ) → Type 0

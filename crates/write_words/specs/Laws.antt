@@ -17,18 +17,18 @@ use Rattle.write_buffer.specs.Columns.{event}
 use Rattle.write_buffer.specs.Sent.{due}
 use Rattle.evt2_encoder.specs.Evt2.{encoded2, writer2, notes2, fits2}
 use Rattle.evt3_run_rules.specs.Runs.{Run, runs, runs-are, given, givenBy, spread, Rising, Valid, firstX, lastX}
-use Rattle.evt3_lead_words.specs.Evt3.{highWord3, lowWord3, rowWord3, highSent3, lowSent3, rowSent3, leads3, nearby, beyond, windows, vectored, singles, masks, vectors, body3, encode3, encoded3, writer3}
+use Rattle.evt3_lead_words.specs.Evt3.{highWord3, lowWord3, rowWord3, highSent3, lowSent3, rowSent3, leads3, nearby, beyond, maskCount, vectored, singles, masks, vectors, body3, encode3, encoded3, writer3}
 use Rattle.write_words.specs.Encode.{encodeNotes, encodeSize, encodeBytes}
 use Rattle.write_buffer.specs.Storing.{bytesFrom, bytes-cons}
 use Rattle.evt2_encoder.specs.Pass2.{bytes2, few2}
 use Rattle.evt3_run_words.specs.Parts.{bytes3, few3}
-use Rattle.evt3_run_words.specs.Windows.{near-inc, inc-to}
+use Rattle.evt3_run_words.specs.Masks.{near-inc, inc-to}
 
 -- ---- the windows of a run hold all of it
 
 -- they reach the last
-pub reach : (xs : List ℕ) → Rising xs → Inc (firstX xs) (firstX xs + 12 * windows xs) xs
-unfolding windows
+pub reach : (xs : List ℕ) → Rising xs → Inc (firstX xs) (firstX xs + 12 * maskCount xs) xs
+unfolding maskCount
 reach xs r = inc-to (firstX xs) (suc (lastX xs)) _ xs (omega arith) (r .rises)
 
 module _ (t y p mid : ℕ) where
@@ -66,7 +66,7 @@ module _ (t y p : ℕ) where
   body-notes xs v = go (vectored xs)
     where
       go : (b : Bool) → notes (cond b (vectors t y p xs) (singles t y p xs)) ≡ spread t y p xs
-      go true = masks-notes (windows xs) (firstX xs) xs (reach xs v)
+      go true = masks-notes (maskCount xs) (firstX xs) xs (reach xs v)
       go false = singles-notes xs
 
 pub due-notes : (b : Bool) (w : ℕ) (ns : List (Note ℕ Event)) → notes (due b w ++ ns) ≡ notes ns
@@ -97,51 +97,51 @@ encode-notes Evt3 v es = let r = runs-are es in runs-notes3 v (runs es) (r .0) �
 
 -- ---- widths
 
-column-fits : (k p x : ℕ) → k < 16 → k * 2 ^ 12 + p % 2 * 2 ^ 11 + x % 2048 < 256 ^ 2
+column-fits : (k p x : ℕ) → k < 16 → k * 2 ^ 12 + p % 2 * 2 ^ 11 + x % 2048 < 256 ^ wordSize3
 column-fits k p x h =
     let a : p % 2 < 2 = omega arith in
     let b : x % 2048 < 2048 = omega arith in
     omega arith
 
-singles-fit : (t y p : ℕ) (xs : List ℕ) → All (Fits 2) (words (singles t y p xs))
+singles-fit : (t y p : ℕ) (xs : List ℕ) → All (Fits wordSize3) (words (singles t y p xs))
 singles-fit t y p [] = tt
 singles-fit t y p (x ∷ xs) = (column-fits 2 p x (omega arith), singles-fit t y p xs)
 
-masks-fit : (t y p k b : ℕ) (xs : List ℕ) → All (Fits 2) (words (masks t y p k b xs))
+masks-fit : (t y p k b : ℕ) (xs : List ℕ) → All (Fits wordSize3) (words (masks t y p k b xs))
 masks-fit t y p zero b xs = tt
 masks-fit t y p (suc k) b xs =
     let m = mask b (nearby (b + 12) xs) in
     (omega arith, masks-fit t y p k (b + 12) (beyond (b + 12) xs))
 
-body-fits : (t y p : ℕ) (xs : List ℕ) → All (Fits 2) (words (body3 t y p xs))
+body-fits : (t y p : ℕ) (xs : List ℕ) → All (Fits wordSize3) (words (body3 t y p xs))
 unfolding body3
 body-fits t y p xs = go (vectored xs)
   where
-    go : (b : Bool) → All (Fits 2) (words (cond b (vectors t y p xs) (singles t y p xs)))
-    go true = (column-fits 3 p (firstX xs) (omega arith), masks-fit t y p (windows xs) (firstX xs) xs)
+    go : (b : Bool) → All (Fits wordSize3) (words (cond b (vectors t y p xs) (singles t y p xs)))
+    go true = (column-fits 3 p (firstX xs) (omega arith), masks-fit t y p (maskCount xs) (firstX xs) xs)
     go false = singles-fit t y p xs
 
-due-fits : (b : Bool) (w : ℕ) (ns : List (Note ℕ Event)) → w < 256 ^ 2 → All (Fits 2) (words ns) → All (Fits 2) (words (due b w ++ ns))
+due-fits : (b : Bool) (w : ℕ) (ns : List (Note ℕ Event)) → w < 256 ^ wordSize3 → All (Fits wordSize3) (words ns) → All (Fits wordSize3) (words (due b w ++ ns))
 due-fits true w ns h k = k
 due-fits false w ns h k = (h, k)
 
-leads-fit : (v : EncoderState) (t y : ℕ) → All (Fits 2) (words (leads3 v t y))
+leads-fit : (v : EncoderState) (t y : ℕ) → All (Fits wordSize3) (words (leads3 v t y))
 unfolding leads3
 leads-fit v t y =
     due-fits (highSent3 v t) (highWord3 t) _ (omega arith)
     (due-fits (lowSent3 v t) (lowWord3 t) _ (omega arith) (last (rowSent3 v y)))
   where
-    last : (b : Bool) → All (Fits 2) (words (due b (rowWord3 y)))
+    last : (b : Bool) → All (Fits wordSize3) (words (due b (rowWord3 y)))
     last true = tt
     last false = (omega arith, tt)
 
-pub encode-fits3 : (v : EncoderState) (r : Run) → All (Fits 2) (words (encode3 v r))
+pub encode-fits3 : (v : EncoderState) (r : Run) → All (Fits wordSize3) (words (encode3 v r))
 unfolding encode3
-encode-fits3 v r = rw words-append (all-append (Fits 2) (words (leads3 v (r .t) (r .y))) (words (body3 (r .t) (r .y) (r .p) (r .xs))) (leads-fit v (r .t) (r .y)) (body-fits (r .t) (r .y) (r .p) (r .xs)))
+encode-fits3 v r = rw words-append (all-append (Fits wordSize3) (words (leads3 v (r .t) (r .y))) (words (body3 (r .t) (r .y) (r .p) (r .xs))) (leads-fit v (r .t) (r .y)) (body-fits (r .t) (r .y) (r .p) (r .xs)))
 
-fits3 : (v : EncoderState) (rs : List Run) → All (Fits 2) (words (emits writer3 v rs))
+fits3 : (v : EncoderState) (rs : List Run) → All (Fits wordSize3) (words (emits writer3 v rs))
 fits3 v [] = tt
-fits3 v (r ∷ rs) = rw words-append (all-append (Fits 2) (words (encode3 v r)) (words (emits writer3 (encoded3 v r) rs)) (encode-fits3 v r) (fits3 (encoded3 v r) rs))
+fits3 v (r ∷ rs) = rw words-append (all-append (Fits wordSize3) (words (encode3 v r)) (words (emits writer3 (encoded3 v r) rs)) (encode-fits3 v r) (fits3 (encoded3 v r) rs))
 
 -- EVERY WORD fits its width
 pub encode-fits : (e : Encoding) (v : EncoderState) (es : List Event) → All (Fits (encodeSize e)) (words (encodeNotes e v es))
@@ -158,14 +158,14 @@ few-events v (e ∷ es) =
     let b = bytesFrom 4 writer2 (encoded2 v e) es in
     omega (arith, ap length (bytes-cons 4 writer2 v e es), length-append a b, few2 v e, few-events (encoded2 v e) es)
 
-few-runs : (v : EncoderState) (rs : List Run) → All Valid rs → length (bytesFrom 2 writer3 v rs) ≤ 8 * length (givenBy rs)
+few-runs : (v : EncoderState) (rs : List Run) → All Valid rs → length (bytesFrom wordSize3 writer3 v rs) ≤ 8 * length (givenBy rs)
 unfolding bytesFrom
 few-runs v [] va = omega arith
 few-runs v (r ∷ rs) va =
     let a = bytes3 v r in
-    let b = bytesFrom 2 writer3 (encoded3 v r) rs in
+    let b = bytesFrom wordSize3 writer3 (encoded3 v r) rs in
     let n : length (given r) ≡ length (r .xs) = length-map (r .xs) (λ x. event x (r .y) (r .t) (r .p)) in
-    omega (arith, ap length (bytes-cons 2 writer3 v r rs), length-append a b, few3 v r (va .0 .some), few-runs (encoded3 v r) rs (va .1), length-append (given r) (givenBy rs), n)
+    omega (arith, ap length (bytes-cons wordSize3 writer3 v r rs), length-append a b, few3 v r (va .0 .some), few-runs (encoded3 v r) rs (va .1), length-append (given r) (givenBy rs), n)
 
 pub encode-few : (e : Encoding) (v : EncoderState) (es : List Event) → length (encodeBytes e v es) ≤ 8 * length es
 unfolding encodeBytes bytesFrom

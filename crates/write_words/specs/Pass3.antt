@@ -24,7 +24,7 @@ use Rattle.evt3_run_words.specs.Parts.{bytes3, few3, bytes-parts, bodyWords, Pa
 use Rattle.evt3_run_rules.specs.Marks.{goOn, Marked, marks-start}
 
 abbrev pub stream3 : EncoderState → List Event → List ℕ
-stream3 v es = bytesFrom 2 writer3 v (runs es)
+stream3 v es = bytesFrom wordSize3 writer3 v (runs es)
 
 abbrev pub passed3 : EncoderState → List Event → ℕ → Put
 passed3 v es at = record { state = run writer3 v (runs es); at = at + length (stream3 v es) }
@@ -55,7 +55,7 @@ pub record Under3 (v₀ : EncoderState) (xs ys : List ℕ) (ts : List ℤ) (ps :
   pub is-low : low ≡ sentNumber (stateAt3 v₀ i high low row .«time_low»)
   pub is-row : row ≡ sentNumber (stateAt3 v₀ i high low row .y)
   pub marked : Marked xs ys ts ps i mask
-  pub going : Going 2 writer3 v₀ (runs (eventsIn xs ys ts ps)) at₀ out₀ (runs (eventsPast xs ys ts ps i)) (stateAt3 v₀ i high low row) at out
+  pub going : Going wordSize3 writer3 v₀ (runs (eventsIn xs ys ts ps)) at₀ out₀ (runs (eventsPast xs ys ts ps i)) (stateAt3 v₀ i high low row) at out
 
 module _ {xs ys : List ℕ} {ts : List ℤ} {ps : List ℕ} (sized : Sized xs ys ts ps) where
   -- the run at i ends within the columns
@@ -80,17 +80,17 @@ module _ {xs ys : List ℕ} {ts : List ℤ} {ps : List ℕ} (sized : Sized xs ys
 
   module _ {v₀ : EncoderState} {at₀ : ℕ} {out₀ : List ℕ} (near : at₀ ≤ 2 ^ 32) where
     pub under-start3 : (high low row : ℕ) → high ≡ sentNumber (v₀ .«time_high») → low ≡ sentNumber (v₀ .«time_low») → row ≡ sentNumber (v₀ .y) → Under3 v₀ xs ys ts ps at₀ out₀ out₀ high low row at₀ 0 0
-    under-start3 high low row h l r = record { within = omega arith; small = omega arith; is-high = h; is-low = l; is-row = r; marked = marks-start xs ys ts ps; going = going-start 2 writer3 }
+    under-start3 high low row h l r = record { within = omega arith; small = omega arith; is-high = h; is-low = l; is-row = r; marked = marks-start xs ys ts ps; going = going-start wordSize3 writer3 }
 
     module _ {out : List ℕ} {high low row at i mask : ℕ} (u : Under3 v₀ xs ys ts ps at₀ out₀ out high low row at i mask) where
       pub under-part3 : (e : ℕ) → i < length xs → e ≡ i + 1 + goOn xs ys ts ps i → Part xs i e (at + 8)
       under-part3 e h q = record { low = omega arith; high = end-within i e h q; few = sized .few; place = omega (arith, u .small, sized .few, near) }
 
       -- by the numbers of what was sent, or by the state
-      words-are : (t y p : ℕ) (part : List ℕ) → t < 2 ^ 64 → y < 2 ^ 16 → leadsBytes high low row t y ++ stream 2 (bodyWords p part) ≡ bytes3 (stateAt3 v₀ i high low row) (runOf t y p part)
+      words-are : (t y p : ℕ) (part : List ℕ) → t < 2 ^ 64 → y < 2 ^ 16 → leadsBytes high low row t y ++ bodyBytes p part ≡ bytes3 (stateAt3 v₀ i high low row) (runOf t y p part)
       words-are t y p part t< y< =
           let v = stateAt3 v₀ i high low row in
-          ap (λ (l : List ℕ). l ++ stream 2 (bodyWords p part)) (leads-number v high low row t y t< y< (u .is-high) (u .is-low) (u .is-row)) ∙ sym (bytes-parts v (runOf t y p part))
+          ap (λ (l : List ℕ). l ++ bodyBytes p part) (leads-number v high low row t y t< y< (u .is-high) (u .is-low) (u .is-row)) ∙ sym (bytes-parts v (runOf t y p part))
 
       first-run : (e t y p : ℕ) → i < length xs → e ≡ i + 1 + goOn xs ys ts ps i → t ≡ eventOf xs ys ts ps i .t → y ≡ eventOf xs ys ts ps i .y → p ≡ eventOf xs ys ts ps i .p
           → runs (eventsPast xs ys ts ps i) ≡ runOf t y p (between xs i e) ∷ runs (eventsPast xs ys ts ps e)
@@ -101,14 +101,14 @@ module _ {xs ys : List ℕ} {ts : List ℤ} {ps : List ℕ} (sized : Sized xs ys
 
       pub under-room3 : (e t y p : ℕ) → i < length xs → e ≡ i + 1 + goOn xs ys ts ps i → t ≡ eventOf xs ys ts ps i .t → y ≡ eventOf xs ys ts ps i .y → p ≡ eventOf xs ys ts ps i .p
           → t < 2 ^ 64 → y < 2 ^ 16 → Roomy out₀ at₀ (length (stream3 v₀ (eventsIn xs ys ts ps)))
-          → Roomy out at (length (leadsBytes high low row t y ++ stream 2 (bodyWords p (between xs i e))))
+          → Roomy out at (length (leadsBytes high low row t y ++ bodyBytes p (between xs i e)))
       under-room3 e t y p h q et ey ep t< y< r =
-          rw (words-are t y p (between xs i e) t< y<) (going-room 2 writer3 (runOf t y p (between xs i e)) (runs (eventsPast xs ys ts ps e)) (rw (first-run e t y p h q et ey ep) at (u .going)) r)
+          rw (words-are t y p (between xs i e) t< y<) (going-room wordSize3 writer3 (runOf t y p (between xs i e)) (runs (eventsPast xs ys ts ps e)) (rw (first-run e t y p h q et ey ep) at (u .going)) r)
 
       pub under-turn3 : (e t y p : ℕ) → i < length xs → e ≡ i + 1 + goOn xs ys ts ps i → t ≡ eventOf xs ys ts ps i .t → y ≡ eventOf xs ys ts ps i .y → p ≡ eventOf xs ys ts ps i .p
           → t < 2 ^ 64 → y < 2 ^ 16 → (m : ℕ) → Marked xs ys ts ps e m → (r : ℕ) (out′ : List ℕ)
-          → r ≡ at + length (leadsBytes high low row t y ++ stream 2 (bodyWords p (between xs i e)))
-          → out′ ≡ sets out at (leadsBytes high low row t y ++ stream 2 (bodyWords p (between xs i e)))
+          → r ≡ at + length (leadsBytes high low row t y ++ bodyBytes p (between xs i e))
+          → out′ ≡ sets out at (leadsBytes high low row t y ++ bodyBytes p (between xs i e))
           → Under3 v₀ xs ys ts ps at₀ out₀ out′ (t / 4096) (t % 4096) y r e m
       under-turn3 e t y p h q et ey ep t< y< m marked r out′ is-at is-out =
           let v = stateAt3 v₀ i high low row in
@@ -126,12 +126,12 @@ module _ {xs ys : List ℕ} {ts : List ℤ} {ps : List ℕ} (sized : Sized xs ys
             is-low = rw some;
             is-row = rw some;
             marked = marked;
-            going = rw (some, is-at, all) (going-turn 2 writer3 a (runs (eventsPast xs ys ts ps e)) (is-out ∙ ap (sets out at) all) (rw first at (u .going)));
+            going = rw (some, is-at, all) (going-turn wordSize3 writer3 a (runs (eventsPast xs ys ts ps e)) (is-out ∙ ap (sets out at) all) (rw first at (u .going)));
           }
 
       pub under-end3 : length xs ≤ i → (v : EncoderState) → v ≡ stateAt3 v₀ (length xs) high low row
           → (record { state = v; at = at } ≡ passed3 v₀ (eventsIn xs ys ts ps) at₀) × (out ≡ sets out₀ at₀ (stream3 v₀ (eventsIn xs ys ts ps)))
       under-end3 h v e =
           let n : i ≡ length xs = omega (arith, u .within) in
-          let g = going-end 2 writer3 (rw (events-end xs ys ts ps sized i h) at (u .going)) in
+          let g = going-end wordSize3 writer3 (rw (events-end xs ys ts ps sized i h) at (u .going)) in
           (rw (e ∙ ap (λ (k : ℕ). stateAt3 v₀ k high low row) (sym n) ∙ g .0, g .1), g .2)

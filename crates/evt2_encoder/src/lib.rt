@@ -1,6 +1,6 @@
-// EVT2: the words of events, stored or measured. `pass` is proved to store the bytes of the words
-// that specs/Evt2.antt defines, each with a note of the event that it carries; specs/Pass2.antt has
-// their bytes and the loop.
+// EVT2: the words of events, stored, or in a dry run only counted. `pass` is proved to store the
+// bytes of the words that specs/Evt2.antt defines, each with a note of the event that it carries;
+// specs/Pass2.antt has their bytes and the loop.
 ghost use mathlib.Core.Path.{_≡_};
 ghost use Prim.Native.Nat.{_+_, _*_, _/_, _^_, _≤_, _<_};
 ghost use lib.Dec.{eqb};
@@ -88,8 +88,8 @@ fn sent_after(state: EncoderState, n: usize, high: u64) -> EncoderState
     }
 }
 
-// The words of all events, from `start` on, two events a turn, which is faster, and then the odd
-// one. The bounds keep `at` from wrapping.
+// The words of all events, from `start` on, two events an iteration, which is faster, and then the
+// odd one. The bounds keep `at` from wrapping.
 pub fn pass(
     state: EncoderState,
     xs: &[u16],

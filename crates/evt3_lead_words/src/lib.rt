@@ -1,6 +1,6 @@
-// EVT3: the words of time and row that lead a run, stored or measured: `put_leads` is proved to
-// store those that are due. specs/Evt3.antt says which words a writer sends of a run, each with a
-// note of the events that it carries, specs/Leads.antt which bytes its leading words have.
+// EVT3: the words of time and row that lead a run, stored, or in a dry run only counted: `put_leads`
+// is proved to store those that are due. specs/Evt3.antt says which words a writer sends of a run,
+// each with a note of the events that it carries, specs/Leads.antt which bytes its leading words have.
 ghost use mathlib.Core.Path.{_≡_};
 ghost use mathlib.Core.Bool.{cond};
 ghost use Prim.Native.Nat.{_+_, _^_, _<_};

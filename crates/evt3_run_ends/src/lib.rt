@@ -79,6 +79,6 @@ pub fn run_at(mask: u64, xs: &[u16], ys: &[u16], ts: &[i64], ps: &[u8], i: usize
     let z = u64::trailing_zeros(m);
     Found {
         end: j + 1 + z as usize,
-        mask: (m >> z) / 2,
+        mask: (m >> z) >> 1,
     }
 }

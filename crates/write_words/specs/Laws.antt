@@ -10,6 +10,7 @@ use Rattle.laws_stream.specs.Machine.{Note, All, all-append, emits, words, word
 use Rattle.laws_stream.specs.Mask.{Inc, mask}
 use Rattle.laws_stream.specs.Words.{Fits}
 use Rattle.evt_types.specs.Event.{Event}
+use Rattle.evt_types.specs.Layout.{wordSize2, wordSize3}
 use Rattle.evt_types.specs.declared.Encoding.{Encoding}
 use Rattle.evt_types.specs.declared.Encoding.the-variants.{Evt2, Evt3}
 use Rattle.write_buffer.specs.declared.EncoderState.{EncoderState}
@@ -24,7 +25,7 @@ use Rattle.evt2_encoder.specs.Pass2.{bytes2, few2}
 use Rattle.evt3_run_words.specs.Parts.{bytes3, few3}
 use Rattle.evt3_run_words.specs.Masks.{near-inc, inc-to}
 
--- ---- the windows of a run hold all of it
+-- ---- the masks of a run hold all of it
 
 -- they reach the last
 pub reach : (xs : List ℕ) → Rising xs → Inc (firstX xs) (firstX xs + 12 * maskCount xs) xs
@@ -150,13 +151,13 @@ encode-fits Evt3 v es = fits3 v (runs es)
 
 -- ---- how many bytes
 
-few-events : (v : EncoderState) (es : List Event) → length (bytesFrom 4 writer2 v es) ≤ 8 * length es
+few-events : (v : EncoderState) (es : List Event) → length (bytesFrom wordSize2 writer2 v es) ≤ 8 * length es
 unfolding bytesFrom
 few-events v [] = omega arith
 few-events v (e ∷ es) =
     let a = bytes2 v e in
-    let b = bytesFrom 4 writer2 (encoded2 v e) es in
-    omega (arith, ap length (bytes-cons 4 writer2 v e es), length-append a b, few2 v e, few-events (encoded2 v e) es)
+    let b = bytesFrom wordSize2 writer2 (encoded2 v e) es in
+    omega (arith, ap length (bytes-cons wordSize2 writer2 v e es), length-append a b, few2 v e, few-events (encoded2 v e) es)
 
 few-runs : (v : EncoderState) (rs : List Run) → All Valid rs → length (bytesFrom wordSize3 writer3 v rs) ≤ 8 * length (givenBy rs)
 unfolding bytesFrom

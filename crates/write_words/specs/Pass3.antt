@@ -8,9 +8,9 @@ use lib.Seq.{sets}
 use lib.IntN.{ℤ}
 use Rattle.laws_stream.specs.Part.{between, between-at, length-between}
 use Rattle.evt_types.specs.Event.{Event}
+use Rattle.evt_types.specs.Layout.{wordSize3, grain3}
 use Rattle.evt_types.specs.declared.Sent.the-variants.{Value}
 use Rattle.laws_stream.specs.Machine.{run}
-use Rattle.laws_stream.specs.Words.{stream}
 use Rattle.write_buffer.specs.Sent.{sentNumber}
 use Rattle.write_buffer.specs.declared.EncoderState.{EncoderState}
 use Rattle.write_buffer.specs.declared.Put.{Put}
@@ -20,7 +20,7 @@ use Rattle.write_buffer.specs.Storing.{Roomy, bytesFrom, Going, going-start, go
 use Rattle.evt3_run_rules.specs.Runs.{Run, Rising, runs, runs-are, runOf, runs-at, follow-le}
 use Rattle.evt3_lead_words.specs.Evt3.{writer3}
 use Rattle.evt3_lead_words.specs.Leads.{leadsBytes, leads-number}
-use Rattle.evt3_run_words.specs.Parts.{bytes3, few3, bytes-parts, bodyWords, Part}
+use Rattle.evt3_run_words.specs.Parts.{bytes3, few3, bytes-parts, bodyBytes, Part}
 use Rattle.evt3_run_rules.specs.Marks.{goOn, Marked, marks-start}
 
 abbrev pub stream3 : EncoderState → List Event → List ℕ
@@ -109,13 +109,13 @@ module _ {xs ys : List ℕ} {ts : List ℤ} {ps : List ℕ} (sized : Sized xs ys
           → t < 2 ^ 64 → y < 2 ^ 16 → (m : ℕ) → Marked xs ys ts ps e m → (r : ℕ) (out′ : List ℕ)
           → r ≡ at + length (leadsBytes high low row t y ++ bodyBytes p (between xs i e))
           → out′ ≡ sets out at (leadsBytes high low row t y ++ bodyBytes p (between xs i e))
-          → Under3 v₀ xs ys ts ps at₀ out₀ out′ (t / 4096) (t % 4096) y r e m
+          → Under3 v₀ xs ys ts ps at₀ out₀ out′ (t / grain3) (t % grain3) y r e m
       under-turn3 e t y p h q et ey ep t< y< m marked r out′ is-at is-out =
           let v = stateAt3 v₀ i high low row in
           let a : Run = runOf t y p (between xs i e) in
           let in-e = end-within i e h q in
           let n : length (between xs i e) ≡ e - i = length-between xs i e (omega arith) in-e in
-          let some = state-some3 v₀ e (t / 4096) (t % 4096) y (omega arith) in
+          let some = state-some3 v₀ e (t / grain3) (t % grain3) y (omega arith) in
           let all = words-are t y p (between xs i e) t< y< in
           let few = few3 v a (omega arith) in
           let first = first-run e t y p h q et ey ep in

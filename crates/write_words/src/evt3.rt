@@ -1,4 +1,4 @@
-// EVT3: the words of all events, run by run, stored or measured.
+// EVT3: the words of all events, run by run, stored, or in a dry run only counted.
 ghost use mathlib.Core.Path.{_≡_};
 ghost use Prim.Native.Nat.{_^_, _≤_};
 ghost use lib.ListN.{length};
@@ -7,6 +7,7 @@ ghost use Rattle.write_buffer.specs.Columns.{Sized, Whole, eventsIn};
 ghost use Rattle.write_buffer.specs.Storing.{Roomy};
 ghost use Rattle.write_words.specs.Pass3.{stateAt3, stream3, passed3};
 use evt_types::Sent;
+use evt3_decoder::Decoder;
 use evt3_run_ends::run_at;
 use evt3_run_words::put_run;
 use write_buffer::EncoderState;
@@ -60,8 +61,8 @@ pub fn pass(
         let run = run_at(mask, xs, ys, ts, ps, i);
         let end = run.end;
         at = put_run(high, low, row, t, y, ps[i], xs, i, end, &mut *out, at);
-        high = t / 4096;
-        low = t % 4096;
+        high = t / Decoder::GRAIN;
+        low = t % Decoder::GRAIN;
         row = y as u64;
         i = end;
         mask = run.mask;

@@ -5,13 +5,13 @@ use mathlib.Core.List.{List}
 use Prim.Native.Nat.{ℕ, zero, suc, _+_, _-_, _*_, _^_, _≤_, _<_}
 use native.Mathlib.Omega.{arith}
 use native.Mathlib.Nat.{add-zero, pow-suc, pow-le-pow-right}
-use borrow.Author.Tests.{lt-ltb, eq-eqb, ne-eqb, eqb-true, eqb-false}
+use borrow.Author.Tests.{lt-ltb, le-leb, lt-leb, eqb-true, eqb-false}
 use lib.Bits.{bitOr, bitXor}
-use lib.Dec.{eqb, ltb}
+use lib.Dec.{eqb, ltb, leb}
 use lib.IntN.{ℤ}
 use lib.ListN.{length, getD, set, length-set}
 use lib.Seq.{getD-set-same, getD-set-other}
-use Rattle.evt3_run_rules.specs.Every.{or-none, xor-none, flag-none}
+use Rattle.write_buffer.specs.Every.{or-most, xor-none, flag-none}
 use Rattle.evt3_run_rules.specs.Marks.{timeAt, joinsNext, stopAt, marks, marks-none, marks-some, marksFrom, left-full}
 
 -- 1 where a run doesn't go on
@@ -52,16 +52,16 @@ module _ (last y p x y₂ p₂ : ℕ) where
   abbrev pub parted : ℕ
   parted = bitOr (bitOr (bitXor y₂ y) (bitXor p₂ p)) (ends (ltb last x))
 
-  place-is : eqb parted 0 ≡ placeGoes last y p x y₂ p₂
+  place-is : leb parted 0 ≡ placeGoes last y p x y₂ p₂
   place-is =
-      or-none (bitOr (bitXor y₂ y) (bitXor p₂ p)) (ends (ltb last x))
-      ∙ rw (or-none (bitXor y₂ y) (bitXor p₂ p), xor-none y₂ y, xor-none p₂ p, flag-none (ltb last x)) (and-assoc (eqb y₂ y) (eqb p₂ p) (ltb last x))
+      or-most 0 0 (bitOr (bitXor y₂ y) (bitXor p₂ p)) (ends (ltb last x)) refl
+      ∙ rw (or-most 0 0 (bitXor y₂ y) (bitXor p₂ p) refl, xor-none y₂ y, xor-none p₂ p, flag-none (ltb last x)) (and-assoc (eqb y₂ y) (eqb p₂ p) (ltb last x))
 
   pub place-goes : parted ≡ 0 → 0 ≡ ends (placeGoes last y p x y₂ p₂)
-  place-goes e = ap ends (sym (eq-eqb parted 0 e) ∙ place-is)
+  place-goes e = ap ends (sym (le-leb parted 0 (omega arith)) ∙ place-is)
 
   pub place-ends : (parted ≡ 0 → ⊥) → 1 ≡ ends (placeGoes last y p x y₂ p₂)
-  place-ends e = ap ends (sym (ne-eqb parted 0 e) ∙ place-is)
+  place-ends e = ap ends (sym (lt-leb parted 0 (omega arith)) ∙ place-is)
 
 -- ---- flags stored one by one
 

@@ -18,8 +18,8 @@ fn place_ends(last: u16, y: u16, p: u8, x: u16, y2: u16, p2: u8) -> u8
     ensures { λ r. ⌜ r ≡ ends (placeGoes last y p x y2 p2) ⌝ }
 {
     let rows = y2 ^ y;
-    let signs = (p2 ^ p) as u16;
-    let differ = rows | signs | no_rise(last, x);
+    let polarities = (p2 ^ p) as u16;
+    let differ = rows | polarities | no_rise(last, x);
     if differ == 0 { 0 } else { 1 }
 }
 

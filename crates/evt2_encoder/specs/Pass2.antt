@@ -21,7 +21,7 @@ use Rattle.write_buffer.specs.Columns.{event, Sized, Whole, eventsIn, eventsPas
 use Rattle.evt_types.specs.Num.{natural}
 use Rattle.write_buffer.specs.Sent.{carries, due, sentNumber, number-is}
 use Rattle.evt2_encoder.specs.Evt2.{highWord2, wordOf2, highSent2, encode2, encoded2, writer2}
-use Rattle.write_buffer.specs.Storing.{Roomy, sets-over, piece, bytesFrom, Going, going-start, going-turn, going-room, going-end}
+use Rattle.write_buffer.specs.Storing.{Roomy, sets-over, piece, bytesFrom, Going, going-start, going-iteration, going-room, going-end}
 
 -- an event whose words cut nothing off: rule 7 refuses every other
 pub record Fit2 (e : Event) : Type 0 where
@@ -131,10 +131,10 @@ module _ {xs ys : List ℕ} {ts : List ℤ} {ps : List ℕ} (sized : Sized xs ys
     next-is : i < length xs → (e : Event) → e ≡ eventOf xs ys ts ps i → Going wordSize2 writer2 v₀ (eventsIn xs ys ts ps) at₀ out₀ (e ∷ eventsPast xs ys ts ps (i + 1)) (stateAt2 v₀ i high) at out
     next-is h e is = rw (is) (rw (events-at xs ys ts ps sized i h) at (u .going))
 
-    pub under-turn2 : i < length xs → Fitting2 xs ys ts ps → (t : ℕ) → t ≡ natural (getD ts i (pos 0)) → (r : ℕ) (out′ : List ℕ)
+    pub under-iteration2 : i < length xs → Fitting2 xs ys ts ps → (t : ℕ) → t ≡ natural (getD ts i (pos 0)) → (r : ℕ) (out′ : List ℕ)
         → r ≡ at + length (eventBytes2 (eqb high (t / grain2)) (eventAt2 xs ys ps i t)) → out′ ≡ sets out at (eventBytes2 (eqb high (t / grain2)) (eventAt2 xs ys ps i t))
         → Under2 v₀ xs ys ts ps at₀ out₀ out′ (t / grain2) r (i + 1)
-    under-turn2 h fitting t is r out′ q o =
+    under-iteration2 h fitting t is r out′ q o =
         let e = eventAt2 xs ys ps i t in
         let all = words-are e (omega (arith, fitting i .fit-t)) in
         let few = few-event2 (eqb high (t / grain2)) e in
@@ -143,7 +143,7 @@ module _ {xs ys : List ℕ} {ts : List ℤ} {ps : List ℕ} (sized : Sized xs ys
           within = omega arith;
           small = omega (arith, u .small);
           is-high = rw add-one;
-          going = rw (q, all, add-one, ← state-step2 v₀ i high e) (rw add-one at (going-turn wordSize2 writer2 e (eventsPast xs ys ts ps (i + 1)) (o ∙ ap (sets out at) all) more));
+          going = rw (q, all, add-one, ← state-step2 v₀ i high e) (rw add-one at (going-iteration wordSize2 writer2 e (eventsPast xs ys ts ps (i + 1)) (o ∙ ap (sets out at) all) more));
         }
 
     -- what storing the next event asks for

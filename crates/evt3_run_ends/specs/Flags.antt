@@ -76,8 +76,8 @@ module _ (v : ℕ → ℕ) (old : List ℕ) where
   fill-start e = record { below = omega arith; long = e; stored = λ m h. absurd (omega arith); left = λ m h. refl }
 
   module _ {flags : List ℕ} {j : ℕ} (g : Filling flags j) where
-    pub fill-turn : j < 64 → (b : ℕ) → b ≡ v j → Filling (set flags j b) (j + 1)
-    fill-turn h b e = record {
+    pub fill-iteration : j < 64 → (b : ℕ) → b ≡ v j → Filling (set flags j b) (j + 1)
+    fill-iteration h b e = record {
       below = omega arith;
       long = length-set flags j b ∙ g .long;
       stored = at;
@@ -122,8 +122,8 @@ module _ (flags : List ℕ) where
         let le : 2 ^ (63 - j) ≤ 2 ^ 63 = pow-le-pow-right (omega arith) {j = 63} (omega arith) in
         omega (arith, g .is-mask, bits-lt flags small (63 - j) j (omega (arith, g .below)))
 
-    pub pack-turn : 0 < j → Packing (2 * mask + flagAt flags (j - 1)) (j - 1)
-    pack-turn h =
+    pub pack-iteration : 0 < j → Packing (2 * mask + flagAt flags (j - 1)) (j - 1)
+    pack-iteration h =
         let n : 63 - (j - 1) ≡ suc (63 - j) = omega (arith, g .below) in
         let up : j - 1 + 1 ≡ j = omega arith in
         let next = ap (bits (flagAt flags) (63 - j)) up in

@@ -156,8 +156,8 @@ module _ (xs ys : List ℕ) (ts : List ℤ) (ps : List ℕ) where
         let le : 2 ^ n ≤ 2 ^ 63 = pow-le-pow-right (omega arith) {j = 63} (omega (arith, left-few i, g .above)) in
         omega (arith, g .is-mask, marks-lt n j)
 
-    pub gather-turn : i < j → (s : ℕ) → s ≡ stopAt (j - 1) → Gathering i (j - 1) (2 * mask + s)
-    gather-turn h s e =
+    pub gather-iteration : i < j → (s : ℕ) → s ≡ stopAt (j - 1) → Gathering i (j - 1) (2 * mask + s)
+    gather-iteration h s e =
         let n : i + marksLeft i - (j - 1) ≡ suc (i + marksLeft i - j) = omega (arith, g .below) in
         let up : j - 1 + 1 ≡ j = omega arith in
         let next = ap (marks (i + marksLeft i - j)) up in
@@ -189,7 +189,7 @@ module _ (xs ys : List ℕ) (ts : List ℤ) (ps : List ℕ) where
     pub along : Along i j
     pub marked : Marked j m
 
-  -- falls with each turn
+  -- falls with each iteration
   abbrev pub seekLeft : (j m : ℕ) → ℕ
   seekLeft j m = length xs - j + cond (eqb m 0) 1 0
 

@@ -12,7 +12,7 @@ use Rattle.laws_stream.specs.Part.{between, between-at, between-end}
 use Rattle.laws_stream.specs.Columns.{sets-append}
 use Rattle.laws_stream.specs.Words.{stream, bytes}
 use Rattle.evt_types.specs.Layout.{wordSize3}
-use Rattle.write_buffer.specs.Storing.{Roomy, sets-over, Storing, storing-start, storing-turn, storing-room, storing-end}
+use Rattle.write_buffer.specs.Storing.{Roomy, sets-over, Storing, storing-start, storing-iteration, storing-room, storing-end}
 use Rattle.evt3_lead_words.specs.Evt3.{singleWord3}
 use Rattle.evt3_run_words.specs.Parts.{singleBytes, Part, singles-length}
 
@@ -29,12 +29,12 @@ module _ {p : ℕ} {xs : List ℕ} {i e : ℕ} {out₀ : List ℕ} {at : ℕ} (p
   single-start = record { above = omega arith; below = part .low; place = refl; storing = storing-start }
 
   module _ {out : List ℕ} {a j : ℕ} (s : Single p xs i e out₀ at out a j) where
-    pub single-turn : j < e → (out′ : List ℕ) → out′ ≡ sets out a (bytes wordSize3 (singleWord3 p (getD xs j 0))) → Single p xs i e out₀ at out′ (a + wordSize3) (j + 1)
-    single-turn h out′ o = record {
+    pub single-iteration : j < e → (out′ : List ℕ) → out′ ≡ sets out a (bytes wordSize3 (singleWord3 p (getD xs j 0))) → Single p xs i e out₀ at out′ (a + wordSize3) (j + 1)
+    single-iteration h out′ o = record {
       above = omega (arith, s .above);
       below = omega arith;
       place = omega (arith, s .place);
-      storing = storing-turn (bytes wordSize3 (singleWord3 p (getD xs j 0))) (singleBytes p (between xs (j + 1) e)) (rw (between-at xs j e 0 h (part .high))) o (s .storing);
+      storing = storing-iteration (bytes wordSize3 (singleWord3 p (getD xs j 0))) (singleBytes p (between xs (j + 1) e)) (rw (between-at xs j e 0 h (part .high))) o (s .storing);
     }
 
     pub single-room : j < e → Roomy out₀ at (length (singleBytes p (between xs i e))) → Roomy out a wordSize3

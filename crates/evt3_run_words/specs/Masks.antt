@@ -17,7 +17,7 @@ use Rattle.evt_types.specs.Layout.{wordSize3, word3}
 use Rattle.evt3_run_words.specs.declared.MaskBits.{MaskBits}
 use Rattle.evt3_run_rules.specs.Runs.{Rising, firstX, lastX}
 use Rattle.evt3_lead_words.specs.Evt3.{maskWord3, nearby, beyond}
-use Rattle.write_buffer.specs.Storing.{Roomy, Storing, storing-start, storing-turn, storing-room, storing-end}
+use Rattle.write_buffer.specs.Storing.{Roomy, Storing, storing-start, storing-iteration, storing-room, storing-end}
 use Rattle.evt3_run_words.specs.Parts.{Part, maskWords, maskBytes, first-is, last-is, nearby-in, nearby-out, beyond-in, beyond-out}
 
 -- the words of k masks of 12 columns, from the bits of these columns
@@ -160,8 +160,8 @@ module _ {xs : List ℕ} {from e b top : ℕ} (part : Part xs from e 0) (rising 
         let lt = mask-lt 60 b (b + 60) b (nearby (b + 60) (between xs from e)) (omega arith) (omega arith) (near-inc (b + 60) b top (between xs from e) rising .0) in
         omega (arith, lt, s .sum, ap (mask b) (near h k))
 
-    pub scan-turn : c < e → x < b + 60 → (d : ℕ) → d ≡ 2 ^ (x - b) → Scanning xs from e b top (m + d) (c + 1)
-    scan-turn h k d q =
+    pub scan-iteration : c < e → x < b + 60 → (d : ℕ) → d ≡ 2 ^ (x - b) → Scanning xs from e b top (m + d) (c + 1)
+    scan-iteration h k d q =
         let r = rise-here h in
         let far : beyond (b + 60) (between xs c e) ≡ beyond (b + 60) (between xs (c + 1) e) = ap (beyond (b + 60)) (here h) ∙ beyond-in (b + 60) x (between xs (c + 1) e) k in
         record {
@@ -197,10 +197,10 @@ module _ {k m₀ : ℕ} {out₀ : List ℕ} {at : ℕ} where
     unfolding digitWords
     next h = let n : left ≡ suc (left - 1) = omega arith in ap (λ (j : ℕ). digitBytes j m) n
 
-    pub digit-turn : 0 < left → (out′ : List ℕ) → out′ ≡ sets out a (bytes wordSize3 (word3 4 (m % 4096))) → Digiting k m₀ out₀ at out′ (a + wordSize3) (m / 4096) (left - 1)
-    digit-turn h out′ o = record {
+    pub digit-iteration : 0 < left → (out′ : List ℕ) → out′ ≡ sets out a (bytes wordSize3 (word3 4 (m % 4096))) → Digiting k m₀ out₀ at out′ (a + wordSize3) (m / 4096) (left - 1)
+    digit-iteration h out′ o = record {
       place = omega (arith, s .place);
-      storing = storing-turn (bytes wordSize3 (word3 4 (m % 4096))) (digitBytes (left - 1) (m / 4096)) (next h) o (s .storing);
+      storing = storing-iteration (bytes wordSize3 (word3 4 (m % 4096))) (digitBytes (left - 1) (m / 4096)) (next h) o (s .storing);
     }
 
     pub digit-room : 0 < left → Roomy out₀ at (wordSize3 * k) → Roomy out a wordSize3
@@ -238,9 +238,9 @@ module _ {xs : List ℕ} {i e b₀ k top : ℕ} {out₀ : List ℕ} {at : ℕ} (
     masking-room n h k w wd r =
         rw (← digits-length n (w .mask)) (storing-room (digitBytes n (w .mask)) (maskBytes (left - n) (b + 12 * n) (beyond (b + 12 * n) (between xs c e))) (front n h k w wd) (s .storing) r)
 
-    pub masking-turn : 5 < left → (w : MaskBits) → NextMasks xs c e b w → (r : ℕ) (out′ : List ℕ) → r ≡ a + wordSize3 * 5 → out′ ≡ sets out a (digitBytes 5 (w .mask))
+    pub masking-iteration : 5 < left → (w : MaskBits) → NextMasks xs c e b w → (r : ℕ) (out′ : List ℕ) → r ≡ a + wordSize3 * 5 → out′ ≡ sets out a (digitBytes 5 (w .mask))
         → Masking xs i e b₀ k top out₀ at out′ r (w .next) (b + 60) (left - 5)
-    masking-turn h w wd r out′ q o =
+    masking-iteration h w wd r out′ q o =
         let n = digits-length 5 (w .mask) in
         let to : r ≡ a + length (digitBytes 5 (w .mask)) = omega (arith, n) in
         record {
@@ -248,7 +248,7 @@ module _ {xs : List ℕ} {i e b₀ k top : ℕ} {out₀ : List ℕ} {at : ℕ} (
           base = omega (arith, s .base);
           place = omega (arith, s .place);
           rise = rw (wd .is-rest) (near-inc (b + 60) b top (between xs c e) (s .rise) .1);
-          storing = rw (to, wd .is-rest) (storing-turn (digitBytes 5 (w .mask)) (maskBytes (left - 5) (b + 60) (beyond (b + 60) (between xs c e))) (front 5 (omega arith) (omega arith) w wd) o (s .storing));
+          storing = rw (to, wd .is-rest) (storing-iteration (digitBytes 5 (w .mask)) (maskBytes (left - 5) (b + 60) (beyond (b + 60) (between xs c e))) (front 5 (omega arith) (omega arith) w wd) o (s .storing));
         }
 
     pub masking-end : left ≤ 5 → (w : MaskBits) → NextMasks xs c e b w → (r : ℕ) (out′ : List ℕ) → r ≡ a + wordSize3 * left → out′ ≡ sets out a (digitBytes left (w .mask))
@@ -259,5 +259,5 @@ module _ {xs : List ℕ} {i e b₀ k top : ℕ} {out₀ : List ℕ} {at : ℕ} (
         let to : r ≡ a + length (digitBytes left (w .mask)) = omega (arith, n) in
         let none : left - left ≡ 0 = omega arith in
         let last = rw none at (front left h (omega arith) w wd) in
-        let e = storing-end (storing-turn (digitBytes left (w .mask)) [] last o (s .storing)) in
+        let e = storing-end (storing-iteration (digitBytes left (w .mask)) [] last o (s .storing)) in
         (to ∙ e .0, e .1)

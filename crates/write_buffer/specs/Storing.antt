@@ -67,9 +67,9 @@ module _ {all : List ℕ} {at₀ : ℕ} {out₀ : List ℕ} where
   pub storing-start : Storing all at₀ out₀ all at₀ out₀
   storing-start = record { long = refl; count = refl; stores = refl }
 
-  pub storing-turn : {left : List ℕ} {at : ℕ} {out out′ : List ℕ} (w rest : List ℕ) → left ≡ w ++ rest → out′ ≡ sets out at w → Storing all at₀ out₀ left at out
+  pub storing-iteration : {left : List ℕ} {at : ℕ} {out out′ : List ℕ} (w rest : List ℕ) → left ≡ w ++ rest → out′ ≡ sets out at w → Storing all at₀ out₀ left at out
       → Storing all at₀ out₀ rest (at + length w) out′
-  storing-turn {left} {at} {out} {out′} w rest e o s = record {
+  storing-iteration {left} {at} {out} {out′} w rest e o s = record {
     long = ap length o ∙ length-sets out at w ∙ s .long;
     count = omega (arith, ap length e, length-append w rest, s .count);
     stores = rw o (sym (sets-append out at w rest) ∙ ap (sets out at) (sym e) ∙ s .stores);
@@ -108,9 +108,9 @@ module _ {Q I E : Type 0} (size : ℕ) (W : Machine Q I (Note ℕ E)) where
     pub going-start : Going v₀ all at₀ out₀ all v₀ at₀ out₀
     going-start = record { state = refl; storing = storing-start }
 
-    pub going-turn : {v : Q} {at : ℕ} {out out′ : List ℕ} (a : I) (l : List I) → out′ ≡ sets out at (piece v a) → Going v₀ all at₀ out₀ (a ∷ l) v at out
+    pub going-iteration : {v : Q} {at : ℕ} {out out′ : List ℕ} (a : I) (l : List I) → out′ ≡ sets out at (piece v a) → Going v₀ all at₀ out₀ (a ∷ l) v at out
         → Going v₀ all at₀ out₀ l (W .step v a) (at + length (piece v a)) out′
-    going-turn {v} a l e g = record { state = g .state; storing = storing-turn (piece v a) (bytesFrom (W .step v a) l) (bytes-cons v a l) e (g .storing) }
+    going-iteration {v} a l e g = record { state = g .state; storing = storing-iteration (piece v a) (bytesFrom (W .step v a) l) (bytes-cons v a l) e (g .storing) }
 
     pub going-room : {v : Q} {at : ℕ} {out : List ℕ} (a : I) (l : List I) → Going v₀ all at₀ out₀ (a ∷ l) v at out → Roomy out₀ at₀ (length (bytesFrom v₀ all)) → Roomy out at (length (piece v a))
     going-room {v} a l g r = storing-room (piece v a) (bytesFrom (W .step v a) l) (bytes-cons v a l) (g .storing) r

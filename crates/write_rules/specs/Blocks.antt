@@ -74,9 +74,9 @@ module _ (from : ℤ) (xs ys : List ℕ) (ts : List ℤ) (ps : List ℕ) where
         let b : falls from ts ≡ true = sym (k .order) ∙ ap (falls last) (sym (between-rest ts i to h)) ∙ falls-append last (between ts i to) (drop to ts) ∙ rw f in
         record { is-falls = sym b; is-fine = λ z. absurd (true≢false (sym b ∙ z)) }
 
-    pub looking-turn : (to : ℕ) → i < to → to ≤ length ts → falls last (between ts i to) ≡ false → (ok′ : Bool) → ok′ ≡ (ok && placesInRange (between xs i to) (between ys i to) (between ps i to))
+    pub looking-iteration : (to : ℕ) → i < to → to ≤ length ts → falls last (between ts i to) ≡ false → (ok′ : Bool) → ok′ ≡ (ok && placesInRange (between xs i to) (between ys i to) (between ps i to))
         → Looking (getD ts (to - 1) (pos 0)) ok′ to
-    looking-turn to h w f ok′ is =
+    looking-iteration to h w f ok′ is =
         let size : length (between ts i to) ≡ suc (to - 1 - i) = length-between ts i to (omega arith) w ∙ omega arith in
         let n : i + (to - 1 - i) ≡ to - 1 = omega arith in
         let l : lastOf last (between ts i to) ≡ getD ts (to - 1) (pos 0) =

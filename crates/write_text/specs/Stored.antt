@@ -7,7 +7,7 @@ use native.Mathlib.Nat.{add-zero}
 use native.Mathlib.Numerals.{add-one}
 use lib.ListN.{length, drop, take, set, getD, length-append, drop-of-length-le}
 use lib.Seq.{sets, sets-eq, length-sets, drop-cons, take-at}
-use Rattle.write_buffer.specs.Storing.{Storing, storing-start, storing-turn, stored-both}
+use Rattle.write_buffer.specs.Storing.{Storing, storing-start, storing-iteration, stored-both}
 use Rattle.write_text.specs.Text.{digit, decimal, decimal-one, decimal-more, decimal-few}
 
 -- `text`, which has at most `most` bytes, is stored from `at` on, and r is where it ends
@@ -46,10 +46,10 @@ module _ {text : List ℕ} {at : ℕ} {out₀ : List ℕ} where
   pub copying-start : Copying text at out₀ 0 out₀
   copying-start = rw (add-zero at) storing-start
 
-  pub copying-turn : {i : ℕ} {out out′ : List ℕ} → i < length text → out′ ≡ set out (at + i) (getD text i 0) → Copying text at out₀ i out → Copying text at out₀ (i + 1) out′
-  copying-turn {i} h o s =
+  pub copying-iteration : {i : ℕ} {out out′ : List ℕ} → i < length text → out′ ≡ set out (at + i) (getD text i 0) → Copying text at out₀ i out → Copying text at out₀ (i + 1) out′
+  copying-iteration {i} h o s =
       let is : at + (i + 1) ≡ at + i + 1 = omega arith in
-      rw is (storing-turn (getD text i 0 ∷ []) (drop (i + 1) text) (drop-cons text i 0 h ∙ rw add-one) o s)
+      rw is (storing-iteration (getD text i 0 ∷ []) (drop (i + 1) text) (drop-cons text i 0 h ∙ rw add-one) o s)
 
   pub copying-end : {i : ℕ} {out : List ℕ} → length text ≤ i → Copying text at out₀ i out → Stored (length text) out₀ at text (at + length text) out
   copying-end {i} {out} h s = record { ends = refl; few = omega arith; stores = rw (drop-of-length-le text h) at (s .stores) }

@@ -16,7 +16,7 @@ use Rattle.write_buffer.specs.declared.EncoderState.{EncoderState}
 use Rattle.write_buffer.specs.declared.Put.{Put}
 use Rattle.evt_types.specs.Columns.{colX}
 use Rattle.write_buffer.specs.Columns.{Sized, eventsIn, eventsPast, eventOf, events-at, events-end, events-x, events-drop, events-length}
-use Rattle.write_buffer.specs.Storing.{Roomy, bytesFrom, Going, going-start, going-turn, going-room, going-end}
+use Rattle.write_buffer.specs.Storing.{Roomy, bytesFrom, Going, going-start, going-iteration, going-room, going-end}
 use Rattle.evt3_run_rules.specs.Runs.{Run, Rising, runs, runs-are, runOf, runs-at, follow-le}
 use Rattle.evt3_lead_words.specs.Evt3.{writer3}
 use Rattle.evt3_lead_words.specs.Leads.{leadsBytes, leads-number}
@@ -105,12 +105,12 @@ module _ {xs ys : List ℕ} {ts : List ℤ} {ps : List ℕ} (sized : Sized xs ys
       under-room3 e t y p h q et ey ep t< y< r =
           rw (words-are t y p (between xs i e) t< y<) (going-room wordSize3 writer3 (runOf t y p (between xs i e)) (runs (eventsPast xs ys ts ps e)) (rw (first-run e t y p h q et ey ep) at (u .going)) r)
 
-      pub under-turn3 : (e t y p : ℕ) → i < length xs → e ≡ i + 1 + goOn xs ys ts ps i → t ≡ eventOf xs ys ts ps i .t → y ≡ eventOf xs ys ts ps i .y → p ≡ eventOf xs ys ts ps i .p
+      pub under-iteration3 : (e t y p : ℕ) → i < length xs → e ≡ i + 1 + goOn xs ys ts ps i → t ≡ eventOf xs ys ts ps i .t → y ≡ eventOf xs ys ts ps i .y → p ≡ eventOf xs ys ts ps i .p
           → t < 2 ^ 64 → y < 2 ^ 16 → (m : ℕ) → Marked xs ys ts ps e m → (r : ℕ) (out′ : List ℕ)
           → r ≡ at + length (leadsBytes high low row t y ++ bodyBytes p (between xs i e))
           → out′ ≡ sets out at (leadsBytes high low row t y ++ bodyBytes p (between xs i e))
           → Under3 v₀ xs ys ts ps at₀ out₀ out′ (t / grain3) (t % grain3) y r e m
-      under-turn3 e t y p h q et ey ep t< y< m marked r out′ is-at is-out =
+      under-iteration3 e t y p h q et ey ep t< y< m marked r out′ is-at is-out =
           let v = stateAt3 v₀ i high low row in
           let a : Run = runOf t y p (between xs i e) in
           let in-e = end-within i e h q in
@@ -126,7 +126,7 @@ module _ {xs ys : List ℕ} {ts : List ℤ} {ps : List ℕ} (sized : Sized xs ys
             is-low = rw some;
             is-row = rw some;
             marked = marked;
-            going = rw (some, is-at, all) (going-turn wordSize3 writer3 a (runs (eventsPast xs ys ts ps e)) (is-out ∙ ap (sets out at) all) (rw first at (u .going)));
+            going = rw (some, is-at, all) (going-iteration wordSize3 writer3 a (runs (eventsPast xs ys ts ps e)) (is-out ∙ ap (sets out at) all) (rw first at (u .going)));
           }
 
       pub under-end3 : length xs ≤ i → (v : EncoderState) → v ≡ stateAt3 v₀ (length xs) high low row

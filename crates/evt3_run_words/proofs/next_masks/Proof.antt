@@ -1,6 +1,6 @@
 use Prim.Native.Nat.{_-_, _^_}
 use native.Mathlib.Omega.{arith}
-use Rattle.evt3_run_words.specs.Masks.{Scanning, scan-start, scan-low, scan-small, scan-turn, scan-out, scan-end}
+use Rattle.evt3_run_words.specs.Masks.{Scanning, scan-start, scan-low, scan-small, scan-iteration, scan-out, scan-end}
 use Rattle.evt3_run_words.proofs.next_masks.Statement.{statement}
 use Rattle.evt3_run_words.proofs.next_masks.Tie as tie
 
@@ -31,7 +31,7 @@ add-mask c =
 loop-again : tie.Need-loop-again Inv-loop μ-loop
 loop-again c =
     let p = c .before .before .before .before .before .before .pre in
-    scan-turn (p .0) (p .2) (c .before .before .before .before .loop .inv) (c .before .before .before .loop-test .taken)
+    scan-iteration (p .0) (p .2) (c .before .before .before .before .loop .inv) (c .before .before .before .loop-test .taken)
     (c .before .if1 .taken) (c .bit .result) (c .bit .ensures)
 
 returns : tie.Need-returns Inv-loop μ-loop

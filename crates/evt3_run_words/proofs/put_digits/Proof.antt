@@ -1,7 +1,7 @@
 use borrow.Author.Needs.{needs}
 use mathlib.Core.Path.{_∙_}
 use native.Mathlib.Omega.{arith}
-use Rattle.evt3_run_words.specs.Masks.{Digiting, digit-start, digit-turn, digit-room, digit-end}
+use Rattle.evt3_run_words.specs.Masks.{Digiting, digit-start, digit-iteration, digit-room, digit-end}
 use Rattle.evt3_run_words.proofs.put_digits.Statement.{statement}
 use Rattle.evt3_run_words.proofs.put_digits.Tie as tie
 
@@ -19,7 +19,7 @@ put16-requires c κs =
 loop-again : tie.Need-loop-again Inv-loop μ-loop
 loop-again c =
     let b = c .before .before .before .before .before .before in
-    digit-turn (b .loop .inv) (c .before .before .before .before .before .loop-test .taken) _
+    digit-iteration (b .loop .inv) (c .before .before .before .before .before .loop-test .taken) _
     (c .before .before .put16 .ensures ∙ rw (c .before .before .before .mask-word .ensures))
 
 pub put-digits-spec : {M : Type 1} → statement M

@@ -1,6 +1,6 @@
 use Prim.Native.Nat.{_^_}
 use native.Mathlib.Omega.{arith}
-use Rattle.evt3_run_words.specs.Masks.{Masking, masking-start, masking-room, masking-turn, masking-end}
+use Rattle.evt3_run_words.specs.Masks.{Masking, masking-start, masking-room, masking-iteration, masking-end}
 use Rattle.evt3_run_words.proofs.put_masks.Statement.{statement}
 use Rattle.evt3_run_words.proofs.put_masks.Tie as tie
 
@@ -32,7 +32,7 @@ loop-again : tie.Need-loop-again Inv-loop μ-loop
 loop-again c =
     let b = c .before .before .before .before in
     let s = b .before .before .before .before .before in
-    masking-turn (s .pre .0) (s .pre .1) (s .pre .2) (b .before .before .loop .inv) (b .before .loop-test .taken)
+    masking-iteration (s .pre .0) (s .pre .1) (s .pre .2) (b .before .before .loop .inv) (b .before .loop-test .taken)
     (b .next-masks .result) (b .next-masks .ensures) (c .before .before .put-digits .result) _
     (c .before .before .put-digits .ensures .0) (c .before .before .put-digits .ensures .1)
 

@@ -25,8 +25,12 @@ highSent2 v e = sentIs (v .«time_high») (e .t / grain2)
 unfoldable pub encode2 : EncoderState → Event → List (Note ℕ Event)
 encode2 v e = due (highSent2 v e) (highWord2 (e .t)) ++ (carries (wordOf2 e) e ∷ [])
 
+-- a state whose high half was sent
+abbrev pub stateOf2 : EncoderState → (high : ℕ) → EncoderState
+stateOf2 v high = record { «time_high» = Value high; «time_low» = v .«time_low»; y = v .y }
+
 abbrev pub encoded2 : EncoderState → Event → EncoderState
-encoded2 v e = record { «time_high» = Value (e .t / grain2); «time_low» = v .«time_low»; y = v .y }
+encoded2 v e = stateOf2 v (e .t / grain2)
 
 abbrev pub writer2 : Machine EncoderState Event (Note ℕ Event)
 writer2 = record { step = encoded2; emit = encode2 }

@@ -14,13 +14,12 @@ use Rattle.laws_stream.specs.Columns.{sets-append}
 use Rattle.laws_stream.specs.Words.{stream, bytes}
 use Rattle.evt_types.specs.Event.{Event}
 use Rattle.evt_types.specs.Layout.{wordSize2, grain2}
-use Rattle.evt_types.specs.declared.Sent.the-variants.{Value}
 use Rattle.write_buffer.specs.declared.EncoderState.{EncoderState}
 use Rattle.write_buffer.specs.declared.Put.{Put}
 use Rattle.write_buffer.specs.Columns.{event, Sized, Whole, eventsIn, eventsPast, eventOf, events-at, events-end}
 use Rattle.evt_types.specs.Num.{natural}
-use Rattle.write_buffer.specs.Sent.{carries, due, sentNumber, number-is}
-use Rattle.evt2_encoder.specs.Evt2.{highWord2, wordOf2, highSent2, encode2, encoded2, writer2}
+use Rattle.write_buffer.specs.Sent.{carries, due, stateAt, sentNumber, number-is}
+use Rattle.evt2_encoder.specs.Evt2.{highWord2, wordOf2, highSent2, encode2, stateOf2, encoded2, writer2}
 use Rattle.write_buffer.specs.Storing.{Roomy, sets-over, piece, bytesFrom, Going, going-start, going-iteration, going-room, going-end}
 
 -- an event whose words cut nothing off: rule 7 refuses every other
@@ -90,16 +89,7 @@ room-event2 false e out o at q n r h = omega (arith, r (omega arith))
 
 -- the state at index i, where `high` was sent last
 abbrev pub stateAt2 : EncoderState → ℕ → (high : ℕ) → EncoderState
-stateAt2 v zero high = v
-stateAt2 v (suc i) high = record { «time_high» = Value high; «time_low» = v .«time_low»; y = v .y }
-
-pub state-some2 : (v : EncoderState) (i high : ℕ) → 0 < i → stateAt2 v i high ≡ record { «time_high» = Value high; «time_low» = v .«time_low»; y = v .y }
-state-some2 v zero high h = absurd (omega arith)
-state-some2 v (suc i) high h = refl
-
-pub state-none2 : (v : EncoderState) (i high : ℕ) → i ≤ 0 → stateAt2 v i high ≡ v
-state-none2 v zero high h = refl
-state-none2 v (suc i) high h = absurd (omega arith)
+stateAt2 v i high = stateAt i v (stateOf2 v high)
 
 state-step2 : (v : EncoderState) (i high : ℕ) (e : Event) → encoded2 (stateAt2 v i high) e ≡ stateAt2 v (suc i) (e .t / grain2)
 state-step2 v zero high e = refl

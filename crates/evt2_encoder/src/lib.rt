@@ -10,12 +10,13 @@ ghost use Rattle.evt_types.specs.Layout.{grain2};
 ghost use Rattle.write_buffer.specs.Columns.{Sized, Whole, event, eventsIn};
 ghost use Rattle.evt2_encoder.specs.Evt2.{highWord2, wordOf2};
 ghost use Rattle.write_buffer.specs.Storing.{Roomy};
-ghost use Rattle.evt2_encoder.specs.Pass2.{Fit2, Fitting2, Within2, eventAt2, eventBytes2, stateAt2, stream2, passed2};
+ghost use Rattle.evt2_encoder.specs.Pass2.{Fit2, Fitting2, Within2, eventAt2, eventBytes2, stream2, passed2};
 use evt_types::Sent;
 use evt2_decoder::Evt2Decoder;
 use write_buffer::EncoderState;
 use write_buffer::Put;
 use write_buffer::sent_number;
+use write_buffer::state_after;
 use write_buffer::time_at;
 
 // Nothing is cut off of what rule 7 lets pass, so these two need none of the remainders of the
@@ -71,23 +72,6 @@ fn put_at(
     put_event(high, xs[i], ys[i], t, ps[i], &mut *out, at)
 }
 
-// What has been sent after n events, where `high` was sent last.
-fn sent_after(state: EncoderState, n: usize, high: u64) -> EncoderState
-    ensures { λ r. ⌜ r ≡ stateAt2 state n high ⌝ }
-{
-    if 0 < n {
-        let low = state.time_low;
-        let row = state.y;
-        EncoderState {
-            time_high: Sent::Value(high),
-            time_low: low,
-            y: row,
-        }
-    } else {
-        state
-    }
-}
-
 // The words of all events, from `start` on, two events an iteration, which is faster, and then the
 // odd one. The bounds keep `at` from wrapping.
 pub fn pass(
@@ -132,6 +116,13 @@ pub fn pass(
         at = put_at(high, t, xs, ys, ps, i, &mut *out, at);
         high = t / Evt2Decoder::GRAIN;
     }
-    let after = sent_after(state, xs.len(), high);
+    let low = state.time_low;
+    let row = state.y;
+    let last = EncoderState {
+        time_high: Sent::Value(high),
+        time_low: low,
+        y: row,
+    };
+    let after = state_after(xs.len(), state, last);
     Put { state: after, at }
 }

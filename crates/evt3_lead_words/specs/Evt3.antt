@@ -98,8 +98,11 @@ module _ (t y p : ℕ) where
 unfoldable pub encode3 : EncoderState → Run → List (Note ℕ Event)
 encode3 v r = leads3 v (r .t) (r .y) ++ body3 (r .t) (r .y) (r .p) (r .xs)
 
+abbrev pub stateOf3 : (high low row : ℕ) → EncoderState
+stateOf3 high low row = record { «time_high» = Value high; «time_low» = Value low; y = Value row }
+
 abbrev pub encoded3 : EncoderState → Run → EncoderState
-encoded3 v r = record { «time_high» = Value (r .t / grain3); «time_low» = Value (r .t % grain3); y = Value (r .y) }
+encoded3 v r = stateOf3 (r .t / grain3) (r .t % grain3) (r .y)
 
 abbrev pub writer3 : Machine EncoderState Run (Note ℕ Event)
 writer3 = record { step = encoded3; emit = encode3 }

@@ -12,7 +12,7 @@ ghost use lib.Seq.{sets};
 ghost use Rattle.laws_stream.specs.Words.{bytes};
 ghost use Rattle.write_buffer.specs.Columns.{Whole};
 ghost use Rattle.evt_types.specs.Num.{natural};
-ghost use Rattle.write_buffer.specs.Sent.{sentNumber};
+ghost use Rattle.write_buffer.specs.Sent.{sentNumber, stateAt};
 ghost use Rattle.write_buffer.specs.Storing.{Roomy, byteAt};
 use evt_types::Sent;
 use evt_types::fields::bits;
@@ -38,6 +38,13 @@ pub fn sent_number(s: Sent) -> u64
         Sent::Nothing => 18446744073709551615,
         Sent::Value(g) => g,
     }
+}
+
+// The state after n inputs: as it was where there was none.
+pub fn state_after(n: usize, state: EncoderState, after: EncoderState) -> EncoderState
+    ensures { λ r. ⌜ r ≡ stateAt n state after ⌝ }
+{
+    if 0 < n { after } else { state }
 }
 
 // A time of a column in which none is negative.

@@ -9,16 +9,15 @@ use lib.IntN.{ℤ}
 use Rattle.laws_stream.specs.Part.{between, between-at, length-between}
 use Rattle.evt_types.specs.Event.{Event}
 use Rattle.evt_types.specs.Layout.{wordSize3, grain3}
-use Rattle.evt_types.specs.declared.Sent.the-variants.{Value}
 use Rattle.laws_stream.specs.Machine.{run}
-use Rattle.write_buffer.specs.Sent.{sentNumber}
+use Rattle.write_buffer.specs.Sent.{stateAt, state-some, sentNumber}
 use Rattle.write_buffer.specs.declared.EncoderState.{EncoderState}
 use Rattle.write_buffer.specs.declared.Put.{Put}
 use Rattle.evt_types.specs.Columns.{colX}
 use Rattle.write_buffer.specs.Columns.{Sized, eventsIn, eventsPast, eventOf, events-at, events-end, events-x, events-drop, events-length}
 use Rattle.write_buffer.specs.Storing.{Roomy, bytesFrom, Going, going-start, going-iteration, going-room, going-end}
 use Rattle.evt3_run_rules.specs.Runs.{Run, Rising, runs, runs-are, runOf, runs-at, follow-le}
-use Rattle.evt3_lead_words.specs.Evt3.{writer3}
+use Rattle.evt3_lead_words.specs.Evt3.{stateOf3, writer3}
 use Rattle.evt3_lead_words.specs.Leads.{leadsBytes, leads-number}
 use Rattle.evt3_run_words.specs.Parts.{bytes3, few3, bytes-parts, bodyBytes, Part}
 use Rattle.evt3_run_rules.specs.Marks.{goOn, Marked, marks-start}
@@ -36,16 +35,7 @@ map-take f (suc n) (x ∷ l) = ap (λ (r : List _). f x ∷ r) (map-take f n l)
 
 -- the state at index i, where `high`, `low` and `row` were sent last
 abbrev pub stateAt3 : EncoderState → ℕ → (high low row : ℕ) → EncoderState
-stateAt3 v zero high low row = v
-stateAt3 v (suc i) high low row = record { «time_high» = Value high; «time_low» = Value low; y = Value row }
-
-pub state-some3 : (v : EncoderState) (i high low row : ℕ) → 0 < i → stateAt3 v i high low row ≡ record { «time_high» = Value high; «time_low» = Value low; y = Value row }
-state-some3 v zero high low row h = absurd (omega arith)
-state-some3 v (suc i) high low row h = refl
-
-pub state-none3 : (v : EncoderState) (i high low row : ℕ) → i ≤ 0 → stateAt3 v i high low row ≡ v
-state-none3 v zero high low row h = refl
-state-none3 v (suc i) high low row h = absurd (omega arith)
+stateAt3 v i high low row = stateAt i v (stateOf3 high low row)
 
 -- at index i
 pub record Under3 (v₀ : EncoderState) (xs ys : List ℕ) (ts : List ℤ) (ps : List ℕ) (at₀ : ℕ) (out₀ out : List ℕ) (high low row at i mask : ℕ) : Type 0 where
@@ -115,7 +105,7 @@ module _ {xs ys : List ℕ} {ts : List ℤ} {ps : List ℕ} (sized : Sized xs ys
           let a : Run = runOf t y p (between xs i e) in
           let in-e = end-within i e h q in
           let n : length (between xs i e) ≡ e - i = length-between xs i e (omega arith) in-e in
-          let some = state-some3 v₀ e (t / grain3) (t % grain3) y (omega arith) in
+          let some = state-some e v₀ (stateOf3 (t / grain3) (t % grain3) y) (omega arith) in
           let all = words-are t y p (between xs i e) t< y< in
           let few = few3 v a (omega arith) in
           let first = first-run e t y p h q et ey ep in

@@ -72,12 +72,12 @@ returns : tie.Need-returns Inv-loop μ-loop
 returns c =
     let s = c .before .before .before .before .before .before .before .before .before .pre in
     let l = c .before .before .before .loop in
-    let e = c .sent-after .ensures in
+    let e = c .state-after .ensures in
     ⊎-elim
     (λ w.
     let u = under-iteration2 (s .0) (l .inv) (w .0 .taken) (s .4) (w .1 .result) (w .1 .ensures) (w .3 .result) _ (w .3 .ensures .0) (w .3 .ensures .1) in
-    under-end2 (s .0) (under-same2 (s .0) u (l .i + 1) (w .6) (w .7) (w .8) refl) (c .before .before .loop-test .left) (c .sent-after .result) e)
-    (λ w. under-end2 (s .0) (under-same2 (s .0) (l .inv) (l .i) (w .1) (w .2) (w .3) refl) (w .0 .left) (c .sent-after .result) e)
+    under-end2 (s .0) (under-same2 (s .0) u (l .i + 1) (w .6) (w .7) (w .8) refl) (c .before .before .loop-test .left) (c .state-after .result) e)
+    (λ w. under-end2 (s .0) (under-same2 (s .0) (l .inv) (l .i) (w .1) (w .2) (w .3) refl) (w .0 .left) (c .state-after .result) e)
     (c .before .if1 .came)
 
 pub pass-spec : {M : Type 1} → statement M

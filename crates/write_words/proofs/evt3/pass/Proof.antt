@@ -67,7 +67,7 @@ loop-again c =
 returns : tie.Need-returns Inv-loop μ-loop
 returns c =
     let p = c .before .before .before .before .before .before .before .before .before .before .pre in
-    under-end3 (p .0) (p .1) (c .before .before .loop .inv) (c .before .loop-test .left) (c .sent-after .result) (c .sent-after .ensures)
+    under-end3 (p .0) (p .1) (c .before .before .loop .inv) (c .before .loop-test .left) (c .state-after .result) (c .state-after .ensures)
 
 pub pass-spec : {M : Type 1} → statement M
 pass-spec =

@@ -4,7 +4,7 @@ use mathlib.Core.Bool.{Bool, true, false}
 use mathlib.Core.List.{List, [], _∷_, _++_}
 use Prim.Native.Nat.{ℕ, _/_, _%_, _^_, _<_}
 use native.Mathlib.Omega.{arith}
-use Rattle.laws_stream.specs.Machine.{Machine, Note, All, all-append, words, notes, notes-append, words-append, emits}
+use Rattle.laws_stream.specs.Machine.{Machine, Note, All, words, notes}
 use Rattle.laws_stream.specs.Words.{Fits}
 use Rattle.evt_types.specs.Event.{Event}
 use Rattle.evt_types.specs.Layout.{wordSize2, grain2, eventWord2, timeWord2}
@@ -46,10 +46,6 @@ encode-notes2 v e = go (highSent2 v e)
     go true = refl
     go false = refl
 
-pub notes2 : (v : EncoderState) (es : List Event) → notes (emits writer2 v es) ≡ es
-notes2 v [] = refl
-notes2 v (e ∷ es) = rw (notes-append, encode-notes2 v e, notes2 (encoded2 v e) es)
-
 word-fits : (e : Event) → wordOf2 e < 256 ^ wordSize2
 word-fits e =
     let a : e .p % 2 < 2 = omega arith in
@@ -65,7 +61,3 @@ encode-fits2 v e = go (highSent2 v e)
     go : (b : Bool) → All (Fits wordSize2) (words (due b (highWord2 (e .t)) ++ (carries (wordOf2 e) e ∷ [])))
     go true = (word-fits e, tt)
     go false = (omega arith, (word-fits e, tt))
-
-pub fits2 : (v : EncoderState) (es : List Event) → All (Fits wordSize2) (words (emits writer2 v es))
-fits2 v [] = tt
-fits2 v (e ∷ es) = rw words-append (all-append (Fits wordSize2) (words (encode2 v e)) (words (emits writer2 (encoded2 v e) es)) (encode-fits2 v e) (fits2 (encoded2 v e) es))

@@ -13,6 +13,7 @@ use Rattle.laws_stream.specs.Mask.{Inc}
 use Rattle.evt_types.specs.Event.{Event}
 use Rattle.evt_types.specs.Columns.{colX}
 use Rattle.write_buffer.specs.Columns.{event}
+use Rattle.write_buffer.specs.Emits.{eventsOf}
 use Rattle.write_buffer.specs.Every.{xor-equal}
 
 pub record Run : Type 0 where
@@ -170,8 +171,7 @@ rising-cons x xs h r =
     record { some = omega arith; rises = (omega arith, omega (arith, e), rw e (inc-from (suc x) (firstX xs) (suc (lastX xs)) xs h (r .rises))) }
 
 abbrev pub givenBy : List Run → List Event
-givenBy [] = []
-givenBy (r ∷ rs) = given r ++ givenBy rs
+givenBy rs = eventsOf given rs
 
 glue-as : (b : Bool) (e : Event) (r : Run) (rs : List Run) → goes (e .t) (e .y) (e .p) (e .x) (firstOf r) ≡ b → Valid r → All Valid rs
     → All Valid (cond b (prepend e r ∷ rs) (single e ∷ r ∷ rs)) × (givenBy (cond b (prepend e r ∷ rs) (single e ∷ r ∷ rs)) ≡ e ∷ (given r ++ givenBy rs))

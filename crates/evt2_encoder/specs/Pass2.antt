@@ -69,10 +69,13 @@ pub few2 : (v : EncoderState) (e : Event) → length (bytes2 v e) ≤ 8
 few2 v e = rw event-bytes2 (few-event2 (highSent2 v e) e)
 
 -- both words stored one after the other, the second in the place of the first where that isn't due
-pub stored-event2 : (sent : Bool) (e : Event) (out : List ℕ) {o₁ o₂ : List ℕ} (at : ℕ) {a h w : ℕ} → a ≡ cond sent at (at + wordSize2) → h ≡ highWord2 (e .t) → w ≡ wordOf2 e → o₁ ≡ sets out at (bytes wordSize2 h) → o₂ ≡ sets o₁ a (bytes wordSize2 w)
+pub stored-event2 : (sent : Bool) (e : Event) (out : List ℕ) {o₁ o₂ : List ℕ} (at : ℕ) {a h w : ℕ} → a ≡ cond sent at (at + wordSize2) → h ≡ highWord2 (e .t)
+    → w ≡ wordOf2 e → o₁ ≡ sets out at (bytes wordSize2 h) → o₂ ≡ sets o₁ a (bytes wordSize2 w)
     → (a + wordSize2 ≡ at + length (eventBytes2 sent e)) × (o₂ ≡ sets out at (eventBytes2 sent e))
-stored-event2 true e out at q h w o p = (omega arith, p ∙ rw (o, q, h, w) (sets-over out at (bytes wordSize2 (highWord2 (e .t))) (bytes wordSize2 (wordOf2 e)) (omega arith)))
-stored-event2 false e out at q h w o p = (omega arith, p ∙ rw (o, q, h, w) (sym (sets-append out at (bytes wordSize2 (highWord2 (e .t))) (bytes wordSize2 (wordOf2 e)))))
+stored-event2 true e out at q h w o p =
+    (omega arith, p ∙ rw (o, q, h, w) (sets-over out at (bytes wordSize2 (highWord2 (e .t))) (bytes wordSize2 (wordOf2 e)) (omega arith)))
+stored-event2 false e out at q h w o p =
+    (omega arith, p ∙ rw (o, q, h, w) (sym (sets-append out at (bytes wordSize2 (highWord2 (e .t))) (bytes wordSize2 (wordOf2 e)))))
 
 pub place-event2 : (sent : Bool) (at : ℕ) {a : ℕ} → a ≡ cond sent at (at + wordSize2) → a ≤ at + wordSize2
 place-event2 true at q = omega arith
@@ -83,7 +86,8 @@ pub room-high2 : (sent : Bool) (e : Event) (out : List ℕ) (at : ℕ) → Roomy
 room-high2 true e out at r h = r h
 room-high2 false e out at r h = omega (arith, r h)
 
-pub room-event2 : (sent : Bool) (e : Event) (out o : List ℕ) (at : ℕ) {a : ℕ} → a ≡ cond sent at (at + wordSize2) → length o ≡ length out → Roomy out at (length (eventBytes2 sent e)) → Roomy o a wordSize2
+pub room-event2 : (sent : Bool) (e : Event) (out o : List ℕ) (at : ℕ) {a : ℕ} → a ≡ cond sent at (at + wordSize2) → length o ≡ length out
+    → Roomy out at (length (eventBytes2 sent e)) → Roomy o a wordSize2
 room-event2 true e out o at q n r h = omega (arith, r (omega arith))
 room-event2 false e out o at q n r h = omega (arith, r (omega arith))
 
@@ -103,7 +107,8 @@ pub record Under2 (v₀ : EncoderState) (xs ys : List ℕ) (ts : List ℤ) (ps :
   pub going : Going wordSize2 writer2 v₀ (eventsIn xs ys ts ps) at₀ out₀ (eventsPast xs ys ts ps i) (stateAt2 v₀ i high) at out
 
 -- what reading a time asks for
-pub time-asks2 : {xs ys : List ℕ} {ts : List ℤ} {ps : List ℕ} → Sized xs ys ts ps → Whole ts → {i : ℕ} → i < length xs → (i < length ts) × (length ts ≤ 2 ^ 28) × Whole ts
+pub time-asks2 : {xs ys : List ℕ} {ts : List ℤ} {ps : List ℕ} → Sized xs ys ts ps → Whole ts → {i : ℕ} → i < length xs
+    → (i < length ts) × (length ts ≤ 2 ^ 28) × Whole ts
 time-asks2 sized whole h = (omega (arith, sized .same-t), omega (arith, sized .same-t, sized .few), whole)
 
 module _ {xs ys : List ℕ} {ts : List ℤ} {ps : List ℕ} (sized : Sized xs ys ts ps) {v₀ : EncoderState} {at₀ : ℕ} {out₀ : List ℕ} where
@@ -115,14 +120,17 @@ module _ {xs ys : List ℕ} {ts : List ℤ} {ps : List ℕ} (sized : Sized xs ys
     words-are : (e : Event) → e .t < 2 ^ 64 → eventBytes2 (eqb high (e .t / grain2)) e ≡ bytes2 (stateAt2 v₀ i high) e
     words-are e t< =
         let v = stateAt2 v₀ i high in
-        let sent : eqb high (e .t / grain2) ≡ highSent2 v e = ap (λ (n : ℕ). eqb n (e .t / grain2)) (u .is-high) ∙ number-is (v .«time_high») (e .t / grain2) (omega arith) in
+        let sent : eqb high (e .t / grain2) ≡ highSent2 v e =
+        ap (λ (n : ℕ). eqb n (e .t / grain2)) (u .is-high) ∙ number-is (v .«time_high») (e .t / grain2) (omega arith) in
         ap (λ (b : Bool). eventBytes2 b e) sent ∙ sym (event-bytes2 v e)
 
-    next-is : i < length xs → (e : Event) → e ≡ eventOf xs ys ts ps i → Going wordSize2 writer2 v₀ (eventsIn xs ys ts ps) at₀ out₀ (e ∷ eventsPast xs ys ts ps (i + 1)) (stateAt2 v₀ i high) at out
+    next-is : i < length xs → (e : Event) → e ≡ eventOf xs ys ts ps i
+        → Going wordSize2 writer2 v₀ (eventsIn xs ys ts ps) at₀ out₀ (e ∷ eventsPast xs ys ts ps (i + 1)) (stateAt2 v₀ i high) at out
     next-is h e is = rw (is) (rw (events-at xs ys ts ps sized i h) at (u .going))
 
     pub under-iteration2 : i < length xs → Fitting2 xs ys ts ps → (t : ℕ) → t ≡ natural (getD ts i (pos 0)) → (r : ℕ) (out′ : List ℕ)
-        → r ≡ at + length (eventBytes2 (eqb high (t / grain2)) (eventAt2 xs ys ps i t)) → out′ ≡ sets out at (eventBytes2 (eqb high (t / grain2)) (eventAt2 xs ys ps i t))
+        → r ≡ at + length (eventBytes2 (eqb high (t / grain2)) (eventAt2 xs ys ps i t))
+        → out′ ≡ sets out at (eventBytes2 (eqb high (t / grain2)) (eventAt2 xs ys ps i t))
         → Under2 v₀ xs ys ts ps at₀ out₀ out′ (t / grain2) r (i + 1)
     under-iteration2 h fitting t is r out′ q o =
         let e = eventAt2 xs ys ps i t in
@@ -133,12 +141,16 @@ module _ {xs ys : List ℕ} {ts : List ℤ} {ps : List ℕ} (sized : Sized xs ys
           within = omega arith;
           small = omega (arith, u .small);
           is-high = rw add-one;
-          going = rw (q, all, add-one, ← state-step2 v₀ i high e) (rw add-one at (going-iteration wordSize2 writer2 e (eventsPast xs ys ts ps (i + 1)) (o ∙ ap (sets out at) all) more));
+          going =
+              rw (q, all, add-one, ← state-step2 v₀ i high e) (rw add-one at
+              (going-iteration wordSize2 writer2 e (eventsPast xs ys ts ps (i + 1)) (o ∙ ap (sets out at) all) more));
         }
 
     -- what storing the next event asks for
-    pub under-next2 : i < length xs → at₀ ≤ 2 ^ 32 → Fitting2 xs ys ts ps → Roomy out₀ at₀ (length (stream2 v₀ (eventsIn xs ys ts ps))) → (t : ℕ) → t ≡ natural (getD ts i (pos 0))
-        → Within2 xs ys ps i × (at < 2 ^ 60) × Roomy out at (length (eventBytes2 (eqb high (t / grain2)) (eventAt2 xs ys ps i t))) × Fit2 (eventAt2 xs ys ps i t)
+    pub under-next2 : i < length xs → at₀ ≤ 2 ^ 32 → Fitting2 xs ys ts ps → Roomy out₀ at₀ (length (stream2 v₀ (eventsIn xs ys ts ps))) → (t : ℕ)
+        → t ≡ natural (getD ts i (pos 0))
+        → Within2 xs ys ps i × (at < 2 ^ 60) × Roomy out at (length (eventBytes2 (eqb high (t / grain2)) (eventAt2 xs ys ps i t)))
+        × Fit2 (eventAt2 xs ys ps i t)
     under-next2 h near fitting r t is =
         let e = eventAt2 xs ys ps i t in
         let fit : Fit2 e = rw is (fitting i) in (

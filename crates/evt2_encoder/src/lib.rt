@@ -2,7 +2,7 @@
 // bytes of the words that specs/Evt2.antt defines, each with a note of the event that it carries;
 // specs/Pass2.antt has their bytes and the loop.
 ghost use mathlib.Core.Path.{_≡_};
-ghost use Prim.Native.Nat.{_+_, _*_, _/_, _^_, _≤_, _<_};
+ghost use Prim.Native.Nat.{_+_, _/_, _^_, _≤_, _<_};
 ghost use lib.Dec.{eqb};
 ghost use lib.ListN.{length};
 ghost use lib.Seq.{sets};

@@ -76,7 +76,8 @@ module _ (b₁ b₂ b₃ : Bool) (w₁ w₂ w₃ : ℕ) where
   three-few = omega (arith, three-length, due-few b₁ w₁, due-few b₂ w₂, due-few b₃ w₃)
 
   three-words : stream wordSize3 (words (due b₁ w₁ ++ (due b₂ w₂ ++ due b₃ w₃))) ≡ dueThree b₁ b₂ b₃ w₁ w₂ w₃
-  three-words = rw (words-append (due b₁ w₁), words-append (due b₂ w₂), stream-append wordSize3 (words (due b₁ w₁)), stream-append wordSize3 (words (due b₂ w₂)))
+  three-words =
+      rw (words-append (due b₁ w₁), words-append (due b₂ w₂), stream-append wordSize3 (words (due b₁ w₁)), stream-append wordSize3 (words (due b₂ w₂)))
 
   three-next : (out : List ℕ) (at : ℕ) {o₁ o₂ o₃ : List ℕ} {p q r : ℕ} → p ≡ at + length one → o₁ ≡ sets out at (bytes wordSize3 w₁)
       → q ≡ p + length two → o₂ ≡ sets o₁ p (bytes wordSize3 w₂) → r ≡ q + length three → o₃ ≡ sets o₂ q (bytes wordSize3 w₃)
@@ -114,7 +115,8 @@ module _ (high low row t y : ℕ) where
   abbrev isLow : Bool
   isLow = eqb (lowNumber high low t) (t % grain3)
 
-  pub leads-length : length (leadsBytes high low row t y) ≡ length (dueBytes isHigh (highWord3 t)) + (length (dueBytes isLow (lowWord3 t)) + length (dueBytes (eqb row y) (rowWord3 y)))
+  pub leads-length : length (leadsBytes high low row t y)
+      ≡ length (dueBytes isHigh (highWord3 t)) + (length (dueBytes isLow (lowWord3 t)) + length (dueBytes (eqb row y) (rowWord3 y)))
   leads-length = three-length isHigh isLow (eqb row y) (highWord3 t) (lowWord3 t) (rowWord3 y)
 
   pub leads-few : length (leadsBytes high low row t y) ≤ 3 * wordSize3

@@ -22,8 +22,11 @@ ends goes = cond goes 0 1
 abbrev pub placeGoes : (last y p x y₂ p₂ : ℕ) → Bool
 placeGoes last y p x y₂ p₂ = eqb y₂ y && (eqb p₂ p && ltb last x)
 
+abbrev pub placeGoesAt : (xs ys ps : List ℕ) → ℕ → Bool
+placeGoesAt xs ys ps i = placeGoes (getD xs i 0) (getD ys i 0) (getD ps i 0) (getD xs (i + 1) 0) (getD ys (i + 1) 0) (getD ps (i + 1) 0)
+
 abbrev pub placeEnds : (xs ys ps : List ℕ) → ℕ → ℕ
-placeEnds xs ys ps i = ends (placeGoes (getD xs i 0) (getD ys i 0) (getD ps i 0) (getD xs (i + 1) 0) (getD ys (i + 1) 0) (getD ps (i + 1) 0))
+placeEnds xs ys ps i = ends (placeGoesAt xs ys ps i)
 
 abbrev pub timeEnds : List ℤ → ℕ → ℕ
 timeEnds ts i = ends (eqb (timeAt ts (i + 1)) (timeAt ts i))
@@ -150,7 +153,7 @@ ends-le false = omega arith
 module _ (xs ys : List ℕ) (ts : List ℤ) (ps : List ℕ) (i : ℕ) (room : i + 64 < length xs) {places flags : List ℕ} where
   module _ (fp : Filled (λ j. placeEnds xs ys ps (i + j)) places) (ft : Filled (λ j. bitOr (flagAt places j) (timeEnds ts (i + j))) flags) where
     flag-is : (j : ℕ) → j < 64 → getD flags j 0 ≡ ends (joinsNext xs ys ts ps (i + j))
-    flag-is j h = ft .each j h ∙ rw (fp .each j h) (or-flags (placeGoes (getD xs (i + j) 0) (getD ys (i + j) 0) (getD ps (i + j) 0) (getD xs (i + j + 1) 0) (getD ys (i + j + 1) 0) (getD ps (i + j + 1) 0)) (eqb (timeAt ts (i + j + 1)) (timeAt ts (i + j))))
+    flag-is j h = ft .each j h ∙ rw (fp .each j h) (or-flags (placeGoesAt xs ys ps (i + j)) (eqb (timeAt ts (i + j + 1)) (timeAt ts (i + j))))
 
     pub flags-small : Flags flags
     flags-small j h = rw (flag-is j h) (ends-le (joinsNext xs ys ts ps (i + j)))

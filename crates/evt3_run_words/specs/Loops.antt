@@ -1,7 +1,7 @@
 -- EVT3: the loops over one run, and what holds on the way.
 use mathlib.Core.Path.{_≡_, refl, sym, _∙_}
 use mathlib.Core.Bool.{Bool, true, false}
-use mathlib.Core.List.{List, [], _∷_, map}
+use mathlib.Core.List.{List, [], _∷_}
 use Prim.Native.Nat.{ℕ, _+_, _-_, _*_, _≤_, _<_}
 use native.Mathlib.Omega.{arith}
 use lib.ListN.{length, getD}
@@ -10,7 +10,7 @@ use lib.Dec.{eqb}
 use borrow.Author.Tests.{eqb-true, eqb-false}
 use Rattle.laws_stream.specs.Part.{between, between-at, between-end}
 use Rattle.laws_stream.specs.Columns.{sets-append}
-use Rattle.laws_stream.specs.Words.{stream, bytes}
+use Rattle.laws_stream.specs.Words.{bytes}
 use Rattle.evt_types.specs.Layout.{wordSize3}
 use Rattle.write_buffer.specs.Storing.{Roomy, sets-over, Storing, storing-start, storing-iteration, storing-room, storing-end}
 use Rattle.evt3_lead_words.specs.Evt3.{singleWord3}
@@ -29,16 +29,21 @@ module _ {p : ℕ} {xs : List ℕ} {i e : ℕ} {out₀ : List ℕ} {at : ℕ} (p
   single-start = record { above = omega arith; below = part .low; place = refl; storing = storing-start }
 
   module _ {out : List ℕ} {a j : ℕ} (s : Single p xs i e out₀ at out a j) where
-    pub single-iteration : j < e → (out′ : List ℕ) → out′ ≡ sets out a (bytes wordSize3 (singleWord3 p (getD xs j 0))) → Single p xs i e out₀ at out′ (a + wordSize3) (j + 1)
+    pub single-iteration : j < e → (out′ : List ℕ) → out′ ≡ sets out a (bytes wordSize3 (singleWord3 p (getD xs j 0)))
+        → Single p xs i e out₀ at out′ (a + wordSize3) (j + 1)
     single-iteration h out′ o = record {
       above = omega (arith, s .above);
       below = omega arith;
       place = omega (arith, s .place);
-      storing = storing-iteration (bytes wordSize3 (singleWord3 p (getD xs j 0))) (singleBytes p (between xs (j + 1) e)) (rw (between-at xs j e 0 h (part .high))) o (s .storing);
+      storing =
+          storing-iteration (bytes wordSize3 (singleWord3 p (getD xs j 0))) (singleBytes p (between xs (j + 1) e)) (rw (between-at xs j e 0 h (part .high))) o
+          (s .storing);
     }
 
     pub single-room : j < e → Roomy out₀ at (length (singleBytes p (between xs i e))) → Roomy out a wordSize3
-    single-room h r = storing-room (bytes wordSize3 (singleWord3 p (getD xs j 0))) (singleBytes p (between xs (j + 1) e)) (rw (between-at xs j e 0 h (part .high))) (s .storing) r
+    single-room h r =
+        storing-room (bytes wordSize3 (singleWord3 p (getD xs j 0))) (singleBytes p (between xs (j + 1) e)) (rw (between-at xs j e 0 h (part .high)))
+        (s .storing) r
 
     pub single-end : e ≤ j → (a ≡ at + length (singleBytes p (between xs i e))) × (out ≡ sets out₀ at (singleBytes p (between xs i e)))
     single-end h = storing-end (rw (between-end xs j e h) at (s .storing))
@@ -49,7 +54,8 @@ module _ (p : ℕ) (xs : List ℕ) (i e : ℕ) (out : List ℕ) (at : ℕ) (h : 
   abbrev wordAt : ℕ → List ℕ
   wordAt j = bytes wordSize3 (singleWord3 p (getD xs j 0))
 
-  pair-as : (b : Bool) {o₁ o₂ : List ℕ} {last : ℕ} → eqb e (i + 1) ≡ b → last ≡ at + wordSize3 * (e - 1 - i) → o₁ ≡ sets out at (wordAt i) → o₂ ≡ sets o₁ last (wordAt (e - 1))
+  pair-as : (b : Bool) {o₁ o₂ : List ℕ} {last : ℕ} → eqb e (i + 1) ≡ b → last ≡ at + wordSize3 * (e - 1 - i) → o₁ ≡ sets out at (wordAt i)
+      → o₂ ≡ sets o₁ last (wordAt (e - 1))
       → o₂ ≡ sets out at (singleBytes p (between xs i e))
   pair-as true q l o₁ o₂ =
       let e₁ = eqb-true e (i + 1) q in
@@ -59,7 +65,8 @@ module _ (p : ℕ) (xs : List ℕ) (i e : ℕ) (out : List ℕ) (at : ℕ) (h : 
       o₂ ∙ rw (o₁, l, same, z, here) (sets-over out at (wordAt i) (wordAt i) (omega arith))
   pair-as false q l o₁ o₂ =
       let ne = eqb-false e (i + 1) q in
-      let here : between xs i e ≡ getD xs i 0 ∷ getD xs (i + 1) 0 ∷ [] = between-at xs i e 0 h f ∙ rw (between-at xs (i + 1) e 0 (omega arith) f, between-end xs (i + 1 + 1) e (omega arith)) in
+      let here : between xs i e ≡ getD xs i 0 ∷ getD xs (i + 1) 0 ∷ [] =
+      between-at xs i e 0 h f ∙ rw (between-at xs (i + 1) e 0 (omega arith) f, between-end xs (i + 1 + 1) e (omega arith)) in
       let next : e - 1 ≡ i + 1 = omega arith in
       let two : at + wordSize3 * (i + 1 - i) ≡ at + wordSize3 = omega arith in
       o₂ ∙ rw (o₁, l, next, two, here) (sym (sets-append out at (wordAt i) (wordAt (i + 1))))

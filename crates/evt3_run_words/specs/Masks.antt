@@ -48,7 +48,8 @@ near-inc mid b to (x ∷ l) i = near-as (ltb x mid) mid b to x l refl (i .0) (i 
 
 module _ (mid to : ℕ) (h : mid ≤ to) where
   split-as : (c : Bool) (x : ℕ) (l : List ℕ) → ltb x mid ≡ c → nearby to l ≡ nearby mid l ++ nearby to (beyond mid l) → beyond to (beyond mid l) ≡ beyond to l
-      → (nearby to (x ∷ l) ≡ cond c (x ∷ nearby mid l) [] ++ nearby to (cond c (beyond mid l) (x ∷ l))) × (beyond to (cond c (beyond mid l) (x ∷ l)) ≡ beyond to (x ∷ l))
+      → (nearby to (x ∷ l) ≡ cond c (x ∷ nearby mid l) [] ++ nearby to (cond c (beyond mid l) (x ∷ l)))
+      × (beyond to (cond c (beyond mid l) (x ∷ l)) ≡ beyond to (x ∷ l))
   split-as true x l q n f =
       let lt : x < to = omega (arith, ltb-true x mid q) in
       (nearby-in to x l lt ∙ ap (λ (k : List ℕ). x ∷ k) n, f ∙ sym (beyond-in to x l lt))
@@ -113,9 +114,11 @@ pub inc-to : (b to top : ℕ) (l : List ℕ) → to ≤ top → Inc b to l → I
 inc-to b to top [] h i = tt
 inc-to b to top (x ∷ l) h i = (i .0, omega (arith, i .1), inc-to (suc x) to top l h (i .2))
 
-pub rising-inc : (xs : List ℕ) (i e top : ℕ) → i < e → e ≤ length xs → getD xs (e - 1) 0 < top → Rising (between xs i e) → Inc (getD xs i 0) top (between xs i e)
+pub rising-inc : (xs : List ℕ) (i e top : ℕ) → i < e → e ≤ length xs → getD xs (e - 1) 0 < top → Rising (between xs i e)
+    → Inc (getD xs i 0) top (between xs i e)
 rising-inc xs i e top h f l r =
-    rw (← first-is xs i e h f) (inc-to (firstX (between xs i e)) (suc (lastX (between xs i e))) top (between xs i e) (rw (last-is xs i e h f) (omega arith)) (r .rises))
+    let part = between xs i e in
+    rw (← first-is xs i e h f) (inc-to (firstX part) (suc (lastX part)) top part (rw (last-is xs i e h f) (omega arith)) (r .rises))
 
 -- ---- the bits of 60 columns
 
@@ -157,13 +160,15 @@ module _ {xs : List ℕ} {from e b top : ℕ} (part : Part xs from e 0) (rising 
 
     pub scan-small : c < e → x < b + 60 → m + 2 ^ (x - b) < 2 ^ 60
     scan-small h k =
-        let lt = mask-lt 60 b (b + 60) b (nearby (b + 60) (between xs from e)) (omega arith) (omega arith) (near-inc (b + 60) b top (between xs from e) rising .0) in
+        let lt =
+        mask-lt 60 b (b + 60) b (nearby (b + 60) (between xs from e)) (omega arith) (omega arith) (near-inc (b + 60) b top (between xs from e) rising .0) in
         omega (arith, lt, s .sum, ap (mask b) (near h k))
 
     pub scan-iteration : c < e → x < b + 60 → (d : ℕ) → d ≡ 2 ^ (x - b) → Scanning xs from e b top (m + d) (c + 1)
     scan-iteration h k d q =
         let r = rise-here h in
-        let far : beyond (b + 60) (between xs c e) ≡ beyond (b + 60) (between xs (c + 1) e) = ap (beyond (b + 60)) (here h) ∙ beyond-in (b + 60) x (between xs (c + 1) e) k in
+        let far : beyond (b + 60) (between xs c e) ≡ beyond (b + 60) (between xs (c + 1) e) =
+        ap (beyond (b + 60)) (here h) ∙ beyond-in (b + 60) x (between xs (c + 1) e) k in
         record {
           below = omega arith;
           rise = inc-from b (suc x) top (between xs (c + 1) e) (omega (arith, r .0)) (r .2);
@@ -176,7 +181,8 @@ module _ {xs : List ℕ} {from e b top : ℕ} (part : Part xs from e 0) (rising 
 
     pub scan-out : c < e → b + 60 ≤ x → NextMasks xs from e b (record { mask = m; next = c })
     scan-out h k =
-        stop (ap (nearby (b + 60)) (here h) ∙ nearby-out (b + 60) x (between xs (c + 1) e) k) (ap (beyond (b + 60)) (here h) ∙ beyond-out (b + 60) x (between xs (c + 1) e) k ∙ sym (here h))
+        stop (ap (nearby (b + 60)) (here h) ∙ nearby-out (b + 60) x (between xs (c + 1) e) k)
+        (ap (beyond (b + 60)) (here h) ∙ beyond-out (b + 60) x (between xs (c + 1) e) k ∙ sym (here h))
 
     pub scan-end : e ≤ c → NextMasks xs from e b (record { mask = m; next = c })
     unfolding nearby beyond
@@ -197,7 +203,8 @@ module _ {k m₀ : ℕ} {out₀ : List ℕ} {at : ℕ} where
     unfolding digitWords
     next h = let n : left ≡ suc (left - 1) = omega arith in ap (λ (j : ℕ). digitBytes j m) n
 
-    pub digit-iteration : 0 < left → (out′ : List ℕ) → out′ ≡ sets out a (bytes wordSize3 (word3 4 (m % 4096))) → Digiting k m₀ out₀ at out′ (a + wordSize3) (m / 4096) (left - 1)
+    pub digit-iteration : 0 < left → (out′ : List ℕ) → out′ ≡ sets out a (bytes wordSize3 (word3 4 (m % 4096)))
+        → Digiting k m₀ out₀ at out′ (a + wordSize3) (m / 4096) (left - 1)
     digit-iteration h out′ o = record {
       place = omega (arith, s .place);
       storing = storing-iteration (bytes wordSize3 (word3 4 (m % 4096))) (digitBytes (left - 1) (m / 4096)) (next h) o (s .storing);
@@ -219,7 +226,8 @@ pub record Masking (xs : List ℕ) (i e b₀ k top : ℕ) (out₀ : List ℕ) (a
   pub rise : Inc b top (between xs c e)
   pub storing : Storing (maskBytes k b₀ (between xs i e)) at out₀ (maskBytes left b (between xs c e)) a out
 
-module _ {xs : List ℕ} {i e b₀ k top : ℕ} {out₀ : List ℕ} {at : ℕ} (part : Part xs i e at) (fits : b₀ + 12 * k ≤ 2 ^ 20) (rising : Inc b₀ top (between xs i e)) where
+module _ {xs : List ℕ} {i e b₀ k top : ℕ} {out₀ : List ℕ} {at : ℕ} (part : Part xs i e at) (fits : b₀ + 12 * k ≤ 2 ^ 20)
+    (rising : Inc b₀ top (between xs i e)) where
   pub masking-start : Masking xs i e b₀ k top out₀ at out₀ at i b₀ k
   masking-start = record { below = part .low; base = fits; place = refl; rise = rising; storing = storing-start }
 
@@ -234,11 +242,14 @@ module _ {xs : List ℕ} {i e b₀ k top : ℕ} {out₀ : List ℕ} {at : ℕ} (
         ∙ ap (stream wordSize3) (masks-digits n (left - n) b top (b + 60) here (omega arith) (s .rise))
         ∙ rw (stream-append wordSize3 (digitWords n (mask b (nearby (b + 60) here))), ← wd .is-mask)
 
-    pub masking-room : (n : ℕ) → n ≤ 5 → n ≤ left → (w : MaskBits) → NextMasks xs c e b w → Roomy out₀ at (length (maskBytes k b₀ (between xs i e))) → Roomy out a (wordSize3 * n)
+    pub masking-room : (n : ℕ) → n ≤ 5 → n ≤ left → (w : MaskBits) → NextMasks xs c e b w → Roomy out₀ at (length (maskBytes k b₀ (between xs i e)))
+        → Roomy out a (wordSize3 * n)
     masking-room n h k w wd r =
-        rw (← digits-length n (w .mask)) (storing-room (digitBytes n (w .mask)) (maskBytes (left - n) (b + 12 * n) (beyond (b + 12 * n) (between xs c e))) (front n h k w wd) (s .storing) r)
+        rw (← digits-length n (w .mask)) (storing-room (digitBytes n (w .mask)) (maskBytes (left - n) (b + 12 * n) (beyond (b + 12 * n) (between xs c e)))
+        (front n h k w wd) (s .storing) r)
 
-    pub masking-iteration : 5 < left → (w : MaskBits) → NextMasks xs c e b w → (r : ℕ) (out′ : List ℕ) → r ≡ a + wordSize3 * 5 → out′ ≡ sets out a (digitBytes 5 (w .mask))
+    pub masking-iteration : 5 < left → (w : MaskBits) → NextMasks xs c e b w → (r : ℕ) (out′ : List ℕ) → r ≡ a + wordSize3 * 5
+        → out′ ≡ sets out a (digitBytes 5 (w .mask))
         → Masking xs i e b₀ k top out₀ at out′ r (w .next) (b + 60) (left - 5)
     masking-iteration h w wd r out′ q o =
         let n = digits-length 5 (w .mask) in
@@ -248,10 +259,13 @@ module _ {xs : List ℕ} {i e b₀ k top : ℕ} {out₀ : List ℕ} {at : ℕ} (
           base = omega (arith, s .base);
           place = omega (arith, s .place);
           rise = rw (wd .is-rest) (near-inc (b + 60) b top (between xs c e) (s .rise) .1);
-          storing = rw (to, wd .is-rest) (storing-iteration (digitBytes 5 (w .mask)) (maskBytes (left - 5) (b + 60) (beyond (b + 60) (between xs c e))) (front 5 (omega arith) (omega arith) w wd) o (s .storing));
+          storing =
+              rw (to, wd .is-rest) (storing-iteration (digitBytes 5 (w .mask)) (maskBytes (left - 5) (b + 60) (beyond (b + 60) (between xs c e)))
+              (front 5 (omega arith) (omega arith) w wd) o (s .storing));
         }
 
-    pub masking-end : left ≤ 5 → (w : MaskBits) → NextMasks xs c e b w → (r : ℕ) (out′ : List ℕ) → r ≡ a + wordSize3 * left → out′ ≡ sets out a (digitBytes left (w .mask))
+    pub masking-end : left ≤ 5 → (w : MaskBits) → NextMasks xs c e b w → (r : ℕ) (out′ : List ℕ) → r ≡ a + wordSize3 * left
+        → out′ ≡ sets out a (digitBytes left (w .mask))
         → (r ≡ at + length (maskBytes k b₀ (between xs i e))) × (out′ ≡ sets out₀ at (maskBytes k b₀ (between xs i e)))
     unfolding maskWords
     masking-end h w wd r out′ q o =

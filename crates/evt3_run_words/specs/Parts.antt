@@ -15,7 +15,8 @@ use Rattle.evt_types.specs.Layout.{wordSize3}
 use Rattle.write_buffer.specs.declared.EncoderState.{EncoderState}
 use Rattle.write_buffer.specs.Storing.{piece}
 use Rattle.evt3_run_rules.specs.Runs.{Run, firstX, lastX}
-use Rattle.evt3_lead_words.specs.Evt3.{leads3, singleWord3, baseWord3, maskWord3, nearby, beyond, maskCount, vectored, singles, masks, vectors, body3, encode3, writer3}
+use Rattle.evt3_lead_words.specs.Evt3.{leads3, singleWord3, baseWord3, maskWord3, nearby, beyond, maskCount}
+use Rattle.evt3_lead_words.specs.Evt3.{vectored, singles, masks, vectors, body3, encode3, writer3}
 use Rattle.evt3_lead_words.specs.Leads.{leadBytes, lead-few}
 
 abbrev pub bytes3 : EncoderState → Run → List ℕ
@@ -56,7 +57,9 @@ module _ (t y p : ℕ) where
   unfolding body3 bodyWords vectorWords
   words-body xs = go (vectored xs)
     where
-      go : (b : Bool) → words (cond b (vectors t y p xs) (singles t y p xs)) ≡ cond b (baseWord3 p (firstX xs) ∷ maskWords (maskCount xs) (firstX xs) xs) (map (singleWord3 p) xs)
+      go : (b : Bool)
+          → words (cond b (vectors t y p xs) (singles t y p xs))
+          ≡ cond b (baseWord3 p (firstX xs) ∷ maskWords (maskCount xs) (firstX xs) xs) (map (singleWord3 p) xs)
       go true = ap (λ (l : List ℕ). baseWord3 p (firstX xs) ∷ l) (words-masks (maskCount xs) (firstX xs) xs)
       go false = words-singles xs
 
@@ -70,7 +73,12 @@ unfolding bodyWords vectorWords vectored
 length-body p xs = go (vectored xs) refl
   where
     go : (b : Bool) → vectored xs ≡ b → length (cond b (baseWord3 p (firstX xs) ∷ maskWords (maskCount xs) (firstX xs) xs) (map (singleWord3 p) xs)) ≤ length xs
-    go true h = omega (arith, length-masks (maskCount xs) (firstX xs) xs, ltb-true (1 + maskCount xs) (length xs) (and-both (ltb 2 (length xs)) (ltb (1 + maskCount xs) (length xs)) h .1))
+    go true h =
+        omega (
+          arith,
+          length-masks (maskCount xs) (firstX xs) xs,
+          ltb-true (1 + maskCount xs) (length xs) (and-both (ltb 2 (length xs)) (ltb (1 + maskCount xs) (length xs)) h .1),
+        )
     go false h = omega (arith, length-map xs (singleWord3 p))
 
 pub bytes-parts : (v : EncoderState) (r : Run) → bytes3 v r ≡ leadBytes v (r .t) (r .y) ++ bodyBytes (r .p) (r .xs)
@@ -141,7 +149,9 @@ module _ (p : ℕ) (xs : List ℕ) (i e k : ℕ) (h : i < e) (f : e ≤ length x
   pub body-vector : ltb (1 + k) (e - i) ≡ true
       → bodyBytes p (between xs i e) ≡ bytes wordSize3 (baseWord3 p (getD xs i 0)) ++ maskBytes k (getD xs i 0) (between xs i e)
   unfolding bodyWords vectorWords
-  body-vector v = ap (stream wordSize3) (ap (λ (b : Bool). cond b (vectorWords p (between xs i e)) (map (singleWord3 p) (between xs i e))) (vectored-is ∙ v)) ∙ rw (count-is, first-is xs i e h f)
+  body-vector v =
+      ap (stream wordSize3) (ap (λ (b : Bool). cond b (vectorWords p (between xs i e)) (map (singleWord3 p) (between xs i e))) (vectored-is ∙ v))
+      ∙ rw (count-is, first-is xs i e h f)
 
   pub body-singles : ltb (1 + k) (e - i) ≡ false → bodyBytes p (between xs i e) ≡ singleBytes p (between xs i e)
   unfolding bodyWords

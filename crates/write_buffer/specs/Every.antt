@@ -24,7 +24,8 @@ everyFrom-some f n i = refl
 pub everyFrom-and : (f g : ℕ → Bool) (n i : ℕ) → everyFrom (λ j. f j && g j) n i ≡ (everyFrom f n i && everyFrom g n i)
 unfolding everyFrom
 everyFrom-and f g zero i = refl
-everyFrom-and f g (suc n) i = ap (λ (b : Bool). (f i && g i) && b) (everyFrom-and f g n (i + 1)) ∙ swap (f i) (g i) (everyFrom f n (i + 1)) (everyFrom g n (i + 1))
+everyFrom-and f g (suc n) i =
+    ap (λ (b : Bool). (f i && g i) && b) (everyFrom-and f g n (i + 1)) ∙ swap (f i) (g i) (everyFrom f n (i + 1)) (everyFrom g n (i + 1))
   where
     swap : (a b c d : Bool) → ((a && b) && (c && d)) ≡ ((a && c) && (b && d))
     swap true true c d = refl
@@ -90,7 +91,8 @@ pub record Gathered (most : ℕ) (f : ℕ → Bool) (n i all j : ℕ) : Type 0 w
   pub so-far : (leb all most && everyFrom f (n - j) (i + j)) ≡ everyFrom f n i
 
 pub gathered-start : (k : ℕ) {most : ℕ} {f : ℕ → Bool} {n i : ℕ} → suc most ≡ 2 ^ k → Gathered most f n i 0 0
-gathered-start k {most} {f} {n} e = record { width = k; bound = e; below = omega arith; so-far = let all : n - 0 ≡ n = omega arith in rw (le-leb 0 most (omega arith), add-zero, all) }
+gathered-start k {most} {f} {n} e =
+    record { width = k; bound = e; below = omega arith; so-far = let all : n - 0 ≡ n = omega arith in rw (le-leb 0 most (omega arith), add-zero, all) }
 
 module _ {most : ℕ} {f : ℕ → Bool} {n i all j : ℕ} (g : Gathered most f n i all j) where
   -- v is at most the bound where the next place holds
@@ -103,7 +105,9 @@ module _ {most : ℕ} {f : ℕ → Bool} {n i all j : ℕ} (g : Gathered most f 
         width = g .width;
         bound = g .bound;
         below = omega arith;
-        so-far = rw (or-most (g .width) most all v (g .bound), e, and-assoc (leb all most) (f (i + j))) (ap (λ (b : Bool). leb all most && b) (sym split) ∙ g .so-far);
+        so-far =
+            rw (or-most (g .width) most all v (g .bound), e, and-assoc (leb all most) (f (i + j)))
+            (ap (λ (b : Bool). leb all most && b) (sym split) ∙ g .so-far);
       }
 
   pub gathered-end : n ≤ j → leb all most ≡ everyFrom f n i

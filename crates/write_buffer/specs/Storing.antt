@@ -40,7 +40,8 @@ abbrev pub Roomy : (out : List ℕ) (at n : ℕ) → Type 0
 Roomy out at n = 0 < length out → at + n ≤ length out
 
 -- what is stored after some bytes has room where both have
-pub roomy-rest : (out o : List ℕ) (at : ℕ) {r : ℕ} (w rest : List ℕ) → r ≡ at + length w → length o ≡ length out → Roomy out at (length (w ++ rest)) → Roomy o r (length rest)
+pub roomy-rest : (out o : List ℕ) (at : ℕ) {r : ℕ} (w rest : List ℕ) → r ≡ at + length w → length o ≡ length out → Roomy out at (length (w ++ rest))
+    → Roomy o r (length rest)
 roomy-rest out o at w rest e n r h = omega (arith, r (omega arith), length-append w rest)
 
 pub sets-empty : (l : List ℕ) (i : ℕ) (vs : List ℕ) → length l ≤ 0 → l ≡ sets l i vs
@@ -67,7 +68,8 @@ module _ {all : List ℕ} {at₀ : ℕ} {out₀ : List ℕ} where
   pub storing-start : Storing all at₀ out₀ all at₀ out₀
   storing-start = record { long = refl; count = refl; stores = refl }
 
-  pub storing-iteration : {left : List ℕ} {at : ℕ} {out out′ : List ℕ} (w rest : List ℕ) → left ≡ w ++ rest → out′ ≡ sets out at w → Storing all at₀ out₀ left at out
+  pub storing-iteration : {left : List ℕ} {at : ℕ} {out out′ : List ℕ} (w rest : List ℕ) → left ≡ w ++ rest → out′ ≡ sets out at w
+      → Storing all at₀ out₀ left at out
       → Storing all at₀ out₀ rest (at + length w) out′
   storing-iteration {left} {at} {out} {out′} w rest e o s = record {
     long = ap length o ∙ length-sets out at w ∙ s .long;
@@ -76,14 +78,16 @@ module _ {all : List ℕ} {at₀ : ℕ} {out₀ : List ℕ} where
   }
 
   -- what comes next has room where all has
-  pub storing-room : {left : List ℕ} {at : ℕ} {out : List ℕ} (w rest : List ℕ) → left ≡ w ++ rest → Storing all at₀ out₀ left at out → Roomy out₀ at₀ (length all) → Roomy out at (length w)
+  pub storing-room : {left : List ℕ} {at : ℕ} {out : List ℕ} (w rest : List ℕ) → left ≡ w ++ rest → Storing all at₀ out₀ left at out
+      → Roomy out₀ at₀ (length all) → Roomy out at (length w)
   storing-room {left} {at} {out} w rest e s r h = omega (arith, r (omega (arith, s .long)), ap length e, length-append w rest, s .count, s .long)
 
   pub storing-end : {at : ℕ} {out : List ℕ} → Storing all at₀ out₀ [] at out → (at ≡ at₀ + length all) × (out ≡ sets out₀ at₀ all)
   storing-end {at} s = (sym (add-zero at) ∙ s .count, s .stores)
 
 -- one store after another
-pub stored-both : (out : List ℕ) (at : ℕ) {o₁ o₂ : List ℕ} {r₁ r₂ : ℕ} (a b : List ℕ) → r₁ ≡ at + length a → o₁ ≡ sets out at a → r₂ ≡ r₁ + length b → o₂ ≡ sets o₁ r₁ b
+pub stored-both : (out : List ℕ) (at : ℕ) {o₁ o₂ : List ℕ} {r₁ r₂ : ℕ} (a b : List ℕ) → r₁ ≡ at + length a → o₁ ≡ sets out at a → r₂ ≡ r₁ + length b
+    → o₂ ≡ sets o₁ r₁ b
     → (r₂ ≡ at + length (a ++ b)) × (o₂ ≡ sets out at (a ++ b))
 stored-both out at a b e o f p = (omega (arith, length-append a b), p ∙ rw (o, e) (sym (sets-append out at a b)))
 
@@ -97,7 +101,8 @@ module _ {Q I E : Type 0} (size : ℕ) (W : Machine Q I (Note ℕ E)) where
 
   pub bytes-cons : (v : Q) (a : I) (l : List I) → bytesFrom v (a ∷ l) ≡ piece v a ++ bytesFrom (W .step v a) l
   unfolding bytesFrom
-  bytes-cons v a l = ap (stream size) (words-append (W .emit v a) (emits W (W .step v a) l)) ∙ stream-append size (words (W .emit v a)) (words (emits W (W .step v a) l))
+  bytes-cons v a l =
+      ap (stream size) (words-append (W .emit v a) (emits W (W .step v a) l)) ∙ stream-append size (words (W .emit v a)) (words (emits W (W .step v a) l))
 
   -- On the way: from the state v, `left` of the input is to come, and the bytes before `at` are stored.
   pub record Going (v₀ : Q) (all : List I) (at₀ : ℕ) (out₀ : List ℕ) (left : List I) (v : Q) (at : ℕ) (out : List ℕ) : Type 0 where
@@ -110,9 +115,11 @@ module _ {Q I E : Type 0} (size : ℕ) (W : Machine Q I (Note ℕ E)) where
 
     pub going-iteration : {v : Q} {at : ℕ} {out out′ : List ℕ} (a : I) (l : List I) → out′ ≡ sets out at (piece v a) → Going v₀ all at₀ out₀ (a ∷ l) v at out
         → Going v₀ all at₀ out₀ l (W .step v a) (at + length (piece v a)) out′
-    going-iteration {v} a l e g = record { state = g .state; storing = storing-iteration (piece v a) (bytesFrom (W .step v a) l) (bytes-cons v a l) e (g .storing) }
+    going-iteration {v} a l e g =
+        record { state = g .state; storing = storing-iteration (piece v a) (bytesFrom (W .step v a) l) (bytes-cons v a l) e (g .storing) }
 
-    pub going-room : {v : Q} {at : ℕ} {out : List ℕ} (a : I) (l : List I) → Going v₀ all at₀ out₀ (a ∷ l) v at out → Roomy out₀ at₀ (length (bytesFrom v₀ all)) → Roomy out at (length (piece v a))
+    pub going-room : {v : Q} {at : ℕ} {out : List ℕ} (a : I) (l : List I) → Going v₀ all at₀ out₀ (a ∷ l) v at out
+        → Roomy out₀ at₀ (length (bytesFrom v₀ all)) → Roomy out at (length (piece v a))
     going-room {v} a l g r = storing-room (piece v a) (bytesFrom (W .step v a) l) (bytes-cons v a l) (g .storing) r
 
     pub going-end : {v : Q} {at : ℕ} {out : List ℕ} → Going v₀ all at₀ out₀ [] v at out

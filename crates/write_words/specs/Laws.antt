@@ -5,7 +5,7 @@ use mathlib.Core.List.{List, [], _∷_, _++_}
 use Prim.Native.Nat.{ℕ, zero, suc, _+_, _*_, _%_, _^_, _≤_, _<_}
 use native.Mathlib.Omega.{arith}
 use lib.Dec.{ltb}
-use lib.ListN.{length, length-append, length-map}
+use lib.ListN.{length, length-map}
 use Rattle.laws_stream.specs.Machine.{Note, All, all-of, all-append, words, words-append, notes, notes-append}
 use Rattle.laws_stream.specs.Mask.{Inc, mask}
 use Rattle.laws_stream.specs.Words.{Fits}
@@ -18,7 +18,8 @@ use Rattle.write_buffer.specs.Columns.{event}
 use Rattle.write_buffer.specs.Sent.{due}
 use Rattle.evt2_encoder.specs.Evt2.{writer2, encode-notes2, encode-fits2}
 use Rattle.evt3_run_rules.specs.Runs.{Run, runs, runs-are, given, spread, Rising, Valid, firstX, lastX}
-use Rattle.evt3_lead_words.specs.Evt3.{highWord3, lowWord3, rowWord3, highSent3, lowSent3, rowSent3, leads3, nearby, beyond, maskCount, vectored, singles, masks, vectors, body3, encode3, encoded3, writer3}
+use Rattle.evt3_lead_words.specs.Evt3.{highWord3, lowWord3, rowWord3, highSent3, lowSent3, rowSent3, leads3, nearby}
+use Rattle.evt3_lead_words.specs.Evt3.{beyond, maskCount, vectored, singles, masks, vectors, body3, encode3, writer3}
 use Rattle.write_words.specs.Encode.{encodeNotes, encodeSize, encodeBytes}
 use Rattle.write_buffer.specs.Emits.{events-single, emits-fit, emits-notes, emits-few}
 use Rattle.write_buffer.specs.Storing.{bytesFrom}
@@ -86,7 +87,8 @@ leads-notes v t y =
 
 pub encode-notes3 : (v : EncoderState) (r : Run) → Valid r → notes (encode3 v r) ≡ given r
 unfolding encode3
-encode-notes3 v r va = notes-append (leads3 v (r .t) (r .y)) (body3 (r .t) (r .y) (r .p) (r .xs)) ∙ rw (leads-notes v (r .t) (r .y), body-notes (r .t) (r .y) (r .p) (r .xs) va)
+encode-notes3 v r va =
+    notes-append (leads3 v (r .t) (r .y)) (body3 (r .t) (r .y) (r .p) (r .xs)) ∙ rw (leads-notes v (r .t) (r .y), body-notes (r .t) (r .y) (r .p) (r .xs) va)
 
 -- THE NOTES of some events' words are the events, in order
 pub encode-notes : (e : Encoding) (v : EncoderState) (es : List Event) → notes (encodeNotes e v es) ≡ es
@@ -135,7 +137,9 @@ leads-fit v t y =
 
 pub encode-fits3 : (v : EncoderState) (r : Run) → All (Fits wordSize3) (words (encode3 v r))
 unfolding encode3
-encode-fits3 v r = rw words-append (all-append (Fits wordSize3) (words (leads3 v (r .t) (r .y))) (words (body3 (r .t) (r .y) (r .p) (r .xs))) (leads-fit v (r .t) (r .y)) (body-fits (r .t) (r .y) (r .p) (r .xs)))
+encode-fits3 v r =
+    rw words-append (all-append (Fits wordSize3) (words (leads3 v (r .t) (r .y))) (words (body3 (r .t) (r .y) (r .p) (r .xs))) (leads-fit v (r .t) (r .y))
+    (body-fits (r .t) (r .y) (r .p) (r .xs)))
 
 -- EVERY WORD fits its width
 pub encode-fits : (e : Encoding) (v : EncoderState) (es : List Event) → All (Fits (encodeSize e)) (words (encodeNotes e v es))

@@ -27,7 +27,8 @@ put32-requires-2 c κs =
 add-result : tie.Need-add-result
 add-result c =
     let a = c .before .before .before .before .before .before .before .before .before .before .before .before .args in
-    omega (arith, place-event2 (eqb (a .high) (a .t / grain2)) (a .at) (c .before .before .before .before .before .before .before .before .before .past .ensures))
+    let past = c .before .before .before .before .before .before .before .before .before .past .ensures in
+    omega (arith, place-event2 (eqb (a .high) (a .t / grain2)) (a .at) past)
 
 returns : tie.Need-returns
 returns c =

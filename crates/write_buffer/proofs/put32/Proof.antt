@@ -9,7 +9,9 @@ use Rattle.write_buffer.proofs.put32.Tie as tie
 
 returns : tie.Need-returns
 returns c =
-    let a = c .before .before .before .before .before .before .args in stored-four (now (a .out)) (a .at) (a .w) (c .before .before .before .byte .ensures) (c .before .before .byte2 .ensures) (c .before .byte3 .ensures) (c .byte4 .ensures)
+    let a = c .before .before .before .before .before .before .args in
+    stored-four (now (a .out)) (a .at) (a .w) (c .before .before .before .byte .ensures) (c .before .before .byte2 .ensures) (c .before .byte3 .ensures)
+    (c .byte4 .ensures)
 
 returns-2 : tie.Need-returns-2
 returns-2 c = let a = c .before .before .args in sets-empty (now (a .out)) (a .at) (bytes 4 (a .w)) (c .if1 .left)

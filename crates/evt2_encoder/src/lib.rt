@@ -98,16 +98,8 @@ pub fn pass(
         let t = time_at(ts, i);
         let next = time_at(ts, i + 1);
         at = put_at(high, t, xs, ys, ps, i, &mut *out, at);
-        at = put_at(
-            t / Evt2Decoder::GRAIN,
-            next,
-            xs,
-            ys,
-            ps,
-            i + 1,
-            &mut *out,
-            at,
-        );
+        let sent_high = t / Evt2Decoder::GRAIN;
+        at = put_at(sent_high, next, xs, ys, ps, i + 1, &mut *out, at);
         high = next / Evt2Decoder::GRAIN;
         i += 2;
     }

@@ -87,7 +87,7 @@ fn block_goes_on(xs: &[u16], ys: &[u16], ts: &[i64], ps: &[u8], i: usize) -> boo
 
 // An event of the run of event i, as far on as it goes on by blocks of 64. Only that it is of the run
 // is promised: from any such event `run_at` finds the same end.
-// `requires`: `evt3_run_ends`, its caller, has shown it.
+// `requires`: `run_at`, its caller, has shown it.
 pub fn skip_blocks(xs: &[u16], ys: &[u16], ts: &[i64], ps: &[u8], i: usize) -> usize
     requires { ⌜ Sized (now xs) (now ys) (now ts) (now ps) × (i < length (now xs)) × Whole (now ts) ⌝ }
     ensures { λ r. ⌜ Along (now (xs .entry)) (now (ys .entry)) (now (ts .entry)) (now (ps .entry)) i r ⌝ }

@@ -4,29 +4,33 @@ use mathlib.Core.Bool.{Bool, true, false}
 use mathlib.Core.List.{List, [], _∷_, _++_}
 use Prim.Native.Nat.{ℕ, _/_, _%_, _^_, _<_}
 use native.Mathlib.Omega.{arith}
-use Rattle.laws_stream.specs.Machine.{Machine, Note, All, all-append, words, notes, notes-append, words-append, emits}
+use Rattle.laws_stream.specs.Machine.{Machine, Note, All, words, notes}
 use Rattle.laws_stream.specs.Words.{Fits}
 use Rattle.evt_types.specs.Event.{Event}
-use Rattle.evt_types.specs.Layout.{eventWord2, timeWord2}
+use Rattle.evt_types.specs.Layout.{wordSize2, grain2, eventWord2, timeWord2}
 use Rattle.evt_types.specs.declared.Sent.the-variants.{Value}
 use Rattle.write_buffer.specs.declared.EncoderState.{EncoderState}
 use Rattle.write_buffer.specs.Sent.{sentIs, carries, due}
 
 abbrev pub highWord2 : (t : ℕ) → ℕ
-highWord2 t = timeWord2 (t / 64 % 2 ^ 28)
+highWord2 t = timeWord2 (t / grain2 % 2 ^ 28)
 
 abbrev pub wordOf2 : Event → ℕ
-wordOf2 e = eventWord2 (e .p % 2) (e .t % 64) (e .x % 2048) (e .y % 2048)
+wordOf2 e = eventWord2 (e .p % 2) (e .t % grain2) (e .x % 2048) (e .y % 2048)
 
 abbrev pub highSent2 : EncoderState → Event → Bool
-highSent2 v e = sentIs (v .«time_high») (e .t / 64)
+highSent2 v e = sentIs (v .«time_high») (e .t / grain2)
 
--- type 8 when t/64 changes, then the event
+-- type 8 when t / grain2 changes, then the event
 unfoldable pub encode2 : EncoderState → Event → List (Note ℕ Event)
 encode2 v e = due (highSent2 v e) (highWord2 (e .t)) ++ (carries (wordOf2 e) e ∷ [])
 
+-- a state whose high half was sent
+abbrev pub stateOf2 : EncoderState → (high : ℕ) → EncoderState
+stateOf2 v high = record { «time_high» = Value high; «time_low» = v .«time_low»; y = v .y }
+
 abbrev pub encoded2 : EncoderState → Event → EncoderState
-encoded2 v e = record { «time_high» = Value (e .t / 64); «time_low» = v .«time_low»; y = v .y }
+encoded2 v e = stateOf2 v (e .t / grain2)
 
 abbrev pub writer2 : Machine EncoderState Event (Note ℕ Event)
 writer2 = record { step = encoded2; emit = encode2 }
@@ -42,26 +46,18 @@ encode-notes2 v e = go (highSent2 v e)
     go true = refl
     go false = refl
 
-pub notes2 : (v : EncoderState) (es : List Event) → notes (emits writer2 v es) ≡ es
-notes2 v [] = refl
-notes2 v (e ∷ es) = rw (notes-append, encode-notes2 v e, notes2 (encoded2 v e) es)
-
-word-fits : (e : Event) → wordOf2 e < 256 ^ 4
+word-fits : (e : Event) → wordOf2 e < 256 ^ wordSize2
 word-fits e =
     let a : e .p % 2 < 2 = omega arith in
-    let b : e .t % 64 < 64 = omega arith in
+    let b : e .t % grain2 < grain2 = omega arith in
     let c : e .x % 2048 < 2048 = omega arith in
     let d : e .y % 2048 < 2048 = omega arith in
     omega arith
 
-pub encode-fits2 : (v : EncoderState) (e : Event) → All (Fits 4) (words (encode2 v e))
+pub encode-fits2 : (v : EncoderState) (e : Event) → All (Fits wordSize2) (words (encode2 v e))
 unfolding encode2
 encode-fits2 v e = go (highSent2 v e)
   where
-    go : (b : Bool) → All (Fits 4) (words (due b (highWord2 (e .t)) ++ (carries (wordOf2 e) e ∷ [])))
+    go : (b : Bool) → All (Fits wordSize2) (words (due b (highWord2 (e .t)) ++ (carries (wordOf2 e) e ∷ [])))
     go true = (word-fits e, tt)
     go false = (omega arith, (word-fits e, tt))
-
-pub fits2 : (v : EncoderState) (es : List Event) → All (Fits 4) (words (emits writer2 v es))
-fits2 v [] = tt
-fits2 v (e ∷ es) = rw words-append (all-append (Fits 4) (words (encode2 v e)) (words (emits writer2 (encoded2 v e) es)) (encode-fits2 v e) (fits2 (encoded2 v e) es))

@@ -13,14 +13,14 @@ use Rattle.laws_stream.specs.Machine.{run, words}
 use Rattle.laws_stream.specs.Columns.{sets-append}
 use Rattle.laws_stream.specs.Words.{stream, bytes}
 use Rattle.evt_types.specs.Event.{Event}
-use Rattle.evt_types.specs.declared.Sent.the-variants.{Value}
+use Rattle.evt_types.specs.Layout.{wordSize2, grain2}
 use Rattle.write_buffer.specs.declared.EncoderState.{EncoderState}
 use Rattle.write_buffer.specs.declared.Put.{Put}
 use Rattle.write_buffer.specs.Columns.{event, Sized, Whole, eventsIn, eventsPast, eventOf, events-at, events-end}
 use Rattle.evt_types.specs.Num.{natural}
-use Rattle.write_buffer.specs.Sent.{carries, due, sentNumber, held-is}
-use Rattle.evt2_encoder.specs.Evt2.{highWord2, wordOf2, highSent2, encode2, encoded2, writer2}
-use Rattle.write_buffer.specs.Storing.{Roomy, sets-over, piece, bytesFrom, Going, going-start, going-turn, going-room, going-end}
+use Rattle.write_buffer.specs.Sent.{carries, due, stateAt, sentNumber, number-is}
+use Rattle.evt2_encoder.specs.Evt2.{highWord2, wordOf2, highSent2, encode2, stateOf2, encoded2, writer2}
+use Rattle.write_buffer.specs.Storing.{Roomy, sets-over, piece, bytesFrom, Going, going-start, going-iteration, going-room, going-end}
 
 -- an event whose words cut nothing off: rule 7 refuses every other
 pub record Fit2 (e : Event) : Type 0 where
@@ -45,14 +45,14 @@ pub record Within2 (xs ys ps : List ℕ) (i : ℕ) : Type 0 where
   pub in-p : i < length ps
 
 abbrev pub bytes2 : EncoderState → Event → List ℕ
-bytes2 = piece 4 writer2
+bytes2 = piece wordSize2 writer2
 
 abbrev pub stream2 : EncoderState → List Event → List ℕ
-stream2 = bytesFrom 4 writer2
+stream2 = bytesFrom wordSize2 writer2
 
 -- by whether the high half was sent
 abbrev pub eventBytes2 : (sent : Bool) → Event → List ℕ
-eventBytes2 b e = stream 4 (words (due b (highWord2 (e .t)) ++ (carries (wordOf2 e) e ∷ [])))
+eventBytes2 b e = stream wordSize2 (words (due b (highWord2 (e .t)) ++ (carries (wordOf2 e) e ∷ [])))
 
 abbrev pub passed2 : EncoderState → List Event → ℕ → Put
 passed2 v es at = record { state = run writer2 v es; at = at + length (stream2 v es) }
@@ -69,38 +69,33 @@ pub few2 : (v : EncoderState) (e : Event) → length (bytes2 v e) ≤ 8
 few2 v e = rw event-bytes2 (few-event2 (highSent2 v e) e)
 
 -- both words stored one after the other, the second in the place of the first where that isn't due
-pub stored-event2 : (sent : Bool) (e : Event) (out : List ℕ) {o₁ o₂ : List ℕ} (at : ℕ) {a h w : ℕ} → a ≡ cond sent at (at + 4) → h ≡ highWord2 (e .t) → w ≡ wordOf2 e → o₁ ≡ sets out at (bytes 4 h) → o₂ ≡ sets o₁ a (bytes 4 w)
-    → (a + 4 ≡ at + length (eventBytes2 sent e)) × (o₂ ≡ sets out at (eventBytes2 sent e))
-stored-event2 true e out at q h w o p = (omega arith, p ∙ rw (o, q, h, w) (sets-over out at (bytes 4 (highWord2 (e .t))) (bytes 4 (wordOf2 e)) (omega arith)))
-stored-event2 false e out at q h w o p = (omega arith, p ∙ rw (o, q, h, w) (sym (sets-append out at (bytes 4 (highWord2 (e .t))) (bytes 4 (wordOf2 e)))))
+pub stored-event2 : (sent : Bool) (e : Event) (out : List ℕ) {o₁ o₂ : List ℕ} (at : ℕ) {a h w : ℕ} → a ≡ cond sent at (at + wordSize2) → h ≡ highWord2 (e .t)
+    → w ≡ wordOf2 e → o₁ ≡ sets out at (bytes wordSize2 h) → o₂ ≡ sets o₁ a (bytes wordSize2 w)
+    → (a + wordSize2 ≡ at + length (eventBytes2 sent e)) × (o₂ ≡ sets out at (eventBytes2 sent e))
+stored-event2 true e out at q h w o p =
+    (omega arith, p ∙ rw (o, q, h, w) (sets-over out at (bytes wordSize2 (highWord2 (e .t))) (bytes wordSize2 (wordOf2 e)) (omega arith)))
+stored-event2 false e out at q h w o p =
+    (omega arith, p ∙ rw (o, q, h, w) (sym (sets-append out at (bytes wordSize2 (highWord2 (e .t))) (bytes wordSize2 (wordOf2 e)))))
 
-pub place-event2 : (sent : Bool) (at : ℕ) {a : ℕ} → a ≡ cond sent at (at + 4) → a ≤ at + 4
+pub place-event2 : (sent : Bool) (at : ℕ) {a : ℕ} → a ≡ cond sent at (at + wordSize2) → a ≤ at + wordSize2
 place-event2 true at q = omega arith
 place-event2 false at q = omega arith
 
 -- and both have room
-pub room-high2 : (sent : Bool) (e : Event) (out : List ℕ) (at : ℕ) → Roomy out at (length (eventBytes2 sent e)) → Roomy out at 4
+pub room-high2 : (sent : Bool) (e : Event) (out : List ℕ) (at : ℕ) → Roomy out at (length (eventBytes2 sent e)) → Roomy out at wordSize2
 room-high2 true e out at r h = r h
 room-high2 false e out at r h = omega (arith, r h)
 
-pub room-event2 : (sent : Bool) (e : Event) (out o : List ℕ) (at : ℕ) {a : ℕ} → a ≡ cond sent at (at + 4) → length o ≡ length out → Roomy out at (length (eventBytes2 sent e)) → Roomy o a 4
+pub room-event2 : (sent : Bool) (e : Event) (out o : List ℕ) (at : ℕ) {a : ℕ} → a ≡ cond sent at (at + wordSize2) → length o ≡ length out
+    → Roomy out at (length (eventBytes2 sent e)) → Roomy o a wordSize2
 room-event2 true e out o at q n r h = omega (arith, r (omega arith))
 room-event2 false e out o at q n r h = omega (arith, r (omega arith))
 
 -- the state at index i, where `high` was sent last
 abbrev pub stateAt2 : EncoderState → ℕ → (high : ℕ) → EncoderState
-stateAt2 v zero high = v
-stateAt2 v (suc i) high = record { «time_high» = Value high; «time_low» = v .«time_low»; y = v .y }
+stateAt2 v i high = stateAt i v (stateOf2 v high)
 
-pub state-some2 : (v : EncoderState) (i high : ℕ) → 0 < i → stateAt2 v i high ≡ record { «time_high» = Value high; «time_low» = v .«time_low»; y = v .y }
-state-some2 v zero high h = absurd (omega arith)
-state-some2 v (suc i) high h = refl
-
-pub state-none2 : (v : EncoderState) (i high : ℕ) → i ≤ 0 → stateAt2 v i high ≡ v
-state-none2 v zero high h = refl
-state-none2 v (suc i) high h = absurd (omega arith)
-
-state-step2 : (v : EncoderState) (i high : ℕ) (e : Event) → encoded2 (stateAt2 v i high) e ≡ stateAt2 v (suc i) (e .t / 64)
+state-step2 : (v : EncoderState) (i high : ℕ) (e : Event) → encoded2 (stateAt2 v i high) e ≡ stateAt2 v (suc i) (e .t / grain2)
 state-step2 v zero high e = refl
 state-step2 v (suc i) high e = refl
 
@@ -109,51 +104,59 @@ pub record Under2 (v₀ : EncoderState) (xs ys : List ℕ) (ts : List ℤ) (ps :
   pub within : i ≤ length xs
   pub small : at ≤ at₀ + 8 * i
   pub is-high : high ≡ sentNumber (stateAt2 v₀ i high .«time_high»)
-  pub going : Going 4 writer2 v₀ (eventsIn xs ys ts ps) at₀ out₀ (eventsPast xs ys ts ps i) (stateAt2 v₀ i high) at out
+  pub going : Going wordSize2 writer2 v₀ (eventsIn xs ys ts ps) at₀ out₀ (eventsPast xs ys ts ps i) (stateAt2 v₀ i high) at out
 
 -- what reading a time asks for
-pub time-asks2 : {xs ys : List ℕ} {ts : List ℤ} {ps : List ℕ} → Sized xs ys ts ps → Whole ts → {i : ℕ} → i < length xs → (i < length ts) × (length ts ≤ 2 ^ 28) × Whole ts
+pub time-asks2 : {xs ys : List ℕ} {ts : List ℤ} {ps : List ℕ} → Sized xs ys ts ps → Whole ts → {i : ℕ} → i < length xs
+    → (i < length ts) × (length ts ≤ 2 ^ 28) × Whole ts
 time-asks2 sized whole h = (omega (arith, sized .same-t), omega (arith, sized .same-t, sized .few), whole)
 
 module _ {xs ys : List ℕ} {ts : List ℤ} {ps : List ℕ} (sized : Sized xs ys ts ps) {v₀ : EncoderState} {at₀ : ℕ} {out₀ : List ℕ} where
   pub under-start2 : (high : ℕ) → high ≡ sentNumber (v₀ .«time_high») → Under2 v₀ xs ys ts ps at₀ out₀ out₀ high at₀ 0
-  under-start2 high h = record { within = omega arith; small = omega arith; is-high = h; going = going-start 4 writer2 }
+  under-start2 high h = record { within = omega arith; small = omega arith; is-high = h; going = going-start wordSize2 writer2 }
 
   module _ {out : List ℕ} {high at i : ℕ} (u : Under2 v₀ xs ys ts ps at₀ out₀ out high at i) where
     -- by the numbers of what was sent, or by the state
-    words-are : (e : Event) → e .t < 2 ^ 64 → eventBytes2 (eqb high (e .t / 64)) e ≡ bytes2 (stateAt2 v₀ i high) e
+    words-are : (e : Event) → e .t < 2 ^ 64 → eventBytes2 (eqb high (e .t / grain2)) e ≡ bytes2 (stateAt2 v₀ i high) e
     words-are e t< =
         let v = stateAt2 v₀ i high in
-        let sent : eqb high (e .t / 64) ≡ highSent2 v e = ap (λ (n : ℕ). eqb n (e .t / 64)) (u .is-high) ∙ held-is (v .«time_high») (e .t / 64) (omega arith) in
+        let sent : eqb high (e .t / grain2) ≡ highSent2 v e =
+        ap (λ (n : ℕ). eqb n (e .t / grain2)) (u .is-high) ∙ number-is (v .«time_high») (e .t / grain2) (omega arith) in
         ap (λ (b : Bool). eventBytes2 b e) sent ∙ sym (event-bytes2 v e)
 
-    next-is : i < length xs → (e : Event) → e ≡ eventOf xs ys ts ps i → Going 4 writer2 v₀ (eventsIn xs ys ts ps) at₀ out₀ (e ∷ eventsPast xs ys ts ps (i + 1)) (stateAt2 v₀ i high) at out
+    next-is : i < length xs → (e : Event) → e ≡ eventOf xs ys ts ps i
+        → Going wordSize2 writer2 v₀ (eventsIn xs ys ts ps) at₀ out₀ (e ∷ eventsPast xs ys ts ps (i + 1)) (stateAt2 v₀ i high) at out
     next-is h e is = rw (is) (rw (events-at xs ys ts ps sized i h) at (u .going))
 
-    pub under-turn2 : i < length xs → Fitting2 xs ys ts ps → (t : ℕ) → t ≡ natural (getD ts i (pos 0)) → (r : ℕ) (out′ : List ℕ)
-        → r ≡ at + length (eventBytes2 (eqb high (t / 64)) (eventAt2 xs ys ps i t)) → out′ ≡ sets out at (eventBytes2 (eqb high (t / 64)) (eventAt2 xs ys ps i t))
-        → Under2 v₀ xs ys ts ps at₀ out₀ out′ (t / 64) r (i + 1)
-    under-turn2 h fitting t is r out′ q o =
+    pub under-iteration2 : i < length xs → Fitting2 xs ys ts ps → (t : ℕ) → t ≡ natural (getD ts i (pos 0)) → (r : ℕ) (out′ : List ℕ)
+        → r ≡ at + length (eventBytes2 (eqb high (t / grain2)) (eventAt2 xs ys ps i t))
+        → out′ ≡ sets out at (eventBytes2 (eqb high (t / grain2)) (eventAt2 xs ys ps i t))
+        → Under2 v₀ xs ys ts ps at₀ out₀ out′ (t / grain2) r (i + 1)
+    under-iteration2 h fitting t is r out′ q o =
         let e = eventAt2 xs ys ps i t in
         let all = words-are e (omega (arith, fitting i .fit-t)) in
-        let few = few-event2 (eqb high (t / 64)) e in
+        let few = few-event2 (eqb high (t / grain2)) e in
         let more = next-is h e (rw is) in
         record {
           within = omega arith;
           small = omega (arith, u .small);
           is-high = rw add-one;
-          going = rw (q, all, add-one, ← state-step2 v₀ i high e) (rw add-one at (going-turn 4 writer2 e (eventsPast xs ys ts ps (i + 1)) (o ∙ ap (sets out at) all) more));
+          going =
+              rw (q, all, add-one, ← state-step2 v₀ i high e) (rw add-one at
+              (going-iteration wordSize2 writer2 e (eventsPast xs ys ts ps (i + 1)) (o ∙ ap (sets out at) all) more));
         }
 
     -- what storing the next event asks for
-    pub under-next2 : i < length xs → at₀ ≤ 2 ^ 32 → Fitting2 xs ys ts ps → Roomy out₀ at₀ (length (stream2 v₀ (eventsIn xs ys ts ps))) → (t : ℕ) → t ≡ natural (getD ts i (pos 0))
-        → Within2 xs ys ps i × (at < 2 ^ 60) × Roomy out at (length (eventBytes2 (eqb high (t / 64)) (eventAt2 xs ys ps i t))) × Fit2 (eventAt2 xs ys ps i t)
+    pub under-next2 : i < length xs → at₀ ≤ 2 ^ 32 → Fitting2 xs ys ts ps → Roomy out₀ at₀ (length (stream2 v₀ (eventsIn xs ys ts ps))) → (t : ℕ)
+        → t ≡ natural (getD ts i (pos 0))
+        → Within2 xs ys ps i × (at < 2 ^ 60) × Roomy out at (length (eventBytes2 (eqb high (t / grain2)) (eventAt2 xs ys ps i t)))
+        × Fit2 (eventAt2 xs ys ps i t)
     under-next2 h near fitting r t is =
         let e = eventAt2 xs ys ps i t in
         let fit : Fit2 e = rw is (fitting i) in (
           record { few = omega (arith, sized .few); in-x = h; in-y = omega (arith, sized .same-y); in-p = omega (arith, sized .same-p) },
           omega (arith, u .small, sized .few),
-          rw (words-are e (omega arith)) (going-room 4 writer2 e (eventsPast xs ys ts ps (i + 1)) (next-is h e (rw is)) r),
+          rw (words-are e (omega arith)) (going-room wordSize2 writer2 e (eventsPast xs ys ts ps (i + 1)) (next-is h e (rw is)) r),
           fit,
         )
 
@@ -165,5 +168,5 @@ module _ {xs ys : List ℕ} {ts : List ℤ} {ps : List ℕ} (sized : Sized xs ys
         → (record { state = v; at = at } ≡ passed2 v₀ (eventsIn xs ys ts ps) at₀) × (out ≡ sets out₀ at₀ (stream2 v₀ (eventsIn xs ys ts ps)))
     under-end2 h v e =
         let n : i ≡ length xs = omega (arith, u .within) in
-        let g = going-end 4 writer2 (rw (events-end xs ys ts ps sized i h) at (u .going)) in
+        let g = going-end wordSize2 writer2 (rw (events-end xs ys ts ps sized i h) at (u .going)) in
         (rw (e ∙ ap (λ (k : ℕ). stateAt2 v₀ k high) (sym n) ∙ g .0, g .1), g .2)

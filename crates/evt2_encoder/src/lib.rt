@@ -1,19 +1,22 @@
-// EVT2: the words of events, stored or measured. `pass` is proved to store the bytes of the words
-// that specs/Evt2.antt defines, each with a note of the event that it carries; specs/Pass2.antt has
-// their bytes and the loop.
+// EVT2: the words of events, stored, or in a dry run only counted. `pass` is proved to store the
+// bytes of the words that specs/Evt2.antt defines, each with a note of the event that it carries;
+// specs/Pass2.antt has their bytes and the loop.
 ghost use mathlib.Core.Path.{_≡_};
-ghost use Prim.Native.Nat.{_+_, _*_, _/_, _^_, _≤_, _<_};
+ghost use Prim.Native.Nat.{_+_, _/_, _^_, _≤_, _<_};
 ghost use lib.Dec.{eqb};
 ghost use lib.ListN.{length};
 ghost use lib.Seq.{sets};
+ghost use Rattle.evt_types.specs.Layout.{grain2};
 ghost use Rattle.write_buffer.specs.Columns.{Sized, Whole, event, eventsIn};
 ghost use Rattle.evt2_encoder.specs.Evt2.{highWord2, wordOf2};
 ghost use Rattle.write_buffer.specs.Storing.{Roomy};
-ghost use Rattle.evt2_encoder.specs.Pass2.{Fit2, Fitting2, Within2, eventAt2, eventBytes2, stateAt2, stream2, passed2};
+ghost use Rattle.evt2_encoder.specs.Pass2.{Fit2, Fitting2, Within2, eventAt2, eventBytes2, stream2, passed2};
 use evt_types::Sent;
+use evt2_decoder::Evt2Decoder;
 use write_buffer::EncoderState;
 use write_buffer::Put;
 use write_buffer::sent_number;
+use write_buffer::state_after;
 use write_buffer::time_at;
 
 // Nothing is cut off of what rule 7 lets pass, so these two need none of the remainders of the
@@ -22,28 +25,29 @@ fn high_word(t: u64) -> u32
     requires { ⌜ t < 2 ^ 34 ⌝ }
     ensures { λ r. ⌜ r ≡ highWord2 t ⌝ }
 {
-    2147483648 + (t / 64) as u32
+    (8 << 28) + (t / Evt2Decoder::GRAIN) as u32
 }
 
 fn event_word(x: u16, y: u16, t: u64, p: u8) -> u32
     requires { ⌜ Fit2 (event x y t p) ⌝ }
     ensures { λ r. ⌜ r ≡ wordOf2 (event x y t p) ⌝ }
 {
-    ((p as u32 * 64 + (t % 64) as u32) * 2048 + x as u32) * 2048 + y as u32
+    let low = (t % Evt2Decoder::GRAIN) as u32;
+    ((p as u32) << 28) + (low << 22) + ((x as u32) << 11) + y as u32
 }
 
 // The words of one event, at `at`, where `high` was sent last. The word of the high half is stored
 // always: where it isn't due the event's word takes its place, which is faster than a branch.
 fn put_event(high: u64, x: u16, y: u16, t: u64, p: u8, out: &mut [u8], at: usize) -> usize
-    requires { ⌜ (at < 2 ^ 60) × Roomy (now out) at (length (eventBytes2 (eqb high (t / 64)) (event x y t p))) × Fit2 (event x y t p) ⌝ }
-    ensures { λ r. ⌜ r ≡ at + length (eventBytes2 (eqb high (t / 64)) (event x y t p)) ⌝
-        ∗ ⌜ now (out .exit) ≡ sets (now (out .entry)) at (eventBytes2 (eqb high (t / 64)) (event x y t p)) ⌝ }
+    requires { ⌜ (at < 2 ^ 60) × Roomy (now out) at (length (eventBytes2 (eqb high (t / grain2)) (event x y t p))) × Fit2 (event x y t p) ⌝ }
+    ensures { λ r. ⌜ r ≡ at + length (eventBytes2 (eqb high (t / grain2)) (event x y t p)) ⌝
+        ∗ ⌜ now (out .exit) ≡ sets (now (out .entry)) at (eventBytes2 (eqb high (t / grain2)) (event x y t p)) ⌝ }
 {
     let w = event_word(x, y, t, p);
-    let a = write_buffer::past(high == t / 64, 4, at);
+    let a = write_buffer::past(high == t / Evt2Decoder::GRAIN, Evt2Decoder::WORD_SIZE, at);
     write_buffer::put32(&mut *out, at, high_word(t));
     write_buffer::put32(&mut *out, a, w);
-    a + 4
+    a + Evt2Decoder::WORD_SIZE
 }
 
 // The words of the event at index i, whose time is t.
@@ -58,35 +62,18 @@ fn put_at(
     at: usize,
 ) -> usize
     requires { ⌜ Within2 (now xs) (now ys) (now ps) i × (at < 2 ^ 60)
-        × Roomy (now out) at (length (eventBytes2 (eqb high (t / 64)) (eventAt2 (now xs) (now ys) (now ps) i t)))
+        × Roomy (now out) at (length (eventBytes2 (eqb high (t / grain2)) (eventAt2 (now xs) (now ys) (now ps) i t)))
         × Fit2 (eventAt2 (now xs) (now ys) (now ps) i t) ⌝ }
-    ensures { λ r. ⌜ r ≡ at + length (eventBytes2 (eqb high (t / 64)) (eventAt2
+    ensures { λ r. ⌜ r ≡ at + length (eventBytes2 (eqb high (t / grain2)) (eventAt2
         (now (xs .entry)) (now (ys .entry)) (now (ps .entry)) i t)) ⌝
-        ∗ ⌜ now (out .exit) ≡ sets (now (out .entry)) at (eventBytes2 (eqb high (t / 64)) (eventAt2
+        ∗ ⌜ now (out .exit) ≡ sets (now (out .entry)) at (eventBytes2 (eqb high (t / grain2)) (eventAt2
         (now (xs .entry)) (now (ys .entry)) (now (ps .entry)) i t)) ⌝ }
 {
     put_event(high, xs[i], ys[i], t, ps[i], &mut *out, at)
 }
 
-// What has been sent after n events, where `high` was sent last.
-fn sent_after(state: EncoderState, n: usize, high: u64) -> EncoderState
-    ensures { λ r. ⌜ r ≡ stateAt2 state n high ⌝ }
-{
-    if 0 < n {
-        let low = state.time_low;
-        let row = state.y;
-        EncoderState {
-            time_high: Sent::Value(high),
-            time_low: low,
-            y: row,
-        }
-    } else {
-        state
-    }
-}
-
-// The words of all events, from `start` on, two events a turn, which is faster, and then the odd
-// one. The bounds keep `at` from wrapping.
+// The words of all events, from `start` on, two events an iteration, which is faster, and then the
+// odd one. The bounds keep `at` from wrapping.
 pub fn pass(
     state: EncoderState,
     xs: &[u16],
@@ -111,15 +98,23 @@ pub fn pass(
         let t = time_at(ts, i);
         let next = time_at(ts, i + 1);
         at = put_at(high, t, xs, ys, ps, i, &mut *out, at);
-        at = put_at(t / 64, next, xs, ys, ps, i + 1, &mut *out, at);
-        high = next / 64;
+        let sent_high = t / Evt2Decoder::GRAIN;
+        at = put_at(sent_high, next, xs, ys, ps, i + 1, &mut *out, at);
+        high = next / Evt2Decoder::GRAIN;
         i += 2;
     }
     if i < xs.len() {
         let t = time_at(ts, i);
         at = put_at(high, t, xs, ys, ps, i, &mut *out, at);
-        high = t / 64;
+        high = t / Evt2Decoder::GRAIN;
     }
-    let after = sent_after(state, xs.len(), high);
+    let low = state.time_low;
+    let row = state.y;
+    let last = EncoderState {
+        time_high: Sent::Value(high),
+        time_low: low,
+        y: row,
+    };
+    let after = state_after(xs.len(), state, last);
     Put { state: after, at }
 }

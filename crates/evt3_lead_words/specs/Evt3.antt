@@ -1,13 +1,13 @@
 -- EVT3: the words that a writer sends of a run.
 use mathlib.Core.Bool.{Bool, true, false, cond, _&&_}
-use mathlib.Core.List.{List, [], _∷_, _++_, map}
-use Prim.Native.Nat.{ℕ, zero, suc, _+_, _-_, _/_, _%_}
+use mathlib.Core.List.{List, [], _∷_, _++_}
+use Prim.Native.Nat.{ℕ, zero, suc, _+_, _-_, _/_, _%_, _^_}
 use lib.Dec.{ltb}
 use lib.ListN.{length}
 use Rattle.laws_stream.specs.Machine.{Machine, Note}
 use Rattle.laws_stream.specs.Mask.{mask}
 use Rattle.evt_types.specs.Event.{Event}
-use Rattle.evt_types.specs.Layout.{word3, columnWord3}
+use Rattle.evt_types.specs.Layout.{grain3, word3, columnWord3}
 use Rattle.evt_types.specs.declared.Sent.{Sent}
 use Rattle.evt_types.specs.declared.Sent.the-variants.{Value}
 use Rattle.write_buffer.specs.declared.EncoderState.{EncoderState}
@@ -18,29 +18,29 @@ use Rattle.evt3_run_rules.specs.Runs.{Run, spread, firstX, lastX}
 -- ---- time and row
 
 abbrev pub highWord3 : (t : ℕ) → ℕ
-highWord3 t = word3 8 (t / 4096 % 4096)
+highWord3 t = word3 8 (t / grain3 % 2 ^ 12)
 
 abbrev pub lowWord3 : (t : ℕ) → ℕ
-lowWord3 t = word3 6 (t % 4096)
+lowWord3 t = word3 6 (t % grain3)
 
 abbrev pub rowWord3 : (y : ℕ) → ℕ
 rowWord3 y = word3 0 (y % 2048)
 
 -- after a type 8 the low half counts as 0
-abbrev pub lowHeld : (sent : Bool) → Sent → Sent
-lowHeld true l = l
-lowHeld false l = Value 0
+abbrev pub lowKept : (sent : Bool) → Sent → Sent
+lowKept true l = l
+lowKept false l = Value 0
 
 abbrev pub highSent3 : EncoderState → (t : ℕ) → Bool
-highSent3 v t = sentIs (v .«time_high») (t / 4096)
+highSent3 v t = sentIs (v .«time_high») (t / grain3)
 
 abbrev pub lowSent3 : EncoderState → (t : ℕ) → Bool
-lowSent3 v t = sentIs (lowHeld (highSent3 v t) (v .«time_low»)) (t % 4096)
+lowSent3 v t = sentIs (lowKept (highSent3 v t) (v .«time_low»)) (t % grain3)
 
 abbrev pub rowSent3 : EncoderState → (y : ℕ) → Bool
 rowSent3 v y = sentIs (v .y) y
 
--- type 8 when t/4096 changes, type 6 when the low half changes, type 0 when the row changes
+-- type 8 when t / grain3 changes, type 6 when the low half changes, type 0 when the row changes
 unfoldable pub leads3 : EncoderState → (t y : ℕ) → List (Note ℕ Event)
 leads3 v t y = due (highSent3 v t) (highWord3 t) ++ (due (lowSent3 v t) (lowWord3 t) ++ due (rowSent3 v y) (rowWord3 y))
 
@@ -68,12 +68,12 @@ abbrev pub span : List ℕ → ℕ
 span xs = lastX xs - firstX xs + 1
 
 -- span / 12, rounded up
-unfoldable pub windows : List ℕ → ℕ
-windows xs = (span xs + 11) / 12
+unfoldable pub maskCount : List ℕ → ℕ
+maskCount xs = (span xs + 11) / 12
 
 -- over 2 events, and fewer words as vectors than as single events
 unfoldable pub vectored : List ℕ → Bool
-vectored xs = ltb 2 (length xs) && ltb (1 + windows xs) (length xs)
+vectored xs = ltb 2 (length xs) && ltb (1 + maskCount xs) (length xs)
 
 module _ (t y p : ℕ) where
   -- type 2 each
@@ -81,14 +81,14 @@ module _ (t y p : ℕ) where
   singles [] = []
   singles (x ∷ xs) = carries (singleWord3 p x) (event x y t p) ∷ singles xs
 
-  -- type 4 for each of k windows of 12 columns from b on, empty ones too
+  -- type 4 for each of k masks of 12 columns from b on, empty ones too
   abbrev pub masks : (k b : ℕ) → List ℕ → List (Note ℕ Event)
   masks zero b xs = []
   masks (suc k) b xs = record { word = maskWord3 b (nearby (b + 12) xs); events = spread t y p (nearby (b + 12) xs) } ∷ masks k (b + 12) (beyond (b + 12) xs)
 
   -- type 3, and the masks
   abbrev pub vectors : List ℕ → List (Note ℕ Event)
-  vectors xs = quiet (baseWord3 p (firstX xs)) ∷ masks (windows xs) (firstX xs) xs
+  vectors xs = quiet (baseWord3 p (firstX xs)) ∷ masks (maskCount xs) (firstX xs) xs
 
   unfoldable pub body3 : List ℕ → List (Note ℕ Event)
   body3 xs = cond (vectored xs) (vectors xs) (singles xs)
@@ -98,8 +98,11 @@ module _ (t y p : ℕ) where
 unfoldable pub encode3 : EncoderState → Run → List (Note ℕ Event)
 encode3 v r = leads3 v (r .t) (r .y) ++ body3 (r .t) (r .y) (r .p) (r .xs)
 
+abbrev pub stateOf3 : (high low row : ℕ) → EncoderState
+stateOf3 high low row = record { «time_high» = Value high; «time_low» = Value low; y = Value row }
+
 abbrev pub encoded3 : EncoderState → Run → EncoderState
-encoded3 v r = record { «time_high» = Value (r .t / 4096); «time_low» = Value (r .t % 4096); y = Value (r .y) }
+encoded3 v r = stateOf3 (r .t / grain3) (r .t % grain3) (r .y)
 
 abbrev pub writer3 : Machine EncoderState Run (Note ℕ Event)
 writer3 = record { step = encoded3; emit = encode3 }

@@ -5,13 +5,13 @@ use mathlib.Core.List.{List}
 use Prim.Native.Nat.{ℕ, zero, suc, _+_, _-_, _*_, _^_, _≤_, _<_}
 use native.Mathlib.Omega.{arith}
 use native.Mathlib.Nat.{add-zero, pow-suc, pow-le-pow-right}
-use borrow.Author.Tests.{lt-ltb, eq-eqb, ne-eqb, eqb-true, eqb-false}
+use borrow.Author.Tests.{lt-ltb, le-leb, lt-leb, eqb-true, eqb-false}
 use lib.Bits.{bitOr, bitXor}
-use lib.Dec.{eqb, ltb}
+use lib.Dec.{eqb, ltb, leb}
 use lib.IntN.{ℤ}
 use lib.ListN.{length, getD, set, length-set}
 use lib.Seq.{getD-set-same, getD-set-other}
-use Rattle.evt3_run_rules.specs.Every.{or-none, xor-none, flag-none}
+use Rattle.write_buffer.specs.Every.{or-most, xor-none, flag-none}
 use Rattle.evt3_run_rules.specs.Marks.{timeAt, joinsNext, stopAt, marks, marks-none, marks-some, marksFrom, left-full}
 
 -- 1 where a run doesn't go on
@@ -22,8 +22,11 @@ ends goes = cond goes 0 1
 abbrev pub placeGoes : (last y p x y₂ p₂ : ℕ) → Bool
 placeGoes last y p x y₂ p₂ = eqb y₂ y && (eqb p₂ p && ltb last x)
 
+abbrev pub placeGoesAt : (xs ys ps : List ℕ) → ℕ → Bool
+placeGoesAt xs ys ps i = placeGoes (getD xs i 0) (getD ys i 0) (getD ps i 0) (getD xs (i + 1) 0) (getD ys (i + 1) 0) (getD ps (i + 1) 0)
+
 abbrev pub placeEnds : (xs ys ps : List ℕ) → ℕ → ℕ
-placeEnds xs ys ps i = ends (placeGoes (getD xs i 0) (getD ys i 0) (getD ps i 0) (getD xs (i + 1) 0) (getD ys (i + 1) 0) (getD ps (i + 1) 0))
+placeEnds xs ys ps i = ends (placeGoesAt xs ys ps i)
 
 abbrev pub timeEnds : List ℤ → ℕ → ℕ
 timeEnds ts i = ends (eqb (timeAt ts (i + 1)) (timeAt ts i))
@@ -52,16 +55,16 @@ module _ (last y p x y₂ p₂ : ℕ) where
   abbrev pub parted : ℕ
   parted = bitOr (bitOr (bitXor y₂ y) (bitXor p₂ p)) (ends (ltb last x))
 
-  place-is : eqb parted 0 ≡ placeGoes last y p x y₂ p₂
+  place-is : leb parted 0 ≡ placeGoes last y p x y₂ p₂
   place-is =
-      or-none (bitOr (bitXor y₂ y) (bitXor p₂ p)) (ends (ltb last x))
-      ∙ rw (or-none (bitXor y₂ y) (bitXor p₂ p), xor-none y₂ y, xor-none p₂ p, flag-none (ltb last x)) (and-assoc (eqb y₂ y) (eqb p₂ p) (ltb last x))
+      or-most 0 0 (bitOr (bitXor y₂ y) (bitXor p₂ p)) (ends (ltb last x)) refl
+      ∙ rw (or-most 0 0 (bitXor y₂ y) (bitXor p₂ p) refl, xor-none y₂ y, xor-none p₂ p, flag-none (ltb last x)) (and-assoc (eqb y₂ y) (eqb p₂ p) (ltb last x))
 
   pub place-goes : parted ≡ 0 → 0 ≡ ends (placeGoes last y p x y₂ p₂)
-  place-goes e = ap ends (sym (eq-eqb parted 0 e) ∙ place-is)
+  place-goes e = ap ends (sym (le-leb parted 0 (omega arith)) ∙ place-is)
 
   pub place-ends : (parted ≡ 0 → ⊥) → 1 ≡ ends (placeGoes last y p x y₂ p₂)
-  place-ends e = ap ends (sym (ne-eqb parted 0 e) ∙ place-is)
+  place-ends e = ap ends (sym (lt-leb parted 0 (omega arith)) ∙ place-is)
 
 -- ---- flags stored one by one
 
@@ -76,8 +79,8 @@ module _ (v : ℕ → ℕ) (old : List ℕ) where
   fill-start e = record { below = omega arith; long = e; stored = λ m h. absurd (omega arith); left = λ m h. refl }
 
   module _ {flags : List ℕ} {j : ℕ} (g : Filling flags j) where
-    pub fill-turn : j < 64 → (b : ℕ) → b ≡ v j → Filling (set flags j b) (j + 1)
-    fill-turn h b e = record {
+    pub fill-iteration : j < 64 → (b : ℕ) → b ≡ v j → Filling (set flags j b) (j + 1)
+    fill-iteration h b e = record {
       below = omega arith;
       long = length-set flags j b ∙ g .long;
       stored = at;
@@ -122,8 +125,8 @@ module _ (flags : List ℕ) where
         let le : 2 ^ (63 - j) ≤ 2 ^ 63 = pow-le-pow-right (omega arith) {j = 63} (omega arith) in
         omega (arith, g .is-mask, bits-lt flags small (63 - j) j (omega (arith, g .below)))
 
-    pub pack-turn : 0 < j → Packing (2 * mask + flagAt flags (j - 1)) (j - 1)
-    pack-turn h =
+    pub pack-iteration : 0 < j → Packing (2 * mask + flagAt flags (j - 1)) (j - 1)
+    pack-iteration h =
         let n : 63 - (j - 1) ≡ suc (63 - j) = omega (arith, g .below) in
         let up : j - 1 + 1 ≡ j = omega arith in
         let next = ap (bits (flagAt flags) (63 - j)) up in
@@ -150,7 +153,7 @@ ends-le false = omega arith
 module _ (xs ys : List ℕ) (ts : List ℤ) (ps : List ℕ) (i : ℕ) (room : i + 64 < length xs) {places flags : List ℕ} where
   module _ (fp : Filled (λ j. placeEnds xs ys ps (i + j)) places) (ft : Filled (λ j. bitOr (flagAt places j) (timeEnds ts (i + j))) flags) where
     flag-is : (j : ℕ) → j < 64 → getD flags j 0 ≡ ends (joinsNext xs ys ts ps (i + j))
-    flag-is j h = ft .each j h ∙ rw (fp .each j h) (or-flags (placeGoes (getD xs (i + j) 0) (getD ys (i + j) 0) (getD ps (i + j) 0) (getD xs (i + j + 1) 0) (getD ys (i + j + 1) 0) (getD ps (i + j + 1) 0)) (eqb (timeAt ts (i + j + 1)) (timeAt ts (i + j))))
+    flag-is j h = ft .each j h ∙ rw (fp .each j h) (or-flags (placeGoesAt xs ys ps (i + j)) (eqb (timeAt ts (i + j + 1)) (timeAt ts (i + j))))
 
     pub flags-small : Flags flags
     flags-small j h = rw (flag-is j h) (ends-le (joinsNext xs ys ts ps (i + j)))

@@ -6,7 +6,7 @@ ghost use Prim.Native.Nat.{_+_, _^_, _≤_, _<_};
 ghost use lib.ListN.{length};
 ghost use Rattle.write_buffer.specs.Columns.{Sized, Whole};
 ghost use Rattle.evt3_run_rules.specs.Marks.{joinsNext, Along};
-ghost use Rattle.evt3_run_rules.specs.Every.{everyFrom};
+ghost use Rattle.write_buffer.specs.Every.{everyFrom};
 ghost use Rattle.evt3_run_ends.specs.Blocks.{isAt, isTime, risesAfter};
 use evt3_run_rules::no_rise;
 use write_buffer::time_at;
@@ -27,7 +27,7 @@ fn rows_are(ys: &[u16], i: usize, y: u16) -> bool
 }
 
 // Whether 64 polarities from i on are p.
-fn signs_are(ps: &[u8], i: usize, p: u8) -> bool
+fn polarities_are(ps: &[u8], i: usize, p: u8) -> bool
     requires { ⌜ (i + 64 ≤ length (now ps)) × (length (now ps) ≤ 2 ^ 28) ⌝ }
     ensures { λ r. ⌜ r ≡ everyFrom (isAt (now (ps .entry)) p) 64 i ⌝ }
 {
@@ -76,7 +76,7 @@ fn block_goes_on(xs: &[u16], ys: &[u16], ts: &[i64], ps: &[u8], i: usize) -> boo
 {
     let from = i + 1;
     if rows_are(ys, from, ys[i]) {
-        if signs_are(ps, from, ps[i]) {
+        if polarities_are(ps, from, ps[i]) {
             if columns_rise(xs, i) {
                 return times_are(ts, from, time_at(ts, i));
             }
@@ -87,7 +87,7 @@ fn block_goes_on(xs: &[u16], ys: &[u16], ts: &[i64], ps: &[u8], i: usize) -> boo
 
 // An event of the run of event i, as far on as it goes on by blocks of 64. Only that it is of the run
 // is promised: from any such event `run_at` finds the same end.
-// `requires`: `evt3_run_ends`, its caller, has shown it.
+// `requires`: `run_at`, its caller, has shown it.
 pub fn skip_blocks(xs: &[u16], ys: &[u16], ts: &[i64], ps: &[u8], i: usize) -> usize
     requires { ⌜ Sized (now xs) (now ys) (now ts) (now ps) × (i < length (now xs)) × Whole (now ts) ⌝ }
     ensures { λ r. ⌜ Along (now (xs .entry)) (now (ys .entry)) (now (ts .entry)) (now (ps .entry)) i r ⌝ }

@@ -18,8 +18,8 @@ fn place_ends(last: u16, y: u16, p: u8, x: u16, y2: u16, p2: u8) -> u8
     ensures { λ r. ⌜ r ≡ ends (placeGoes last y p x y2 p2) ⌝ }
 {
     let rows = y2 ^ y;
-    let signs = (p2 ^ p) as u16;
-    let differ = rows | signs | no_rise(last, x);
+    let polarities = (p2 ^ p) as u16;
+    let differ = rows | polarities | no_rise(last, x);
     if differ == 0 { 0 } else { 1 }
 }
 
@@ -76,7 +76,7 @@ fn gather(flags: &[u8; 64]) -> u64
 }
 
 // The marks of 63 events, where 64 follow, of several at once.
-// `requires`: `evt3_run_ends`, its caller, has shown it.
+// `requires`: `marks`, its caller, has shown it.
 pub fn marks_at_once(xs: &[u16], ys: &[u16], ts: &[i64], ps: &[u8], i: usize) -> u64
     requires { ⌜ Sized (now xs) (now ys) (now ts) (now ps) × (i + 64 < length (now xs)) × Whole (now ts) ⌝ }
     ensures { λ r. ⌜ r ≡ marksFrom (now (xs .entry)) (now (ys .entry)) (now (ts .entry)) (now (ps .entry)) i ⌝ }

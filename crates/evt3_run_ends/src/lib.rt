@@ -1,7 +1,7 @@
 // Runs of events: where one ends, found for up to 63 events at once. `run_at` is proved to find
 // the ends of the longest runs, from the left. evt3_run_rules has what a run is and how the ends stand
-// as the bits of a number, evt3_run_flags finds these for 63 events at once, and evt3_run_blocks goes through
-// long runs.
+// as the bits of a number, `flags` finds these for 63 events at once, and `blocks` goes through long
+// runs.
 ghost use mathlib.Core.Path.{_≡_};
 ghost use Prim.Native.Nat.{_+_, _<_};
 ghost use lib.ListN.{length};
@@ -79,6 +79,6 @@ pub fn run_at(mask: u64, xs: &[u16], ys: &[u16], ts: &[i64], ps: &[u8], i: usize
     let z = u64::trailing_zeros(m);
     Found {
         end: j + 1 + z as usize,
-        mask: (m >> z) / 2,
+        mask: (m >> z) >> 1,
     }
 }

@@ -156,8 +156,8 @@ module _ (xs ys : List ℕ) (ts : List ℤ) (ps : List ℕ) where
         let le : 2 ^ n ≤ 2 ^ 63 = pow-le-pow-right (omega arith) {j = 63} (omega (arith, left-few i, g .above)) in
         omega (arith, g .is-mask, marks-lt n j)
 
-    pub gather-turn : i < j → (s : ℕ) → s ≡ stopAt (j - 1) → Gathering i (j - 1) (2 * mask + s)
-    gather-turn h s e =
+    pub gather-iteration : i < j → (s : ℕ) → s ≡ stopAt (j - 1) → Gathering i (j - 1) (2 * mask + s)
+    gather-iteration h s e =
         let n : i + marksLeft i - (j - 1) ≡ suc (i + marksLeft i - j) = omega (arith, g .below) in
         let up : j - 1 + 1 ≡ j = omega arith in
         let next = ap (marks (i + marksLeft i - j)) up in
@@ -189,7 +189,7 @@ module _ (xs ys : List ℕ) (ts : List ℤ) (ps : List ℕ) where
     pub along : Along i j
     pub marked : Marked j m
 
-  -- falls with each turn
+  -- falls with each iteration
   abbrev pub seekLeft : (j m : ℕ) → ℕ
   seekLeft j m = length xs - j + cond (eqb m 0) 1 0
 
@@ -211,7 +211,8 @@ module _ (xs ys : List ℕ) (ts : List ℤ) (ps : List ℕ) where
 
   module _ (sized : Sized xs ys ts ps) where
     -- the event after i tells whether the run at i goes on
-    go-is : (b c : Bool) (i : ℕ) → ltb (i + 1) (length xs) ≡ b → joins (eventOf xs ys ts ps i) (eventOf xs ys ts ps (i + 1)) ≡ c → goOn i ≡ under (stopIf b c) (goOn (i + 1))
+    go-is : (b c : Bool) (i : ℕ) → ltb (i + 1) (length xs) ≡ b → joins (eventOf xs ys ts ps i) (eventOf xs ys ts ps (i + 1)) ≡ c
+        → goOn i ≡ under (stopIf b c) (goOn (i + 1))
     unfolding follow
     go-is true true i p q =
         let g = goes-true _ _ _ _ (eventOf xs ys ts ps (i + 1)) q in
@@ -225,7 +226,10 @@ module _ (xs ys : List ℕ) (ts : List ℤ) (ps : List ℕ) where
     -- the lowest bit that is set
     trailing-as : (s m g w : ℕ) → s ≤ 1 → 0 < s + 2 * m → (0 < m → trailingZeros w m ≡ g) → trailingZeros (suc w) (s + 2 * m) ≡ under s g
     unfolding trailingZeros
-    trailing-as zero m g w h p e = let r : (0 + 2 * m) % 2 ≡ 0 = omega arith in let d : (0 + 2 * m) / 2 ≡ m = omega arith in rw (r, d) (ap suc (e (omega arith)))
+    trailing-as zero m g w h p e =
+        let r : (0 + 2 * m) % 2 ≡ 0 = omega arith in
+        let d : (0 + 2 * m) / 2 ≡ m = omega arith in
+        rw (r, d) (ap suc (e (omega arith)))
     trailing-as (suc zero) m g w h p e = let r : (1 + 2 * m) % 2 ≡ 1 = omega arith in rw r
     trailing-as (suc (suc s)) m g w h p e = absurd (omega arith)
 
@@ -233,7 +237,8 @@ module _ (xs ys : List ℕ) (ts : List ℤ) (ps : List ℕ) where
     marks-trailing zero w i h p = absurd (omega (arith, marks-none i))
     marks-trailing (suc k) zero i h p = absurd (omega arith)
     marks-trailing (suc k) (suc w) i h p =
-        rw (marks-some k i) (trailing-as (stopAt i) (marks k (i + 1)) (goOn (i + 1)) w (stop-le i) (rw (marks-some k i) at p) (λ q. marks-trailing k w (i + 1) (omega arith) q) ∙ sym (goes-on i))
+        let rest = trailing-as (stopAt i) (marks k (i + 1)) (goOn (i + 1)) w (stop-le i) in
+        rw (marks-some k i) (rest (rw (marks-some k i) at p) (λ q. marks-trailing k w (i + 1) (omega arith) q) ∙ sym (goes-on i))
 
     -- no bit is set: the run goes on for as many events
     pub marks-pass : (k i : ℕ) → i < length xs → marks k i ≡ 0 → (i + goOn i ≡ i + k + goOn (i + k)) × (i + k < length xs)
@@ -271,7 +276,8 @@ module _ (xs ys : List ℕ) (ts : List ℤ) (ps : List ℕ) where
           marked = record { k = 0; few = omega arith; is = z ∙ sym (marks-none k) };
         }
 
-    pub seek-end : {i j m : ℕ} → Seeking i j m → 0 < m → (r : Found) → r .end ≡ j + 1 + trailingZeros 64 m → r .mask ≡ m / 2 ^ trailingZeros 64 m / 2 → Finds i r
+    pub seek-end : {i j m : ℕ} → Seeking i j m → 0 < m → (r : Found) → r .end ≡ j + 1 + trailingZeros 64 m → r .mask ≡ m / 2 ^ trailingZeros 64 m / 2
+        → Finds i r
     seek-end {i} {j} {m} s p r e f =
         let k = s .marked .k in
         let is = s .marked .is in

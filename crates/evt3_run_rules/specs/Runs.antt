@@ -2,9 +2,9 @@
 use mathlib.Core.Path.{_≡_, refl, sym, ap, _∙_}
 use mathlib.Core.Bool.{Bool, true, false, cond, _&&_}
 use mathlib.Core.List.{List, [], _∷_, _++_, map}
-use Prim.Native.Nat.{ℕ, suc, _+_, _-_, _≤_, _<_}
+use Prim.Native.Nat.{ℕ, suc, _-_, _≤_, _<_}
 use native.Mathlib.Omega.{arith}
-use lib.Bits.{bitOr, bitXor, xor-self, xor-add-and, or-add-and, and-le-l, and-le-r}
+use lib.Bits.{bitOr, bitXor, xor-self, or-add-and, and-le-l, and-le-r}
 use lib.Dec.{eqb, ltb}
 use borrow.Author.Tests.{eq-eqb, eqb-true, ltb-true}
 use lib.ListN.{length, getD, take, drop}
@@ -13,6 +13,8 @@ use Rattle.laws_stream.specs.Mask.{Inc}
 use Rattle.evt_types.specs.Event.{Event}
 use Rattle.evt_types.specs.Columns.{colX}
 use Rattle.write_buffer.specs.Columns.{event}
+use Rattle.write_buffer.specs.Emits.{eventsOf}
+use Rattle.write_buffer.specs.Every.{xor-equal}
 
 pub record Run : Type 0 where
   pub t : ℕ
@@ -77,10 +79,7 @@ goes-true t y p last e h =
     let c = and-both _ _ (b .1) in
     record { is-t = eqb-true (e .t) t (a .0); is-y = eqb-true (e .y) y (b .0); is-p = eqb-true (e .p) p (c .0); rises = ltb-true last (e .x) (c .1) }
 
--- compared at once: bits that differ are left of `^`
-pub xor-equal : (a b : ℕ) → bitXor a b ≡ 0 → a ≡ b
-xor-equal a b h = omega (arith, xor-add-and a b, and-le-l a b, and-le-r a b)
-
+-- compared at once
 or-zero : (a b : ℕ) → bitOr a b ≡ 0 → (a ≡ 0) × (b ≡ 0)
 or-zero a b h = (omega (arith, or-add-and a b, and-le-l a b, and-le-r a b), omega (arith, or-add-and a b, and-le-l a b, and-le-r a b))
 
@@ -172,8 +171,7 @@ rising-cons x xs h r =
     record { some = omega arith; rises = (omega arith, omega (arith, e), rw e (inc-from (suc x) (firstX xs) (suc (lastX xs)) xs h (r .rises))) }
 
 abbrev pub givenBy : List Run → List Event
-givenBy [] = []
-givenBy (r ∷ rs) = given r ++ givenBy rs
+givenBy rs = eventsOf given rs
 
 glue-as : (b : Bool) (e : Event) (r : Run) (rs : List Run) → goes (e .t) (e .y) (e .p) (e .x) (firstOf r) ≡ b → Valid r → All Valid rs
     → All Valid (cond b (prepend e r ∷ rs) (single e ∷ r ∷ rs)) × (givenBy (cond b (prepend e r ∷ rs) (single e ∷ r ∷ rs)) ≡ e ∷ (given r ++ givenBy rs))

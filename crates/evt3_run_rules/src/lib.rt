@@ -1,7 +1,6 @@
 // What every pass over runs of events rests on: what a run is, and whether an event goes on one.
 // `goes_on` is proved to tell that. specs/Runs.antt says what a run is and which runs events have,
-// specs/Marks.antt how their ends stand as the bits of a number, and specs/Every.antt how what
-// holds at each of 64 places is gathered without a branch.
+// specs/Marks.antt how their ends stand as the bits of a number.
 ghost use mathlib.Core.Path.{_≡_};
 ghost use mathlib.Core.Bool.{cond};
 ghost use lib.Dec.{ltb};
@@ -19,8 +18,8 @@ pub fn goes_on(t: u64, y: u16, p: u8, last: u16, x: u16, y2: u16, t2: u64, p2: u
     ensures { λ r. ⌜ r ≡ goes t y p last (event x y2 t2 p2) ⌝ }
 {
     let rows = (y2 ^ y) as u64;
-    let signs = (p2 ^ p) as u64;
-    let differ = (t2 ^ t) | rows | signs;
+    let polarities = (p2 ^ p) as u64;
+    let differ = (t2 ^ t) | rows | polarities;
     if differ == 0 { last < x } else { false }
 }
 

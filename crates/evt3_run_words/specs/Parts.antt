@@ -11,14 +11,16 @@ use lib.ListN.{length, getD, length-append, length-map}
 use Rattle.laws_stream.specs.Machine.{words, words-append, and-both}
 use Rattle.laws_stream.specs.Part.{between, between-getD, length-between}
 use Rattle.laws_stream.specs.Words.{stream, bytes, stream-append, length-stream}
+use Rattle.evt_types.specs.Layout.{wordSize3}
 use Rattle.write_buffer.specs.declared.EncoderState.{EncoderState}
 use Rattle.write_buffer.specs.Storing.{piece}
 use Rattle.evt3_run_rules.specs.Runs.{Run, firstX, lastX}
-use Rattle.evt3_lead_words.specs.Evt3.{leads3, singleWord3, baseWord3, maskWord3, nearby, beyond, windows, vectored, singles, masks, vectors, body3, encode3, writer3}
+use Rattle.evt3_lead_words.specs.Evt3.{leads3, singleWord3, baseWord3, maskWord3, nearby, beyond, maskCount}
+use Rattle.evt3_lead_words.specs.Evt3.{vectored, singles, masks, vectors, body3, encode3, writer3}
 use Rattle.evt3_lead_words.specs.Leads.{leadBytes, lead-few}
 
 abbrev pub bytes3 : EncoderState → Run → List ℕ
-bytes3 = piece 2 writer3
+bytes3 = piece wordSize3 writer3
 
 -- ---- the words of the columns
 
@@ -27,10 +29,19 @@ maskWords zero b xs = []
 maskWords (suc k) b xs = maskWord3 b (nearby (b + 12) xs) ∷ maskWords k (b + 12) (beyond (b + 12) xs)
 
 unfoldable pub vectorWords : (p : ℕ) → List ℕ → List ℕ
-vectorWords p xs = baseWord3 p (firstX xs) ∷ maskWords (windows xs) (firstX xs) xs
+vectorWords p xs = baseWord3 p (firstX xs) ∷ maskWords (maskCount xs) (firstX xs) xs
 
 unfoldable pub bodyWords : (p : ℕ) → List ℕ → List ℕ
 bodyWords p xs = cond (vectored xs) (vectorWords p xs) (map (singleWord3 p) xs)
+
+abbrev pub singleBytes : (p : ℕ) → List ℕ → List ℕ
+singleBytes p xs = stream wordSize3 (map (singleWord3 p) xs)
+
+abbrev pub maskBytes : (k b : ℕ) → List ℕ → List ℕ
+maskBytes k b xs = stream wordSize3 (maskWords k b xs)
+
+abbrev pub bodyBytes : (p : ℕ) → List ℕ → List ℕ
+bodyBytes p xs = stream wordSize3 (bodyWords p xs)
 
 module _ (t y p : ℕ) where
   words-singles : (xs : List ℕ) → words (singles t y p xs) ≡ map (singleWord3 p) xs
@@ -46,8 +57,10 @@ module _ (t y p : ℕ) where
   unfolding body3 bodyWords vectorWords
   words-body xs = go (vectored xs)
     where
-      go : (b : Bool) → words (cond b (vectors t y p xs) (singles t y p xs)) ≡ cond b (baseWord3 p (firstX xs) ∷ maskWords (windows xs) (firstX xs) xs) (map (singleWord3 p) xs)
-      go true = ap (λ (l : List ℕ). baseWord3 p (firstX xs) ∷ l) (words-masks (windows xs) (firstX xs) xs)
+      go : (b : Bool)
+          → words (cond b (vectors t y p xs) (singles t y p xs))
+          ≡ cond b (baseWord3 p (firstX xs) ∷ maskWords (maskCount xs) (firstX xs) xs) (map (singleWord3 p) xs)
+      go true = ap (λ (l : List ℕ). baseWord3 p (firstX xs) ∷ l) (words-masks (maskCount xs) (firstX xs) xs)
       go false = words-singles xs
 
 pub length-masks : (k b : ℕ) (xs : List ℕ) → length (maskWords k b xs) ≡ k
@@ -59,24 +72,29 @@ pub length-body : (p : ℕ) (xs : List ℕ) → length (bodyWords p xs) ≤ leng
 unfolding bodyWords vectorWords vectored
 length-body p xs = go (vectored xs) refl
   where
-    go : (b : Bool) → vectored xs ≡ b → length (cond b (baseWord3 p (firstX xs) ∷ maskWords (windows xs) (firstX xs) xs) (map (singleWord3 p) xs)) ≤ length xs
-    go true h = omega (arith, length-masks (windows xs) (firstX xs) xs, ltb-true (1 + windows xs) (length xs) (and-both (ltb 2 (length xs)) (ltb (1 + windows xs) (length xs)) h .1))
+    go : (b : Bool) → vectored xs ≡ b → length (cond b (baseWord3 p (firstX xs) ∷ maskWords (maskCount xs) (firstX xs) xs) (map (singleWord3 p) xs)) ≤ length xs
+    go true h =
+        omega (
+          arith,
+          length-masks (maskCount xs) (firstX xs) xs,
+          ltb-true (1 + maskCount xs) (length xs) (and-both (ltb 2 (length xs)) (ltb (1 + maskCount xs) (length xs)) h .1),
+        )
     go false h = omega (arith, length-map xs (singleWord3 p))
 
-pub bytes-parts : (v : EncoderState) (r : Run) → bytes3 v r ≡ leadBytes v (r .t) (r .y) ++ stream 2 (bodyWords (r .p) (r .xs))
+pub bytes-parts : (v : EncoderState) (r : Run) → bytes3 v r ≡ leadBytes v (r .t) (r .y) ++ bodyBytes (r .p) (r .xs)
 unfolding encode3
-bytes-parts v r = rw (words-append (leads3 v (r .t) (r .y)), stream-append 2 (words (leads3 v (r .t) (r .y))), words-body)
+bytes-parts v r = rw (words-append (leads3 v (r .t) (r .y)), stream-append wordSize3 (words (leads3 v (r .t) (r .y))), words-body)
 
 pub few3 : (v : EncoderState) (r : Run) → 1 ≤ length (r .xs) → length (bytes3 v r) ≤ 8 * length (r .xs)
 few3 v r h =
     let a = leadBytes v (r .t) (r .y) in
     let b = bodyWords (r .p) (r .xs) in
-    rw bytes-parts (omega (arith, length-append a (stream 2 b), length-stream 2 b, length-body (r .p) (r .xs), lead-few v (r .t) (r .y)))
+    rw bytes-parts (omega (arith, length-append a (stream wordSize3 b), length-stream wordSize3 b, length-body (r .p) (r .xs), lead-few v (r .t) (r .y)))
 
 -- ---- a part of a column
 
-pub singles-length : (p : ℕ) (xs : List ℕ) (i e : ℕ) → i ≤ e → e ≤ length xs → length (stream 2 (map (singleWord3 p) (between xs i e))) ≡ 2 * (e - i)
-singles-length p xs i e h k = length-stream 2 (map (singleWord3 p) (between xs i e)) ∙ rw (length-map, length-between xs i e h k) (omega arith)
+pub singles-length : (p : ℕ) (xs : List ℕ) (i e : ℕ) → i ≤ e → e ≤ length xs → length (singleBytes p (between xs i e)) ≡ wordSize3 * (e - i)
+singles-length p xs i e h k = length-stream wordSize3 (map (singleWord3 p) (between xs i e)) ∙ rw (length-map, length-between xs i e h k) (omega arith)
 
 -- and a place in the output
 pub record Part (xs : List ℕ) (i e at : ℕ) : Type 0 where
@@ -114,11 +132,11 @@ module _ (xs : List ℕ) (i e : ℕ) (h : i < e) (f : e ≤ length xs) where
       rw (length-between xs i e (omega arith) f) (between-getD xs i e 0 (e - i - 1) (omega arith) ∙ ap (λ (j : ℕ). getD xs j 0) n)
 
 module _ (p : ℕ) (xs : List ℕ) (i e k : ℕ) (h : i < e) (f : e ≤ length xs) (is-k : k ≡ (getD xs (e - 1) 0 - getD xs i 0 + 12) / 12) where
-  windows-is : windows (between xs i e) ≡ k
-  unfolding windows
-  windows-is = rw (last-is xs i e h f, first-is xs i e h f) (omega arith)
+  count-is : maskCount (between xs i e) ≡ k
+  unfolding maskCount
+  count-is = rw (last-is xs i e h f, first-is xs i e h f) (omega arith)
 
-  -- as there is a window, more events than its words are more than 2
+  -- as there is a mask, more events than its words are more than 2
   more-as : (b c : Bool) → ltb 2 (e - i) ≡ b → ltb (1 + k) (e - i) ≡ c → (b && c) ≡ c
   more-as true c p q = refl
   more-as false false p q = refl
@@ -126,38 +144,40 @@ module _ (p : ℕ) (xs : List ℕ) (i e k : ℕ) (h : i < e) (f : e ≤ length x
 
   vectored-is : vectored (between xs i e) ≡ ltb (1 + k) (e - i)
   unfolding vectored
-  vectored-is = rw (windows-is, length-between xs i e (omega arith) f) (more-as (ltb 2 (e - i)) (ltb (1 + k) (e - i)) refl refl)
+  vectored-is = rw (count-is, length-between xs i e (omega arith) f) (more-as (ltb 2 (e - i)) (ltb (1 + k) (e - i)) refl refl)
 
   pub body-vector : ltb (1 + k) (e - i) ≡ true
-      → stream 2 (bodyWords p (between xs i e)) ≡ bytes 2 (baseWord3 p (getD xs i 0)) ++ stream 2 (maskWords k (getD xs i 0) (between xs i e))
+      → bodyBytes p (between xs i e) ≡ bytes wordSize3 (baseWord3 p (getD xs i 0)) ++ maskBytes k (getD xs i 0) (between xs i e)
   unfolding bodyWords vectorWords
-  body-vector v = ap (stream 2) (ap (λ (b : Bool). cond b (vectorWords p (between xs i e)) (map (singleWord3 p) (between xs i e))) (vectored-is ∙ v)) ∙ rw (windows-is, first-is xs i e h f)
+  body-vector v =
+      ap (stream wordSize3) (ap (λ (b : Bool). cond b (vectorWords p (between xs i e)) (map (singleWord3 p) (between xs i e))) (vectored-is ∙ v))
+      ∙ rw (count-is, first-is xs i e h f)
 
-  pub body-singles : ltb (1 + k) (e - i) ≡ false → stream 2 (bodyWords p (between xs i e)) ≡ stream 2 (map (singleWord3 p) (between xs i e))
+  pub body-singles : ltb (1 + k) (e - i) ≡ false → bodyBytes p (between xs i e) ≡ singleBytes p (between xs i e)
   unfolding bodyWords
-  body-singles v = ap (stream 2) (ap (λ (b : Bool). cond b (vectorWords p (between xs i e)) (map (singleWord3 p) (between xs i e))) (vectored-is ∙ v))
+  body-singles v = ap (stream wordSize3) (ap (λ (b : Bool). cond b (vectorWords p (between xs i e)) (map (singleWord3 p) (between xs i e))) (vectored-is ∙ v))
 
   -- one or two are single events
-  pub body-pair : e ≤ i + 2 → stream 2 (bodyWords p (between xs i e)) ≡ stream 2 (map (singleWord3 p) (between xs i e))
+  pub body-pair : e ≤ i + 2 → bodyBytes p (between xs i e) ≡ singleBytes p (between xs i e)
   body-pair g = body-singles (le-ltb (1 + k) (e - i) (omega (arith, is-k)))
 
-  pub body-length : length (stream 2 (bodyWords p (between xs i e))) ≡ 2 * cond (ltb (1 + k) (e - i)) (1 + k) (e - i)
+  pub body-length : length (bodyBytes p (between xs i e)) ≡ wordSize3 * cond (ltb (1 + k) (e - i)) (1 + k) (e - i)
   body-length = go (ltb (1 + k) (e - i)) refl
     where
-      go : (b : Bool) → ltb (1 + k) (e - i) ≡ b → length (stream 2 (bodyWords p (between xs i e))) ≡ 2 * cond b (1 + k) (e - i)
+      go : (b : Bool) → ltb (1 + k) (e - i) ≡ b → length (bodyBytes p (between xs i e)) ≡ wordSize3 * cond b (1 + k) (e - i)
       go true q =
           let m = maskWords k (getD xs i 0) (between xs i e) in
-          rw (body-vector q) (omega (arith, length-stream 2 m, length-masks k (getD xs i 0) (between xs i e)))
+          rw (body-vector q) (omega (arith, length-stream wordSize3 m, length-masks k (getD xs i 0) (between xs i e)))
       go false q = rw (body-singles q) (singles-length p xs i e (omega arith) f)
 
   -- no more words than events
-  pub body-few : length (stream 2 (bodyWords p (between xs i e))) ≤ 2 * (e - i)
-  body-few = omega (arith, length-stream 2 (bodyWords p (between xs i e)), length-body p (between xs i e), length-between xs i e (omega arith) f)
+  pub body-few : length (bodyBytes p (between xs i e)) ≤ wordSize3 * (e - i)
+  body-few = omega (arith, length-stream wordSize3 (bodyWords p (between xs i e)), length-body p (between xs i e), length-between xs i e (omega arith) f)
 
   -- a word at the least
-  pub body-some : 2 ≤ length (stream 2 (bodyWords p (between xs i e)))
+  pub body-some : wordSize3 ≤ length (bodyBytes p (between xs i e))
   body-some = rw body-length (go (ltb (1 + k) (e - i)))
     where
-      go : (b : Bool) → 2 ≤ 2 * cond b (1 + k) (e - i)
+      go : (b : Bool) → wordSize3 ≤ wordSize3 * cond b (1 + k) (e - i)
       go true = omega arith
       go false = omega arith

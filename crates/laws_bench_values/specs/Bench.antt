@@ -15,7 +15,7 @@ use Rattle.evt2_decoder.specs.Evt2.{step2, vector2}
 use Rattle.evt3_decoder.specs.Evt3.{step3, vector3}
 use Rattle.write_words.specs.Encode.{encodeBytes}
 use Rattle.evt2_encoder.specs.Evt2.{encode2}
-use Rattle.evt3_lead_words.specs.Evt3.{encode3, leads3, body3, windows, vectored, nearby, beyond}
+use Rattle.evt3_lead_words.specs.Evt3.{encode3, leads3, body3, maskCount, vectored, nearby, beyond}
 use Rattle.write_buffer.specs.Sent.{freshState}
 
 abbrev ev : (t x y p : ℕ) → Event
@@ -83,6 +83,6 @@ values =
     ∷ []
 
 pub bench : All Right values
-unfolding Right step2 vector2 step3 vector3 loopsAfter timeAfter bits encodeBytes encode2 encode3 leads3 body3 windows vectored nearby beyond
+unfolding Right step2 vector2 step3 vector3 loopsAfter timeAfter bits encodeBytes encode2 encode3 leads3 body3 maskCount vectored nearby beyond
 bench =
     (refl, (refl, (refl, (refl, (refl, (refl, (refl, ((refl, refl, refl), ((refl, refl, refl), ((refl, refl, refl), ((refl, refl, refl), ((refl, refl, refl), ((refl, refl, refl), ((refl, refl, refl), ((refl, refl, refl), ((refl, refl, refl), ((refl, refl, refl), ((refl, refl, refl), tt))))))))))))))))))

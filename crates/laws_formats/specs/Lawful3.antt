@@ -24,8 +24,8 @@ use Rattle.write_buffer.specs.declared.EncoderState.{EncoderState}
 use Rattle.write_buffer.specs.Columns.{event}
 use Rattle.write_buffer.specs.Sent.{freshState, sentIs, due}
 use Rattle.evt3_run_rules.specs.Runs.{Run, given, spread, Rising, Valid, firstX, lastX}
-use Rattle.evt3_lead_words.specs.Evt3.{highWord3, lowWord3, rowWord3, lowHeld, highSent3, lowSent3, rowSent3, leads3, singleWord3, baseWord3, maskWord3, nearby, beyond, windows, vectored, singles, masks, vectors, body3, encode3, encoded3, writer3}
-use Rattle.evt3_run_words.specs.Windows.{near-inc}
+use Rattle.evt3_lead_words.specs.Evt3.{highWord3, lowWord3, rowWord3, lowKept, highSent3, lowSent3, rowSent3, leads3, singleWord3, baseWord3, maskWord3, nearby, beyond, maskCount, vectored, singles, masks, vectors, body3, encode3, encoded3, writer3}
+use Rattle.evt3_run_words.specs.Masks.{near-inc}
 use Rattle.write_words.specs.Laws.{reach, spread-is, none-left, singles-notes, masks-notes, body-notes, due-notes, encode-notes3}
 use Rattle.laws_formats.specs.Ready.{limit, sayable, Ready, Holds, holds-sent, Sayable, sayable-true, no-event, one-event}
 
@@ -152,9 +152,9 @@ all-fine t y p [] more r k = omega arith
 all-fine t y p (x ∷ xs) more r zero = sayable-true (limit Evt3) (event x y t p) (r .0 .fine) .x<
 all-fine t y p (x ∷ xs) more r (suc k) = all-fine t y p xs more (r .1) k
 
-windows-few : (xs : List ℕ) → lastX xs < 2048 → windows xs ≤ 171
-unfolding windows
-windows-few xs h = omega arith
+masks-few : (xs : List ℕ) → lastX xs < 2048 → maskCount xs ≤ 171
+unfolding maskCount
+masks-few xs h = omega arith
 
 number-is : (p : ℕ) → p < 2 → number (eqb p 1) ≡ p
 number-is zero h = refl
@@ -169,15 +169,15 @@ module _ (t y p : ℕ) (xs : List ℕ) (v : Rising xs) (more : List Event) (r : 
   said-vectors d f =
       let x = firstX xs in
       let w = baseWord3 p x in
-      let few = windows-few xs (all-fine t y p xs more r (length xs - 1)) in
+      let few = masks-few xs (all-fine t y p xs more r (length xs - 1)) in
       let p2 : p % 2 < 2 = omega arith in
       let xm : x % 2048 < 2048 = omega arith in
       let is-x : x3 w ≡ x = column-x3 3 (p % 2) (x % 2048) (omega arith) p2 xm ∙ omega (arith, fine .x<) in
       let is-p : polarity3 w ≡ p = column-polarity3 3 (p % 2) (x % 2048) (omega arith) p2 xm ∙ omega (arith, fine .p<) in
       let by = started-word d w (type3 w) refl 3 (column-type3 3 (p % 2) (x % 2048) (omega arith) p2 xm) (f .on) in
-      said-word t y d (stepAs (kindOn 3) d w) w [] (spread t y p xs) (masks t y p (windows xs) x xs) more (by .0) (ap eventsOf (by .1) ∙ no-event)
-      (column-fits3 3 (p % 2) (x % 2048) (omega arith) p2 xm) (masks-notes t y p (windows xs) x xs (reach xs v)) (fixed-ready t y d (spread t y p xs ++ more) f r)
-      (said-masks t y p (windows xs) x xs (stepAs (kindOn 3) d w) more
+      said-word t y d (stepAs (kindOn 3) d w) w [] (spread t y p xs) (masks t y p (maskCount xs) x xs) more (by .0) (ap eventsOf (by .1) ∙ no-event)
+      (column-fits3 3 (p % 2) (x % 2048) (omega arith) p2 xm) (masks-notes t y p (maskCount xs) x xs (reach xs v)) (fixed-ready t y d (spread t y p xs ++ more) f r)
+      (said-masks t y p (maskCount xs) x xs (stepAs (kindOn 3) d w) more
       (record { on = f .on; counted = f .counted; at-coarse = f .at-coarse; at-time = f .at-time; at-row = f .at-row })
       is-x (ap (λ (q : ℕ). number (eqb q 1)) is-p ∙ number-is p (fine .p<)) (omega (arith, fine .x<)) (reach xs v) r)
 
@@ -260,7 +260,7 @@ rise-run : (t y p from : ℕ) (xs : List ℕ) (more : List Event) → 1 ≤ leng
 rise-run t y p from [] more h r = absurd (omega arith)
 rise-run t y p from (x ∷ xs) more h r = ((record { rises = omega arith; fine = r .0 .fine }, r .1), r .0 .rises)
 
-low-sent : (b : Bool) (l : Sent) (q : ℕ) → sentIs (lowHeld b l) q ≡ true → (b ≡ true → sentIs l q ≡ true) × (b ≡ false → q ≡ 0)
+low-sent : (b : Bool) (l : Sent) (q : ℕ) → sentIs (lowKept b l) q ≡ true → (b ≡ true → sentIs l q ≡ true) × (b ≡ false → q ≡ 0)
 low-sent true l q e = ((λ f. e), (λ f. absurd (true≢false f)))
 low-sent false l q e = ((λ f. absurd (true≢false (sym f))), (λ f. sym (eqb-true 0 q e)))
 

@@ -15,7 +15,7 @@ use Rattle.write_buffer.specs.declared.EncoderState.{EncoderState}
 use Rattle.write_buffer.specs.Sent.{carries, due}
 use Rattle.evt2_encoder.specs.Evt2.{wordOf2, highWord2, highSent2, encode2, encoded2, writer2}
 use Rattle.evt3_run_rules.specs.Runs.{Run, runs, firstX}
-use Rattle.evt3_lead_words.specs.Evt3.{nearby, beyond, windows, vectored, singles, masks, vectors, body3, leads3, highWord3, lowWord3, rowWord3, highSent3, lowSent3, rowSent3, encode3, encoded3, writer3}
+use Rattle.evt3_lead_words.specs.Evt3.{nearby, beyond, maskCount, vectored, singles, masks, vectors, body3, leads3, highWord3, lowWord3, rowWord3, highSent3, lowSent3, rowSent3, encode3, encoded3, writer3}
 use Rattle.write_words.specs.Encode.{encodeNotes, encodeState}
 use Rattle.laws_formats.specs.Appends.{appendNotes}
 use Rattle.laws_handover.specs.Handover.{isEventWord, Typed}
@@ -53,7 +53,7 @@ module _ (t y p : ℕ) where
   body-typed xs = go (vectored xs)
     where
       go : (b : Bool) → All (Typed Evt3) (cond b (vectors t y p xs) (singles t y p xs))
-      go true = ((λ h. absurd (omega arith)), masks-typed (windows xs) (firstX xs) xs)
+      go true = ((λ h. absurd (omega arith)), masks-typed (maskCount xs) (firstX xs) xs)
       go false = singles-typed xs
 
 leads-typed : (v : EncoderState) (t y : ℕ) → All (Typed Evt3) (leads3 v t y)

@@ -7,8 +7,8 @@ use native.Mathlib.Omega.{arith}
 use native.Mathlib.Numerals.{add-one}
 use lib.ListN.{length, getD, drop, length-drop, drop-of-length-le, length-map}
 use lib.Seq.{drop-cons, drop-drop}
-use lib.IntN.{ℤ, pos, negsuc}
-use lib.Signed.{mag, nonNeg}
+use lib.IntN.{ℤ, pos}
+use lib.Signed.{nonNeg}
 use Rattle.evt_types.specs.Num.{natural}
 use Rattle.evt_types.specs.Event.{Event}
 use Rattle.evt_types.specs.Columns.{colX}
@@ -48,7 +48,13 @@ module _ (xs ys : List ℕ) (ts : List ℤ) (ps : List ℕ) where
   module _ (s : Sized xs ys ts ps) where
     pub events-at : (i : ℕ) → i < length xs → eventsPast i ≡ eventOf i ∷ eventsPast (i + 1)
     events-at i h =
-        rw (add-one, drop-cons xs i 0 h, drop-cons ys i 0 (omega (arith, s .same-y)), drop-cons ts i (pos 0) (omega (arith, s .same-t)), drop-cons ps i 0 (omega (arith, s .same-p)))
+        rw (
+          add-one,
+          drop-cons xs i 0 h,
+          drop-cons ys i 0 (omega (arith, s .same-y)),
+          drop-cons ts i (pos 0) (omega (arith, s .same-t)),
+          drop-cons ps i 0 (omega (arith, s .same-p)),
+        )
 
     pub events-end : (i : ℕ) → length xs ≤ i → eventsPast i ≡ []
     events-end i h = rw (drop-of-length-le xs h)
@@ -64,7 +70,8 @@ even-x (x ∷ xs) (y ∷ ys) [] ps h = absurd (omega (arith, h .1))
 even-x (x ∷ xs) (y ∷ ys) (t ∷ ts) [] h = absurd (omega (arith, h .2))
 even-x (x ∷ xs) (y ∷ ys) (t ∷ ts) (p ∷ ps) h = ap (λ (l : List ℕ). x ∷ l) (even-x xs ys ts ps (omega (arith, h .0), omega (arith, h .1), omega (arith, h .2)))
 
-even-drop : (n : ℕ) (xs ys : List ℕ) (ts : List ℤ) (ps : List ℕ) → Even xs ys ts ps → drop n (eventsIn xs ys ts ps) ≡ eventsIn (drop n xs) (drop n ys) (drop n ts) (drop n ps)
+even-drop : (n : ℕ) (xs ys : List ℕ) (ts : List ℤ) (ps : List ℕ) → Even xs ys ts ps
+    → drop n (eventsIn xs ys ts ps) ≡ eventsIn (drop n xs) (drop n ys) (drop n ts) (drop n ps)
 even-drop zero xs ys ts ps h = refl
 even-drop (suc n) [] ys ts ps h = refl
 even-drop (suc n) (x ∷ xs) [] ts ps h = absurd (omega (arith, h .0))

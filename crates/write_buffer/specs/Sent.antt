@@ -2,7 +2,7 @@
 use mathlib.Core.Path.{_≡_, refl}
 use mathlib.Core.Bool.{Bool, true, false}
 use mathlib.Core.List.{List, [], _∷_}
-use Prim.Native.Nat.{ℕ, _-_, _^_, _<_}
+use Prim.Native.Nat.{ℕ, zero, suc, _-_, _^_, _≤_, _<_}
 use native.Mathlib.Omega.{arith}
 use borrow.Author.Tests.{ne-eqb}
 use lib.Dec.{eqb}
@@ -19,6 +19,19 @@ freshState = record { «time_high» = Nothing; «time_low» = Nothing; y = Nothi
 abbrev pub sentIs : Sent → ℕ → Bool
 sentIs Nothing q = false
 sentIs (Value g) q = eqb g q
+
+-- the state after n inputs: as it was where there was none
+abbrev pub stateAt : (n : ℕ) (first after : EncoderState) → EncoderState
+stateAt zero v s = v
+stateAt (suc n) v s = s
+
+pub state-some : (n : ℕ) (v s : EncoderState) → 0 < n → stateAt n v s ≡ s
+state-some zero v s h = absurd (omega arith)
+state-some (suc n) v s h = refl
+
+pub state-none : (n : ℕ) (v s : EncoderState) → n ≤ 0 → stateAt n v s ≡ v
+state-none zero v s h = refl
+state-none (suc n) v s h = absurd (omega arith)
 
 -- a word that carries no event
 abbrev pub quiet : ℕ → Note ℕ Event
@@ -39,6 +52,6 @@ abbrev pub sentNumber : Sent → ℕ
 sentNumber Nothing = 2 ^ 64 - 1
 sentNumber (Value g) = g
 
-pub held-is : (s : Sent) (q : ℕ) → q < 2 ^ 60 → eqb (sentNumber s) q ≡ sentIs s q
-held-is Nothing q h = ne-eqb (2 ^ 64 - 1) q (λ e. omega arith)
-held-is (Value g) q h = refl
+pub number-is : (s : Sent) (q : ℕ) → q < 2 ^ 60 → eqb (sentNumber s) q ≡ sentIs s q
+number-is Nothing q h = ne-eqb (2 ^ 64 - 1) q (λ e. omega arith)
+number-is (Value g) q h = refl

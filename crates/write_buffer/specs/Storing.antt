@@ -1,26 +1,47 @@
 -- Bytes stored piece by piece, as far as a list reaches; and a loop that gives a writer its input piece by piece, and stores the bytes of its words.
 use mathlib.Core.Path.{_≡_, refl, sym, ap, _∙_}
 use mathlib.Core.List.{List, [], _∷_, _++_}
-use Prim.Native.Nat.{ℕ, suc, _+_, _≤_, _<_}
+use Prim.Native.Nat.{ℕ, suc, _+_, _/_, _%_, _^_, _≤_, _<_}
 use native.Mathlib.Omega.{arith}
 use native.Mathlib.Nat.{add-zero}
+use native.Mathlib.Numerals.{add-one, add-two, add-three}
 use lib.ListN.{length, set, length-append}
+use lib.Pow.{shr-shr}
 use lib.Seq.{sets, length-sets, set-out, set-set, set-comm}
 use Rattle.laws_stream.specs.Columns.{sets-append}
 use Rattle.laws_stream.specs.Machine.{Machine, Note, run, emits, words, words-append}
-use Rattle.laws_stream.specs.Words.{stream, stream-append}
+use Rattle.laws_stream.specs.Words.{stream, bytes, stream-append}
 
 -- nothing is stored past the end
 pub sets-out : (l : List ℕ) (i : ℕ) (vs : List ℕ) → length l ≤ i → sets l i vs ≡ l
 sets-out l i [] h = refl
 sets-out l i (v ∷ vs) h = ap (λ (k : List ℕ). sets k (suc i) vs) (set-out l i v h) ∙ sets-out l (suc i) vs (omega arith)
 
+-- the byte of a word from bit `lo` up
+abbrev pub byteAt : (w lo : ℕ) → ℕ
+byteAt w lo = w / 2 ^ lo % 256
+
+bytes-two : (w : ℕ) → byteAt w 0 ∷ byteAt w 8 ∷ [] ≡ bytes 2 w
+bytes-two w = let a : byteAt w 0 ≡ w % 256 = omega arith in rw a
+
+bytes-four : (w : ℕ) → byteAt w 0 ∷ byteAt w 8 ∷ byteAt w 16 ∷ byteAt w 24 ∷ [] ≡ bytes 4 w
+bytes-four w = let a : byteAt w 0 ≡ w % 256 = omega arith in rw (a, shr-shr w 8 8, shr-shr w 16 8)
+
+-- a word stored byte by byte
+module _ (out : List ℕ) (at w : ℕ) {a b : ℕ} (ea : a ≡ byteAt w 0) (eb : b ≡ byteAt w 8) where
+  pub stored-two : set (set out at a) (at + 1) b ≡ sets out at (bytes 2 w)
+  stored-two = rw (add-one, ea, eb) (ap (sets out at) (bytes-two w))
+
+  pub stored-four : {c d : ℕ} → c ≡ byteAt w 16 → d ≡ byteAt w 24 → set (set (set (set out at a) (at + 1) b) (at + 2) c) (at + 3) d ≡ sets out at (bytes 4 w)
+  stored-four ec ed = rw (add-one, add-two, add-three, ea, eb, ec, ed) (ap (sets out at) (bytes-four w))
+
 -- n bytes have room from `at` on, or there is no byte at all: then nothing is stored
 abbrev pub Roomy : (out : List ℕ) (at n : ℕ) → Type 0
 Roomy out at n = 0 < length out → at + n ≤ length out
 
 -- what is stored after some bytes has room where both have
-pub roomy-rest : (out o : List ℕ) (at : ℕ) {r : ℕ} (w rest : List ℕ) → r ≡ at + length w → length o ≡ length out → Roomy out at (length (w ++ rest)) → Roomy o r (length rest)
+pub roomy-rest : (out o : List ℕ) (at : ℕ) {r : ℕ} (w rest : List ℕ) → r ≡ at + length w → length o ≡ length out → Roomy out at (length (w ++ rest))
+    → Roomy o r (length rest)
 roomy-rest out o at w rest e n r h = omega (arith, r (omega arith), length-append w rest)
 
 pub sets-empty : (l : List ℕ) (i : ℕ) (vs : List ℕ) → length l ≤ 0 → l ≡ sets l i vs
@@ -47,23 +68,26 @@ module _ {all : List ℕ} {at₀ : ℕ} {out₀ : List ℕ} where
   pub storing-start : Storing all at₀ out₀ all at₀ out₀
   storing-start = record { long = refl; count = refl; stores = refl }
 
-  pub storing-turn : {left : List ℕ} {at : ℕ} {out out′ : List ℕ} (w rest : List ℕ) → left ≡ w ++ rest → out′ ≡ sets out at w → Storing all at₀ out₀ left at out
+  pub storing-iteration : {left : List ℕ} {at : ℕ} {out out′ : List ℕ} (w rest : List ℕ) → left ≡ w ++ rest → out′ ≡ sets out at w
+      → Storing all at₀ out₀ left at out
       → Storing all at₀ out₀ rest (at + length w) out′
-  storing-turn {left} {at} {out} {out′} w rest e o s = record {
+  storing-iteration {left} {at} {out} {out′} w rest e o s = record {
     long = ap length o ∙ length-sets out at w ∙ s .long;
     count = omega (arith, ap length e, length-append w rest, s .count);
     stores = rw o (sym (sets-append out at w rest) ∙ ap (sets out at) (sym e) ∙ s .stores);
   }
 
   -- what comes next has room where all has
-  pub storing-room : {left : List ℕ} {at : ℕ} {out : List ℕ} (w rest : List ℕ) → left ≡ w ++ rest → Storing all at₀ out₀ left at out → Roomy out₀ at₀ (length all) → Roomy out at (length w)
+  pub storing-room : {left : List ℕ} {at : ℕ} {out : List ℕ} (w rest : List ℕ) → left ≡ w ++ rest → Storing all at₀ out₀ left at out
+      → Roomy out₀ at₀ (length all) → Roomy out at (length w)
   storing-room {left} {at} {out} w rest e s r h = omega (arith, r (omega (arith, s .long)), ap length e, length-append w rest, s .count, s .long)
 
   pub storing-end : {at : ℕ} {out : List ℕ} → Storing all at₀ out₀ [] at out → (at ≡ at₀ + length all) × (out ≡ sets out₀ at₀ all)
   storing-end {at} s = (sym (add-zero at) ∙ s .count, s .stores)
 
 -- one store after another
-pub stored-both : (out : List ℕ) (at : ℕ) {o₁ o₂ : List ℕ} {r₁ r₂ : ℕ} (a b : List ℕ) → r₁ ≡ at + length a → o₁ ≡ sets out at a → r₂ ≡ r₁ + length b → o₂ ≡ sets o₁ r₁ b
+pub stored-both : (out : List ℕ) (at : ℕ) {o₁ o₂ : List ℕ} {r₁ r₂ : ℕ} (a b : List ℕ) → r₁ ≡ at + length a → o₁ ≡ sets out at a → r₂ ≡ r₁ + length b
+    → o₂ ≡ sets o₁ r₁ b
     → (r₂ ≡ at + length (a ++ b)) × (o₂ ≡ sets out at (a ++ b))
 stored-both out at a b e o f p = (omega (arith, length-append a b), p ∙ rw (o, e) (sym (sets-append out at a b)))
 
@@ -77,7 +101,8 @@ module _ {Q I E : Type 0} (size : ℕ) (W : Machine Q I (Note ℕ E)) where
 
   pub bytes-cons : (v : Q) (a : I) (l : List I) → bytesFrom v (a ∷ l) ≡ piece v a ++ bytesFrom (W .step v a) l
   unfolding bytesFrom
-  bytes-cons v a l = ap (stream size) (words-append (W .emit v a) (emits W (W .step v a) l)) ∙ stream-append size (words (W .emit v a)) (words (emits W (W .step v a) l))
+  bytes-cons v a l =
+      ap (stream size) (words-append (W .emit v a) (emits W (W .step v a) l)) ∙ stream-append size (words (W .emit v a)) (words (emits W (W .step v a) l))
 
   -- On the way: from the state v, `left` of the input is to come, and the bytes before `at` are stored.
   pub record Going (v₀ : Q) (all : List I) (at₀ : ℕ) (out₀ : List ℕ) (left : List I) (v : Q) (at : ℕ) (out : List ℕ) : Type 0 where
@@ -88,11 +113,13 @@ module _ {Q I E : Type 0} (size : ℕ) (W : Machine Q I (Note ℕ E)) where
     pub going-start : Going v₀ all at₀ out₀ all v₀ at₀ out₀
     going-start = record { state = refl; storing = storing-start }
 
-    pub going-turn : {v : Q} {at : ℕ} {out out′ : List ℕ} (a : I) (l : List I) → out′ ≡ sets out at (piece v a) → Going v₀ all at₀ out₀ (a ∷ l) v at out
+    pub going-iteration : {v : Q} {at : ℕ} {out out′ : List ℕ} (a : I) (l : List I) → out′ ≡ sets out at (piece v a) → Going v₀ all at₀ out₀ (a ∷ l) v at out
         → Going v₀ all at₀ out₀ l (W .step v a) (at + length (piece v a)) out′
-    going-turn {v} a l e g = record { state = g .state; storing = storing-turn (piece v a) (bytesFrom (W .step v a) l) (bytes-cons v a l) e (g .storing) }
+    going-iteration {v} a l e g =
+        record { state = g .state; storing = storing-iteration (piece v a) (bytesFrom (W .step v a) l) (bytes-cons v a l) e (g .storing) }
 
-    pub going-room : {v : Q} {at : ℕ} {out : List ℕ} (a : I) (l : List I) → Going v₀ all at₀ out₀ (a ∷ l) v at out → Roomy out₀ at₀ (length (bytesFrom v₀ all)) → Roomy out at (length (piece v a))
+    pub going-room : {v : Q} {at : ℕ} {out : List ℕ} (a : I) (l : List I) → Going v₀ all at₀ out₀ (a ∷ l) v at out
+        → Roomy out₀ at₀ (length (bytesFrom v₀ all)) → Roomy out at (length (piece v a))
     going-room {v} a l g r = storing-room (piece v a) (bytesFrom (W .step v a) l) (bytes-cons v a l) (g .storing) r
 
     pub going-end : {v : Q} {at : ℕ} {out : List ℕ} → Going v₀ all at₀ out₀ [] v at out

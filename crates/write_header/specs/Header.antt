@@ -1,4 +1,5 @@
 -- The header that a writer sends before its first words. `ascii` and `decimal` stand in write_text/specs/Text.antt.
+use mathlib.Core.Path.{_≡_, refl}
 use mathlib.Core.List.{List, _++_}
 use Prim.Native.Nat.{ℕ, _^_, _≤_, _<_}
 use native.Mathlib.Omega.{arith}
@@ -12,20 +13,17 @@ formatLine Evt2 = ascii "% format EVT2\n"
 formatLine Evt3 = ascii "% format EVT3\n"
 
 unfoldable pub headerText : Encoding → (width height : ℕ) → List ℕ
-headerText e width height = formatLine e ++ (ascii "% geometry " ++ (decimal width ++ (ascii "x" ++ (decimal height ++ ascii "\n% generator eventcv\n% end\n"))))
+headerText e width height =
+    formatLine e ++ (ascii "% geometry " ++ (decimal width ++ (ascii "x" ++ (decimal height ++ ascii "\n% generator eventcv\n% end\n"))))
 
 -- ---- laws
 
+line-length : (e : Encoding) → length (formatLine e) ≡ 14
+line-length Evt2 = refl
+line-length Evt3 = refl
+
 pub header-few : (e : Encoding) (w h : ℕ) → w < 2 ^ 64 → h < 2 ^ 64 → length (headerText e w h) ≤ 96
 unfolding headerText
-header-few e w h wl hl = go e
-  where
-    dw : length (decimal w) ≤ 20
-    dw = decimal-few w wl
-
-    dh : length (decimal h) ≤ 20
-    dh = decimal-few h hl
-
-    go : (e : Encoding) → length (headerText e w h) ≤ 96
-    go Evt2 = rw (length-append (ascii "% format EVT2\n"), length-append (ascii "% geometry "), length-append (decimal w), length-append (ascii "x"), length-append (decimal h)) (omega (arith, dw, dh))
-    go Evt3 = rw (length-append (ascii "% format EVT3\n"), length-append (ascii "% geometry "), length-append (decimal w), length-append (ascii "x"), length-append (decimal h)) (omega (arith, dw, dh))
+header-few e w h wl hl =
+    rw (length-append (formatLine e), length-append (ascii "% geometry "), length-append (decimal w), length-append (ascii "x"), length-append (decimal h))
+    (omega (arith, line-length e, decimal-few w wl, decimal-few h hl))

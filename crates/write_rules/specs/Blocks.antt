@@ -43,14 +43,22 @@ apart true false p true y′ p′ = refl
 apart true true p true false p′ = sym (and-false p)
 apart true true p true true p′ = refl
 
-places-parted : (xs ys ps : List ℕ) (i to : ℕ) → i ≤ to → placesInRange (drop i xs) (drop i ys) (drop i ps) ≡ (placesInRange (between xs i to) (between ys i to) (between ps i to) && placesInRange (drop to xs) (drop to ys) (drop to ps))
+places-parted : (xs ys ps : List ℕ) (i to : ℕ) → i ≤ to
+    → placesInRange (drop i xs) (drop i ys) (drop i ps)
+    ≡ (placesInRange (between xs i to) (between ys i to) (between ps i to) && placesInRange (drop to xs) (drop to ys) (drop to ps))
 places-parted xs ys ps i to h =
     (λ j. placesInRange (sym (between-rest xs i to h) j) (sym (between-rest ys i to h) j) (sym (between-rest ps i to h) j))
-    ∙ rw (every-append (atMost 2047) (between xs i to) (drop to xs), every-append (atMost 2047) (between ys i to) (drop to ys), every-append (atMost 1) (between ps i to) (drop to ps))
-    (apart (every (atMost 2047) (between xs i to)) (every (atMost 2047) (between ys i to)) (every (atMost 1) (between ps i to)) (every (atMost 2047) (drop to xs)) (every (atMost 2047) (drop to ys)) (every (atMost 1) (drop to ps)))
+    ∙ rw (
+      every-append (atMost 2047) (between xs i to) (drop to xs),
+      every-append (atMost 2047) (between ys i to) (drop to ys),
+      every-append (atMost 1) (between ps i to) (drop to ps),
+    )
+    (apart (every (atMost 2047) (between xs i to)) (every (atMost 2047) (between ys i to)) (every (atMost 1) (between ps i to))
+    (every (atMost 2047) (drop to xs)) (every (atMost 2047) (drop to ys)) (every (atMost 1) (drop to ps)))
 
 -- all of rule 7
-pub all-in-range : (e : Encoding) (xs ys : List ℕ) (ts : List ℤ) (ps : List ℕ) → (placesInRange xs ys ps && every (timeInRange e) ts) ≡ eventsInRange e xs ys ts ps
+pub all-in-range : (e : Encoding) (xs ys : List ℕ) (ts : List ℤ) (ps : List ℕ)
+    → (placesInRange xs ys ps && every (timeInRange e) ts) ≡ eventsInRange e xs ys ts ps
 all-in-range e xs ys ts ps =
     and-assoc (every (atMost 2047) xs) (every (atMost 2047) ys && every (atMost 1) ps) (every (timeInRange e) ts)
     ∙ ap (λ (b : Bool). every (atMost 2047) xs && b) (and-assoc (every (atMost 2047) ys) (every (atMost 1) ps) (every (timeInRange e) ts))
@@ -71,19 +79,23 @@ module _ (from : ℤ) (xs ys : List ℕ) (ts : List ℤ) (ps : List ℕ) where
     -- a time that falls in a block falls
     pub looked-falls : (to : ℕ) → i ≤ to → falls last (between ts i to) ≡ true → Looks (falls from ts) xs ys ps (record { falls = true; fine = false })
     looked-falls to h f =
-        let b : falls from ts ≡ true = sym (k .order) ∙ ap (falls last) (sym (between-rest ts i to h)) ∙ falls-append last (between ts i to) (drop to ts) ∙ rw f in
+        let b : falls from ts ≡ true =
+        sym (k .order) ∙ ap (falls last) (sym (between-rest ts i to h)) ∙ falls-append last (between ts i to) (drop to ts) ∙ rw f in
         record { is-falls = sym b; is-fine = λ z. absurd (true≢false (sym b ∙ z)) }
 
-    pub looking-turn : (to : ℕ) → i < to → to ≤ length ts → falls last (between ts i to) ≡ false → (ok′ : Bool) → ok′ ≡ (ok && placesInRange (between xs i to) (between ys i to) (between ps i to))
+    pub looking-iteration : (to : ℕ) → i < to → to ≤ length ts → falls last (between ts i to) ≡ false → (ok′ : Bool)
+        → ok′ ≡ (ok && placesInRange (between xs i to) (between ys i to) (between ps i to))
         → Looking (getD ts (to - 1) (pos 0)) ok′ to
-    looking-turn to h w f ok′ is =
+    looking-iteration to h w f ok′ is =
         let size : length (between ts i to) ≡ suc (to - 1 - i) = length-between ts i to (omega arith) w ∙ omega arith in
         let n : i + (to - 1 - i) ≡ to - 1 = omega arith in
         let l : lastOf last (between ts i to) ≡ getD ts (to - 1) (pos 0) =
         rw size (between-getD ts i to (pos 0) (to - 1 - i) (omega arith) ∙ ap (λ (j : ℕ). getD ts j (pos 0)) n) in
         record {
           within = w;
-          order = sym (rw (f, l) at (sym (k .order) ∙ ap (falls last) (sym (between-rest ts i to (omega arith))) ∙ falls-append last (between ts i to) (drop to ts)));
+          order =
+              sym (rw (f, l) at
+              (sym (k .order) ∙ ap (falls last) (sym (between-rest ts i to (omega arith))) ∙ falls-append last (between ts i to) (drop to ts)));
           places =
               ap (λ (b : Bool). b && placesInRange (drop to xs) (drop to ys) (drop to ps)) is
               ∙ and-assoc ok (placesInRange (between xs i to) (between ys i to) (between ps i to)) (placesInRange (drop to xs) (drop to ys) (drop to ps))
@@ -92,7 +104,8 @@ module _ (from : ℤ) (xs ys : List ℕ) (ts : List ℤ) (ps : List ℕ) where
         }
 
     -- the last block
-    pub looked-end : (sized : length ts ≡ length xs) → length ys ≡ length xs → length ps ≡ length xs → (to : ℕ) → to ≡ length ts → (fall fine : Bool) → fall ≡ falls last (between ts i to) → fine ≡ (ok && placesInRange (between xs i to) (between ys i to) (between ps i to))
+    pub looked-end : (sized : length ts ≡ length xs) → length ys ≡ length xs → length ps ≡ length xs → (to : ℕ) → to ≡ length ts → (fall fine : Bool)
+        → fall ≡ falls last (between ts i to) → fine ≡ (ok && placesInRange (between xs i to) (between ys i to) (between ps i to))
         → Looks (falls from ts) xs ys ps (record { falls = fall; fine = fine })
     looked-end same-t same-y same-p to is fall fine f p =
         let all-t : between ts i to ≡ drop i ts = take-all (to - i) (drop i ts) (omega (arith, length-drop i ts)) in
@@ -105,7 +118,8 @@ module _ (from : ℤ) (xs ys : List ℕ) (ts : List ℤ) (ps : List ℕ) where
         }
 
 -- no event, no last time
-pub looked-none : (xs ys : List ℕ) (ts : List ℤ) (ps : List ℕ) → length ts ≤ 0 → length xs ≤ 0 → length ys ≤ 0 → length ps ≤ 0 → Looks (fallsAfter Never ts) xs ys ps (record { falls = false; fine = true })
+pub looked-none : (xs ys : List ℕ) (ts : List ℤ) (ps : List ℕ) → length ts ≤ 0 → length xs ≤ 0 → length ys ≤ 0 → length ps ≤ 0
+    → Looks (fallsAfter Never ts) xs ys ps (record { falls = false; fine = true })
 looked-none xs ys ts ps ht hx hy hp = record {
   is-falls = sym (sym (falls-first ts) ∙ falls-end ts (getD ts 0 (pos 0)) 0 ht);
   is-fine = λ z. sym (rw (every-none (atMost 2047) xs hx, every-none (atMost 2047) ys hy, every-none (atMost 1) ps hp));

@@ -1,17 +1,18 @@
 -- What the loops of a check keep, and what a check that is passed says.
 use mathlib.Core.Path.{_≡_, refl, sym, ap, _∙_}
-use mathlib.Core.Bool.{Bool, true, false, cond, _&&_, _||_, true≢false, and-true, and-assoc}
+use mathlib.Core.Bool.{Bool, true, false, cond, _&&_, _||_, true≢false}
 use mathlib.Core.List.{List, [], _∷_}
 use Prim.Native.Nat.{ℕ, zero, suc, _+_, _-_, _^_, _≤_, _<_}
 use native.Mathlib.Omega.{arith}
+use native.Mathlib.Nat.{zero-add}
 use native.Mathlib.Numerals.{add-one}
-use lib.Bits.{bitOr, or-lt, or-add-and, and-le-l, and-le-r}
+use lib.Bits.{bitOr}
 use lib.Dec.{eqb, ltb, leb}
 use lib.ListN.{length, getD, drop, drop-of-length-le}
 use lib.Seq.{drop-cons}
 use lib.IntN.{ℤ, pos, negsuc}
 use lib.Signed.{ltZ, nonNeg}
-use borrow.Author.Tests.{eqb-true, leb-true, leb-false, ltb-true, ltb-false, le-leb, lt-leb, lt-ltb, le-ltb}
+use borrow.Author.Tests.{eqb-true, leb-true, ltb-true, ltb-false, lt-ltb, le-ltb}
 use Rattle.laws_stream.specs.Machine.{and-both}
 use Rattle.evt_types.specs.declared.Encoding.{Encoding}
 use Rattle.evt_types.specs.declared.Encoding.the-variants.{Evt2, Evt3}
@@ -19,6 +20,7 @@ use Rattle.evt_types.specs.declared.Refusal.{Refusal}
 use Rattle.evt_types.specs.declared.Refusal.the-variants.{TooLong, TimeOrder, EventOutOfRange, StateOutOfRange, ColumnLengths}
 use Rattle.write_buffer.specs.declared.EncoderState.{EncoderState}
 use Rattle.write_buffer.specs.Columns.{Sized, Whole}
+use Rattle.write_buffer.specs.Every.{everyFrom, Gathered, gathered-iteration, gathered-end}
 use Rattle.evt_types.specs.Num.{natural}
 use Rattle.write_rules.specs.declared.Check.{Check}
 use Rattle.write_rules.specs.declared.Check.the-variants.{Passed, Failed}
@@ -32,35 +34,29 @@ pub or-neither : (a b : Bool) → (a || b) ≡ false → (a ≡ false) × (b ≡
 or-neither true b h = absurd (true≢false h)
 or-neither false b h = (refl, h)
 
--- ---- a column whose elements are gathered by `|`: all are below a power of two where that is
+-- ---- a column whose elements are gathered by `|`
 
-or-as : (c d : Bool) (k most a b : ℕ) → suc most ≡ 2 ^ k → leb a most ≡ c → leb b most ≡ d → leb (bitOr a b) most ≡ (c && d)
-or-as true true k most a b e p q =
-    let lt = or-lt k a b (omega (arith, leb-true a most p)) (omega (arith, leb-true b most q)) in
-    le-leb (bitOr a b) most (omega arith)
-or-as true false k most a b e p q = lt-leb (bitOr a b) most (omega (arith, leb-true a most p, leb-false b most q, or-add-and a b, and-le-l a b))
-or-as false d k most a b e p q = lt-leb (bitOr a b) most (omega (arith, leb-false a most p, or-add-and a b, and-le-r a b))
+next-place : (f : ℕ → Bool) (n i : ℕ) → everyFrom f n (suc i) ≡ everyFrom (λ j. f (suc j)) n i
+unfolding everyFrom
+next-place f zero i = refl
+next-place f (suc n) i = let e : suc i + 1 ≡ suc (i + 1) = omega arith in rw e (ap (λ (b : Bool). f (suc i) && b) (next-place f n (i + 1)))
 
-pub or-most : (k most a b : ℕ) → suc most ≡ 2 ^ k → leb (bitOr a b) most ≡ (leb a most && leb b most)
-or-most k most a b e = or-as (leb a most) (leb b most) k most a b e refl refl
+-- every element of a list, by its place
+every-place : {A : Type 0} (f : A → Bool) (d : A) (l : List A) → everyFrom (λ j. f (getD l j d)) (length l) 0 ≡ every f l
+unfolding every everyFrom
+every-place f d [] = refl
+every-place f d (a ∷ l) = ap (λ (b : Bool). f a && b) (next-place (λ j. f (getD (a ∷ l) j d)) (length l) 0 ∙ every-place f d l)
 
-module _ (k most : ℕ) (e : suc most ≡ 2 ^ k) (xs : List ℕ) where
-  -- at index i
-  abbrev pub Gathered : (all i : ℕ) → Type 0
-  Gathered all i = (i ≤ length xs) × ((leb all most && every (atMost most) (drop i xs)) ≡ every (atMost most) xs)
+-- the first i elements are gathered
+abbrev pub GatheredColumn : (most : ℕ) → List ℕ → (all i : ℕ) → Type 0
+GatheredColumn most xs all i = Gathered most (λ j. atMost most (getD xs j 0)) (length xs) 0 all i
 
-  pub gathered-start : Gathered 0 0
-  gathered-start = (omega arith, rw (le-leb 0 most (omega arith)))
+module _ (most : ℕ) (xs : List ℕ) {all i : ℕ} (g : GatheredColumn most xs all i) where
+  pub column-iteration : i < length xs → GatheredColumn most xs (bitOr all (getD xs i 0)) (i + 1)
+  column-iteration h = gathered-iteration g h (getD xs i 0) (rw zero-add)
 
-  pub gathered-turn : (all i : ℕ) → i < length xs → Gathered all i → Gathered (bitOr all (getD xs i 0)) (i + 1)
-  unfolding every
-  gathered-turn all i h g =
-      let x = getD xs i 0 in
-      (omega arith, rw (add-one, or-most k most all x e, and-assoc) (sym (rw (drop-cons xs i 0 h) refl) ∙ g .1))
-
-  pub gathered-end : (all i : ℕ) → length xs ≤ i → Gathered all i → leb all most ≡ every (atMost most) xs
-  unfolding every
-  gathered-end all i h g = sym (and-true (leb all most)) ∙ (rw (drop-of-length-le xs h) at (g .1))
+  pub column-end : length xs ≤ i → leb all most ≡ every (atMost most) xs
+  column-end h = gathered-end g h ∙ every-place (atMost most) 0 xs
 
 -- ---- times that don't fall
 

@@ -7,7 +7,7 @@ use native.Mathlib.Nat.{add-zero}
 use native.Mathlib.Numerals.{add-one}
 use lib.ListN.{length, drop, take, set, getD, length-append, drop-of-length-le}
 use lib.Seq.{sets, sets-eq, length-sets, drop-cons, take-at}
-use Rattle.write_buffer.specs.Storing.{Storing, storing-start, storing-turn, stored-both}
+use Rattle.write_buffer.specs.Storing.{Storing, storing-start, storing-iteration, stored-both}
 use Rattle.write_text.specs.Text.{digit, decimal, decimal-one, decimal-more, decimal-few}
 
 -- `text`, which has at most `most` bytes, is stored from `at` on, and r is where it ends
@@ -16,7 +16,8 @@ pub record Stored (most : ℕ) (out₀ : List ℕ) (at : ℕ) (text : List ℕ) 
   pub few : length text ≤ most
   pub stores : out ≡ sets out₀ at text
 
-pub stored-weaken : {m n : ℕ} {out₀ : List ℕ} {at : ℕ} {text : List ℕ} {r : ℕ} {out : List ℕ} → m ≤ n → Stored m out₀ at text r out → Stored n out₀ at text r out
+pub stored-weaken : {m n : ℕ} {out₀ : List ℕ} {at : ℕ} {text : List ℕ} {r : ℕ} {out : List ℕ} → m ≤ n → Stored m out₀ at text r out
+    → Stored n out₀ at text r out
 stored-weaken h s = record { ends = s .ends; few = omega (arith, s .few); stores = s .stores }
 
 -- one behind the other
@@ -46,10 +47,11 @@ module _ {text : List ℕ} {at : ℕ} {out₀ : List ℕ} where
   pub copying-start : Copying text at out₀ 0 out₀
   copying-start = rw (add-zero at) storing-start
 
-  pub copying-turn : {i : ℕ} {out out′ : List ℕ} → i < length text → out′ ≡ set out (at + i) (getD text i 0) → Copying text at out₀ i out → Copying text at out₀ (i + 1) out′
-  copying-turn {i} h o s =
+  pub copying-iteration : {i : ℕ} {out out′ : List ℕ} → i < length text → out′ ≡ set out (at + i) (getD text i 0) → Copying text at out₀ i out
+      → Copying text at out₀ (i + 1) out′
+  copying-iteration {i} h o s =
       let is : at + (i + 1) ≡ at + i + 1 = omega arith in
-      rw is (storing-turn (getD text i 0 ∷ []) (drop (i + 1) text) (drop-cons text i 0 h ∙ rw add-one) o s)
+      rw is (storing-iteration (getD text i 0 ∷ []) (drop (i + 1) text) (drop-cons text i 0 h ∙ rw add-one) o s)
 
   pub copying-end : {i : ℕ} {out : List ℕ} → length text ≤ i → Copying text at out₀ i out → Stored (length text) out₀ at text (at + length text) out
   copying-end {i} {out} h s = record { ends = refl; few = omega arith; stores = rw (drop-of-length-le text h) at (s .stores) }
@@ -63,7 +65,8 @@ module _ {out₀ : List ℕ} {at : ℕ} where
   pub stored-digit : (n : ℕ) {out : List ℕ} → n < 10 → out ≡ set out₀ at (digit n) → Stored 20 out₀ at (decimal n) (at + 1) out
   stored-digit n h e = rw (decimal-one n h) (stored-weaken (omega arith) (stored-byte (digit n) e))
 
-  pub stored-digits : (n : ℕ) {r : ℕ} {o₁ o₂ : List ℕ} → 10 ≤ n → n < 2 ^ 64 → Stored 20 out₀ at (decimal (n / 10)) r o₁ → o₂ ≡ set o₁ r (digit (n % 10)) → Stored 20 out₀ at (decimal n) (r + 1) o₂
+  pub stored-digits : (n : ℕ) {r : ℕ} {o₁ o₂ : List ℕ} → 10 ≤ n → n < 2 ^ 64 → Stored 20 out₀ at (decimal (n / 10)) r o₁ → o₂ ≡ set o₁ r (digit (n % 10))
+      → Stored 20 out₀ at (decimal n) (r + 1) o₂
   stored-digits n h k s e =
       let both = stored-then s (stored-byte (digit (n % 10)) e) in
       let is = decimal-more n h in

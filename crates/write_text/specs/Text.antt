@@ -51,7 +51,8 @@ pub decimal-more : (n : ℕ) → 10 ≤ n → decimal n ≡ decimal (n / 10) ++ 
 unfolding decimal digits
 decimal-more n h = rw (le-ltb n 10 h) (ap (λ (d : List ℕ). d ++ (digit (n % 10) ∷ [])) (digits-same n (suc (n / 10)) (n / 10) (omega arith) (omega arith)))
 
-few-as : (b : Bool) (k j n : ℕ) → ltb n 10 ≡ b → (10 ≤ n → length (digits j (n / 10)) ≤ k) → length (cond b (digit n ∷ []) (digits j (n / 10) ++ (digit (n % 10) ∷ []))) ≤ suc k
+few-as : (b : Bool) (k j n : ℕ) → ltb n 10 ≡ b → (10 ≤ n → length (digits j (n / 10)) ≤ k)
+    → length (cond b (digit n ∷ []) (digits j (n / 10) ++ (digit (n % 10) ∷ []))) ≤ suc k
 few-as true k j n q ih = omega arith
 few-as false k j n q ih = omega (arith, ih (ltb-false n 10 q), length-append (digits j (n / 10)) (digit (n % 10) ∷ []))
 

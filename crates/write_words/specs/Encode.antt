@@ -6,6 +6,7 @@ use lib.ListN.{length}
 use Rattle.laws_stream.specs.Machine.{Note, run, emits, words}
 use Rattle.laws_stream.specs.Words.{stream}
 use Rattle.evt_types.specs.Event.{Event}
+use Rattle.evt_types.specs.Layout.{wordSize2, wordSize3}
 use Rattle.evt_types.specs.declared.Encoding.{Encoding}
 use Rattle.evt_types.specs.declared.Encoding.the-variants.{Evt2, Evt3}
 use Rattle.write_buffer.specs.declared.EncoderState.{EncoderState}
@@ -27,8 +28,8 @@ encodeState Evt3 v es = run writer3 v (runs es)
 
 -- the bytes of a word
 abbrev pub encodeSize : Encoding → ℕ
-encodeSize Evt2 = 4
-encodeSize Evt3 = 2
+encodeSize Evt2 = wordSize2
+encodeSize Evt3 = wordSize3
 
 unfoldable pub encodeBytes : Encoding → EncoderState → List Event → List ℕ
 encodeBytes e v es = stream (encodeSize e) (words (encodeNotes e v es))

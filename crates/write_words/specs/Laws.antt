@@ -5,30 +5,33 @@ use mathlib.Core.List.{List, [], _∷_, _++_}
 use Prim.Native.Nat.{ℕ, zero, suc, _+_, _*_, _%_, _^_, _≤_, _<_}
 use native.Mathlib.Omega.{arith}
 use lib.Dec.{ltb}
-use lib.ListN.{length, length-append, length-map}
-use Rattle.laws_stream.specs.Machine.{Note, All, all-append, emits, words, words-append, notes, notes-append}
+use lib.ListN.{length, length-map}
+use Rattle.laws_stream.specs.Machine.{Note, All, all-of, all-append, words, words-append, notes, notes-append}
 use Rattle.laws_stream.specs.Mask.{Inc, mask}
 use Rattle.laws_stream.specs.Words.{Fits}
 use Rattle.evt_types.specs.Event.{Event}
+use Rattle.evt_types.specs.Layout.{wordSize2, wordSize3}
 use Rattle.evt_types.specs.declared.Encoding.{Encoding}
 use Rattle.evt_types.specs.declared.Encoding.the-variants.{Evt2, Evt3}
 use Rattle.write_buffer.specs.declared.EncoderState.{EncoderState}
 use Rattle.write_buffer.specs.Columns.{event}
 use Rattle.write_buffer.specs.Sent.{due}
-use Rattle.evt2_encoder.specs.Evt2.{encoded2, writer2, notes2, fits2}
-use Rattle.evt3_run_rules.specs.Runs.{Run, runs, runs-are, given, givenBy, spread, Rising, Valid, firstX, lastX}
-use Rattle.evt3_lead_words.specs.Evt3.{highWord3, lowWord3, rowWord3, highSent3, lowSent3, rowSent3, leads3, nearby, beyond, windows, vectored, singles, masks, vectors, body3, encode3, encoded3, writer3}
+use Rattle.evt2_encoder.specs.Evt2.{writer2, encode-notes2, encode-fits2}
+use Rattle.evt3_run_rules.specs.Runs.{Run, runs, runs-are, given, spread, Rising, Valid, firstX, lastX}
+use Rattle.evt3_lead_words.specs.Evt3.{highWord3, lowWord3, rowWord3, highSent3, lowSent3, rowSent3, leads3, nearby}
+use Rattle.evt3_lead_words.specs.Evt3.{beyond, maskCount, vectored, singles, masks, vectors, body3, encode3, writer3}
 use Rattle.write_words.specs.Encode.{encodeNotes, encodeSize, encodeBytes}
-use Rattle.write_buffer.specs.Storing.{bytesFrom, bytes-cons}
-use Rattle.evt2_encoder.specs.Pass2.{bytes2, few2}
+use Rattle.write_buffer.specs.Emits.{events-single, emits-fit, emits-notes, emits-few}
+use Rattle.write_buffer.specs.Storing.{bytesFrom}
+use Rattle.evt2_encoder.specs.Pass2.{few2}
 use Rattle.evt3_run_words.specs.Parts.{bytes3, few3}
-use Rattle.evt3_run_words.specs.Windows.{near-inc, inc-to}
+use Rattle.evt3_run_words.specs.Masks.{near-inc, inc-to}
 
--- ---- the windows of a run hold all of it
+-- ---- the masks of a run hold all of it
 
 -- they reach the last
-pub reach : (xs : List ℕ) → Rising xs → Inc (firstX xs) (firstX xs + 12 * windows xs) xs
-unfolding windows
+pub reach : (xs : List ℕ) → Rising xs → Inc (firstX xs) (firstX xs + 12 * maskCount xs) xs
+unfolding maskCount
 reach xs r = inc-to (firstX xs) (suc (lastX xs)) _ xs (omega arith) (r .rises)
 
 module _ (t y p mid : ℕ) where
@@ -66,7 +69,7 @@ module _ (t y p : ℕ) where
   body-notes xs v = go (vectored xs)
     where
       go : (b : Bool) → notes (cond b (vectors t y p xs) (singles t y p xs)) ≡ spread t y p xs
-      go true = masks-notes (windows xs) (firstX xs) xs (reach xs v)
+      go true = masks-notes (maskCount xs) (firstX xs) xs (reach xs v)
       go false = singles-notes xs
 
 pub due-notes : (b : Bool) (w : ℕ) (ns : List (Note ℕ Event)) → notes (due b w ++ ns) ≡ notes ns
@@ -84,90 +87,73 @@ leads-notes v t y =
 
 pub encode-notes3 : (v : EncoderState) (r : Run) → Valid r → notes (encode3 v r) ≡ given r
 unfolding encode3
-encode-notes3 v r va = notes-append (leads3 v (r .t) (r .y)) (body3 (r .t) (r .y) (r .p) (r .xs)) ∙ rw (leads-notes v (r .t) (r .y), body-notes (r .t) (r .y) (r .p) (r .xs) va)
-
-pub runs-notes3 : (v : EncoderState) (rs : List Run) → All Valid rs → notes (emits writer3 v rs) ≡ givenBy rs
-runs-notes3 v [] va = refl
-runs-notes3 v (r ∷ rs) va = rw (notes-append, encode-notes3 v r (va .0), runs-notes3 (encoded3 v r) rs (va .1))
+encode-notes3 v r va =
+    notes-append (leads3 v (r .t) (r .y)) (body3 (r .t) (r .y) (r .p) (r .xs)) ∙ rw (leads-notes v (r .t) (r .y), body-notes (r .t) (r .y) (r .p) (r .xs) va)
 
 -- THE NOTES of some events' words are the events, in order
 pub encode-notes : (e : Encoding) (v : EncoderState) (es : List Event) → notes (encodeNotes e v es) ≡ es
-encode-notes Evt2 v es = notes2 v es
-encode-notes Evt3 v es = let r = runs-are es in runs-notes3 v (runs es) (r .0) ∙ r .1
+encode-notes Evt2 v es = emits-notes writer2 (λ e. Unit) (λ e. e ∷ []) (λ v e u. encode-notes2 v e) v es (all-of _ (λ e. tt) es) ∙ events-single es
+encode-notes Evt3 v es = let r = runs-are es in emits-notes writer3 Valid given encode-notes3 v (runs es) (r .0) ∙ r .1
 
 -- ---- widths
 
-column-fits : (k p x : ℕ) → k < 16 → k * 2 ^ 12 + p % 2 * 2 ^ 11 + x % 2048 < 256 ^ 2
+column-fits : (k p x : ℕ) → k < 16 → k * 2 ^ 12 + p % 2 * 2 ^ 11 + x % 2048 < 256 ^ wordSize3
 column-fits k p x h =
     let a : p % 2 < 2 = omega arith in
     let b : x % 2048 < 2048 = omega arith in
     omega arith
 
-singles-fit : (t y p : ℕ) (xs : List ℕ) → All (Fits 2) (words (singles t y p xs))
+singles-fit : (t y p : ℕ) (xs : List ℕ) → All (Fits wordSize3) (words (singles t y p xs))
 singles-fit t y p [] = tt
 singles-fit t y p (x ∷ xs) = (column-fits 2 p x (omega arith), singles-fit t y p xs)
 
-masks-fit : (t y p k b : ℕ) (xs : List ℕ) → All (Fits 2) (words (masks t y p k b xs))
+masks-fit : (t y p k b : ℕ) (xs : List ℕ) → All (Fits wordSize3) (words (masks t y p k b xs))
 masks-fit t y p zero b xs = tt
 masks-fit t y p (suc k) b xs =
     let m = mask b (nearby (b + 12) xs) in
     (omega arith, masks-fit t y p k (b + 12) (beyond (b + 12) xs))
 
-body-fits : (t y p : ℕ) (xs : List ℕ) → All (Fits 2) (words (body3 t y p xs))
+body-fits : (t y p : ℕ) (xs : List ℕ) → All (Fits wordSize3) (words (body3 t y p xs))
 unfolding body3
 body-fits t y p xs = go (vectored xs)
   where
-    go : (b : Bool) → All (Fits 2) (words (cond b (vectors t y p xs) (singles t y p xs)))
-    go true = (column-fits 3 p (firstX xs) (omega arith), masks-fit t y p (windows xs) (firstX xs) xs)
+    go : (b : Bool) → All (Fits wordSize3) (words (cond b (vectors t y p xs) (singles t y p xs)))
+    go true = (column-fits 3 p (firstX xs) (omega arith), masks-fit t y p (maskCount xs) (firstX xs) xs)
     go false = singles-fit t y p xs
 
-due-fits : (b : Bool) (w : ℕ) (ns : List (Note ℕ Event)) → w < 256 ^ 2 → All (Fits 2) (words ns) → All (Fits 2) (words (due b w ++ ns))
+due-fits : (b : Bool) (w : ℕ) (ns : List (Note ℕ Event)) → w < 256 ^ wordSize3 → All (Fits wordSize3) (words ns) → All (Fits wordSize3) (words (due b w ++ ns))
 due-fits true w ns h k = k
 due-fits false w ns h k = (h, k)
 
-leads-fit : (v : EncoderState) (t y : ℕ) → All (Fits 2) (words (leads3 v t y))
+leads-fit : (v : EncoderState) (t y : ℕ) → All (Fits wordSize3) (words (leads3 v t y))
 unfolding leads3
 leads-fit v t y =
     due-fits (highSent3 v t) (highWord3 t) _ (omega arith)
     (due-fits (lowSent3 v t) (lowWord3 t) _ (omega arith) (last (rowSent3 v y)))
   where
-    last : (b : Bool) → All (Fits 2) (words (due b (rowWord3 y)))
+    last : (b : Bool) → All (Fits wordSize3) (words (due b (rowWord3 y)))
     last true = tt
     last false = (omega arith, tt)
 
-pub encode-fits3 : (v : EncoderState) (r : Run) → All (Fits 2) (words (encode3 v r))
+pub encode-fits3 : (v : EncoderState) (r : Run) → All (Fits wordSize3) (words (encode3 v r))
 unfolding encode3
-encode-fits3 v r = rw words-append (all-append (Fits 2) (words (leads3 v (r .t) (r .y))) (words (body3 (r .t) (r .y) (r .p) (r .xs))) (leads-fit v (r .t) (r .y)) (body-fits (r .t) (r .y) (r .p) (r .xs)))
-
-fits3 : (v : EncoderState) (rs : List Run) → All (Fits 2) (words (emits writer3 v rs))
-fits3 v [] = tt
-fits3 v (r ∷ rs) = rw words-append (all-append (Fits 2) (words (encode3 v r)) (words (emits writer3 (encoded3 v r) rs)) (encode-fits3 v r) (fits3 (encoded3 v r) rs))
+encode-fits3 v r =
+    rw words-append (all-append (Fits wordSize3) (words (leads3 v (r .t) (r .y))) (words (body3 (r .t) (r .y) (r .p) (r .xs))) (leads-fit v (r .t) (r .y))
+    (body-fits (r .t) (r .y) (r .p) (r .xs)))
 
 -- EVERY WORD fits its width
 pub encode-fits : (e : Encoding) (v : EncoderState) (es : List Event) → All (Fits (encodeSize e)) (words (encodeNotes e v es))
-encode-fits Evt2 v es = fits2 v es
-encode-fits Evt3 v es = fits3 v (runs es)
+encode-fits Evt2 v es = emits-fit writer2 wordSize2 encode-fits2 v es
+encode-fits Evt3 v es = emits-fit writer3 wordSize3 encode-fits3 v (runs es)
 
 -- ---- how many bytes
 
-few-events : (v : EncoderState) (es : List Event) → length (bytesFrom 4 writer2 v es) ≤ 8 * length es
-unfolding bytesFrom
-few-events v [] = omega arith
-few-events v (e ∷ es) =
-    let a = bytes2 v e in
-    let b = bytesFrom 4 writer2 (encoded2 v e) es in
-    omega (arith, ap length (bytes-cons 4 writer2 v e es), length-append a b, few2 v e, few-events (encoded2 v e) es)
-
-few-runs : (v : EncoderState) (rs : List Run) → All Valid rs → length (bytesFrom 2 writer3 v rs) ≤ 8 * length (givenBy rs)
-unfolding bytesFrom
-few-runs v [] va = omega arith
-few-runs v (r ∷ rs) va =
-    let a = bytes3 v r in
-    let b = bytesFrom 2 writer3 (encoded3 v r) rs in
-    let n : length (given r) ≡ length (r .xs) = length-map (r .xs) (λ x. event x (r .y) (r .t) (r .p)) in
-    omega (arith, ap length (bytes-cons 2 writer3 v r rs), length-append a b, few3 v r (va .0 .some), few-runs (encoded3 v r) rs (va .1), length-append (given r) (givenBy rs), n)
+few-run : (v : EncoderState) (r : Run) → Valid r → length (bytes3 v r) ≤ 8 * length (given r)
+few-run v r va = let n : length (given r) ≡ length (r .xs) = length-map (r .xs) (λ x. event x (r .y) (r .t) (r .p)) in omega (arith, few3 v r (va .some))
 
 pub encode-few : (e : Encoding) (v : EncoderState) (es : List Event) → length (encodeBytes e v es) ≤ 8 * length es
 unfolding encodeBytes bytesFrom
-encode-few Evt2 v es = few-events v es
-encode-few Evt3 v es = let r = runs-are es in omega (arith, few-runs v (runs es) (r .0), ap length (r .1))
+encode-few Evt2 v es =
+    let few = emits-few writer2 (λ e. Unit) (λ e. e ∷ []) wordSize2 (λ v e u. few2 v e) v es (all-of _ (λ e. tt) es) in
+    omega (arith, few, ap length (events-single es))
+encode-few Evt3 v es = let r = runs-are es in omega (arith, emits-few writer3 Valid given wordSize3 few-run v (runs es) (r .0), ap length (r .1))

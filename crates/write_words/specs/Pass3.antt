@@ -8,23 +8,22 @@ use lib.Seq.{sets}
 use lib.IntN.{ℤ}
 use Rattle.laws_stream.specs.Part.{between, between-at, length-between}
 use Rattle.evt_types.specs.Event.{Event}
-use Rattle.evt_types.specs.declared.Sent.the-variants.{Value}
+use Rattle.evt_types.specs.Layout.{wordSize3, grain3}
 use Rattle.laws_stream.specs.Machine.{run}
-use Rattle.laws_stream.specs.Words.{stream}
-use Rattle.write_buffer.specs.Sent.{sentNumber}
+use Rattle.write_buffer.specs.Sent.{stateAt, state-some, sentNumber}
 use Rattle.write_buffer.specs.declared.EncoderState.{EncoderState}
 use Rattle.write_buffer.specs.declared.Put.{Put}
 use Rattle.evt_types.specs.Columns.{colX}
 use Rattle.write_buffer.specs.Columns.{Sized, eventsIn, eventsPast, eventOf, events-at, events-end, events-x, events-drop, events-length}
-use Rattle.write_buffer.specs.Storing.{Roomy, bytesFrom, Going, going-start, going-turn, going-room, going-end}
+use Rattle.write_buffer.specs.Storing.{Roomy, bytesFrom, Going, going-start, going-iteration, going-room, going-end}
 use Rattle.evt3_run_rules.specs.Runs.{Run, Rising, runs, runs-are, runOf, runs-at, follow-le}
-use Rattle.evt3_lead_words.specs.Evt3.{writer3}
-use Rattle.evt3_lead_words.specs.Leads.{leadsBytes, leads-held}
-use Rattle.evt3_run_words.specs.Parts.{bytes3, few3, bytes-parts, bodyWords, Part}
+use Rattle.evt3_lead_words.specs.Evt3.{stateOf3, writer3}
+use Rattle.evt3_lead_words.specs.Leads.{leadsBytes, leads-number}
+use Rattle.evt3_run_words.specs.Parts.{bytes3, few3, bytes-parts, bodyBytes, Part}
 use Rattle.evt3_run_rules.specs.Marks.{goOn, Marked, marks-start}
 
 abbrev pub stream3 : EncoderState → List Event → List ℕ
-stream3 v es = bytesFrom 2 writer3 v (runs es)
+stream3 v es = bytesFrom wordSize3 writer3 v (runs es)
 
 abbrev pub passed3 : EncoderState → List Event → ℕ → Put
 passed3 v es at = record { state = run writer3 v (runs es); at = at + length (stream3 v es) }
@@ -36,16 +35,7 @@ map-take f (suc n) (x ∷ l) = ap (λ (r : List _). f x ∷ r) (map-take f n l)
 
 -- the state at index i, where `high`, `low` and `row` were sent last
 abbrev pub stateAt3 : EncoderState → ℕ → (high low row : ℕ) → EncoderState
-stateAt3 v zero high low row = v
-stateAt3 v (suc i) high low row = record { «time_high» = Value high; «time_low» = Value low; y = Value row }
-
-pub state-some3 : (v : EncoderState) (i high low row : ℕ) → 0 < i → stateAt3 v i high low row ≡ record { «time_high» = Value high; «time_low» = Value low; y = Value row }
-state-some3 v zero high low row h = absurd (omega arith)
-state-some3 v (suc i) high low row h = refl
-
-pub state-none3 : (v : EncoderState) (i high low row : ℕ) → i ≤ 0 → stateAt3 v i high low row ≡ v
-state-none3 v zero high low row h = refl
-state-none3 v (suc i) high low row h = absurd (omega arith)
+stateAt3 v i high low row = stateAt i v (stateOf3 high low row)
 
 -- at index i
 pub record Under3 (v₀ : EncoderState) (xs ys : List ℕ) (ts : List ℤ) (ps : List ℕ) (at₀ : ℕ) (out₀ out : List ℕ) (high low row at i mask : ℕ) : Type 0 where
@@ -55,7 +45,7 @@ pub record Under3 (v₀ : EncoderState) (xs ys : List ℕ) (ts : List ℤ) (ps :
   pub is-low : low ≡ sentNumber (stateAt3 v₀ i high low row .«time_low»)
   pub is-row : row ≡ sentNumber (stateAt3 v₀ i high low row .y)
   pub marked : Marked xs ys ts ps i mask
-  pub going : Going 2 writer3 v₀ (runs (eventsIn xs ys ts ps)) at₀ out₀ (runs (eventsPast xs ys ts ps i)) (stateAt3 v₀ i high low row) at out
+  pub going : Going wordSize3 writer3 v₀ (runs (eventsIn xs ys ts ps)) at₀ out₀ (runs (eventsPast xs ys ts ps i)) (stateAt3 v₀ i high low row) at out
 
 module _ {xs ys : List ℕ} {ts : List ℤ} {ps : List ℕ} (sized : Sized xs ys ts ps) where
   -- the run at i ends within the columns
@@ -67,71 +57,87 @@ module _ {xs ys : List ℕ} {ts : List ℤ} {ps : List ℕ} (sized : Sized xs ys
       omega (arith, n, follow-le (a .t) (a .y) (a .p) (a .x) es)
 
   pub run-first : (i e : ℕ) → i < length xs → e ≡ i + 1 + goOn xs ys ts ps i
-      → runs (eventsPast xs ys ts ps i) ≡ runOf (eventOf xs ys ts ps i .t) (eventOf xs ys ts ps i .y) (eventOf xs ys ts ps i .p) (between xs i e) ∷ runs (eventsPast xs ys ts ps e)
+      → runs (eventsPast xs ys ts ps i)
+      ≡ runOf (eventOf xs ys ts ps i .t) (eventOf xs ys ts ps i .y) (eventOf xs ys ts ps i .p) (between xs i e) ∷ runs (eventsPast xs ys ts ps e)
   run-first i e h q =
       let a = eventOf xs ys ts ps i in
       let es = eventsPast xs ys ts ps (i + 1) in
       let n = goOn xs ys ts ps i in
       let m : e - (i + 1) ≡ n = omega arith in
       let part : between xs i e ≡ a .x ∷ map colX (take n es) =
-      between-at xs i e 0 (omega arith) (end-within i e h q) ∙ ap (λ (l : List ℕ). a .x ∷ l) (ap (λ (k : ℕ). take k (drop (i + 1) xs)) m ∙ sym (map-take colX n es ∙ ap (take n) (events-x xs ys ts ps sized (i + 1)))) in
+      between-at xs i e 0 (omega arith) (end-within i e h q)
+      ∙ ap (λ (l : List ℕ). a .x ∷ l) (ap (λ (k : ℕ). take k (drop (i + 1) xs)) m ∙ sym
+      (map-take colX n es ∙ ap (take n) (events-x xs ys ts ps sized (i + 1)))) in
       let left : drop n es ≡ eventsPast xs ys ts ps e = events-drop xs ys ts ps sized (i + 1) n ∙ ap (eventsPast xs ys ts ps) (sym q) in
       ap runs (events-at xs ys ts ps sized i h) ∙ runs-at a es ∙ rw (part, left)
 
   module _ {v₀ : EncoderState} {at₀ : ℕ} {out₀ : List ℕ} (near : at₀ ≤ 2 ^ 32) where
-    pub under-start3 : (high low row : ℕ) → high ≡ sentNumber (v₀ .«time_high») → low ≡ sentNumber (v₀ .«time_low») → row ≡ sentNumber (v₀ .y) → Under3 v₀ xs ys ts ps at₀ out₀ out₀ high low row at₀ 0 0
-    under-start3 high low row h l r = record { within = omega arith; small = omega arith; is-high = h; is-low = l; is-row = r; marked = marks-start xs ys ts ps; going = going-start 2 writer3 }
+    pub under-start3 : (high low row : ℕ) → high ≡ sentNumber (v₀ .«time_high») → low ≡ sentNumber (v₀ .«time_low») → row ≡ sentNumber (v₀ .y)
+        → Under3 v₀ xs ys ts ps at₀ out₀ out₀ high low row at₀ 0 0
+    under-start3 high low row h l r = record {
+      within = omega arith;
+      small = omega arith;
+      is-high = h;
+      is-low = l;
+      is-row = r;
+      marked = marks-start xs ys ts ps;
+      going = going-start wordSize3 writer3;
+    }
 
     module _ {out : List ℕ} {high low row at i mask : ℕ} (u : Under3 v₀ xs ys ts ps at₀ out₀ out high low row at i mask) where
       pub under-part3 : (e : ℕ) → i < length xs → e ≡ i + 1 + goOn xs ys ts ps i → Part xs i e (at + 8)
       under-part3 e h q = record { low = omega arith; high = end-within i e h q; few = sized .few; place = omega (arith, u .small, sized .few, near) }
 
       -- by the numbers of what was sent, or by the state
-      words-are : (t y p : ℕ) (part : List ℕ) → t < 2 ^ 64 → y < 2 ^ 16 → leadsBytes high low row t y ++ stream 2 (bodyWords p part) ≡ bytes3 (stateAt3 v₀ i high low row) (runOf t y p part)
+      words-are : (t y p : ℕ) (part : List ℕ) → t < 2 ^ 64 → y < 2 ^ 16
+          → leadsBytes high low row t y ++ bodyBytes p part ≡ bytes3 (stateAt3 v₀ i high low row) (runOf t y p part)
       words-are t y p part t< y< =
           let v = stateAt3 v₀ i high low row in
-          ap (λ (l : List ℕ). l ++ stream 2 (bodyWords p part)) (leads-held v high low row t y t< y< (u .is-high) (u .is-low) (u .is-row)) ∙ sym (bytes-parts v (runOf t y p part))
-
-      first-run : (e t y p : ℕ) → i < length xs → e ≡ i + 1 + goOn xs ys ts ps i → t ≡ eventOf xs ys ts ps i .t → y ≡ eventOf xs ys ts ps i .y → p ≡ eventOf xs ys ts ps i .p
-          → runs (eventsPast xs ys ts ps i) ≡ runOf t y p (between xs i e) ∷ runs (eventsPast xs ys ts ps e)
-      first-run e t y p h q et ey ep = run-first i e h q ∙ rw (et, ey, ep)
+          ap (λ (l : List ℕ). l ++ bodyBytes p part) (leads-number v high low row t y t< y< (u .is-high) (u .is-low) (u .is-row))
+          ∙ sym (bytes-parts v (runOf t y p part))
 
       pub under-rising3 : (e : ℕ) → i < length xs → e ≡ i + 1 + goOn xs ys ts ps i → Rising (between xs i e)
       under-rising3 e h q = (rw (run-first i e h q) at (runs-are (eventsPast xs ys ts ps i) .0)) .0
 
-      pub under-room3 : (e t y p : ℕ) → i < length xs → e ≡ i + 1 + goOn xs ys ts ps i → t ≡ eventOf xs ys ts ps i .t → y ≡ eventOf xs ys ts ps i .y → p ≡ eventOf xs ys ts ps i .p
-          → t < 2 ^ 64 → y < 2 ^ 16 → Roomy out₀ at₀ (length (stream3 v₀ (eventsIn xs ys ts ps)))
-          → Roomy out at (length (leadsBytes high low row t y ++ stream 2 (bodyWords p (between xs i e))))
-      under-room3 e t y p h q et ey ep t< y< r =
-          rw (words-are t y p (between xs i e) t< y<) (going-room 2 writer3 (runOf t y p (between xs i e)) (runs (eventsPast xs ys ts ps e)) (rw (first-run e t y p h q et ey ep) at (u .going)) r)
+      -- the run of t, y and p that ends before e
+      module _ (e t y p : ℕ) (h : i < length xs) (q : e ≡ i + 1 + goOn xs ys ts ps i)
+          (et : t ≡ eventOf xs ys ts ps i .t) (ey : y ≡ eventOf xs ys ts ps i .y) (ep : p ≡ eventOf xs ys ts ps i .p) (t< : t < 2 ^ 64) (y< : y < 2 ^ 16) where
+        abbrev here : Run
+        here = runOf t y p (between xs i e)
 
-      pub under-turn3 : (e t y p : ℕ) → i < length xs → e ≡ i + 1 + goOn xs ys ts ps i → t ≡ eventOf xs ys ts ps i .t → y ≡ eventOf xs ys ts ps i .y → p ≡ eventOf xs ys ts ps i .p
-          → t < 2 ^ 64 → y < 2 ^ 16 → (m : ℕ) → Marked xs ys ts ps e m → (r : ℕ) (out′ : List ℕ)
-          → r ≡ at + length (leadsBytes high low row t y ++ stream 2 (bodyWords p (between xs i e)))
-          → out′ ≡ sets out at (leadsBytes high low row t y ++ stream 2 (bodyWords p (between xs i e)))
-          → Under3 v₀ xs ys ts ps at₀ out₀ out′ (t / 4096) (t % 4096) y r e m
-      under-turn3 e t y p h q et ey ep t< y< m marked r out′ is-at is-out =
-          let v = stateAt3 v₀ i high low row in
-          let a : Run = runOf t y p (between xs i e) in
-          let in-e = end-within i e h q in
-          let n : length (between xs i e) ≡ e - i = length-between xs i e (omega arith) in-e in
-          let some = state-some3 v₀ e (t / 4096) (t % 4096) y (omega arith) in
-          let all = words-are t y p (between xs i e) t< y< in
-          let few = few3 v a (omega arith) in
-          let first = first-run e t y p h q et ey ep in
-          record {
-            within = in-e;
-            small = omega (arith, u .small, ap length all);
-            is-high = rw some;
-            is-low = rw some;
-            is-row = rw some;
-            marked = marked;
-            going = rw (some, is-at, all) (going-turn 2 writer3 a (runs (eventsPast xs ys ts ps e)) (is-out ∙ ap (sets out at) all) (rw first at (u .going)));
-          }
+        abbrev runBytes : List ℕ
+        runBytes = leadsBytes high low row t y ++ bodyBytes p (between xs i e)
+
+        abbrev later : List Run
+        later = runs (eventsPast xs ys ts ps e)
+
+        going-here : Going wordSize3 writer3 v₀ (runs (eventsIn xs ys ts ps)) at₀ out₀ (here ∷ later) (stateAt3 v₀ i high low row) at out
+        going-here = rw (et, ey, ep) (rw (run-first i e h q) at (u .going))
+
+        pub under-room3 : Roomy out₀ at₀ (length (stream3 v₀ (eventsIn xs ys ts ps))) → Roomy out at (length runBytes)
+        under-room3 r = rw (words-are t y p (between xs i e) t< y<) (going-room wordSize3 writer3 here later going-here r)
+
+        pub under-iteration3 : (m : ℕ) → Marked xs ys ts ps e m → (r : ℕ) (out′ : List ℕ) → r ≡ at + length runBytes → out′ ≡ sets out at runBytes
+            → Under3 v₀ xs ys ts ps at₀ out₀ out′ (t / grain3) (t % grain3) y r e m
+        under-iteration3 m marked r out′ is-at is-out =
+            let in-e = end-within i e h q in
+            let n : length (between xs i e) ≡ e - i = length-between xs i e (omega arith) in-e in
+            let some = state-some e v₀ (stateOf3 (t / grain3) (t % grain3) y) (omega arith) in
+            let all = words-are t y p (between xs i e) t< y< in
+            let few = few3 (stateAt3 v₀ i high low row) here (omega arith) in
+            record {
+              within = in-e;
+              small = omega (arith, u .small, ap length all);
+              is-high = rw some;
+              is-low = rw some;
+              is-row = rw some;
+              marked = marked;
+              going = rw (some, is-at, all) (going-iteration wordSize3 writer3 here later (is-out ∙ ap (sets out at) all) going-here);
+            }
 
       pub under-end3 : length xs ≤ i → (v : EncoderState) → v ≡ stateAt3 v₀ (length xs) high low row
           → (record { state = v; at = at } ≡ passed3 v₀ (eventsIn xs ys ts ps) at₀) × (out ≡ sets out₀ at₀ (stream3 v₀ (eventsIn xs ys ts ps)))
       under-end3 h v e =
           let n : i ≡ length xs = omega (arith, u .within) in
-          let g = going-end 2 writer3 (rw (events-end xs ys ts ps sized i h) at (u .going)) in
+          let g = going-end wordSize3 writer3 (rw (events-end xs ys ts ps sized i h) at (u .going)) in
           (rw (e ∙ ap (λ (k : ℕ). stateAt3 v₀ k high low row) (sym n) ∙ g .0, g .1), g .2)

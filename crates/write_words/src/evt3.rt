@@ -1,33 +1,20 @@
-// EVT3: the words of all events, run by run, stored or measured.
+// EVT3: the words of all events, run by run, stored, or in a dry run only counted.
 ghost use mathlib.Core.Path.{_≡_};
 ghost use Prim.Native.Nat.{_^_, _≤_};
 ghost use lib.ListN.{length};
 ghost use lib.Seq.{sets};
 ghost use Rattle.write_buffer.specs.Columns.{Sized, Whole, eventsIn};
 ghost use Rattle.write_buffer.specs.Storing.{Roomy};
-ghost use Rattle.write_words.specs.Pass3.{stateAt3, stream3, passed3};
+ghost use Rattle.write_words.specs.Pass3.{stream3, passed3};
 use evt_types::Sent;
+use evt3_decoder::Decoder;
 use evt3_run_ends::run_at;
 use evt3_run_words::put_run;
 use write_buffer::EncoderState;
 use write_buffer::Put;
 use write_buffer::sent_number;
+use write_buffer::state_after;
 use write_buffer::time_at;
-
-// What has been sent after n events, where `high`, `low` and `row` were sent last.
-fn sent_after(state: EncoderState, n: usize, high: u64, low: u64, row: u64) -> EncoderState
-    ensures { λ r. ⌜ r ≡ stateAt3 state n high low row ⌝ }
-{
-    if 0 < n {
-        EncoderState {
-            time_high: Sent::Value(high),
-            time_low: Sent::Value(low),
-            y: Sent::Value(row),
-        }
-    } else {
-        state
-    }
-}
 
 // The words of all events, from `start` on. The bounds keep `at` from wrapping.
 pub fn pass(
@@ -60,12 +47,17 @@ pub fn pass(
         let run = run_at(mask, xs, ys, ts, ps, i);
         let end = run.end;
         at = put_run(high, low, row, t, y, ps[i], xs, i, end, &mut *out, at);
-        high = t / 4096;
-        low = t % 4096;
+        high = t / Decoder::GRAIN;
+        low = t % Decoder::GRAIN;
         row = y as u64;
         i = end;
         mask = run.mask;
     }
-    let after = sent_after(state, xs.len(), high, low, row);
+    let last = EncoderState {
+        time_high: Sent::Value(high),
+        time_low: Sent::Value(low),
+        y: Sent::Value(row),
+    };
+    let after = state_after(xs.len(), state, last);
     Put { state: after, at }
 }

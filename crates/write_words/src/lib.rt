@@ -1,7 +1,8 @@
-// The words of events, stored in a buffer that the caller lends: a pass into no bytes measures, and
-// a pass into enough writes. Which words a writer sends, each with a note of the events that it
-// carries, is defined in crates/evt2_encoder/specs/Evt2.antt and crates/evt3_lead_words/specs/Evt3.antt;
-// specs/Encode.antt says which bytes they have, for either encoding.
+// The words of events, stored in a buffer that the caller lends: a pass into no bytes is a dry
+// run, and a pass into enough writes. Which words a writer sends, each with a note of the events that
+// it carries, is defined in crates/evt2_encoder/specs/Evt2.antt and
+// crates/evt3_lead_words/specs/Evt3.antt; specs/Encode.antt says which bytes they have, for either
+// encoding.
 ghost use mathlib.Core.Path.{_≡_};
 ghost use Prim.Native.Nat.{_^_, _≤_};
 ghost use lib.ListN.{length};

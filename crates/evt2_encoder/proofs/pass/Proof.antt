@@ -4,7 +4,7 @@ use mathlib.Core.Logic.{⊎-elim}
 use Prim.Native.Nat.{_-_, _+_}
 use native.Mathlib.Omega.{arith}
 use lib.ListN.{length}
-use Rattle.evt2_encoder.specs.Pass2.{Under2, time-asks2, under-start2, under-turn2, under-next2, under-same2, under-end2}
+use Rattle.evt2_encoder.specs.Pass2.{Under2, time-asks2, under-start2, under-iteration2, under-next2, under-same2, under-end2}
 use Rattle.evt2_encoder.proofs.pass.Statement.{statement}
 use Rattle.evt2_encoder.proofs.pass.Tie as tie
 
@@ -38,7 +38,7 @@ put-at-requires-2 c κs =
     let l = c .before .before .before .before .before .before .before .before .loop in
     let put = c .before .before .before .put-at in
     let h = c .before .before .before .before .before .before .before .loop-test .taken in
-    let u = under-turn2 (s .0) (l .inv) (omega arith) (s .4) (time-at .result) (time-at .ensures) (put .result) _ (put .ensures .0) (put .ensures .1) in
+    let u = under-iteration2 (s .0) (l .inv) (omega arith) (s .4) (time-at .result) (time-at .ensures) (put .result) _ (put .ensures .0) (put .ensures .1) in
     under-next2 (s .0) u h (s .1) (s .4) (s .3) (time-at2 .result) (time-at2 .ensures)
 
 loop-again : tie.Need-loop-again Inv-loop μ-loop
@@ -50,8 +50,8 @@ loop-again c =
     let put = c .before .before .before .before .before .before .put-at in
     let put2 = c .before .before .put-at2 in
     let h = c .before .before .before .before .before .before .before .before .before .before .loop-test .taken in
-    let u = under-turn2 (s .0) (l .inv) (omega arith) (s .4) (time-at .result) (time-at .ensures) (put .result) _ (put .ensures .0) (put .ensures .1) in
-    let u2 = under-turn2 (s .0) u h (s .4) (time-at2 .result) (time-at2 .ensures) (put2 .result) _ (put2 .ensures .0) (put2 .ensures .1) in
+    let u = under-iteration2 (s .0) (l .inv) (omega arith) (s .4) (time-at .result) (time-at .ensures) (put .result) _ (put .ensures .0) (put .ensures .1) in
+    let u2 = under-iteration2 (s .0) u h (s .4) (time-at2 .result) (time-at2 .ensures) (put2 .result) _ (put2 .ensures .0) (put2 .ensures .1) in
     under-same2 (s .0) u2 (l .i + 2) refl refl refl (omega arith)
 
 time-at-requires-3 : tie.Need-time-at-requires-3 Inv-loop μ-loop
@@ -72,12 +72,12 @@ returns : tie.Need-returns Inv-loop μ-loop
 returns c =
     let s = c .before .before .before .before .before .before .before .before .before .pre in
     let l = c .before .before .before .loop in
-    let e = c .sent-after .ensures in
+    let e = c .state-after .ensures in
     ⊎-elim
     (λ w.
-    let u = under-turn2 (s .0) (l .inv) (w .0 .taken) (s .4) (w .1 .result) (w .1 .ensures) (w .3 .result) _ (w .3 .ensures .0) (w .3 .ensures .1) in
-    under-end2 (s .0) (under-same2 (s .0) u (l .i + 1) (w .6) (w .7) (w .8) refl) (c .before .before .loop-test .left) (c .sent-after .result) e)
-    (λ w. under-end2 (s .0) (under-same2 (s .0) (l .inv) (l .i) (w .1) (w .2) (w .3) refl) (w .0 .left) (c .sent-after .result) e)
+    let u = under-iteration2 (s .0) (l .inv) (w .0 .taken) (s .4) (w .1 .result) (w .1 .ensures) (w .3 .result) _ (w .3 .ensures .0) (w .3 .ensures .1) in
+    under-end2 (s .0) (under-same2 (s .0) u (l .i + 1) (w .6) (w .7) (w .8) refl) (c .before .before .loop-test .left) (c .state-after .result) e)
+    (λ w. under-end2 (s .0) (under-same2 (s .0) (l .inv) (l .i) (w .1) (w .2) (w .3) refl) (w .0 .left) (c .state-after .result) e)
     (c .before .if1 .came)
 
 pub pass-spec : {M : Type 1} → statement M

@@ -2,7 +2,7 @@ use mathlib.Core.Logic.{⊎-elim}
 use Prim.Native.Nat.{_-_}
 use native.Mathlib.Omega.{arith}
 use denote.Ref.{now}
-use Rattle.evt3_run_rules.specs.Marks.{Gathering, gather-full, gather-rest, gather-small, gather-turn, gather-end, stop-le}
+use Rattle.evt3_run_rules.specs.Marks.{Gathering, gather-full, gather-rest, gather-small, gather-iteration, gather-end, stop-le}
 use Rattle.evt3_run_ends.proofs.marks_one_by_one.Statement.{statement}
 use Rattle.evt3_run_ends.proofs.marks_one_by_one.Tie as tie
 
@@ -40,7 +40,7 @@ add-mask c =
 
 loop-again : tie.Need-loop-again Inv-loop μ-loop
 loop-again c =
-    gather-turn _ _ _ _ (c .before .before .before .before .loop .inv) (c .before .before .before .loop-test .taken) (c .stops .result) (c .stops .ensures)
+    gather-iteration _ _ _ _ (c .before .before .before .before .loop .inv) (c .before .before .before .loop-test .taken) (c .stops .result) (c .stops .ensures)
 
 returns : tie.Need-returns Inv-loop μ-loop
 returns c = gather-end _ _ _ _ (c .before .loop .inv) (c .loop-test .left)

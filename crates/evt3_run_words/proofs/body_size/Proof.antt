@@ -4,10 +4,10 @@ use Rattle.evt3_run_words.proofs.body_size.Statement.{statement}
 use Rattle.evt3_run_words.proofs.body_size.Tie as tie
 
 returns : tie.Need-returns
-returns c = rw (← c .before .windows-to .ensures, lt-ltb _ _ (c .if1 .taken))
+returns c = rw (← c .before .mask-count .ensures, lt-ltb _ _ (c .if1 .taken))
 
 returns-2 : tie.Need-returns-2
-returns-2 c = rw (← c .before .windows-to .ensures, le-ltb _ _ (c .if1 .left))
+returns-2 c = rw (← c .before .mask-count .ensures, le-ltb _ _ (c .if1 .left))
 
 pub body-size-spec : {M : Type 1} → statement M
 body-size-spec =

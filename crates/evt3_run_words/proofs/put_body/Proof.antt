@@ -4,11 +4,12 @@ use native.Mathlib.Omega.{arith}
 use denote.Ref.{now}
 use lib.ListN.{getD}
 use Rattle.laws_stream.specs.Part.{between}
-use Rattle.laws_stream.specs.Words.{stream, bytes}
+use Rattle.laws_stream.specs.Words.{bytes}
+use Rattle.evt_types.specs.Layout.{wordSize3}
 use Rattle.write_buffer.specs.Storing.{stored-both, roomy-rest}
 use Rattle.evt3_lead_words.specs.Evt3.{baseWord3}
-use Rattle.evt3_run_words.specs.Windows.{rising-inc}
-use Rattle.evt3_run_words.specs.Parts.{body-vector, body-singles, body-pair, body-some, maskWords}
+use Rattle.evt3_run_words.specs.Masks.{rising-inc}
+use Rattle.evt3_run_words.specs.Parts.{body-vector, body-singles, body-pair, body-some, maskBytes}
 use borrow.Author.Needs.{needs}
 use Rattle.evt3_run_words.proofs.put_body.Statement.{statement}
 use Rattle.evt3_run_words.proofs.put_body.Tie as tie
@@ -39,8 +40,8 @@ cast-last c = omega (arith, c .shared-slice-known3 .given (c .before .before .be
 vector-pays-requires : tie.Need-vector-pays-requires
 vector-pays-requires c κs = omega (arith, c .shared-slice-known3 .given (c .before .before .before .before .before .args .end - 1))
 
-windows-to-requires : tie.Need-windows-to-requires
-windows-to-requires c κs =
+mask-count-requires : tie.Need-mask-count-requires
+mask-count-requires c κs =
     omega (arith, c .before .before .shared-slice-known3 .given (c .before .before .before .before .before .before .before .args .end - 1))
 
 put16-requires : tie.Need-put16-requires
@@ -51,16 +52,16 @@ put16-requires c κs =
 
 put-masks-requires : tie.Need-put-masks-requires
 put-masks-requires c κs =
-    let windows-to = c .before .before .before .before .before .before .windows-to in
+    let mask-count = c .before .before .before .before .before .before .mask-count in
     let shared-slice-known3 = c .before .before .before .before .before .before .before .before .before .shared-slice-known3 .given in
     let s = c .before .before .before .before .before .before .before .before .before .before .before .before .before .before in
     let a = s .args in
     let p = s .pre .0 in
     let x = getD (now (a .xs)) (a .i) 0 in
-    let k = windows-to .result in
+    let k = mask-count .result in
     let pays = sym (c .before .before .before .before .before .before .before .before .vector-pays .ensures)
     ∙ c .before .before .before .before .before .before .before .if2 .taken in
-    let both = body-vector (a .p) (now (a .xs)) (a .i) (a .end) k (s .pre .1) (p .high) (windows-to .ensures) (rw (windows-to .ensures) pays) in (
+    let both = body-vector (a .p) (now (a .xs)) (a .i) (a .end) k (s .pre .1) (p .high) (mask-count .ensures) (rw (mask-count .ensures) pays) in (
       record { low = p .low; high = p .high; few = p .few; place = p .place },
       omega (
         arith,
@@ -68,8 +69,8 @@ put-masks-requires c κs =
         c .before .before .before .before .before .before .before .before .before .before .shared-slice-known2 .given (a .i),
       ),
       rising-inc (now (a .xs)) (a .i) (a .end) (2 ^ 16) (s .pre .1) (p .high) (omega (arith, shared-slice-known3 (a .end - 1))) (s .pre .2),
-      roomy-rest (now (a .out)) (c .before .before .before .put16 .last .0) (a .at) (bytes 2 (baseWord3 (a .p) x))
-          (stream 2 (maskWords k x (between (now (a .xs)) (a .i) (a .end)))) refl (c .before .before .out2 .given) (rw both at (s .pre .3)),
+      roomy-rest (now (a .out)) (c .before .before .before .put16 .last .0) (a .at) (bytes wordSize3 (baseWord3 (a .p) x))
+          (maskBytes k x (between (now (a .xs)) (a .i) (a .end))) refl (c .before .before .out2 .given) (rw both at (s .pre .3)),
     )
 
 returns-2 : tie.Need-returns-2
@@ -78,10 +79,10 @@ returns-2 c =
     let s = b .before .before .before .before .before .before .before .before in
     let a = s .args in
     let x = getD (now (a .xs)) (a .i) 0 in
-    let k = b .windows-to .result in
+    let k = b .mask-count .result in
     let pays = sym (b .before .before .vector-pays .ensures) ∙ b .before .if2 .taken in
-    rw (body-vector (a .p) (now (a .xs)) (a .i) (a .end) k (s .pre .1) (s .pre .0 .high) (b .windows-to .ensures) (rw (b .windows-to .ensures) pays))
-    (stored-both (now (a .out)) (a .at) (bytes 2 (baseWord3 (a .p) x)) (stream 2 (maskWords k x (between (now (a .xs)) (a .i) (a .end)))) refl
+    rw (body-vector (a .p) (now (a .xs)) (a .i) (a .end) k (s .pre .1) (s .pre .0 .high) (b .mask-count .ensures) (rw (b .mask-count .ensures) pays))
+    (stored-both (now (a .out)) (a .at) (bytes wordSize3 (baseWord3 (a .p) x)) (maskBytes k x (between (now (a .xs)) (a .i) (a .end))) refl
     (c .before .before .before .before .before .before .put16 .ensures
     ∙ rw (c .before .before .before .before .before .before .before .base-word .ensures)) (c .before .before .put-masks .ensures .0)
     (c .before .before .put-masks .ensures .1))
@@ -117,7 +118,7 @@ put-body-spec =
     (λ c. search needs) (λ c. search needs) (λ c. search needs)
     cast-last
     vector-pays-requires
-    windows-to-requires
+    mask-count-requires
     (λ c κs. search needs)
     put16-requires
     (λ c. search needs)

@@ -1,6 +1,6 @@
 use Prim.Native.Nat.{_^_}
 use native.Mathlib.Omega.{arith}
-use Rattle.evt3_run_words.specs.Windows.{Masking, masking-start, masking-room, masking-turn, masking-end}
+use Rattle.evt3_run_words.specs.Masks.{Masking, masking-start, masking-room, masking-iteration, masking-end}
 use Rattle.evt3_run_words.proofs.put_masks.Statement.{statement}
 use Rattle.evt3_run_words.proofs.put_masks.Tie as tie
 
@@ -13,8 +13,8 @@ abbrev μ-loop : tie.MeasureT-loop
 loop-holds : tie.Need-loop-holds Inv-loop μ-loop
 loop-holds c = masking-start (c .before .before .pre .0) (c .before .before .pre .1) (c .before .before .pre .2)
 
-next-window-requires : tie.Need-next-window-requires Inv-loop μ-loop
-next-window-requires c κs =
+next-masks-requires : tie.Need-next-masks-requires Inv-loop μ-loop
+next-masks-requires c κs =
     let p = c .before .before .before .before .pre .0 in
     (record { low = c .before .loop .inv .below; high = p .high; few = p .few; place = omega arith }, omega arith, c .before .loop .inv .rise)
 
@@ -24,20 +24,20 @@ put-digits-requires c κs =
     let l = c .before .before .before .loop in (
       omega arith,
       omega arith,
-      masking-room (s .pre .0) (s .pre .1) (s .pre .2) (l .inv) 5 (omega arith) (omega arith) (c .before .next-window .result)
-          (c .before .next-window .ensures) (s .pre .3),
+      masking-room (s .pre .0) (s .pre .1) (s .pre .2) (l .inv) 5 (omega arith) (omega arith) (c .before .next-masks .result)
+          (c .before .next-masks .ensures) (s .pre .3),
     )
 
 loop-again : tie.Need-loop-again Inv-loop μ-loop
 loop-again c =
     let b = c .before .before .before .before in
     let s = b .before .before .before .before .before in
-    masking-turn (s .pre .0) (s .pre .1) (s .pre .2) (b .before .before .loop .inv) (b .before .loop-test .taken)
-    (b .next-window .result) (b .next-window .ensures) (c .before .before .put-digits .result) _
+    masking-iteration (s .pre .0) (s .pre .1) (s .pre .2) (b .before .before .loop .inv) (b .before .loop-test .taken)
+    (b .next-masks .result) (b .next-masks .ensures) (c .before .before .put-digits .result) _
     (c .before .before .put-digits .ensures .0) (c .before .before .put-digits .ensures .1)
 
-next-window-requires-2 : tie.Need-next-window-requires-2 Inv-loop μ-loop
-next-window-requires-2 c κs =
+next-masks-requires-2 : tie.Need-next-masks-requires-2 Inv-loop μ-loop
+next-masks-requires-2 c κs =
     let p = c .before .before .before .before .pre .0 in
     (record { low = c .before .loop .inv .below; high = p .high; few = p .few; place = omega arith }, omega arith, c .before .loop .inv .rise)
 
@@ -48,7 +48,7 @@ put-digits-requires-2 c κs =
       omega arith,
       omega arith,
       masking-room (s .pre .0) (s .pre .1) (s .pre .2) (l .inv) (l .left) (c .before .before .loop-test .left) (omega arith)
-          (c .before .next-window2 .result) (c .before .next-window2 .ensures) (s .pre .3),
+          (c .before .next-masks2 .result) (c .before .next-masks2 .ensures) (s .pre .3),
     )
 
 returns : tie.Need-returns Inv-loop μ-loop
@@ -56,7 +56,7 @@ returns c =
     let b = c .before .before .before .before in
     let s = b .before .before .before .before .before in
     masking-end (s .pre .0) (s .pre .1) (s .pre .2) (b .before .before .loop .inv) (b .before .loop-test .left)
-    (b .next-window2 .result) (b .next-window2 .ensures) (c .before .before .put-digits2 .result) _
+    (b .next-masks2 .result) (b .next-masks2 .ensures) (c .before .before .put-digits2 .result) _
     (c .before .before .put-digits2 .ensures .0) (c .before .before .put-digits2 .ensures .1)
 
 pub put-masks-spec : {M : Type 1} → statement M
@@ -66,11 +66,11 @@ put-masks-spec =
     Inv-loop
     μ-loop
     loop-holds
-    next-window-requires
+    next-masks-requires
     put-digits-requires
     (λ c. omega arith) (λ c. omega arith) (λ c. omega arith)
     loop-again
-    next-window-requires-2
+    next-masks-requires-2
     put-digits-requires-2
     (λ c. omega arith)
     returns)

@@ -4,10 +4,9 @@ use native.Mathlib.Omega.{arith}
 use denote.Ref.{now}
 use lib.ListN.{length-append}
 use Rattle.laws_stream.specs.Part.{between}
-use Rattle.laws_stream.specs.Words.{stream}
 use Rattle.write_buffer.specs.Storing.{roomy-rest, sets-empty}
 use Rattle.evt3_lead_words.specs.Leads.{leadsBytes, leads-few}
-use Rattle.evt3_run_words.specs.Parts.{body-some, body-few, body-length, bodyWords}
+use Rattle.evt3_run_words.specs.Parts.{body-some, body-few, body-length, bodyBytes}
 use borrow.Author.Needs.{needs}
 use Rattle.evt3_run_words.proofs.put_run.Statement.{statement}
 use Rattle.evt3_run_words.proofs.put_run.Tie as tie
@@ -21,7 +20,7 @@ put-leads-requires c κs =
       λ h. omega (
         arith,
         s .pre .3 h,
-        length-append (leadsBytes (a .high) (a .low) (a .row) (a .t) (a .y)) (stream 2 (bodyWords (a .p) (between (now (a .xs)) (a .i) (a .end)))),
+        length-append (leadsBytes (a .high) (a .low) (a .row) (a .t) (a .y)) (bodyBytes (a .p) (between (now (a .xs)) (a .i) (a .end))),
       ),
     )
 
@@ -36,7 +35,7 @@ put-body-requires c κs =
       s .pre .1,
       s .pre .2,
       roomy-rest (now (a .out)) (put-leads .last .1 .1 .1 .1 .1 .0) (a .at) (leadsBytes (a .high) (a .low) (a .row) (a .t) (a .y))
-          (stream 2 (bodyWords (a .p) (between (now (a .xs)) (a .i) (a .end)))) (put-leads .ensures .place)
+          (bodyBytes (a .p) (between (now (a .xs)) (a .i) (a .end))) (put-leads .ensures .place)
           (c .before .before .before .out .given) (s .pre .3),
     )
 
@@ -64,7 +63,7 @@ returns c =
     let s = c .before .before .before .before .before .before .before .before .before .before .before in
     let a = s .args in
     let leads = leadsBytes (a .high) (a .low) (a .row) (a .t) (a .y) in
-    let body = stream 2 (bodyWords (a .p) (between (now (a .xs)) (a .i) (a .end))) in
+    let body = bodyBytes (a .p) (between (now (a .xs)) (a .i) (a .end)) in
     let one = c .before .before .before .before .before .before .before .put-leads .ensures in
     let two = c .before .before .put-body .ensures in
     let some = body-some (a .p) (now (a .xs)) (a .i) (a .end) _ (s .pre .1) (s .pre .0 .high) refl in
@@ -76,7 +75,7 @@ returns-2 c =
     let s = c .before .before .before .before .before .before .before .before .before .before in
     let a = s .args in
     let leads = leadsBytes (a .high) (a .low) (a .row) (a .t) (a .y) in
-    let body = stream 2 (bodyWords (a .p) (between (now (a .xs)) (a .i) (a .end))) in
+    let body = bodyBytes (a .p) (between (now (a .xs)) (a .i) (a .end)) in
     let one = put-leads .ensures in
     let some = body-some (a .p) (now (a .xs)) (a .i) (a .end) _ (s .pre .1) (s .pre .0 .high) refl in
     let is = body-length (a .p) (now (a .xs)) (a .i) (a .end) _ (s .pre .1) (s .pre .0 .high) refl in (

@@ -2,7 +2,7 @@ use mathlib.Core.Path.{_∙_}
 use Prim.Native.Nat.{_-_}
 use native.Mathlib.Omega.{arith}
 use borrow.Author.Needs.{needs}
-use Rattle.evt3_run_words.specs.Loops.{Single, single-start, single-turn, single-room, single-end}
+use Rattle.evt3_run_words.specs.Loops.{Single, single-start, single-iteration, single-room, single-end}
 use Rattle.evt3_run_words.proofs.put_singles.Statement.{statement}
 use Rattle.evt3_run_words.proofs.put_singles.Tie as tie
 
@@ -19,7 +19,7 @@ put16-requires c κs =
 
 loop-again : tie.Need-loop-again Inv-loop μ-loop
 loop-again c =
-    single-turn (c .before .before .before .before .before .before .before .before .before .before .pre .0)
+    single-iteration (c .before .before .before .before .before .before .before .before .before .before .pre .0)
     (c .before .before .before .before .before .before .before .loop .inv)
     (c .before .before .before .before .before .before .loop-test .taken) _
     (c .before .before .put16 .ensures ∙ rw (c .before .before .before .single-word .ensures))

@@ -6,4 +6,4 @@ pub vector-pays-spec : {M : Type 1} → statement M
 vector-pays-spec =
     tie.close
     (tie.spec
-    (λ c κs. search needs) (λ c. search needs) (λ c. rw (c .windows-to .ensures)))
+    (λ c κs. search needs) (λ c. search needs) (λ c. rw (c .mask-count .ensures)))

@@ -30,63 +30,24 @@ claims t = (
   put-decimal.Post,
 )
 
-put-decimal-cast-put8 : (t : ℕ) → put-decimal-lts.Need-cast-put8 (claims t) (put-decimal-at t) put-decimal.Post
-put-decimal-cast-put8 t c = search needs
+returns : (t : ℕ) → put-decimal-lts.Need-returns (claims t) (put-decimal-at t) put-decimal.Post
+returns t c =
+    let b = c .before .before in
+    stored-digit (b .before .before .before .before .args .n) (b .before .before .if1 .taken) (b .put8 .ensures)
 
-put-decimal-add-put8 : (t : ℕ) → put-decimal-lts.Need-add-put8 (claims t) (put-decimal-at t) put-decimal.Post
-put-decimal-add-put8 t c = search needs
-
-put-decimal-put8-requires : (t : ℕ) → put-decimal-lts.Need-put8-requires (claims t) (put-decimal-at t) put-decimal.Post
-put-decimal-put8-requires t c κs = tt
-
-put-decimal-add-result : (t : ℕ) → put-decimal-lts.Need-add-result (claims t) (put-decimal-at t) put-decimal.Post
-put-decimal-add-result t c = search needs
-
-put-decimal-put-decimal-requires : (t : ℕ) → put-decimal-lts.Need-put-decimal-requires (claims t) (put-decimal-at t) put-decimal.Post
-put-decimal-put-decimal-requires t c κs = (omega arith, c .before .before .before .pre .1)
-
-put-decimal-cast-put8-2 : (t : ℕ) → put-decimal-lts.Need-cast-put8-2 (claims t) (put-decimal-at t) put-decimal.Post
-put-decimal-cast-put8-2 t c = search needs
-
-put-decimal-add-put8-2 : (t : ℕ) → put-decimal-lts.Need-add-put8-2 (claims t) (put-decimal-at t) put-decimal.Post
-put-decimal-add-put8-2 t c = search needs
-
-put-decimal-put8-requires-2 : (t : ℕ) → put-decimal-lts.Need-put8-requires-2 (claims t) (put-decimal-at t) put-decimal.Post
-put-decimal-put8-requires-2 t c κs = tt
-
-put-decimal-add-result-2 : (t : ℕ) → put-decimal-lts.Need-add-result-2 (claims t) (put-decimal-at t) put-decimal.Post
-put-decimal-add-result-2 t c = search needs
-
-put-decimal-same-length : (t : ℕ) → put-decimal-lts.Need-same-length (claims t) (put-decimal-at t) put-decimal.Post
-put-decimal-same-length t c = search needs
-
-put-decimal-returns : (t : ℕ) → put-decimal-lts.Need-returns (claims t) (put-decimal-at t) put-decimal.Post
-put-decimal-returns t c =
-    stored-digit (c .before .before .before .before .before .before .args .n) (c .before .before .before .before .if1 .taken) (c .before .before .put8 .ensures)
-
-put-decimal-same-length-2 : (t : ℕ) → put-decimal-lts.Need-same-length-2 (claims t) (put-decimal-at t) put-decimal.Post
-put-decimal-same-length-2 t c = search needs
-
-put-decimal-returns-2 : (t : ℕ) → put-decimal-lts.Need-returns-2 (claims t) (put-decimal-at t) put-decimal.Post
-put-decimal-returns-2 t c =
-    stored-digits (c .before .before .before .before .before .before .before .before .before .before .args .n)
-    (c .before .before .before .before .before .before .before .before .if1 .left) (omega arith)
-    (c .before .before .before .before .before .before .put-decimal .ensures) (c .before .before .put82 .ensures)
+returns-2 : (t : ℕ) → put-decimal-lts.Need-returns-2 (claims t) (put-decimal-at t) put-decimal.Post
+returns-2 t c =
+    let b = c .before .before .before .before .before .before in
+    stored-digits (b .before .before .before .before .args .n) (b .before .before .if1 .left) (omega arith) (b .put-decimal .ensures)
+    (c .before .before .put82 .ensures)
 
 pub +put-decimal-spec : {M : Type 1} → statement M
 +put-decimal-spec = close μ-put-decimal λ t. put-decimal-lts.spec (claims t)
     (put-decimal-at t)
     put-decimal.Post
-    (put-decimal-cast-put8 t)
-    (put-decimal-add-put8 t)
-    (put-decimal-put8-requires t)
-    (put-decimal-add-result t)
-    (put-decimal-put-decimal-requires t)
-    (put-decimal-cast-put8-2 t)
-    (put-decimal-add-put8-2 t)
-    (put-decimal-put8-requires-2 t)
-    (put-decimal-add-result-2 t)
-    (put-decimal-same-length t)
-    (put-decimal-returns t)
-    (put-decimal-same-length-2 t)
-    (put-decimal-returns-2 t)
+    (λ c. search needs) (λ c. search needs) (λ c κs. tt) (λ c. search needs)
+    (λ c κs. (omega arith, c .before .before .before .pre .1))
+    (λ c. search needs) (λ c. search needs) (λ c κs. tt) (λ c. search needs) (λ c. search needs)
+    (returns t)
+    (λ c. search needs)
+    (returns-2 t)

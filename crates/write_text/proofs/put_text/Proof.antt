@@ -1,7 +1,7 @@
 use Prim.Native.Nat.{_-_}
 use lib.ListN.{length}
 use borrow.Author.Needs.{needs}
-use Rattle.write_text.specs.Stored.{Copying, copying-start, copying-turn, copying-end}
+use Rattle.write_text.specs.Stored.{Copying, copying-start, copying-iteration, copying-end}
 use Rattle.write_text.proofs.put_text.Statement.{statement}
 use Rattle.write_text.proofs.put_text.Tie as tie
 
@@ -13,7 +13,7 @@ abbrev μ-loop : tie.MeasureT-loop
 
 loop-again : tie.Need-loop-again Inv-loop μ-loop
 loop-again c =
-    copying-turn (c .before .before .before .before .before .loop-test .taken) (c .before .before .put8 .ensures)
+    copying-iteration (c .before .before .before .before .before .loop-test .taken) (c .before .before .put8 .ensures)
     (c .before .before .before .before .before .before .loop .inv)
 
 returns : tie.Need-returns Inv-loop μ-loop

@@ -3,7 +3,7 @@ use mathlib.Core.Bool.{true, false}
 use native.Mathlib.Omega.{arith}
 use Prim.Native.Nat.{_+_}
 use denote.Ref.{now}
-use Rattle.evt3_run_rules.specs.Every.{everyFrom}
+use Rattle.write_buffer.specs.Every.{everyFrom}
 use Rattle.evt3_run_rules.specs.Marks.{timeAt}
 use Rattle.evt3_run_ends.specs.Blocks.{isTime, block-told}
 use borrow.Author.Needs.{needs}
@@ -21,7 +21,7 @@ returns c =
     rw (c .before .time-at .ensures) at (c .times-are .ensures) in
     block-told (now (a .xs)) (now (a .ys)) (now (a .ts)) (now (a .ps)) 64 (a .i) true true true _
     (sym (b .before .before .before .before .rows-are .ensures) ∙ b .before .before .before .if1 .taken)
-    (sym (b .before .signs-are .ensures) ∙ b .if2 .taken)
+    (sym (b .before .polarities-are .ensures) ∙ b .if2 .taken)
     (sym (c .before .before .before .columns-rise .ensures) ∙ c .before .before .if3 .taken) (sym t)
 
 returns-2 : tie.Need-returns-2
@@ -29,7 +29,7 @@ returns-2 c =
     let a = c .before .before .before .before .before .before .before .before .before .before .before .args in
     block-told (now (a .xs)) (now (a .ys)) (now (a .ts)) (now (a .ps)) 64 (a .i) true true false _
     (sym (c .before .before .before .before .before .before .rows-are .ensures) ∙ c .before .before .before .before .before .if1 .taken)
-    (sym (c .before .before .before .signs-are .ensures) ∙ c .before .before .if2 .taken)
+    (sym (c .before .before .before .polarities-are .ensures) ∙ c .before .before .if2 .taken)
     (sym (c .before .columns-rise .ensures) ∙ c .if3 .left) refl
 
 returns-3 : tie.Need-returns-3
@@ -37,7 +37,7 @@ returns-3 c =
     let a = c .before .before .before .before .before .before .before .before .before .args in
     block-told (now (a .xs)) (now (a .ys)) (now (a .ts)) (now (a .ps)) 64 (a .i) true false _ _
     (sym (c .before .before .before .before .rows-are .ensures) ∙ c .before .before .before .if1 .taken)
-    (sym (c .before .signs-are .ensures) ∙ c .if2 .left) refl refl
+    (sym (c .before .polarities-are .ensures) ∙ c .if2 .left) refl refl
 
 returns-4 : tie.Need-returns-4
 returns-4 c =

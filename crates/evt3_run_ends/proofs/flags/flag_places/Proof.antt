@@ -2,7 +2,7 @@ use native.Mathlib.Omega.{arith}
 use borrow.Author.Needs.{needs}
 use Prim.Native.Nat.{_+_, _-_}
 use denote.Ref.{now}
-use Rattle.evt3_run_ends.specs.Flags.{placeEnds, Filling, fill-start, fill-turn, fill-end}
+use Rattle.evt3_run_ends.specs.Flags.{placeEnds, Filling, fill-start, fill-iteration, fill-end}
 use Rattle.evt3_run_ends.proofs.flags.flag_places.Statement.{statement}
 use Rattle.evt3_run_ends.proofs.flags.flag_places.Tie as tie
 
@@ -23,7 +23,7 @@ element-write-flags c = c .before .before .before .before .before .before .befor
 loop-again : tie.Need-loop-again Inv-loop μ-loop
 loop-again c =
     let a = c .before .before .before .before .before .before .before .before .before .before .before .before .args in
-    fill-turn (λ k. placeEnds (now (a .xs)) (now (a .ys)) (now (a .ps)) (a .i + k)) (now (a .flags))
+    fill-iteration (λ k. placeEnds (now (a .xs)) (now (a .ys)) (now (a .ps)) (a .i + k)) (now (a .flags))
     (c .before .before .before .before .before .before .before .before .loop .inv)
     (c .before .before .before .before .before .before .before .loop-test .taken) _ (c .place-ends .ensures)
 

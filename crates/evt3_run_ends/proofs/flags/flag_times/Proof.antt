@@ -4,7 +4,7 @@ use borrow.Author.Needs.{needs}
 use Prim.Native.Nat.{_+_, _-_}
 use denote.Ref.{now}
 use lib.Bits.{bitOr}
-use Rattle.evt3_run_ends.specs.Flags.{timeEnds, flagAt, Filling, fill-start, fill-turn, fill-end}
+use Rattle.evt3_run_ends.specs.Flags.{timeEnds, flagAt, Filling, fill-start, fill-iteration, fill-end}
 use Rattle.evt3_run_ends.proofs.flags.flag_times.Statement.{statement}
 use Rattle.evt3_run_ends.proofs.flags.flag_times.Tie as tie
 
@@ -29,7 +29,7 @@ loop-again c =
     let s = c .before .before .before .before .before .loop in
     let e : c .time-ends .result ≡ timeEnds (now (a .ts)) (a .i + s .j) =
     c .time-ends .ensures ∙ rw (c .before .before .before .time-at .ensures, c .before .before .time-at2 .ensures) in
-    fill-turn (λ k. bitOr (flagAt (now (a .flags)) k) (timeEnds (now (a .ts)) (a .i + k))) (now (a .flags)) (s .inv)
+    fill-iteration (λ k. bitOr (flagAt (now (a .flags)) k) (timeEnds (now (a .ts)) (a .i + k))) (now (a .flags)) (s .inv)
     (c .before .before .before .before .loop-test .taken) _ (rw (s .inv .left (s .j) (omega arith), e))
 
 returns : tie.Need-returns Inv-loop μ-loop

@@ -1,7 +1,7 @@
 use native.Mathlib.Omega.{arith}
 use Prim.Native.Nat.{_-_}
 use denote.Ref.{now}
-use Rattle.evt3_run_ends.specs.Flags.{Packing, pack-start, pack-small, pack-turn, pack-end}
+use Rattle.evt3_run_ends.specs.Flags.{Packing, pack-start, pack-small, pack-iteration, pack-end}
 use Rattle.evt3_run_ends.proofs.flags.gather.Statement.{statement}
 use Rattle.evt3_run_ends.proofs.flags.gather.Tie as tie
 
@@ -26,7 +26,7 @@ add-mask c =
     )
 
 loop-again : tie.Need-loop-again Inv-loop μ-loop
-loop-again c = pack-turn (now (c .before .before .before .args .flags)) (c .before .before .loop .inv) (c .before .loop-test .taken)
+loop-again c = pack-iteration (now (c .before .before .before .args .flags)) (c .before .before .loop .inv) (c .before .loop-test .taken)
 
 returns : tie.Need-returns Inv-loop μ-loop
 returns c = pack-end (now (c .before .before .args .flags)) (c .before .loop .inv) (c .loop-test .left)

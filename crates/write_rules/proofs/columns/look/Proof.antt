@@ -10,7 +10,7 @@ use mir.ValLaws.{toZ-ofZ}
 use borrow.Author.Needs.{needs}
 use Rattle.write_rules.specs.Range.{falls}
 use Rattle.laws_stream.specs.Part.{between-few}
-use Rattle.write_rules.specs.Blocks.{Looks, Looking, looking-start, looked-falls, looking-turn, looked-end}
+use Rattle.write_rules.specs.Blocks.{Looks, Looking, looking-start, looked-falls, looking-iteration, looked-end}
 use Rattle.write_rules.proofs.columns.look.Statement.{statement}
 use Rattle.write_rules.proofs.columns.look.Tie as tie
 
@@ -50,7 +50,7 @@ loop-again c =
     let k = c .before .before .before .before .before .before .before .before .before .before .loop in
     let last : toZ w64 (ofZ w64 (getD (a .ts .now) (k .i + 64 - 1) (pos 0))) ≡ getD (a .ts .now) (k .i + 64 - 1) (pos 0) =
     toZ-ofZ w64 _ (record { sfits = c .last .given }) in
-    rw last (looking-turn _ _ _ _ _ (k .inv) (k .i + 64) (omega arith) (omega arith)
+    rw last (looking-iteration _ _ _ _ _ (k .inv) (k .i + 64) (omega arith) (omega arith)
     (sym (c .before .before .before .before .before .before .before .times-fall .ensures) ∙ c .before .before .before .before .before .before .if1 .left)
     _ (c .before .and2 .ensures ∙ rw (c .before .before .places-in-range .ensures)))
 

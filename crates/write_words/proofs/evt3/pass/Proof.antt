@@ -3,7 +3,7 @@ use mathlib.Core.Path.{refl}
 use Prim.Native.Nat.{_-_}
 use native.Mathlib.Omega.{arith}
 use lib.ListN.{length, getD}
-use Rattle.write_words.specs.Pass3.{Under3, under-start3, under-part3, under-rising3, under-room3, under-turn3, under-end3}
+use Rattle.write_words.specs.Pass3.{Under3, under-start3, under-part3, under-rising3, under-room3, under-iteration3, under-end3}
 use Rattle.write_words.proofs.evt3.pass.Statement.{statement}
 use Rattle.write_words.proofs.evt3.pass.Tie as tie
 
@@ -59,7 +59,7 @@ loop-again c =
     let run = c .before .before .before .before .before .run-at in
     let y = getD (s .args .ys .now) (l .i) 0 in
     let y< = c .before .before .before .before .before .before .shared-slice-known4 .given (l .i) in
-    under-turn3 (s .pre .0) (s .pre .1) (l .inv) (run .result .end) (t .result) y (getD (s .args .ps .now) (l .i) 0)
+    under-iteration3 (s .pre .0) (s .pre .1) (l .inv) (run .result .end) (t .result) y (getD (s .args .ps .now) (l .i) 0)
     (c .before .before .before .before .before .before .before .before .loop-test .taken) (run .ensures .is-end) (t .ensures) refl refl
     (omega arith) (omega arith) (run .result .mask) (run .ensures .marked) (c .before .before .put-run .result) _
     (c .before .before .put-run .ensures .0) (c .before .before .put-run .ensures .1)
@@ -67,7 +67,7 @@ loop-again c =
 returns : tie.Need-returns Inv-loop μ-loop
 returns c =
     let p = c .before .before .before .before .before .before .before .before .before .before .pre in
-    under-end3 (p .0) (p .1) (c .before .before .loop .inv) (c .before .loop-test .left) (c .sent-after .result) (c .sent-after .ensures)
+    under-end3 (p .0) (p .1) (c .before .before .loop .inv) (c .before .loop-test .left) (c .state-after .result) (c .state-after .ensures)
 
 pub pass-spec : {M : Type 1} → statement M
 pass-spec =

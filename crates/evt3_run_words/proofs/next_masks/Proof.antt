@@ -1,8 +1,8 @@
 use Prim.Native.Nat.{_-_, _^_}
 use native.Mathlib.Omega.{arith}
-use Rattle.evt3_run_words.specs.Windows.{Scanning, scan-start, scan-low, scan-small, scan-turn, scan-out, scan-end}
-use Rattle.evt3_run_words.proofs.next_window.Statement.{statement}
-use Rattle.evt3_run_words.proofs.next_window.Tie as tie
+use Rattle.evt3_run_words.specs.Masks.{Scanning, scan-start, scan-low, scan-small, scan-iteration, scan-out, scan-end}
+use Rattle.evt3_run_words.proofs.next_masks.Statement.{statement}
+use Rattle.evt3_run_words.proofs.next_masks.Tie as tie
 
 abbrev Inv-loop : tie.InvT-loop
 Inv-loop xs from end base mask₀ c₀ mask c = Scanning xs from end base (2 ^ 16) mask c
@@ -31,7 +31,7 @@ add-mask c =
 loop-again : tie.Need-loop-again Inv-loop μ-loop
 loop-again c =
     let p = c .before .before .before .before .before .before .pre in
-    scan-turn (p .0) (p .2) (c .before .before .before .before .loop .inv) (c .before .before .before .loop-test .taken)
+    scan-iteration (p .0) (p .2) (c .before .before .before .before .loop .inv) (c .before .before .before .loop-test .taken)
     (c .before .if1 .taken) (c .bit .result) (c .bit .ensures)
 
 returns : tie.Need-returns Inv-loop μ-loop
@@ -42,8 +42,8 @@ returns c =
 returns-2 : tie.Need-returns-2 Inv-loop μ-loop
 returns-2 c = scan-end (c .before .before .before .pre .0) (c .before .before .before .pre .2) (c .before .loop .inv) (c .loop-test .left)
 
-pub next-window-spec : {M : Type 1} → statement M
-next-window-spec =
+pub next-masks-spec : {M : Type 1} → statement M
+next-masks-spec =
     tie.close
     (tie.spec
     Inv-loop

@@ -1,4 +1,4 @@
--- EVT3: the masks of a run's windows, five at a time: 60 columns are the bits of one number.
+-- EVT3: the masks of a run's vector words, five at a time: 60 columns are the bits of one number.
 use mathlib.Core.Path.{_≡_, refl, sym, ap, _∙_}
 use mathlib.Core.Bool.{Bool, true, false, cond}
 use mathlib.Core.List.{List, [], _∷_, _++_}
@@ -13,19 +13,22 @@ use borrow.Author.Tests.{ltb-true, ltb-false}
 use Rattle.laws_stream.specs.Part.{between, between-at, between-end}
 use Rattle.laws_stream.specs.Mask.{Inc, mask, mask-lt}
 use Rattle.laws_stream.specs.Words.{stream, bytes, stream-append}
-use Rattle.evt_types.specs.Layout.{word3}
-use Rattle.evt3_run_words.specs.declared.Window.{Window}
+use Rattle.evt_types.specs.Layout.{wordSize3, word3}
+use Rattle.evt3_run_words.specs.declared.MaskBits.{MaskBits}
 use Rattle.evt3_run_rules.specs.Runs.{Rising, firstX, lastX}
 use Rattle.evt3_lead_words.specs.Evt3.{maskWord3, nearby, beyond}
-use Rattle.write_buffer.specs.Storing.{Roomy, Storing, storing-start, storing-turn, storing-room, storing-end}
-use Rattle.evt3_run_words.specs.Parts.{Part, maskWords, first-is, last-is, nearby-in, nearby-out, beyond-in, beyond-out}
+use Rattle.write_buffer.specs.Storing.{Roomy, Storing, storing-start, storing-iteration, storing-room, storing-end}
+use Rattle.evt3_run_words.specs.Parts.{Part, maskWords, maskBytes, first-is, last-is, nearby-in, nearby-out, beyond-in, beyond-out}
 
--- the masks of k windows, from the bits of their columns
+-- the words of k masks of 12 columns, from the bits of these columns
 unfoldable pub digitWords : (k m : ℕ) → List ℕ
 digitWords zero m = []
 digitWords (suc k) m = word3 4 (m % 4096) ∷ digitWords k (m / 4096)
 
-pub digits-length : (k m : ℕ) → length (stream 2 (digitWords k m)) ≡ 2 * k
+abbrev pub digitBytes : (k m : ℕ) → List ℕ
+digitBytes k m = stream wordSize3 (digitWords k m)
+
+pub digits-length : (k m : ℕ) → length (digitBytes k m) ≡ wordSize3 * k
 unfolding digitWords
 digits-length zero m = refl
 digits-length (suc k) m = omega (arith, digits-length k (m / 4096))
@@ -45,7 +48,8 @@ near-inc mid b to (x ∷ l) i = near-as (ltb x mid) mid b to x l refl (i .0) (i 
 
 module _ (mid to : ℕ) (h : mid ≤ to) where
   split-as : (c : Bool) (x : ℕ) (l : List ℕ) → ltb x mid ≡ c → nearby to l ≡ nearby mid l ++ nearby to (beyond mid l) → beyond to (beyond mid l) ≡ beyond to l
-      → (nearby to (x ∷ l) ≡ cond c (x ∷ nearby mid l) [] ++ nearby to (cond c (beyond mid l) (x ∷ l))) × (beyond to (cond c (beyond mid l) (x ∷ l)) ≡ beyond to (x ∷ l))
+      → (nearby to (x ∷ l) ≡ cond c (x ∷ nearby mid l) [] ++ nearby to (cond c (beyond mid l) (x ∷ l)))
+      × (beyond to (cond c (beyond mid l) (x ∷ l)) ≡ beyond to (x ∷ l))
   split-as true x l q n f =
       let lt : x < to = omega (arith, ltb-true x mid q) in
       (nearby-in to x l lt ∙ ap (λ (k : List ℕ). x ∷ k) n, f ∙ sym (beyond-in to x l lt))
@@ -89,7 +93,7 @@ module _ (b top lim : ℕ) (l : List ℕ) (h : b + 12 ≤ lim) (i : Inc b top l)
   pub mask-rest : mask b (nearby lim l) / 4096 ≡ mask (b + 12) (nearby lim (beyond (b + 12) l))
   mask-rest = omega (arith, mask-parts, mask-lt 12 b (b + 12) b (nearby (b + 12) l) (omega arith) (omega arith) (near-inc (b + 12) b top l i .0))
 
--- THE MASKS of the first k windows are the digits of the bits up to a limit
+-- THE MASKS of the first k vector words are the digits of the bits up to a limit
 pub masks-digits : (k n b top lim : ℕ) (l : List ℕ) → b + 12 * k ≤ lim → Inc b top l
     → maskWords (k + n) b l ≡ digitWords k (mask b (nearby lim l)) ++ maskWords n (b + 12 * k) (beyond (b + 12 * k) l)
 unfolding maskWords digitWords
@@ -110,14 +114,16 @@ pub inc-to : (b to top : ℕ) (l : List ℕ) → to ≤ top → Inc b to l → I
 inc-to b to top [] h i = tt
 inc-to b to top (x ∷ l) h i = (i .0, omega (arith, i .1), inc-to (suc x) to top l h (i .2))
 
-pub rising-inc : (xs : List ℕ) (i e top : ℕ) → i < e → e ≤ length xs → getD xs (e - 1) 0 < top → Rising (between xs i e) → Inc (getD xs i 0) top (between xs i e)
+pub rising-inc : (xs : List ℕ) (i e top : ℕ) → i < e → e ≤ length xs → getD xs (e - 1) 0 < top → Rising (between xs i e)
+    → Inc (getD xs i 0) top (between xs i e)
 rising-inc xs i e top h f l r =
-    rw (← first-is xs i e h f) (inc-to (firstX (between xs i e)) (suc (lastX (between xs i e))) top (between xs i e) (rw (last-is xs i e h f) (omega arith)) (r .rises))
+    let part = between xs i e in
+    rw (← first-is xs i e h f) (inc-to (firstX part) (suc (lastX part)) top part (rw (last-is xs i e h f) (omega arith)) (r .rises))
 
 -- ---- the bits of 60 columns
 
 -- those from b on, of the numbers from `from` on
-pub record Windowed (xs : List ℕ) (from e b : ℕ) (w : Window) : Type 0 where
+pub record NextMasks (xs : List ℕ) (from e b : ℕ) (w : MaskBits) : Type 0 where
   pub is-mask : w .mask ≡ mask b (nearby (b + 60) (between xs from e))
   pub is-rest : between xs (w .next) e ≡ beyond (b + 60) (between xs from e)
   pub within : w .next ≤ e
@@ -154,13 +160,15 @@ module _ {xs : List ℕ} {from e b top : ℕ} (part : Part xs from e 0) (rising 
 
     pub scan-small : c < e → x < b + 60 → m + 2 ^ (x - b) < 2 ^ 60
     scan-small h k =
-        let lt = mask-lt 60 b (b + 60) b (nearby (b + 60) (between xs from e)) (omega arith) (omega arith) (near-inc (b + 60) b top (between xs from e) rising .0) in
+        let lt =
+        mask-lt 60 b (b + 60) b (nearby (b + 60) (between xs from e)) (omega arith) (omega arith) (near-inc (b + 60) b top (between xs from e) rising .0) in
         omega (arith, lt, s .sum, ap (mask b) (near h k))
 
-    pub scan-turn : c < e → x < b + 60 → (d : ℕ) → d ≡ 2 ^ (x - b) → Scanning xs from e b top (m + d) (c + 1)
-    scan-turn h k d q =
+    pub scan-iteration : c < e → x < b + 60 → (d : ℕ) → d ≡ 2 ^ (x - b) → Scanning xs from e b top (m + d) (c + 1)
+    scan-iteration h k d q =
         let r = rise-here h in
-        let far : beyond (b + 60) (between xs c e) ≡ beyond (b + 60) (between xs (c + 1) e) = ap (beyond (b + 60)) (here h) ∙ beyond-in (b + 60) x (between xs (c + 1) e) k in
+        let far : beyond (b + 60) (between xs c e) ≡ beyond (b + 60) (between xs (c + 1) e) =
+        ap (beyond (b + 60)) (here h) ∙ beyond-in (b + 60) x (between xs (c + 1) e) k in
         record {
           below = omega arith;
           rise = inc-from b (suc x) top (between xs (c + 1) e) (omega (arith, r .0)) (r .2);
@@ -168,93 +176,102 @@ module _ {xs : List ℕ} {from e b top : ℕ} (part : Part xs from e 0) (rising 
           rest = sym far ∙ s .rest;
         }
 
-    stop : nearby (b + 60) (between xs c e) ≡ [] → beyond (b + 60) (between xs c e) ≡ between xs c e → Windowed xs from e b (record { mask = m; next = c })
+    stop : nearby (b + 60) (between xs c e) ≡ [] → beyond (b + 60) (between xs c e) ≡ between xs c e → NextMasks xs from e b (record { mask = m; next = c })
     stop n f = record { is-mask = omega (arith, ap (mask b) n, s .sum); is-rest = sym f ∙ s .rest; within = s .below }
 
-    pub scan-out : c < e → b + 60 ≤ x → Windowed xs from e b (record { mask = m; next = c })
+    pub scan-out : c < e → b + 60 ≤ x → NextMasks xs from e b (record { mask = m; next = c })
     scan-out h k =
-        stop (ap (nearby (b + 60)) (here h) ∙ nearby-out (b + 60) x (between xs (c + 1) e) k) (ap (beyond (b + 60)) (here h) ∙ beyond-out (b + 60) x (between xs (c + 1) e) k ∙ sym (here h))
+        stop (ap (nearby (b + 60)) (here h) ∙ nearby-out (b + 60) x (between xs (c + 1) e) k)
+        (ap (beyond (b + 60)) (here h) ∙ beyond-out (b + 60) x (between xs (c + 1) e) k ∙ sym (here h))
 
-    pub scan-end : e ≤ c → Windowed xs from e b (record { mask = m; next = c })
+    pub scan-end : e ≤ c → NextMasks xs from e b (record { mask = m; next = c })
     unfolding nearby beyond
     scan-end h = stop (rw (between-end xs c e h)) (rw (between-end xs c e h))
 
 -- ---- the digits of one number
 
 pub record Digiting (k m₀ : ℕ) (out₀ : List ℕ) (at : ℕ) (out : List ℕ) (a m left : ℕ) : Type 0 where
-  pub place : a + 2 * left ≡ at + 2 * k
-  pub storing : Storing (stream 2 (digitWords k m₀)) at out₀ (stream 2 (digitWords left m)) a out
+  pub place : a + wordSize3 * left ≡ at + wordSize3 * k
+  pub storing : Storing (digitBytes k m₀) at out₀ (digitBytes left m) a out
 
 module _ {k m₀ : ℕ} {out₀ : List ℕ} {at : ℕ} where
   pub digit-start : Digiting k m₀ out₀ at out₀ at m₀ k
   digit-start = record { place = refl; storing = storing-start }
 
   module _ {out : List ℕ} {a m left : ℕ} (s : Digiting k m₀ out₀ at out a m left) where
-    next : 0 < left → stream 2 (digitWords left m) ≡ bytes 2 (word3 4 (m % 4096)) ++ stream 2 (digitWords (left - 1) (m / 4096))
+    next : 0 < left → digitBytes left m ≡ bytes wordSize3 (word3 4 (m % 4096)) ++ digitBytes (left - 1) (m / 4096)
     unfolding digitWords
-    next h = let n : left ≡ suc (left - 1) = omega arith in ap (λ (j : ℕ). stream 2 (digitWords j m)) n
+    next h = let n : left ≡ suc (left - 1) = omega arith in ap (λ (j : ℕ). digitBytes j m) n
 
-    pub digit-turn : 0 < left → (out′ : List ℕ) → out′ ≡ sets out a (bytes 2 (word3 4 (m % 4096))) → Digiting k m₀ out₀ at out′ (a + 2) (m / 4096) (left - 1)
-    digit-turn h out′ o = record {
+    pub digit-iteration : 0 < left → (out′ : List ℕ) → out′ ≡ sets out a (bytes wordSize3 (word3 4 (m % 4096)))
+        → Digiting k m₀ out₀ at out′ (a + wordSize3) (m / 4096) (left - 1)
+    digit-iteration h out′ o = record {
       place = omega (arith, s .place);
-      storing = storing-turn (bytes 2 (word3 4 (m % 4096))) (stream 2 (digitWords (left - 1) (m / 4096))) (next h) o (s .storing);
+      storing = storing-iteration (bytes wordSize3 (word3 4 (m % 4096))) (digitBytes (left - 1) (m / 4096)) (next h) o (s .storing);
     }
 
-    pub digit-room : 0 < left → Roomy out₀ at (2 * k) → Roomy out a 2
-    digit-room h r = storing-room (bytes 2 (word3 4 (m % 4096))) (stream 2 (digitWords (left - 1) (m / 4096))) (next h) (s .storing) (rw (digits-length k m₀) r)
+    pub digit-room : 0 < left → Roomy out₀ at (wordSize3 * k) → Roomy out a wordSize3
+    digit-room h r = storing-room (bytes wordSize3 (word3 4 (m % 4096))) (digitBytes (left - 1) (m / 4096)) (next h) (s .storing) (rw (digits-length k m₀) r)
 
-    pub digit-end : left ≤ 0 → (a ≡ at + 2 * k) × (out ≡ sets out₀ at (stream 2 (digitWords k m₀)))
+    pub digit-end : left ≤ 0 → (a ≡ at + wordSize3 * k) × (out ≡ sets out₀ at (digitBytes k m₀))
     unfolding digitWords
     digit-end h = let n : left ≡ 0 = omega arith in (omega (arith, s .place), storing-end (rw n at (s .storing)) .1)
 
--- ---- the windows of a run
+-- ---- the vector words of a run
 
 pub record Masking (xs : List ℕ) (i e b₀ k top : ℕ) (out₀ : List ℕ) (at : ℕ) (out : List ℕ) (a c b left : ℕ) : Type 0 where
   pub below : c ≤ e
   pub base : b + 12 * left ≤ 2 ^ 20
-  pub place : a + 2 * left ≡ at + 2 * k
+  pub place : a + wordSize3 * left ≡ at + wordSize3 * k
   pub rise : Inc b top (between xs c e)
-  pub storing : Storing (stream 2 (maskWords k b₀ (between xs i e))) at out₀ (stream 2 (maskWords left b (between xs c e))) a out
+  pub storing : Storing (maskBytes k b₀ (between xs i e)) at out₀ (maskBytes left b (between xs c e)) a out
 
-module _ {xs : List ℕ} {i e b₀ k top : ℕ} {out₀ : List ℕ} {at : ℕ} (part : Part xs i e at) (fits : b₀ + 12 * k ≤ 2 ^ 20) (rising : Inc b₀ top (between xs i e)) where
+module _ {xs : List ℕ} {i e b₀ k top : ℕ} {out₀ : List ℕ} {at : ℕ} (part : Part xs i e at) (fits : b₀ + 12 * k ≤ 2 ^ 20)
+    (rising : Inc b₀ top (between xs i e)) where
   pub masking-start : Masking xs i e b₀ k top out₀ at out₀ at i b₀ k
   masking-start = record { below = part .low; base = fits; place = refl; rise = rising; storing = storing-start }
 
   module _ {out : List ℕ} {a c b left : ℕ} (s : Masking xs i e b₀ k top out₀ at out a c b left) where
     -- the first n words, from the bits of 60 columns
-    front : (n : ℕ) → n ≤ 5 → n ≤ left → (w : Window) → Windowed xs c e b w
-        → stream 2 (maskWords left b (between xs c e)) ≡ stream 2 (digitWords n (w .mask)) ++ stream 2 (maskWords (left - n) (b + 12 * n) (beyond (b + 12 * n) (between xs c e)))
+    front : (n : ℕ) → n ≤ 5 → n ≤ left → (w : MaskBits) → NextMasks xs c e b w
+        → maskBytes left b (between xs c e) ≡ digitBytes n (w .mask) ++ maskBytes (left - n) (b + 12 * n) (beyond (b + 12 * n) (between xs c e))
     front n h k w wd =
         let here = between xs c e in
         let all : left ≡ n + (left - n) = omega arith in
-        ap (λ (j : ℕ). stream 2 (maskWords j b here)) all
-        ∙ ap (stream 2) (masks-digits n (left - n) b top (b + 60) here (omega arith) (s .rise))
-        ∙ rw (stream-append 2 (digitWords n (mask b (nearby (b + 60) here))), ← wd .is-mask)
+        ap (λ (j : ℕ). maskBytes j b here) all
+        ∙ ap (stream wordSize3) (masks-digits n (left - n) b top (b + 60) here (omega arith) (s .rise))
+        ∙ rw (stream-append wordSize3 (digitWords n (mask b (nearby (b + 60) here))), ← wd .is-mask)
 
-    pub masking-room : (n : ℕ) → n ≤ 5 → n ≤ left → (w : Window) → Windowed xs c e b w → Roomy out₀ at (length (stream 2 (maskWords k b₀ (between xs i e)))) → Roomy out a (2 * n)
+    pub masking-room : (n : ℕ) → n ≤ 5 → n ≤ left → (w : MaskBits) → NextMasks xs c e b w → Roomy out₀ at (length (maskBytes k b₀ (between xs i e)))
+        → Roomy out a (wordSize3 * n)
     masking-room n h k w wd r =
-        rw (← digits-length n (w .mask)) (storing-room (stream 2 (digitWords n (w .mask))) (stream 2 (maskWords (left - n) (b + 12 * n) (beyond (b + 12 * n) (between xs c e)))) (front n h k w wd) (s .storing) r)
+        rw (← digits-length n (w .mask)) (storing-room (digitBytes n (w .mask)) (maskBytes (left - n) (b + 12 * n) (beyond (b + 12 * n) (between xs c e)))
+        (front n h k w wd) (s .storing) r)
 
-    pub masking-turn : 5 < left → (w : Window) → Windowed xs c e b w → (r : ℕ) (out′ : List ℕ) → r ≡ a + 2 * 5 → out′ ≡ sets out a (stream 2 (digitWords 5 (w .mask)))
+    pub masking-iteration : 5 < left → (w : MaskBits) → NextMasks xs c e b w → (r : ℕ) (out′ : List ℕ) → r ≡ a + wordSize3 * 5
+        → out′ ≡ sets out a (digitBytes 5 (w .mask))
         → Masking xs i e b₀ k top out₀ at out′ r (w .next) (b + 60) (left - 5)
-    masking-turn h w wd r out′ q o =
+    masking-iteration h w wd r out′ q o =
         let n = digits-length 5 (w .mask) in
-        let to : r ≡ a + length (stream 2 (digitWords 5 (w .mask))) = omega (arith, n) in
+        let to : r ≡ a + length (digitBytes 5 (w .mask)) = omega (arith, n) in
         record {
           below = wd .within;
           base = omega (arith, s .base);
           place = omega (arith, s .place);
           rise = rw (wd .is-rest) (near-inc (b + 60) b top (between xs c e) (s .rise) .1);
-          storing = rw (to, wd .is-rest) (storing-turn (stream 2 (digitWords 5 (w .mask))) (stream 2 (maskWords (left - 5) (b + 60) (beyond (b + 60) (between xs c e)))) (front 5 (omega arith) (omega arith) w wd) o (s .storing));
+          storing =
+              rw (to, wd .is-rest) (storing-iteration (digitBytes 5 (w .mask)) (maskBytes (left - 5) (b + 60) (beyond (b + 60) (between xs c e)))
+              (front 5 (omega arith) (omega arith) w wd) o (s .storing));
         }
 
-    pub masking-end : left ≤ 5 → (w : Window) → Windowed xs c e b w → (r : ℕ) (out′ : List ℕ) → r ≡ a + 2 * left → out′ ≡ sets out a (stream 2 (digitWords left (w .mask)))
-        → (r ≡ at + length (stream 2 (maskWords k b₀ (between xs i e)))) × (out′ ≡ sets out₀ at (stream 2 (maskWords k b₀ (between xs i e))))
+    pub masking-end : left ≤ 5 → (w : MaskBits) → NextMasks xs c e b w → (r : ℕ) (out′ : List ℕ) → r ≡ a + wordSize3 * left
+        → out′ ≡ sets out a (digitBytes left (w .mask))
+        → (r ≡ at + length (maskBytes k b₀ (between xs i e))) × (out′ ≡ sets out₀ at (maskBytes k b₀ (between xs i e)))
     unfolding maskWords
     masking-end h w wd r out′ q o =
         let n = digits-length left (w .mask) in
-        let to : r ≡ a + length (stream 2 (digitWords left (w .mask))) = omega (arith, n) in
+        let to : r ≡ a + length (digitBytes left (w .mask)) = omega (arith, n) in
         let none : left - left ≡ 0 = omega arith in
         let last = rw none at (front left h (omega arith) w wd) in
-        let e = storing-end (storing-turn (stream 2 (digitWords left (w .mask))) [] last o (s .storing)) in
+        let e = storing-end (storing-iteration (digitBytes left (w .mask)) [] last o (s .storing)) in
         (to ∙ e .0, e .1)

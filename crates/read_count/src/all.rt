@@ -45,7 +45,7 @@ pub fn evt2(bytes: &[u8], d: Evt2Decoder, width: u64, height: u64) -> Evt2Counte
     let mut top: u64 = 0;
     let mut i: usize = 0;
     let mut w = words::four_at(bytes, 0);
-    while i + 3 < bytes.len() {
+    while i + Evt2Decoder::WORD_SIZE <= bytes.len() {
         if quick::seen(w, limit, height) {
             let t = s.time_high + bits(w, 22, 6);
             s.time = t;
@@ -56,7 +56,7 @@ pub fn evt2(bytes: &[u8], d: Evt2Decoder, width: u64, height: u64) -> Evt2Counte
             s = step.next;
             limit = quick::limit(s.initialised, width);
         }
-        i += 4;
+        i += Evt2Decoder::WORD_SIZE;
         w = words::four_at(bytes, i);
     }
     Evt2CountedAll {
@@ -81,13 +81,13 @@ pub fn evt3(bytes: &[u8], d: Decoder, width: u64, height: u64) -> Evt3CountedAll
     let mut top: u64 = 0;
     let mut i: usize = 0;
     let mut w = words::two_at(bytes, 0);
-    while i + 1 < bytes.len() {
+    while i + Decoder::WORD_SIZE <= bytes.len() {
         let g = s.glance(w, &spans, &vects);
         s = g.next;
         let m = ones::count(g.x, s.y, g.mask, wide, height, &table);
         n += m;
         top = read_columns::later(top, m, s.time);
-        i += 2;
+        i += Decoder::WORD_SIZE;
         w = words::two_at(bytes, i);
     }
     let decoder = s.wide().slim();

@@ -38,7 +38,7 @@ pub fn evt2(bytes: &[u8], d: Evt2Decoder, width: u64, height: u64, most: usize) 
     let mut n: usize = 0;
     let mut i: usize = 0;
     let mut w = words::four_at(bytes, 0);
-    while i + 3 < bytes.len() {
+    while i + Evt2Decoder::WORD_SIZE <= bytes.len() {
         if quick::seen(w, limit, height) {
             if most <= n {
                 break;
@@ -51,7 +51,7 @@ pub fn evt2(bytes: &[u8], d: Evt2Decoder, width: u64, height: u64, most: usize) 
             s = step.next;
             limit = quick::limit(s.initialised, width);
         }
-        i += 4;
+        i += Evt2Decoder::WORD_SIZE;
         w = words::four_at(bytes, i);
     }
     Evt2CountedTo {
@@ -73,7 +73,7 @@ pub fn evt3(bytes: &[u8], d: Decoder, width: u64, height: u64, most: usize) -> E
     let mut n: usize = 0;
     let mut i: usize = 0;
     let mut w = words::two_at(bytes, 0);
-    while i + 1 < bytes.len() {
+    while i + Decoder::WORD_SIZE <= bytes.len() {
         let g = s.glance(w, &spans, &vects);
         let next = g.next;
         let m = ones::count(g.x, next.y, g.mask, wide, height, &table);
@@ -82,7 +82,7 @@ pub fn evt3(bytes: &[u8], d: Decoder, width: u64, height: u64, most: usize) -> E
         }
         n += m;
         s = next;
-        i += 2;
+        i += Decoder::WORD_SIZE;
         w = words::two_at(bytes, i);
     }
     let decoder = s.wide().slim();

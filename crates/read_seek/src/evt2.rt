@@ -23,7 +23,7 @@ pub fn span2(bytes: &[u8], d: Evt2Decoder, t0: u64, t1: u64) -> Sought
     let mut s = d;
     let mut stray = false;
     let mut i: usize = 0;
-    while i + 3 < bytes.len() {
+    while i + Evt2Decoder::WORD_SIZE <= bytes.len() {
         let w = words::four_at(bytes, i);
         let step = advance(s, w);
         let next = step.next;
@@ -33,7 +33,7 @@ pub fn span2(bytes: &[u8], d: Evt2Decoder, t0: u64, t1: u64) -> Sought
         let kind = bits(w, 28, 4);
         stray = strays(stray, next.time, t0, kind < 2);
         s = next;
-        i += 4;
+        i += Evt2Decoder::WORD_SIZE;
     }
     Sought {
         at: i,
@@ -51,15 +51,15 @@ pub fn skip2(bytes: &[u8], d: Evt2Decoder, t: u64) -> Marked
     let mut s = d;
     let mut at: usize = 0;
     let mut i: usize = 0;
-    if t < d.time_high + 64 {
+    if t < d.time_high + Evt2Decoder::GRAIN {
         return Marked {
             at: 0,
             codec: Codec::Evt2(d),
         };
     }
-    while i + 3 < bytes.len() {
+    while i + Evt2Decoder::WORD_SIZE <= bytes.len() {
         let w = words::four_at(bytes, i);
-        i += 4;
+        i += Evt2Decoder::WORD_SIZE;
         let kind = bits(w, 28, 4);
         if kind == 8 {
             let step = advance(s, w);
@@ -69,7 +69,7 @@ pub fn skip2(bytes: &[u8], d: Evt2Decoder, t: u64) -> Marked
             }
             s = next;
             at = i;
-            if t < next.time + 64 {
+            if t < next.time + Evt2Decoder::GRAIN {
                 break;
             }
         }

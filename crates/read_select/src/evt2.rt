@@ -29,12 +29,12 @@ pub fn survey2(bytes: &[u8], d: Evt2Decoder, win: Window, number: u64) -> Survey
         height: 0,
     };
     let mut i: usize = 0;
-    while i + 3 < bytes.len() {
+    while i + Evt2Decoder::WORD_SIZE <= bytes.len() {
         let w = words::four_at(bytes, i);
         let step = advance(s, w);
         let v = step.events;
         s = step.next;
-        i += 4;
+        i += Evt2Decoder::WORD_SIZE;
         let r = word::cut2(v, win, t.number);
         t = word::note(t, v, r);
         if trim::stopped(win, t.number, s.initialised, s.time) {
@@ -47,7 +47,7 @@ pub fn survey2(bytes: &[u8], d: Evt2Decoder, win: Window, number: u64) -> Survey
         latest: t.latest,
         width: t.width,
         height: t.height,
-        consumed: i / 4,
+        consumed: i / Evt2Decoder::WORD_SIZE,
         codec: Codec::Evt2(s),
     }
 }
@@ -74,12 +74,12 @@ pub fn fill2(
     let mut k = number;
     let mut n: usize = 0;
     let mut i: usize = 0;
-    while i + 3 < bytes.len() {
+    while i + Evt2Decoder::WORD_SIZE <= bytes.len() {
         let w = words::four_at(bytes, i);
         let step = advance(s, w);
         let v = step.events;
         s = step.next;
-        i += 4;
+        i += Evt2Decoder::WORD_SIZE;
         let r = word::cut2(v, win, k);
         let kept = word::masked(v, r.mask);
         let was = n;
@@ -92,7 +92,7 @@ pub fn fill2(
     Filled {
         number: k,
         count: n,
-        consumed: i / 4,
+        consumed: i / Evt2Decoder::WORD_SIZE,
         codec: Codec::Evt2(s),
     }
 }

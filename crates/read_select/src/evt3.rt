@@ -29,12 +29,12 @@ pub fn survey3(bytes: &[u8], d: Decoder, win: Window, number: u64) -> SurveyTota
         height: 0,
     };
     let mut i: usize = 0;
-    while i + 1 < bytes.len() {
+    while i + Decoder::WORD_SIZE <= bytes.len() {
         let w = words::two_at(bytes, i);
         let step = s.advance(w);
         let v = step.events;
         s = step.next;
-        i += 2;
+        i += Decoder::WORD_SIZE;
         let r = word::cut3(v, win, t.number);
         t = word::note(t, v, r);
         if trim::stopped(win, t.number, s.initialised, s.time) {
@@ -48,7 +48,7 @@ pub fn survey3(bytes: &[u8], d: Decoder, win: Window, number: u64) -> SurveyTota
         latest: t.latest,
         width: t.width,
         height: t.height,
-        consumed: i / 2,
+        consumed: i / Decoder::WORD_SIZE,
         codec: Codec::Evt3(decoder),
     }
 }
@@ -75,12 +75,12 @@ pub fn fill3(
     let mut k = number;
     let mut n: usize = 0;
     let mut i: usize = 0;
-    while i + 1 < bytes.len() {
+    while i + Decoder::WORD_SIZE <= bytes.len() {
         let w = words::two_at(bytes, i);
         let step = s.advance(w);
         let v = step.events;
         s = step.next;
-        i += 2;
+        i += Decoder::WORD_SIZE;
         let r = word::keep3(v, win, k);
         let kept = word::masked(v, r.mask);
         let was = n;
@@ -94,7 +94,7 @@ pub fn fill3(
     Filled {
         number: k,
         count: n,
-        consumed: i / 2,
+        consumed: i / Decoder::WORD_SIZE,
         codec: Codec::Evt3(decoder),
     }
 }

@@ -13,7 +13,7 @@ use Rattle.evt_types.specs.Ahead.{ahead, ahead-some}
 use Rattle.evt_types.specs.declared.vector.Vector.{Vector}
 use Rattle.evt2_decoder.specs.declared.Evt2Decoder.{Evt2Decoder}
 use Rattle.evt3_decoder.specs.declared.Decoder.{Decoder}
-use Rattle.evt_types.specs.Layout.{timeLow2, wordSize3}
+use Rattle.evt_types.specs.Layout.{timeLow2, wordSize3, wordSize2}
 use Rattle.evt2_decoder.specs.Evt2.{step2, vector2, reader2}
 use Rattle.evt3_decoder.specs.Evt3.{vector3, reader3, slimmed}
 use Rattle.evt2_decoder.specs.Range.{Bounded2, bounded-step2}
@@ -32,14 +32,14 @@ use Rattle.read_count.specs.Glance.{Glanced, scanned, seenOf}
 
 -- at a word w, which was read ahead
 pub record Word2 (width height : ℕ) (bytes : List ℕ) (s : Evt2Decoder) (limit i w : ℕ) : Type 0 where
-  pub more : i + 3 < length bytes
-  pub is-word : w ≡ ahead 4 bytes i
+  pub more : i + wordSize2 ≤ length bytes
+  pub is-word : w ≡ ahead wordSize2 bytes i
   pub is-limit : limit ≡ limitOf (s .initialised) width
 
 -- it is an event inside the sensor, or adds nothing
 module _ {width height : ℕ} {bytes : List ℕ} {s : Evt2Decoder} {limit i w : ℕ} (a : Word2 width height bytes s limit i w) where
-  turn : (s′ : Evt2Decoder) → s′ ≡ step2 s w → Turn 4 reader2 bytes s i s′ (vector2 s w)
-  turn s′ is = record { word = w; more = omega (arith, a .more); is-word = a .is-word ∙ ahead-some 4 bytes i (omega (arith, a .more)); is-next = is; is-events = refl }
+  turn : (s′ : Evt2Decoder) → s′ ≡ step2 s w → Turn wordSize2 reader2 bytes s i s′ (vector2 s w)
+  turn s′ is = record { word = w; more = omega (arith, a .more); is-word = a .is-word ∙ ahead-some wordSize2 bytes i (omega (arith, a .more)); is-next = is; is-events = refl }
 
   found : {b : Bool} → isSeen limit height w ≡ b → oneIf b ≡ length (insideOf width height (vector2 s w))
   found e = sym (seen-count width height s w ∙ ap oneIf (rw (a .is-limit) at e))
@@ -56,27 +56,27 @@ module _ {width height : ℕ} {bytes : List ℕ} {s : Evt2Decoder} {limit i w : 
     its-time = is-t ∙ sym (seen-step width height s w (rw (a .is-limit) at e) .1)
 
   -- counting
-  module _ {s₀ : Evt2Decoder} {n top : ℕ} (u : Counting 4 reader2 Bounded2 width height s₀ bytes s n top i) where
-    pub seen-few : isSeen limit height w ≡ true → n + 1 ≤ length (insideAll 4 reader2 width height s₀ bytes)
+  module _ {s₀ : Evt2Decoder} {n top : ℕ} (u : Counting wordSize2 reader2 Bounded2 width height s₀ bytes s n top i) where
+    pub seen-few : isSeen limit height w ≡ true → n + 1 ≤ length (insideAll wordSize2 reader2 width height s₀ bytes)
     seen-few e = omega (arith, found e, counting-few (omega arith) bounded-step2 u (turn (step2 s w) refl))
 
     pub seen-turn : (e : isSeen limit height w ≡ true) (t : ℕ) (is-t : t ≡ s .«time_high» + timeLow2 w) {top′ : ℕ} → top′ ≡ max top (latestOf 1 t)
-        → Counting 4 reader2 Bounded2 width height s₀ bytes (stamped e t is-t) (n + 1) top′ (i + 4)
+        → Counting wordSize2 reader2 Bounded2 width height s₀ bytes (stamped e t is-t) (n + 1) top′ (i + wordSize2)
     seen-turn e t is-t {top′} is-top = counting-turn (omega arith) bounded-step2 u (turn (stamped e t is-t) (is-timed e t is-t)) 1 (found e) top′ (rw (its-time e t is-t) at is-top)
 
-    pub unseen-turn : isSeen limit height w ≡ false → {s′ : Evt2Decoder} → s′ ≡ step2 s w → Counting 4 reader2 Bounded2 width height s₀ bytes s′ n top (i + 4)
+    pub unseen-turn : isSeen limit height w ≡ false → {s′ : Evt2Decoder} → s′ ≡ step2 s w → Counting wordSize2 reader2 Bounded2 width height s₀ bytes s′ n top (i + wordSize2)
     unseen-turn e {s′} is = rw add-zero at (counting-turn (omega arith) bounded-step2 u (turn s′ is) 0 (found e) top (omega arith))
 
   -- passing over
-  module _ {most : ℕ} {s₀ : Evt2Decoder} {n : ℕ} (u : Passing 4 reader2 Bounded2 width height most s₀ bytes s n i) where
-    pub seen-stop : isSeen limit height w ≡ true → most ≤ n → Reached 4 reader2 Bounded2 width height most s₀ bytes i n s
+  module _ {most : ℕ} {s₀ : Evt2Decoder} {n : ℕ} (u : Passing wordSize2 reader2 Bounded2 width height most s₀ bytes s n i) where
+    pub seen-stop : isSeen limit height w ≡ true → most ≤ n → Reached wordSize2 reader2 Bounded2 width height most s₀ bytes i n s
     seen-stop e l = passing-stop (omega arith) bounded-step2 u (turn (step2 s w) refl) (found e) (omega arith)
 
     pub seen-pass : (e : isSeen limit height w ≡ true) (t : ℕ) (is-t : t ≡ s .«time_high» + timeLow2 w) → n < most
-        → Passing 4 reader2 Bounded2 width height most s₀ bytes (stamped e t is-t) (n + 1) (i + 4)
+        → Passing wordSize2 reader2 Bounded2 width height most s₀ bytes (stamped e t is-t) (n + 1) (i + wordSize2)
     seen-pass e t is-t l = passing-turn (omega arith) bounded-step2 u (turn (stamped e t is-t) (is-timed e t is-t)) (found e) (omega arith)
 
-    pub unseen-pass : isSeen limit height w ≡ false → {s′ : Evt2Decoder} → s′ ≡ step2 s w → Passing 4 reader2 Bounded2 width height most s₀ bytes s′ n (i + 4)
+    pub unseen-pass : isSeen limit height w ≡ false → {s′ : Evt2Decoder} → s′ ≡ step2 s w → Passing wordSize2 reader2 Bounded2 width height most s₀ bytes s′ n (i + wordSize2)
     unseen-pass e {s′} is = rw add-zero at (passing-turn (omega arith) bounded-step2 u (turn s′ is) (found e) (omega arith))
 
 -- ---- EVT3
@@ -85,7 +85,7 @@ module _ {width height : ℕ} {bytes : List ℕ} {s : Evt2Decoder} {limit i w : 
 pub started3 : {d e : Decoder} (l : List ℕ) → e ≡ d → Bounded3 (length l / wordSize3) d → Bounded3 (length (wordsOf wordSize3 l)) e
 started3 l is b = rw is (start3 l b)
 
-pub ended3 : {width height : ℕ} {bytes : List ℕ} {d e s : Decoder} {n top i : ℕ} → e ≡ d → Counting wordSize3 reader3 Bounded3 width height e bytes s n top i → length bytes < i + 2
+pub ended3 : {width height : ℕ} {bytes : List ℕ} {d e s : Decoder} {n top i : ℕ} → e ≡ d → Counting wordSize3 reader3 Bounded3 width height e bytes s n top i → length bytes < i + wordSize3
     → (r : Decoder) → r ≡ s
     → (n ≡ length (insideAll wordSize3 reader3 width height d bytes)) × (top ≡ greatest clock (insideAll wordSize3 reader3 width height d bytes)) × (r ≡ after wordSize3 reader3 d bytes)
 ended3 is u h r is-r = rw (← is, is-r) (counting-end (omega arith) bounded-step3 u h)
@@ -96,8 +96,8 @@ reached3 is u r is-r = rw (← is, is-r) u
 
 -- at a word w, which was read ahead: what glancing at it gives, and how many of its events are inside
 pub record Word3 (width height wide : ℕ) (bytes : List ℕ) (s : Decoder) (i w : ℕ) (r : Glance) (m : ℕ) : Type 0 where
-  pub more : i + 1 < length bytes
-  pub is-word : w ≡ ahead 2 bytes i
+  pub more : i + wordSize3 ≤ length bytes
+  pub is-word : w ≡ ahead wordSize3 bytes i
   pub glanced : Glanced s w r
   pub is-wide : wide ≡ wideOf width
   pub is-count : m ≡ countOf (r .x) (r .next .y) (r .mask) wide height
@@ -110,7 +110,7 @@ module _ {width height wide : ℕ} {bytes : List ℕ} {s : Decoder} {i w : ℕ} 
   turn′ = record {
     word = w;
     more = omega (arith, a .more);
-    is-word = a .is-word ∙ ahead-some 2 bytes i (omega (arith, a .more));
+    is-word = a .is-word ∙ ahead-some wordSize3 bytes i (omega (arith, a .more));
     is-next = ap slimmed (a .glanced .next);
     is-events = a .glanced .same;
   }
@@ -122,12 +122,12 @@ module _ {width height wide : ℕ} {bytes : List ℕ} {s : Decoder} {i w : ℕ} 
     pub glance-few : n + m ≤ length (insideAll wordSize3 reader3 width height s₀ bytes)
     glance-few = omega (arith, counted, counting-few (omega arith) bounded-step3 u turn′)
 
-    pub glance-turn : {top′ : ℕ} → top′ ≡ max top (latestOf m (r .next .time)) → Counting wordSize3 reader3 Bounded3 width height s₀ bytes (slimmed (scanned (r .next))) (n + m) top′ (i + 2)
+    pub glance-turn : {top′ : ℕ} → top′ ≡ max top (latestOf m (r .next .time)) → Counting wordSize3 reader3 Bounded3 width height s₀ bytes (slimmed (scanned (r .next))) (n + m) top′ (i + wordSize3)
     glance-turn {top′} is-top = counting-turn (omega arith) bounded-step3 u turn′ m counted top′ is-top
 
   module _ {most : ℕ} {s₀ : Decoder} {n : ℕ} (u : Passing wordSize3 reader3 Bounded3 width height most s₀ bytes s n i) where
     pub glance-stop : most - n < m → Reached wordSize3 reader3 Bounded3 width height most s₀ bytes i n s
     glance-stop l = passing-stop (omega arith) bounded-step3 u turn′ counted l
 
-    pub glance-pass : m ≤ most - n → Passing wordSize3 reader3 Bounded3 width height most s₀ bytes (slimmed (scanned (r .next))) (n + m) (i + 2)
+    pub glance-pass : m ≤ most - n → Passing wordSize3 reader3 Bounded3 width height most s₀ bytes (slimmed (scanned (r .next))) (n + m) (i + wordSize3)
     glance-pass l = passing-turn (omega arith) bounded-step3 u turn′ counted l

@@ -35,9 +35,9 @@ pub struct Evt3CountedAll {
 
 pub fn evt2(bytes: &[u8], d: Evt2Decoder, width: u64, height: u64) -> Evt2CountedAll
     requires { ⌜ Bounded2 (length (now bytes) / wordSize2) d ⌝ }
-    ensures { λ r. ⌜ (r .count ≡ length (insideAll 4 reader2 width height d (now (bytes .entry))))
-        × (r .latest ≡ greatest clock (insideAll 4 reader2 width height d (now (bytes .entry))))
-        × (r .decoder ≡ after 4 reader2 d (now (bytes .entry))) ⌝ }
+    ensures { λ r. ⌜ (r .count ≡ length (insideAll wordSize2 reader2 width height d (now (bytes .entry))))
+        × (r .latest ≡ greatest clock (insideAll wordSize2 reader2 width height d (now (bytes .entry))))
+        × (r .decoder ≡ after wordSize2 reader2 d (now (bytes .entry))) ⌝ }
 {
     let mut s = d;
     let mut limit = quick::limit(s.initialised, width);

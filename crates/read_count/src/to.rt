@@ -31,7 +31,7 @@ pub struct Evt3CountedTo {
 
 pub fn evt2(bytes: &[u8], d: Evt2Decoder, width: u64, height: u64, most: usize) -> Evt2CountedTo
     requires { ⌜ Bounded2 (length (now bytes) / wordSize2) d ⌝ }
-    ensures { λ r. ⌜ Reached 4 reader2 Bounded2 width height most d (now (bytes .entry)) (r .at) (r .count) (r .decoder) ⌝ }
+    ensures { λ r. ⌜ Reached wordSize2 reader2 Bounded2 width height most d (now (bytes .entry)) (r .at) (r .count) (r .decoder) ⌝ }
 {
     let mut s = d;
     let mut limit = quick::limit(s.initialised, width);
@@ -62,7 +62,7 @@ pub fn evt2(bytes: &[u8], d: Evt2Decoder, width: u64, height: u64, most: usize) 
 }
 
 pub fn evt3(bytes: &[u8], d: Decoder, width: u64, height: u64, most: usize) -> Evt3CountedTo
-    requires { ⌜ Regular3 d ⌝ ∗ ⌜ d .«high_loops» + length (now bytes) / 2 ≤ 3 * 2 ^ 28 ⌝ }
+    requires { ⌜ Regular3 d ⌝ ∗ ⌜ d .«high_loops» + length (now bytes) / wordSize3 ≤ 3 * 2 ^ 28 ⌝ }
     ensures { λ r. ⌜ Reached wordSize3 reader3 Bounded3 width height most d (now (bytes .entry)) (r .at) (r .count) (r .decoder) ⌝ }
 {
     let spans = table::span_table();

@@ -44,8 +44,8 @@ module _ (width height most : ℕ) (l : List ℕ) where
   passes3 d = over-passes reader3 (inside width height) most d (wordsOf wordSize3 l)
 
   pub passed-within : (c : Codec) → countedToOf width height most c l .at ≤ length l
-  passed-within (Evt2 d) = omega (arith, passes2 d .words, length-words 4 l)
-  passed-within (Evt3 d) = omega (arith, passes3 d .words, length-words 2 l)
+  passed-within (Evt2 d) = omega (arith, passes2 d .words, length-words wordSize2 l)
+  passed-within (Evt3 d) = omega (arith, passes3 d .words, length-words wordSize3 l)
 
   pub passed-few : (c : Codec) → countedToOf width height most c l .count ≤ most
   passed-few (Evt2 d) = passes2 d .few

@@ -43,7 +43,7 @@ pub fn span2(bytes: &[u8], d: Evt2Decoder, t0: u64, t1: u64) -> Sought
 }
 
 // To the last time word before t behind which no word reaches t without another: a word's time is
-// less than 64 past the time word's.
+// less than GRAIN past the time word's.
 pub fn skip2(bytes: &[u8], d: Evt2Decoder, t: u64) -> Marked
     requires { ⌜ Bounded2 (length (now bytes) / wordSize2) d ⌝ ∗ ⌜ length (now bytes) ≤ 2 ^ 30 ⌝ }
     ensures { λ r. ⌜ Midway t (Evt2 d) (now (bytes .entry)) (r .at) (r .codec) ⌝ }

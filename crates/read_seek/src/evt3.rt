@@ -35,7 +35,7 @@ pub struct Spanned {
 fn pass(bytes: &[u8], d: Decoder, t0: u64, t1: u64) -> Spanned
     requires { ⌜ d .initialised ≡ true ⌝ ∗ ⌜ Bounded3 (length (now bytes) / wordSize3) d ⌝ ∗ ⌜ length (now bytes) ≤ 2 ^ 30 ⌝ }
     ensures { λ r. ⌜ (r ≡ spannedOf (reach3 t0 t1 d (now (bytes .entry))))
-        × Bounded3 (length (drop (r .at) (now (bytes .entry))) / 2) (reach3 t0 t1 d (now (bytes .entry)) .state) ⌝ }
+        × Bounded3 (length (drop (r .at) (now (bytes .entry))) / wordSize3) (reach3 t0 t1 d (now (bytes .entry)) .state) ⌝ }
 {
     let mut c = times::of(d);
     let mut stray = false;

@@ -18,7 +18,7 @@ use Rattle.evt_codec.specs.declared.codec.Codec.{Codec}
 use Rattle.evt_codec.specs.declared.codec.Codec.the-variants.{Evt2, Evt3}
 use Rattle.evt_types.specs.declared.vector.Vector.{Vector}
 use Rattle.evt_types.specs.Event.{Event, eventAt, eventsOf}
-use Rattle.evt_types.specs.Layout.{type3, time3, wordSize2, wordSize3}
+use Rattle.evt_types.specs.Layout.{type3, time3, wordSize2, wordSize3, grain3}
 use Rattle.evt2_decoder.specs.Evt2.{reader2, vector2}
 use Rattle.evt3_decoder.specs.Evt3 as Evt3
 use Rattle.evt3_decoder.specs.Evt3.{reader3, step3, vector3, period3, threshold3}
@@ -34,12 +34,12 @@ use Rattle.read_select.specs.Pass.{handedOver, endOver, endOf, Paced3, A
 -- ---- a decoder in range is able
 
 pub able-range : (c : Codec) (bytes : ℕ) → inRangeC c ≡ true → bytes ≤ 2 ^ 30 → Able bytes c
-able-range (Evt2 d) bytes h l = bounded-range2 (bytes / 4) d h (omega arith)
+able-range (Evt2 d) bytes h l = bounded-range2 (bytes / wordSize2) d h (omega arith)
 able-range (Evt3 d) bytes h l =
     let r = regular-range3 d h in
     record { regular = r .0; loops = omega (arith, r .1) }
 
-pub able-bounded3 : (bytes : ℕ) {d : Decoder} → Bounded3 (bytes / 2) d → Able bytes (Evt3 d)
+pub able-bounded3 : (bytes : ℕ) {d : Decoder} → Bounded3 (bytes / wordSize3) d → Able bytes (Evt3 d)
 able-bounded3 bytes b = record { regular = b .regular; loops = b .loops }
 
 -- ---- no time reaches 2^63
@@ -68,7 +68,7 @@ unfolding step3
 loops3 d w =
     let same : d .«high_loops» ≤ suc (d .«high_loops») = omega arith in
     Evt3.by-kinds (λ k. Evt3.stepAs k d w .«high_loops» ≤ suc (d .«high_loops»)) (type3 w) (d .initialised)
-    (λ o. same) (λ o. loops-one period3 threshold3 (d .«time_base») (d .«high_loops») (time3 w * 4096) .1)
+    (λ o. same) (λ o. loops-one period3 threshold3 (d .«time_base») (d .«high_loops») (time3 w * grain3) .1)
     (λ o. same) (λ o. same) (λ o. same) (λ o. same) (λ o. same) (λ o. same) same
 
 time3-lt : (n : ℕ) (d : Decoder) → Paced3 n d → d .time < 2 ^ 63
@@ -136,15 +136,15 @@ module _ (win : Window) where
 
   -- no decoder on the way reaches t1
   pub calm2 : 2 ^ 63 ≤ win .t1 → (d : Evt2Decoder) (l : List ℕ) → Able (length l) (Evt2 d) → Calm2 d l
-  calm2 no-end d l a = calm timed2 (λ d. d .initialised) win no-end d (wordsOf wordSize2 l) (rw (length-words 4 l) a)
+  calm2 no-end d l a = calm timed2 (λ d. d .initialised) win no-end d (wordsOf wordSize2 l) (rw (length-words wordSize2 l) a)
 
   pub calm3 : 2 ^ 63 ≤ win .t1 → (d : Decoder) (l : List ℕ) → Able (length l) (Evt3 d) → Calm3 d l
-  calm3 no-end d l a = calm timed3 (λ d. d .initialised) win no-end d (wordsOf wordSize3 l) (rw (length-words 2 l) a)
+  calm3 no-end d l a = calm timed3 (λ d. d .initialised) win no-end d (wordsOf wordSize3 l) (rw (length-words wordSize3 l) a)
 
   -- every event is in time
   pub all-timely : (c : Codec) (l : List ℕ) → Able (length l) c → win .t0 ≡ 0 → 2 ^ 63 ≤ win .t1 → All (λ e. isTimely win e ≡ true) (numberedOver win c l)
-  all-timely (Evt2 d) l a z no-end = in-window timed2 (λ d. d .initialised) win no-end d (wordsOf wordSize2 l) (rw (length-words 4 l) a) z
-  all-timely (Evt3 d) l a z no-end = in-window timed3 (λ d. d .initialised) win no-end d (wordsOf wordSize3 l) (rw (length-words 2 l) a) z
+  all-timely (Evt2 d) l a z no-end = in-window timed2 (λ d. d .initialised) win no-end d (wordsOf wordSize2 l) (rw (length-words wordSize2 l) a) z
+  all-timely (Evt3 d) l a z no-end = in-window timed3 (λ d. d .initialised) win no-end d (wordsOf wordSize3 l) (rw (length-words wordSize3 l) a) z
 
   -- ---- where the window has all times
 
@@ -178,9 +178,9 @@ module _ (win : Window) where
   pub over-all-end : (c : Codec) (l : List ℕ) → Able (length l) c → 2 ^ 63 ≤ win .t1 → (k : ℕ) → k + length (numberedOver win c l) < win .n1
       → endOver win k c l ≡ endAfterAll win k c l
   over-all-end (Evt2 d) l a no-end k hi =
-      ap (endOf Evt2) (Select.ended-all (reading2 win) (selectionOf win) k d (wordsOf wordSize2 l) hi (calm2 no-end d l a)) ∙ rw (length-words 4 l)
+      ap (endOf Evt2) (Select.ended-all (reading2 win) (selectionOf win) k d (wordsOf wordSize2 l) hi (calm2 no-end d l a)) ∙ rw (length-words wordSize2 l)
   over-all-end (Evt3 d) l a no-end k hi =
-      ap (endOf Evt3) (Select.ended-all (reading3 win) (selectionOf win) k d (wordsOf wordSize3 l) hi (calm3 no-end d l a)) ∙ rw (length-words 2 l)
+      ap (endOf Evt3) (Select.ended-all (reading3 win) (selectionOf win) k d (wordsOf wordSize3 l) hi (calm3 no-end d l a)) ∙ rw (length-words wordSize3 l)
 
   -- ---- BY TIME: where the window has all numbers
 

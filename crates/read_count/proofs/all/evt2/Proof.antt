@@ -10,6 +10,7 @@ use Rattle.evt2_decoder.specs.Evt2.{reader2}
 use Rattle.evt2_decoder.specs.Range.{Bounded2, bounded-step2, bounded-sane2}
 use Rattle.read_count.specs.Counting.{Counting, counting-start, counting-end}
 use Rattle.evt_types.specs.Ahead.{ahead}
+use Rattle.evt_types.specs.Layout.{wordSize2}
 use Rattle.read_count.specs.Quick.{limitOf}
 use Rattle.read_fill.specs.Loops.{start2, few2}
 use Rattle.read_count.specs.Loops.{Word2, seen-few, seen-turn, unseen-turn}
@@ -18,7 +19,7 @@ use Rattle.read_count.proofs.all.evt2.Tie as tie
 
 abbrev Inv-loop : tie.InvT-loop
 Inv-loop bytes width height s₀ limit₀ n₀ top₀ i₀ w₀ s limit n top i w =
-    Counting 4 reader2 Bounded2 width height s₀ bytes s n top i × (limit ≡ limitOf (s .initialised) width) × (w ≡ ahead 4 bytes i)
+    Counting wordSize2 reader2 Bounded2 width height s₀ bytes s n top i × (limit ≡ limitOf (s .initialised) width) × (w ≡ ahead wordSize2 bytes i)
 
 abbrev μ-loop : tie.MeasureT-loop
 μ-loop bytes width height s₀ limit₀ n₀ top₀ i₀ w₀ s limit n top i w = length bytes - i

@@ -18,7 +18,7 @@ use Rattle.read_count.proofs.all.evt3.Tie as tie
 
 abbrev Inv-loop : tie.InvT-loop
 Inv-loop bytes width height spans vects table wide s₀ n₀ top₀ i₀ w₀ s n top i w =
-    Counting wordSize3 reader3 Bounded3 width height (slimmed (scanned s₀)) bytes (slimmed (scanned s)) n top i × (w ≡ ahead 2 bytes i)
+    Counting wordSize3 reader3 Bounded3 width height (slimmed (scanned s₀)) bytes (slimmed (scanned s)) n top i × (w ≡ ahead wordSize3 bytes i)
 
 abbrev μ-loop : tie.MeasureT-loop
 μ-loop bytes width height spans vects table wide s₀ n₀ top₀ i₀ w₀ s n top i w = length bytes - i

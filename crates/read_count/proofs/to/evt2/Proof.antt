@@ -10,6 +10,7 @@ use Rattle.evt2_decoder.specs.Evt2.{reader2}
 use Rattle.evt2_decoder.specs.Range.{Bounded2, bounded-step2, bounded-sane2}
 use Rattle.read_count.specs.Passing.{Passing, passing-start, passing-end}
 use Rattle.evt_types.specs.Ahead.{ahead}
+use Rattle.evt_types.specs.Layout.{wordSize2}
 use Rattle.read_count.specs.Quick.{limitOf}
 use Rattle.read_fill.specs.Loops.{start2}
 use Rattle.read_count.specs.Loops.{Word2, seen-stop, seen-pass, unseen-pass}
@@ -18,7 +19,7 @@ use Rattle.read_count.proofs.to.evt2.Tie as tie
 
 abbrev Inv-loop : tie.InvT-loop
 Inv-loop bytes width height most s₀ limit₀ n₀ i₀ w₀ s limit n i w =
-    Passing 4 reader2 Bounded2 width height most s₀ bytes s n i × (limit ≡ limitOf (s .initialised) width) × (w ≡ ahead 4 bytes i)
+    Passing wordSize2 reader2 Bounded2 width height most s₀ bytes s n i × (limit ≡ limitOf (s .initialised) width) × (w ≡ ahead wordSize2 bytes i)
 
 abbrev μ-loop : tie.MeasureT-loop
 μ-loop bytes width height most s₀ limit₀ n₀ i₀ w₀ s limit n i w = length bytes - i

@@ -18,7 +18,7 @@ use Rattle.read_count.proofs.to.evt3.Tie as tie
 
 abbrev Inv-loop : tie.InvT-loop
 Inv-loop bytes width height most spans vects table wide s₀ n₀ i₀ w₀ s n i w =
-    Passing wordSize3 reader3 Bounded3 width height most (slimmed (scanned s₀)) bytes (slimmed (scanned s)) n i × (w ≡ ahead 2 bytes i)
+    Passing wordSize3 reader3 Bounded3 width height most (slimmed (scanned s₀)) bytes (slimmed (scanned s)) n i × (w ≡ ahead wordSize3 bytes i)
 
 abbrev μ-loop : tie.MeasureT-loop
 μ-loop bytes width height most spans vects table wide s₀ n₀ i₀ w₀ s n i w = length bytes - i

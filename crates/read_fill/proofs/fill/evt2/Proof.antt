@@ -4,6 +4,7 @@ use native.Mathlib.Omega.{arith}
 use lib.ListN.{length}
 use denote.Ref.{now}
 use Rattle.evt_types.specs.Event.{Narrow}
+use Rattle.evt_types.specs.Layout.{wordSize2}
 use Rattle.evt2_decoder.specs.Evt2.{reader2}
 use Rattle.evt2_decoder.specs.Range.{Bounded2, bounded-step2, bounded-sane2}
 use Rattle.read_fill.specs.Turn.{Turn, Filling, filling-start, filling-room, filling-turn, filling-end}
@@ -12,7 +13,7 @@ use Rattle.read_fill.proofs.fill.evt2.Statement.{statement}
 use Rattle.read_fill.proofs.fill.evt2.Tie as tie
 
 abbrev Inv-loop : tie.InvT-loop
-Inv-loop bytes width height xs₀ ys₀ ts₀ ps₀ s₀ n₀ i₀ xs ys ts ps s n i = Filling 4 reader2 Bounded2 width height s₀ bytes xs₀ ys₀ ts₀ ps₀ xs ys ts ps s n i
+Inv-loop bytes width height xs₀ ys₀ ts₀ ps₀ s₀ n₀ i₀ xs ys ts ps s n i = Filling wordSize2 reader2 Bounded2 width height s₀ bytes xs₀ ys₀ ts₀ ps₀ xs ys ts ps s n i
 
 abbrev μ-loop : tie.MeasureT-loop
 μ-loop bytes width height xs₀ ys₀ ts₀ ps₀ s₀ n₀ i₀ xs ys ts ps s n i = length bytes - i
@@ -20,7 +21,7 @@ abbrev μ-loop : tie.MeasureT-loop
 -- the word's step, and its events
 turn : (c : tie.After-s Inv-loop μ-loop) →
     let k = c .before .before .before .before .before .loop in
-    Turn 4 reader2 (now (c .before .before .before .before .before .before .before .before .before .before .args .bytes)) (k .s) (k .i)
+    Turn wordSize2 reader2 (now (c .before .before .before .before .before .before .before .before .before .before .args .bytes)) (k .s) (k .i)
     (c .before .before .advance .result .next) (c .before .before .advance .result .events)
 turn c =
     turn2 (c .before .before .before .before .loop-test .taken) (c .before .before .before .four-at .result)

@@ -6,6 +6,7 @@ use borrow.Author.Needs.{needs}
 use Prim.Native.Nat.{_+_, _-_}
 use denote.Ref.{now}
 use lib.ListN.{length}
+use Rattle.evt_types.specs.Layout.{wordSize2}
 use Rattle.evt2_decoder.specs.Range.{bounded-sane2}
 use Rattle.read_select.specs.Turn.{Turned, narrow-here}
 use Rattle.read_select.specs.Count.{Counts, CountsIf, Counted, counts-start, counts-on, counts-stop, counted, counts-end, notable-here, counts-turn}
@@ -31,7 +32,7 @@ turned c =
 pend : (c : tie.After-note Inv-loop μ-loop) →
     let a = c .before .before .before .before .before .before .before .before .before .args in
     CountsIf source2 (a .win) (a .number) (a .d) (now (a .bytes)) (c .before .before .before .before .advance .result .next)
-    (c .note .result) (c .before .before .before .before .before .before .before .loop .i + 4)
+    (c .note .result) (c .before .before .before .before .before .before .before .loop .i + wordSize2)
 pend c =
     rw (c .note .ensures) (counts-turn laws2 (c .before .before .before .before .before .before .before .loop .inv)
     (turned (c .before .before)) (c .before .cut2 .result) (c .before .cut2 .ensures))

@@ -6,6 +6,7 @@ use borrow.Author.Needs.{needs}
 use Prim.Native.Nat.{_+_, _-_}
 use denote.Ref.{now}
 use lib.ListN.{length}
+use Rattle.evt_types.specs.Layout.{wordSize3}
 use Rattle.evt3_decoder.specs.Range.{bounded-sane3, bounded-slim3}
 use Rattle.evt3_decoder.specs.Evt3.{slimmed}
 use Rattle.read_select.specs.Turn.{Turned, narrow-here, number-here}
@@ -33,7 +34,7 @@ pend : (c : tie.After-note Inv-loop μ-loop) →
     let a = c .before .before .before .before .before .before .before .before .before .before .args in
     CountsIf source3 (a .win) (a .number) (slimmed (c .before .before .before .before .before .before .before .before .widen .result))
     (now (a .bytes)) (slimmed (c .before .before .before .before .advance .result .next)) (c .note .result)
-    (c .before .before .before .before .before .before .before .loop .i + 2)
+    (c .before .before .before .before .before .before .before .loop .i + wordSize3)
 pend c =
     rw (c .note .ensures) (counts-turn laws3 (c .before .before .before .before .before .before .before .loop .inv)
     (turned (c .before .before)) (c .before .cut3 .result) (c .before .cut3 .ensures))

@@ -13,7 +13,7 @@ use Rattle.evt_types.specs.Event.{Event, eventsOf}
 use Rattle.read_window.specs.declared.Window.{Window}
 use Rattle.read_window.specs.declared.trim.Trimmed.{Trimmed}
 use Rattle.read_window.specs.declared.extent.Extent.{Extent}
-use Rattle.read_window.specs.Trim.{Picked, masked, masked-count}
+use Rattle.read_window.specs.Trim.{Picked, picked-few, masked, masked-count}
 use Rattle.read_window.specs.Extent.{extentOf, extentWith, extent-none, extent-start, extent-append}
 use Rattle.read_select.specs.declared.word.Notes.{Notes}
 use Rattle.read_select.specs.Word.{Notable, noted, seenIn}
@@ -63,12 +63,11 @@ module _ {Q : Source} (L : Laws Q) {win : Window} {number : ℕ} {s₀ : Q .Stat
       -- a word, of whose events r leaves some
       module _ {s′ : Q .State} {v : Vector} (o : Turned Q bytes i s s′ v) (r : Trimmed) (q : Picked v win (t .number) r) where
         pub notable-here : Notable t v r
-        notable-here = record { narrow = narrow-here L (u .at) o; low = q .low; few = q .few; number = number-here L (u .at); count = omega (arith, u .at .few, u .at .within, u .at .long) }
+        notable-here = record { narrow = narrow-here L (u .at) o; small = q .small; few = picked-few (narrow-here L (u .at) o .mask<) q; number = number-here L (u .at); count = omega (arith, u .at .few, u .at .within, u .at .long) }
 
         pub counts-turn : CountsIf Q win number s₀ bytes s′ (noted t v r) (i + Q .size)
         counts-turn =
-            let small : r .mask < 2 ^ 32 = omega (arith, q .low, narrow-here L (u .at) o .mask<) in
-            let m = masked-count v (r .mask) small in
+            let m = masked-count v (r .mask) (q .small) in
             record {
               at = pend-turn L (u .at) o r q (ones (r .mask)) m;
               notes = sym (extent-append (seenIn t) (eventsOf (masked v (r .mask))) _) ∙ ap (extentWith (seenIn t)) (sym (given-left L (u .at) o r q (ones (r .mask)) m)) ∙ u .notes;

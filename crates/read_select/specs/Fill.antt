@@ -11,9 +11,10 @@ use Rattle.laws_stream.specs.Select.{End}
 use Rattle.evt_types.specs.declared.vector.Vector.{Vector}
 use Rattle.evt_types.specs.Event.{Event, eventsOf}
 use Rattle.evt_types.specs.Columns.{Going, Room, Wrote, going-start, going-run, going-end}
+use Rattle.read_columns.specs.Inside.{events-few}
 use Rattle.read_window.specs.declared.Window.{Window}
 use Rattle.read_window.specs.declared.trim.Trimmed.{Trimmed}
-use Rattle.read_window.specs.Trim.{Picked, masked, events-few}
+use Rattle.read_window.specs.Trim.{Picked, picked-few, masked}
 use Rattle.read_select.specs.Pass.{Fits, endOf, filledOf}
 use Rattle.read_select.specs.Turn.{Source, Laws, Turned, At, all, left, last, leftIf, lastIf, stops, stand-start, stand-end, none-left, narrow-here, number-here, given-left, pend-turn, done-end, done-count}
 
@@ -77,7 +78,7 @@ module _ {Q : Source} (L : Laws Q) {win : Window} {number : ℕ} {s₀ : Q .Stat
             let g = going-here (length given) refl in
             let cut = length-append given (leftIf Q win number s₀ bytes (stops Q win number s₀ bytes (k + length given + r .extra) s′) (k + length given + r .extra) s′ (i + Q .size)) in
             record {
-              mask = rw is-kept (omega (arith, q .low, b .mask<));
+              mask = rw is-kept (q .small);
               column = rw is-kept (omega (arith, b .x<));
               row = rw is-kept (omega (arith, b .y<));
               time = rw is-kept (b .t<);
@@ -91,8 +92,8 @@ module _ {Q : Source} (L : Laws Q) {win : Window} {number : ℕ} {s₀ : Q .Stat
         module _ (n′ : ℕ) (e : n′ ≡ n + length given) where
           pub number-fits : (n ≤ n′) × (k + (n′ - n) + r .extra < 2 ^ 64)
           number-fits =
-              let few : length given ≤ 32 = events-few 32 32 kept (room-here .mask) in
-              let low : r .extra < 2 ^ 32 = omega (arith, q .few, narrow-here L (u .at) o .mask<) in
+              let few : length given ≤ 32 = events-few kept 32 (room-here .mask) in
+              let more : r .extra ≤ 32 = picked-few (narrow-here L (u .at) o .mask<) q in
               (omega arith, omega (arith, number-here L (u .at)))
 
           pub fills-turn : {k′ : ℕ} → k′ ≡ k + (n′ - n) + r .extra → {xs′ ys′ : List ℕ} {ts′ : List ℤ} {ps′ : List ℕ} → Wrote given n xs ys ts ps xs′ ys′ ts′ ps′

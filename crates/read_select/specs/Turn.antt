@@ -14,11 +14,11 @@ use Rattle.laws_stream.specs.Select.{End, endAt, oneMore, handed, ended}
 use Rattle.evt_types.specs.declared.vector.Vector.{Vector}
 use Rattle.evt_codec.specs.declared.codec.Codec.{Codec}
 use Rattle.evt_types.specs.Event.{Event, eventsOf, Narrow}
-use Rattle.read_columns.specs.Inside.{inside, sift-few}
+use Rattle.read_columns.specs.Inside.{inside}
 use Rattle.read_window.specs.declared.Window.{Window}
 use Rattle.read_window.specs.declared.trim.Trimmed.{Trimmed}
 use Rattle.read_window.specs.Window.{selectionOf, reading, choose, chosen-choose}
-use Rattle.read_window.specs.Trim.{Picked, masked, eventsIn, insideIn, events-few}
+use Rattle.read_window.specs.Trim.{Picked, masked, numbered, numbered-few}
 
 -- a decoder: its machine over words of `size` bytes, the vector that a word carries, and what holds of a state that takes n words more
 pub record Source : Type 1 where
@@ -168,34 +168,34 @@ module _ {Q : Source} (L : Laws Q) {win : Window} {number : ℕ} {s₀ : Q .Stat
         inv-next = rw (o .is-next) (L .steps _ s w (rw words-here at (u .inv)))
 
         -- those of its events that have a number
-        abbrev numbered : List Event
-        numbered = insideIn 32 v win
+        abbrev here : List Event
+        here = numbered win v
 
-        numbered-is : Select.numberedOf (source Q win number s₀ bytes) s w ≡ numbered
-        numbered-is = ap (sift (inside (win .width) (win .height))) (L .emits s w ∙ ap eventsOf (sym (o .is-events)))
+        here-is : Select.numberedOf (source Q win number s₀ bytes) s w ≡ here
+        here-is = ap (sift (inside (win .width) (win .height))) (L .emits s w ∙ ap eventsOf (sym (o .is-events)))
 
-        numbered-few : length numbered ≤ 32
-        numbered-few = omega (arith, sift-few (inside (win .width) (win .height)) (eventsIn 32 v), events-few 32 32 v (narrow-here .mask<))
+        few-here : length here ≤ 32
+        few-here = numbered-few win v (narrow-here .mask<)
 
-        splits : (k′ : ℕ) → k′ ≡ k + length numbered
-            → left Q win number s₀ bytes k s i ≡ choose win k numbered ++ leftIf Q win number s₀ bytes (stops Q win number s₀ bytes k′ s′) k′ s′ j
+        splits : (k′ : ℕ) → k′ ≡ k + length here
+            → left Q win number s₀ bytes k s i ≡ choose win k here ++ leftIf Q win number s₀ bytes (stops Q win number s₀ bytes k′ s′) k′ s′ j
         unfolding handed
         splits k′ e =
             let t = Q .machine .step s w in
-            let here = Select.numberedOf (source Q win number s₀ bytes) s w in
+            let told = Select.numberedOf (source Q win number s₀ bytes) s w in
             ap (handed (source Q win number s₀ bytes) (selectionOf win) k s) words-here
-            ∙ ap (λ (l : List Event). l ++ leftIf Q win number s₀ bytes (stops Q win number s₀ bytes (k + length here) t) (k + length here) t j)
-            (chosen-choose (Q .machine) (Q .live) (Q .time) win k here ∙ ap (choose win k) numbered-is)
-            ∙ ap (λ (x : ℕ). choose win k numbered ++ leftIf Q win number s₀ bytes (stops Q win number s₀ bytes x t) x t j) (ap (λ (l : List Event). k + length l) numbered-is ∙ sym e)
-            ∙ ap (λ (x : Q .State). choose win k numbered ++ leftIf Q win number s₀ bytes (stops Q win number s₀ bytes k′ x) k′ x j) (sym (o .is-next))
+            ∙ ap (λ (l : List Event). l ++ leftIf Q win number s₀ bytes (stops Q win number s₀ bytes (k + length told) t) (k + length told) t j)
+            (chosen-choose (Q .machine) (Q .live) (Q .time) win k told ∙ ap (choose win k) here-is)
+            ∙ ap (λ (x : ℕ). choose win k here ++ leftIf Q win number s₀ bytes (stops Q win number s₀ bytes x t) x t j) (ap (λ (l : List Event). k + length l) here-is ∙ sym e)
+            ∙ ap (λ (x : Q .State). choose win k here ++ leftIf Q win number s₀ bytes (stops Q win number s₀ bytes k′ x) k′ x j) (sym (o .is-next))
 
-        finishes : (k′ : ℕ) → k′ ≡ k + length numbered
+        finishes : (k′ : ℕ) → k′ ≡ k + length here
             → last Q win number s₀ bytes k s i ≡ oneMore (lastIf Q win number s₀ bytes (stops Q win number s₀ bytes k′ s′) k′ s′ j)
         unfolding ended
         finishes k′ e =
             let t = Q .machine .step s w in
             ap (ended (source Q win number s₀ bytes) (selectionOf win) k s) words-here
-            ∙ ap (λ (x : ℕ). oneMore (lastIf Q win number s₀ bytes (stops Q win number s₀ bytes x t) x t j)) (ap (λ (l : List Event). k + length l) numbered-is ∙ sym e)
+            ∙ ap (λ (x : ℕ). oneMore (lastIf Q win number s₀ bytes (stops Q win number s₀ bytes x t) x t j)) (ap (λ (l : List Event). k + length l) here-is ∙ sym e)
             ∙ ap (λ (x : Q .State). oneMore (lastIf Q win number s₀ bytes (stops Q win number s₀ bytes k′ x) k′ x j)) (sym (o .is-next))
 
         -- m of them are handed over, as v with the mask of r
@@ -203,19 +203,19 @@ module _ {Q : Source} (L : Laws Q) {win : Window} {number : ℕ} {s₀ : Q .Stat
           abbrev k′ : ℕ
           k′ = k + m + r .extra
 
-          number-is : k′ ≡ k + length numbered
-          number-is = omega (arith, q .counts 32 (narrow-here .mask<), is-m)
+          number-is : k′ ≡ k + length here
+          number-is = omega (arith, q .counts, is-m)
 
           pub given-left : left Q win number s₀ bytes k s i ≡ eventsOf (masked v (r .mask)) ++ leftIf Q win number s₀ bytes (stops Q win number s₀ bytes k′ s′) k′ s′ j
-          given-left = splits k′ number-is ∙ ap (λ (l : List Event). l ++ leftIf Q win number s₀ bytes (stops Q win number s₀ bytes k′ s′) k′ s′ j) (sym (q .hands 32 (narrow-here .mask<)))
+          given-left = splits k′ number-is ∙ ap (λ (l : List Event). l ++ leftIf Q win number s₀ bytes (stops Q win number s₀ bytes k′ s′) k′ s′ j) (sym (q .hands))
 
           pub pend-turn : Pend Q win number s₀ bytes s′ k′ (n + m) j
           pend-turn = record {
             within = o .h;
             long = u .long;
             low = u .low;
-            high = omega (arith, number-is, numbered-few, u .high, L .some);
-            few = omega (arith, number-is, numbered-few, u .few, L .some);
+            high = omega (arith, number-is, few-here, u .high, L .some);
+            few = omega (arith, number-is, few-here, u .few, L .some);
             inv = inv-next;
             counts = omega (arith, u .counts, is-m, ap length given-left, length-append (eventsOf (masked v (r .mask))) (leftIf Q win number s₀ bytes (stops Q win number s₀ bytes k′ s′) k′ s′ j));
             ends =

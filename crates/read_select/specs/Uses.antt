@@ -25,10 +25,9 @@ use Rattle.evt3_decoder.specs.Evt3.{reader3, step3, vector3, period3, threshold
 use Rattle.evt_codec.specs.Codec.{inRangeC, wordSize, eventsFrom, codecAfter}
 use Rattle.evt2_decoder.specs.Range.{Bounded2, bounded-range2, bounded-step2, bounded-narrow2}
 use Rattle.evt3_decoder.specs.Range.{Bounded3, regular-range3, regular-step3}
-use Rattle.read_columns.specs.Inside.{inside, clock}
+use Rattle.read_columns.specs.Inside.{inside, clock, all-mapped}
 use Rattle.read_window.specs.declared.Window.{Window}
 use Rattle.read_window.specs.Window.{selectionOf, reading, reading2, reading3}
-use Rattle.read_window.specs.Trim.{all-mapped}
 use Rattle.read_select.specs.Pass.{handedOver, endOver, endOf, Paced3, Able}
 
 -- ---- a decoder in range is able

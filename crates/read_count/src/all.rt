@@ -10,10 +10,10 @@ ghost use Rattle.evt3_decoder.specs.Evt3.{reader3};
 ghost use Rattle.evt2_decoder.specs.Range.{Bounded2};
 ghost use Rattle.evt3_decoder.specs.Range.{Bounded3};
 ghost use Rattle.read_columns.specs.Inside.{clock};
-ghost use Rattle.read_fill.specs.Turn.{insideAll};
-use crate::ones;
-use crate::quick;
-use crate::table;
+ghost use Rattle.read_fill.specs.Iteration.{insideAll};
+use crate::evt2_inside;
+use crate::evt3_inside;
+use crate::evt3_step;
 use evt_types::fields::bits;
 use evt_types::words;
 use evt2_decoder::Evt2Decoder;
@@ -40,13 +40,13 @@ pub fn evt2(bytes: &[u8], d: Evt2Decoder, width: u64, height: u64) -> Evt2Counte
         × (r .decoder ≡ after wordSize2 reader2 d (now (bytes .entry))) ⌝ }
 {
     let mut s = d;
-    let mut limit = quick::limit(s.initialised, width);
+    let mut bound = evt2_inside::key_bound(s.initialised, width);
     let mut n: usize = 0;
     let mut top: u64 = 0;
     let mut i: usize = 0;
     let mut w = words::four_at(bytes, 0);
     while i + Evt2Decoder::WORD_SIZE <= bytes.len() {
-        if quick::seen(w, limit, height) {
+        if evt2_inside::is_event_inside(w, bound, height) {
             let t = s.time_high + bits(w, 22, 6);
             s.time = t;
             n += 1;
@@ -54,7 +54,7 @@ pub fn evt2(bytes: &[u8], d: Evt2Decoder, width: u64, height: u64) -> Evt2Counte
         } else {
             let step = advance(s, w);
             s = step.next;
-            limit = quick::limit(s.initialised, width);
+            bound = evt2_inside::key_bound(s.initialised, width);
         }
         i += Evt2Decoder::WORD_SIZE;
         w = words::four_at(bytes, i);
@@ -72,19 +72,19 @@ pub fn evt3(bytes: &[u8], d: Decoder, width: u64, height: u64) -> Evt3CountedAll
         × (r .latest ≡ greatest clock (insideAll wordSize3 reader3 width height d (now (bytes .entry))))
         × (r .decoder ≡ after wordSize3 reader3 d (now (bytes .entry))) ⌝ }
 {
-    let spans = table::span_table();
-    let vects = table::vect_table();
-    let table = ones::table();
-    let wide = ones::wide(width);
-    let mut s = table::of(widen(d));
+    let spans = evt3_step::span_table();
+    let vects = evt3_step::vect_table();
+    let counts = evt3_inside::bit_counts();
+    let bound = evt3_inside::column_bound(width);
+    let mut s = evt3_step::counting(widen(d));
     let mut n: usize = 0;
     let mut top: u64 = 0;
     let mut i: usize = 0;
     let mut w = words::two_at(bytes, 0);
     while i + Decoder::WORD_SIZE <= bytes.len() {
-        let g = s.glance(w, &spans, &vects);
+        let g = s.table_step(w, &spans, &vects);
         s = g.next;
-        let m = ones::count(g.x, s.y, g.mask, wide, height, &table);
+        let m = evt3_inside::count_inside(g.x, s.y, g.mask, bound, height, &counts);
         n += m;
         top = read_columns::later(top, m, s.time);
         i += Decoder::WORD_SIZE;

@@ -12,9 +12,9 @@ ghost use Rattle.read_count.specs.Count.{countedAllOf, countedToOf};
 use evt_codec::Codec;
 
 mod all;
-mod ones;
-mod quick;
-mod table;
+mod evt2_inside;
+mod evt3_inside;
+mod evt3_step;
 mod to;
 
 // What counting leaves: how many events there are, their greatest time (0 of none), and the decoder.

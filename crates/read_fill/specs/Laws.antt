@@ -27,7 +27,7 @@ use Rattle.evt2_decoder.specs.Range.{Bounded2, bounded-step2, bounded-narrow2, 
 use Rattle.evt3_decoder.specs.Range.{Bounded3, bounded-step3, bounded-narrow3, bounded-range3, fresh-range3}
 use Rattle.read_columns.specs.Inside.{inside, clock, all-mapped, events-few, sift-few}
 use Rattle.read_fill.specs.Decode.{eventsFrom, codecAfter, insideEvents, Bounded, Fitting}
-use Rattle.read_fill.specs.Turn.{decode-few}
+use Rattle.read_fill.specs.Iteration.{decode-few}
 use Rattle.read_fill.specs.Loops.{small-mask2, small-mask3}
 
 -- ---- in chunks of 4 bytes, whatever the encoding

@@ -3,7 +3,7 @@ ghost use mathlib.Core.Path.{_≡_};
 ghost use lib.ListN.{length};
 ghost use Rattle.evt_codec.specs.declared.codec.Codec.the-variants.{Evt2, Evt3};
 ghost use Rattle.evt_types.specs.Columns.{Wrote};
-ghost use Rattle.read_fill.specs.Turn.{Fits};
+ghost use Rattle.read_fill.specs.Iteration.{Fits};
 ghost use Rattle.read_fill.specs.Decode.{Bounded, insideEvents, filledAllOf};
 use crate::FilledAll;
 use evt_codec::Codec;

@@ -162,8 +162,8 @@ module _ (front : List ℕ) where
   base-none c by h u = sym (u .same c h)
 
   module _ (k j : ℕ) (next : k ≡ j + 1) (w : ℕ) (is-word : w ≡ ahead wordSize3 front (j * wordSize3)) (t : ℕ) (is-type : t ≡ type3 w) where
-    pub rowless-turn : Rowless k → (t ≡ 0 → ⊥) → Rowless j
-    rowless-turn u other = record {
+    pub rowless-next : Rowless k → (t ≡ 0 → ⊥) → Rowless j
+    rowless-next u other = record {
       within = omega (arith, u .within);
       same = λ y. ap (rowAfter y) (word-here k j next (u .within) w is-word) ∙ row-kept y w (behind k) (λ e. other (is-type ∙ e)) ∙ u .same y;
     }
@@ -173,8 +173,8 @@ module _ (front : List ℕ) where
         let a = wordsOf wordSize3 (take (j * wordSize3) front) in
         sym (ap (rowAfter y) (parted k j next (u .within) w is-word) ∙ row-append y a (w ∷ behind k) ∙ row-set (rowAfter y a) w (behind k) (sym is-type ∙ e) ∙ u .same (y3 w))
 
-    pub baseless-turn : {by : ℕ} → Baseless by k → (t ≡ 3 → ⊥) → (more : ℕ) → more ≡ min (by + width t) 65535 → Baseless more j
-    baseless-turn {by} u other more is-more = record {
+    pub baseless-next : {by : ℕ} → Baseless by k → (t ≡ 3 → ⊥) → (more : ℕ) → more ≡ min (by + width t) 65535 → Baseless more j
+    baseless-next {by} u other more is-more = record {
       within = omega (arith, u .within);
       few = omega arith;
       same = λ c h.

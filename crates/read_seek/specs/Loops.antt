@@ -1,4 +1,4 @@
--- The turns of the loops of either encoding, from what the code has at hand.
+-- The iterations of the loops of either encoding, from what the code has at hand.
 use mathlib.Core.Path.{_≡_, refl, sym, ap, _∙_}
 use mathlib.Core.Bool.{Bool, true, false, _&&_, _||_}
 use mathlib.Core.List.{List}
@@ -19,7 +19,7 @@ use Rattle.evt2_decoder.specs.Range.{Bounded2, bounded-step2}
 use Rattle.evt3_decoder.specs.Range.{Bounded3, bounded-step3, bounded-sane3}
 use Rattle.read_seek.specs.declared.times.Times.{Times}
 use Rattle.read_seek.specs.Seek.{carries2, carriesAs, carries3, soughtOf, reach3}
-use Rattle.read_seek.specs.Turn.{Seeking, Found, seeking-start, seeking-end, seeking-stop, seeking-turn, found-is}
+use Rattle.read_seek.specs.Iteration.{Seeking, Found, seeking-start, seeking-end, seeking-stop, seeking-next, found-is}
 use Rattle.read_seek.specs.Times.{timesOf, Slow, ticked, spannedOf, step-on, step-times}
 
 -- ---- EVT2
@@ -44,9 +44,9 @@ module _ (t₀ t₁ : ℕ) (d : Evt2Decoder) (bytes : List ℕ) where
       pub stop2 : t₁ ≤ s′ .time → Ends2 s f i
       stop2 l = found-is (omega arith) bounded-step2 Evt2 (seeking-stop (omega arith) bounded-step2 u (omega arith) w (is-word ∙ ahead-some wordSize2 bytes i (omega arith)) s′ is-next l)
 
-      pub turn2 : s′ .time < t₁ → (k : ℕ) → k ≡ type2 w → (g : Bool) → g ≡ (f || (ltb (s′ .time) t₀ && ltb k 2)) → Seeking2 s′ g (i + wordSize2)
-      turn2 l k is-type g is-stray =
-          seeking-turn (omega arith) bounded-step2 u (omega arith) w (is-word ∙ ahead-some wordSize2 bytes i (omega arith)) s′ is-next l g
+      pub iteration2 : s′ .time < t₁ → (k : ℕ) → k ≡ type2 w → (g : Bool) → g ≡ (f || (ltb (s′ .time) t₀ && ltb k 2)) → Seeking2 s′ g (i + wordSize2)
+      iteration2 l k is-type g is-stray =
+          seeking-next (omega arith) bounded-step2 u (omega arith) w (is-word ∙ ahead-some wordSize2 bytes i (omega arith)) s′ is-next l g
           (is-stray ∙ ap (λ (k : ℕ). f || (ltb (s′ .time) t₀ && ltb k 2)) is-type)
 
 -- ---- EVT3
@@ -99,9 +99,9 @@ module _ (t₀ t₁ : ℕ) (d : Decoder) (bytes : List ℕ) where
         pub stop3 : t₁ ≤ s′ .time → Ends3 s f i
         stop3 l = found-is (omega arith) bounded-step3 Evt3 (found-stop l)
 
-        pub turn3 : s′ .time < t₁ → (k : ℕ) → k ≡ type3 w → (g : Bool) → g ≡ (f || (ltb (s′ .time) t₀ && carriesAs k)) → Seeking3 s′ g (i + wordSize3)
-        turn3 l k is-type g is-stray =
-            seeking-turn (omega arith) bounded-step3 u (omega arith) w (is-word ∙ ahead-some wordSize3 bytes i (omega arith)) s′ is-next l g
+        pub iteration3 : s′ .time < t₁ → (k : ℕ) → k ≡ type3 w → (g : Bool) → g ≡ (f || (ltb (s′ .time) t₀ && carriesAs k)) → Seeking3 s′ g (i + wordSize3)
+        iteration3 l k is-type g is-stray =
+            seeking-next (omega arith) bounded-step3 u (omega arith) w (is-word ∙ ahead-some wordSize3 bytes i (omega arith)) s′ is-next l g
             (is-stray ∙ ap (λ (k : ℕ). f || (ltb (s′ .time) t₀ && carriesAs k)) is-type)
 
       module _ {c : Times} (u : Passing c f i) (c′ : Times) (is-next : c′ ≡ ticked c w) where
@@ -111,10 +111,10 @@ module _ (t₀ t₁ : ℕ) (d : Decoder) (bytes : List ℕ) where
         pub passing-stop : t₁ ≤ c′ .time → Passes c f i
         passing-stop l = passes (u .is) (found-stop (u .seeking) (step3 (u .state) w) refl (rw is-step at l))
 
-        pub passing-turn : c′ .time < t₁ → (k : ℕ) → k ≡ type3 w → (g : Bool) → g ≡ (f || (ltb (c′ .time) t₀ && carriesAs k)) → Passing c′ g (i + wordSize3)
-        passing-turn l k is-type g is-stray = record {
+        pub passing-next : c′ .time < t₁ → (k : ℕ) → k ≡ type3 w → (g : Bool) → g ≡ (f || (ltb (c′ .time) t₀ && carriesAs k)) → Passing c′ g (i + wordSize3)
+        passing-next l k is-type g is-stray = record {
           state = step3 (u .state) w;
           on = step-on (u .state) w (u .on);
           is = is-step;
-          seeking = turn3 (u .seeking) (step3 (u .state) w) refl (rw is-step at l) k is-type g (rw is-step at is-stray);
+          seeking = iteration3 (u .seeking) (step3 (u .state) w) refl (rw is-step at l) k is-type g (rw is-step at is-stray);
         }

@@ -21,11 +21,11 @@ use Rattle.evt2_decoder.specs.Range.{Bounded2, Regular2, bounded-step2, bounded
 use Rattle.evt3_decoder.specs.Range.{Bounded3, bounded-step3, regular-step3}
 use Rattle.read_seek.specs.declared.times.Times.{Times}
 use Rattle.read_seek.specs.Seek.{carriesAs, Midway}
-use Rattle.read_seek.specs.Turn.{seeking-start, seeking-same}
+use Rattle.read_seek.specs.Iteration.{seeking-start, seeking-same}
 use Rattle.read_seek.specs.Times.{timesOf, ticked, tickedAs, step-on, step-times}
 use Rattle.read_seek.specs.Back.{putBehind, put-is}
 use Rattle.read_seek.specs.Cut.{take-words}
-use Rattle.read_seek.specs.Loops.{Seeking2, start2, turn2, Seeking3, Passing, passing-start, passing-turn, passing-slow}
+use Rattle.read_seek.specs.Loops.{Seeking2, start2, iteration2, Seeking3, Passing, passing-start, passing-next, passing-slow}
 
 -- no time is before 0
 none-early : (t : ℕ) (b : Bool) → (false || (ltb t 0 && b)) ≡ false
@@ -79,7 +79,7 @@ module _ (t : ℕ) (d : Evt2Decoder) (bytes : List ℕ) where
   module _ {s : Evt2Decoder} {at i : ℕ} (p : Skipping2 s at i) (h : i + wordSize2 ≤ length bytes) (w : ℕ)
       (is-word : w ≡ ahead wordSize2 bytes i) (k : ℕ) (is-type : k ≡ type2 w) where
     on2 : step2 (p .u) w .time < t → Seeking2 0 t d bytes (step2 (p .u) w) false (i + wordSize2)
-    on2 l = turn2 0 t d bytes (p .here) h w is-word (step2 (p .u) w) refl l k is-type false (sym (none-early (step2 (p .u) w .time) (ltb k 2)))
+    on2 l = iteration2 0 t d bytes (p .here) h w is-word (step2 (p .u) w) refl l k is-type false (sym (none-early (step2 (p .u) w .time) (ltb k 2)))
 
     pub skip-other2 : (k ≡ 8 → ⊥) → Skipping2 s at (i + wordSize2)
     skip-other2 other =
@@ -141,7 +141,7 @@ module _ (t : ℕ) (d : Decoder) (bytes : List ℕ) where
 
   module _ {c : Times} {at i : ℕ} (p : Skipping3 c at i) (h : i + wordSize3 ≤ length bytes) (w : ℕ) (is-word : w ≡ ahead wordSize3 bytes i) (k : ℕ) (is-type : k ≡ type3 w) where
     on3 : ticked (p .e) w .time < t → Passing 0 t d bytes (ticked (p .e) w) false (i + wordSize3)
-    on3 l = passing-turn 0 t d bytes h w is-word (p .here) (ticked (p .e) w) refl l k is-type false (sym (none-early (ticked (p .e) w .time) (carriesAs k)))
+    on3 l = passing-next 0 t d bytes h w is-word (p .here) (ticked (p .e) w) refl l k is-type false (sym (none-early (ticked (p .e) w .time) (carriesAs k)))
 
     -- what a word leaves is near its coarse time
     near-next : ticked (p .e) w .time < ticked (p .e) w .base + 4096

@@ -1,4 +1,4 @@
--- The loop that fills columns: what they hold, beside what `Turn` has.
+-- The loop that fills columns: what they hold, beside what `Iteration` has.
 use mathlib.Core.Path.{_≡_, refl, sym, ap, _∙_}
 use mathlib.Core.Bool.{true, false}
 use mathlib.Core.List.{List, [], _++_}
@@ -16,7 +16,7 @@ use Rattle.read_window.specs.declared.Window.{Window}
 use Rattle.read_window.specs.declared.trim.Trimmed.{Trimmed}
 use Rattle.read_window.specs.Trim.{Picked, picked-few, masked}
 use Rattle.read_select.specs.Pass.{Fits, endOf, filledOf}
-use Rattle.read_select.specs.Turn.{Source, Laws, Turned, At, all, left, last, leftIf, lastIf, stops, stand-start, stand-end, none-left, narrow-here, number-here, given-left, pend-turn, done-end, done-count}
+use Rattle.read_select.specs.Iteration.{Source, Laws, Iteration, At, all, left, last, leftIf, lastIf, stops, stand-start, stand-end, none-left, narrow-here, number-here, given-left, pend-next, done-end, done-count}
 
 module _ (Q : Source) (win : Window) (number : ℕ) (s₀ : Q .State) (bytes : List ℕ) (xs₀ ys₀ : List ℕ) (ts₀ : List ℤ) (ps₀ : List ℕ) where
   -- n events are in the columns, and `es` are still to be written
@@ -59,7 +59,7 @@ module _ {Q : Source} (L : Laws Q) {win : Window} {number : ℕ} {s₀ : Q .Stat
       fills-end h = record { at = stand-end L (u .at) h; going = rw (none-left L (u .at) h) at (u .going) }
 
       -- a word, of whose events r leaves those of `kept`
-      module _ {s′ : Q .State} {v : Vector} (o : Turned Q bytes i s s′ v) (fits : Fits (length (all Q win number s₀ bytes)) (length xs₀) (length ys₀) (length ts₀) (length ps₀))
+      module _ {s′ : Q .State} {v : Vector} (o : Iteration Q bytes i s s′ v) (fits : Fits (length (all Q win number s₀ bytes)) (length xs₀) (length ys₀) (length ts₀) (length ps₀))
           (r : Trimmed) (q : Picked v win k r) {kept : Vector} (is-kept : kept ≡ masked v (r .mask)) where
         abbrev given : List Event
         given = eventsOf kept
@@ -96,13 +96,13 @@ module _ {Q : Source} (L : Laws Q) {win : Window} {number : ℕ} {s₀ : Q .Stat
               let more : r .extra ≤ 32 = picked-few (narrow-here L (u .at) o .mask<) q in
               (omega arith, omega (arith, number-here L (u .at)))
 
-          pub fills-turn : {k′ : ℕ} → k′ ≡ k + (n′ - n) + r .extra → {xs′ ys′ : List ℕ} {ts′ : List ℤ} {ps′ : List ℕ} → Wrote given n xs ys ts ps xs′ ys′ ts′ ps′
+          pub fills-next : {k′ : ℕ} → k′ ≡ k + (n′ - n) + r .extra → {xs′ ys′ : List ℕ} {ts′ : List ℤ} {ps′ : List ℕ} → Wrote given n xs ys ts ps xs′ ys′ ts′ ps′
               → FillsIf Q win number s₀ bytes xs₀ ys₀ ts₀ ps₀ xs′ ys′ ts′ ps′ s′ k′ n′ (i + Q .size)
-          fills-turn is-k wrote =
+          fills-next is-k wrote =
               let a = room-here in
               let m : n′ - n ≡ length given = omega (arith, e) in
               let back : n + (n′ - n) ≡ n′ = omega (arith, e) in
               rw is-k (record {
-                at = rw back at (pend-turn L (u .at) o r q (n′ - n) (count-of (n′ - n) m));
+                at = rw back at (pend-next L (u .at) o r q (n′ - n) (count-of (n′ - n) m));
                 going = rw (sym e) at (going-run given (a .room-x) (a .room-y) (a .room-t) (a .room-p) wrote (going-here (n′ - n) m));
               })

@@ -16,7 +16,7 @@ use Rattle.evt2_decoder.specs.Range.{Bounded2, bounded-step2, bounded-narrow2}
 use Rattle.evt3_decoder.specs.Range.{Bounded3, bounded-step3, bounded-narrow3}
 use Rattle.evt_types.specs.Ahead.{ahead, ahead-some}
 use Rattle.read_select.specs.Pass.{Ready}
-use Rattle.read_select.specs.Turn.{Source, Laws, Turned}
+use Rattle.read_select.specs.Iteration.{Source, Laws, Iteration}
 
 abbrev pub source2 : Source
 source2 = record {
@@ -62,17 +62,17 @@ mask2 d w = by-kinds (λ k. vectorAs k d w .mask ≤ 1) (type2 w) (d .initialise
 
 -- ---- a word as the loops read it, and its step
 
-pub turned2 : {l : List ℕ} {i w : ℕ} {s s′ : Evt2Decoder} {v : Vector} → i + wordSize2 ≤ length l → w ≡ ahead wordSize2 l i → s′ ≡ step2 s w → v ≡ vector2 s w → Turned source2 l i s s′ v
-turned2 {l = l} {i = i} {s = s} h e n m =
+pub iteration2 : {l : List ℕ} {i w : ℕ} {s s′ : Evt2Decoder} {v : Vector} → i + wordSize2 ≤ length l → w ≡ ahead wordSize2 l i → s′ ≡ step2 s w → v ≡ vector2 s w → Iteration source2 l i s s′ v
+iteration2 {l = l} {i = i} {s = s} h e n m =
     let whole : i + wordSize2 ≤ length l = omega arith in
     let is = e ∙ ahead-some wordSize2 l i whole in
     record { h = whole; is-next = n ∙ ap (step2 s) is; is-events = m ∙ ap (vector2 s) is }
 
-pub turned3 : {l : List ℕ} {i w : ℕ} {s s′ : Decoder} {v : Vector} → i + wordSize3 ≤ length l → w ≡ ahead wordSize3 l i → s′ ≡ step3 s w → v ≡ vector3 s w → Turned source3 l i s s′ v
-turned3 {l = l} {i = i} {s = s} h e n m =
+pub iteration3 : {l : List ℕ} {i w : ℕ} {s s′ : Decoder} {v : Vector} → i + wordSize3 ≤ length l → w ≡ ahead wordSize3 l i → s′ ≡ step3 s w → v ≡ vector3 s w → Iteration source3 l i s s′ v
+iteration3 {l = l} {i = i} {s = s} h e n m =
     let whole : i + wordSize3 ≤ length l = omega arith in
     let is = e ∙ ahead-some wordSize3 l i whole in
     record { h = whole; is-next = n ∙ ap (step3 s) is; is-events = m ∙ ap (vector3 s) is }
 
-pub mask-here : {l : List ℕ} {i : ℕ} {s s′ : Evt2Decoder} {v : Vector} → Turned source2 l i s s′ v → v .mask ≤ 1
+pub mask-here : {l : List ℕ} {i : ℕ} {s s′ : Evt2Decoder} {v : Vector} → Iteration source2 l i s s′ v → v .mask ≤ 1
 mask-here {s = s} o = rw (o .is-events) (mask2 s _)

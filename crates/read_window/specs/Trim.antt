@@ -2,19 +2,19 @@
 use mathlib.Core.Path.{_≡_, refl, sym, ap, _∙_}
 use mathlib.Core.Logic.{⊎-elim}
 use mathlib.Core.Bool.{Bool, true, false, _&&_}
-use mathlib.Core.List.{List, [], _∷_, _++_, map, map-append, append-assoc, append-nil}
+use mathlib.Core.List.{List, [], _∷_, map}
 use Prim.Native.Nat.{ℕ, zero, suc, _+_, _-_, _*_, _/_, _%_, _≤_, _<_, _^_, min}
 use native.Mathlib.Omega.{arith}
 use native.Mathlib.Nat.{add-suc, suc-add, add-zero}
 use native.Mathlib.Numerals.{add-one}
-use lib.ListN.{length, length-map, length-append}
-use lib.Bits.{bitAnd, bitOr, and-le-l, or-shifted-r}
+use lib.ListN.{length, length-map}
+use lib.Bits.{bitAnd, bitOr, and-le-l, or-step, or-zero-r, or-lt}
 use lib.Count.{ones, trailingZeros, trailing-of-zero}
 use lib.Dec.{leb, ltb}
-use lib.Pow.{pow-pos, pow-lt, pow-mono, shl-exact}
+use lib.Pow.{pow-lt, shl-exact}
 use borrow.Author.Tests.{leb-true, ltb-true, lt-leb, lt-ltb}
 use Rattle.laws_stream.specs.Machine.{All, all-of, all-map, and-both}
-use Rattle.laws_stream.specs.Mask.{Inc, bits, parity, bits-zero, bits-one, bits-even, bits-odd, bits-in, bits-count, low-bit, trailing-lt, trailing-wide}
+use Rattle.laws_stream.specs.Mask.{Inc, bits, parity, bits-zero, bits-one, bits-even, bits-odd, bits-in, bits-count, clear-lt, low-bit, trailing-lt, trailing-wide}
 use Rattle.laws_stream.specs.Slice.{onto, sift-all}
 use Rattle.laws_stream.specs.Select as Select
 use Rattle.evt_types.specs.declared.vector.Vector.{Vector}
@@ -51,6 +51,23 @@ orNot false b = true
 
 abbrev pub isSkipped : Vector → Window → ℕ → Bool
 isSkipped v win k = leb (v .x + 32) (win .width) && orNot (isWithin win (v .t)) (leb (k + 32) (win .n0))
+
+-- ---- v with another mask
+
+pub narrow-masked : (v : Vector) (m : ℕ) → Narrow v → m < 2 ^ 32 → Narrow (masked v m)
+narrow-masked v m n h = record { x< = n .x<; y< = n .y<; t< = n .t<; p< = n .p<; mask< = h }
+
+pub masked-count : (v : Vector) (m : ℕ) → m < 2 ^ 32 → ones m ≡ length (eventsOf (masked v m))
+masked-count v m h = sym (length-map (bits 32 (v .x) m) (eventAt v) ∙ bits-count 32 (v .x) m h)
+
+-- v without its lowest bit
+abbrev pub cleared : Vector → Vector
+cleared v = masked v (bitAnd (v .mask) (v .mask - 1))
+
+pub cleared-fits : (v : Vector) (k j : ℕ) → Narrow v → 0 < v .mask → k + v .mask < 2 ^ 63 → j ≤ k + 1 → Narrow (cleared v) × (j + cleared v .mask < 2 ^ 63)
+cleared-fits v k j n some h l =
+    let less = clear-lt (v .mask) some in
+    (narrow-masked v (cleared v .mask) n (omega (arith, n .mask<)), omega arith)
 
 -- ---- the choice among some events
 
@@ -181,118 +198,86 @@ clear-rises m h l = go (bitAnd m (m - 1)) refl
         let two = rw (low-bit 32 0 m h l, e, low-bit 32 0 (suc n) (omega arith) small) at (bits-rise 32 0 m) in
         rw (trailing-wide 64 32 m h (omega arith) l, trailing-wide 64 32 (suc n) (omega arith) (omega arith) small) (omega (arith, two .2 .0))
 
--- a bit above those of m comes last
-bits-above : (k at m i : ℕ) → m < 2 ^ i → i < k → bits k at (1 * 2 ^ i + m) ≡ bits k at m ++ ((at + i) ∷ [])
-bits-above zero at m i h l = absurd (omega arith)
-bits-above (suc k) at m zero h l =
-    let z : m ≡ 0 = omega arith in
-    rw (z, bits-zero (suc k) at, add-zero at) (bits-one k at)
-bits-above (suc k) at m (suc i) h l =
-    let q : (1 * 2 ^ suc i + m) / 2 ≡ 1 * 2 ^ i + m / 2 = omega arith in
-    let p : (1 * 2 ^ suc i + m) % 2 ≡ m % 2 = omega arith in
-    let ih : bits k (suc at) ((1 * 2 ^ suc i + m) / 2) ≡ bits k (suc at) (m / 2) ++ ((at + suc i) ∷ [])
-    = rw (q, add-suc, ← suc-add) (bits-above k (suc at) (m / 2) i (omega arith) (omega arith)) in
+-- a bit below those of m comes first
+bits-onto : (k at m i : ℕ) → i < k → All (λ c. at + i < c) (bits k at m) → bits k at (bitOr m (1 * 2 ^ i)) ≡ (at + i) ∷ bits k at m
+bits-onto zero at m i l h = absurd (omega arith)
+bits-onto (suc k) at m zero l h =
     ⊎-elim
-    (λ (e : m % 2 ≡ 0). bits-even k at _ (p ∙ e) ∙ ih ∙ sym (rw (bits-even k at m e)))
-    (λ (e : m % 2 ≡ 1). bits-odd k at _ (p ∙ e) ∙ ap (λ (l : List ℕ). at ∷ l) ih ∙ sym (rw (bits-odd k at m e)))
+    (λ (e : m % 2 ≡ 0).
+    let half : bitOr m 1 / 2 ≡ m / 2 = rw (or-step m 1, e, or-zero-r (m / 2)) (omega arith) in
+    let odd : bitOr m 1 % 2 ≡ 1 = rw (or-step m 1, e) (omega arith) in
+    bits-odd k at (bitOr m 1) odd ∙ rw (half, add-zero at, bits-even k at m e))
+    (λ (e : m % 2 ≡ 1). absurd (omega (arith, (rw (bits-odd k at m e) at h) .0)))
+    (parity m)
+bits-onto (suc k) at m (suc i) l h =
+    ⊎-elim
+    (λ (e : m % 2 ≡ 0).
+    let b : 1 * 2 ^ suc i / 2 ≡ 1 * 2 ^ i = omega arith in
+    let z : 1 * 2 ^ suc i % 2 ≡ 0 = omega arith in
+    let half : bitOr m (1 * 2 ^ suc i) / 2 ≡ bitOr (m / 2) (1 * 2 ^ i) = rw (or-step m (1 * 2 ^ suc i), e, b, z) (omega arith) in
+    let even : bitOr m (1 * 2 ^ suc i) % 2 ≡ 0 = rw (or-step m (1 * 2 ^ suc i), e, z) (omega arith) in
+    let up : All (λ c. suc at + i < c) (bits k (suc at) (m / 2))
+    = all-map (λ c. at + suc i < c) _ (λ c q. omega arith) (bits k (suc at) (m / 2)) (rw (bits-even k at m e) at h) in
+    bits-even k at (bitOr m (1 * 2 ^ suc i)) even ∙ rw (half, bits-onto k (suc at) (m / 2) i (omega arith) up, bits-even k at m e, add-suc, suc-add))
+    (λ (e : m % 2 ≡ 1). absurd (omega (arith, (rw (bits-odd k at m e) at h) .0)))
     (parity m)
 
+-- what is left has no bit below the lowest of v
+pub record PickedBits (v : Vector) (win : Window) (k : ℕ) (r : Trimmed) : Type 0 where
+  pub picked : Picked v win k r
+  pub above : All (λ c. v .x + trailingZeros 64 (v .mask) ≤ c) (bits 32 (v .x) (r .mask))
+
 module _ (v : Vector) (win : Window) (k : ℕ) where
-  -- `mask` is left to look at, its next event has the number n, `kept` is handed over of the bits before, and `extra` more of them have a number
-  pub record Picking (mask kept extra n : ℕ) : Type 0 where
-    pub left : mask < 2 ^ 32
-    pub small : kept < 2 ^ 32
-    pub below : kept < 2 ^ trailingZeros 64 mask
-    pub hands : eventsAt v kept ++ choose win n (numberedAt win v mask) ≡ choose win k (numbered win v)
-    pub counts : length (eventsAt v kept) + extra + length (numberedAt win v mask) ≡ length (numbered win v)
-    pub number : n + length (numberedAt win v mask) ≡ k + length (numbered win v)
+  pub picked-no-bits : v .mask ≡ 0 → PickedBits v win k (record { mask = 0; extra = 0 })
+  picked-no-bits z = record { picked = picked-none v win k z; above = rw (bits-zero 32 (v .x)) tt }
 
-  pub picking-start : v .mask < 2 ^ 32 → Picking (v .mask) 0 0 k
-  picking-start h = record {
-    left = h;
-    small = omega arith;
-    below = pow-pos (trailingZeros 64 (v .mask));
-    hands = rw (events-none v);
-    counts = rw (events-none v) (omega arith);
-    number = refl;
-  }
-
-  pub picking-end : {kept extra n : ℕ} → Picking 0 kept extra n → Picked v win k (record { mask = kept; extra = extra })
-  picking-end {kept} {extra} {n} u =
-      let none = inside-none (win .width) (win .height) v in
-      record {
-        small = u .small;
-        hands = sym (append-nil (eventsAt v kept)) ∙ rw none at (u .hands);
-        counts = omega (arith, rw none at (u .counts));
-      }
-
-  module _ {mask kept extra n : ℕ} (u : Picking mask kept extra n) (some : 0 < mask) where
+  module _ (some : 0 < v .mask) (h : v .mask < 2 ^ 32) (r : Trimmed) where
     abbrev i : ℕ
-    i = trailingZeros 64 mask
-
-    abbrev rest : ℕ
-    rest = bitAnd mask (mask - 1)
+    i = trailingZeros 64 (v .mask)
 
     -- the lowest bit's event, and the others
-    next : (b : Bool) → isInside (win .width) (win .height) (min (v .x + i) 65535) (v .y) ≡ b → numberedAt win v mask ≡ onto b (eventAt v (v .x + i)) (numberedAt win v rest)
-    next b e = inside-next (win .width) (win .height) v mask some (u .left) ∙ rw e
+    next : (b : Bool) → isInside (win .width) (win .height) (min (v .x + i) 65535) (v .y) ≡ b → numbered win v ≡ onto b (eventAt v (v .x + i)) (numbered win (cleared v))
+    next b e = inside-next (win .width) (win .height) v (v .mask) some h ∙ rw e
 
-    rises : i < trailingZeros 64 rest
-    rises = clear-rises mask some (u .left)
+    higher : {j : ℕ} → PickedBits (cleared v) win j r → All (λ c. v .x + i < c) (bits 32 (v .x) (r .mask))
+    higher q =
+        let rises = clear-rises (v .mask) some h in
+        all-map _ _ (λ c l. omega arith) (bits 32 (v .x) (r .mask)) (q .above)
 
-    rest-left : rest < 2 ^ 32
-    rest-left = omega (arith, u .left, and-le-l mask (mask - 1))
+    still-above : {j : ℕ} → PickedBits (cleared v) win j r → All (λ c. v .x + i ≤ c) (bits 32 (v .x) (r .mask))
+    still-above q = all-map _ _ (λ c l. omega arith) (bits 32 (v .x) (r .mask)) (higher q)
 
-    still-below : kept < 2 ^ trailingZeros 64 rest
-    still-below = omega (arith, u .below, pow-lt rises)
-
-    pub bit-in : i < 32
-    bit-in = trailing-lt 64 32 mask some (u .left) (omega (arith, u .left))
-
-    pub picking-out : isInside (win .width) (win .height) (min (v .x + i) 65535) (v .y) ≡ false → Picking rest kept extra n
-    picking-out e = record {
-      left = rest-left;
-      small = u .small;
-      below = still-below;
-      hands = rw (next false e) at (u .hands);
-      counts = rw (next false e) at (u .counts);
-      number = rw (next false e) at (u .number);
+    pub picked-out-bit : isInside (win .width) (win .height) (min (v .x + i) 65535) (v .y) ≡ false → PickedBits (cleared v) win k r → PickedBits v win k r
+    picked-out-bit e q = record {
+      picked = record { small = q .picked .small; hands = rw (next false e) (q .picked .hands); counts = rw (next false e) (q .picked .counts) };
+      above = still-above q;
     }
 
-    module _ (e : isInside (win .width) (win .height) (min (v .x + i) 65535) (v .y) ≡ true) where
-      pub picking-few : (v .mask < 2 ^ 32) → (n + 1 ≤ k + 32) × (extra + 1 ≤ 32)
-      picking-few h =
-          let few = numbered-few win v h in
-          (omega (arith, rw (next true e) at (u .number)), omega (arith, rw (next true e) at (u .counts)))
+    module _ (e : isInside (win .width) (win .height) (min (v .x + i) 65535) (v .y) ≡ true) (q : PickedBits (cleared v) win (k + 1) r) where
+      -- from the number after k
+      hands-on : eventsAt v (r .mask) ≡ choose win (suc k) (numbered win (cleared v))
+      hands-on = rw add-one at (q .picked .hands)
 
-      pub picking-keep : isSpanned win n (v .t) ≡ true → Picking rest (bitOr kept (1 * 2 ^ i % 2 ^ 64)) extra (n + 1)
-      picking-keep s =
-          let more : eventsAt v (1 * 2 ^ i + kept) ≡ eventsAt v kept ++ (eventAt v (v .x + i) ∷ [])
-          = ap (map (eventAt v)) (bits-above 32 (v .x) kept i (u .below) bit-in) ∙ simp map-append in
-          let twice : 2 ^ suc i ≡ 2 ^ i + 2 ^ i = omega arith in
-          rw (shl-exact {a = 1} 1 i 64 (omega arith) (omega (arith, bit-in)), or-shifted-r 1 i kept (u .below)) (record {
-            left = rest-left;
-            small = omega (arith, u .below, pow-mono {i = suc i} {j = 32} (omega (arith, bit-in)));
-            below = omega (arith, u .below, pow-mono {i = suc i} {j = trailingZeros 64 rest} (omega (arith, rises)));
-            hands = rw (more, add-one, append-assoc) (rw (next true e, s) at (u .hands));
-            counts = rw (more, length-append) (omega (arith, rw (next true e) at (u .counts)));
-            number = omega (arith, rw (next true e) at (u .number));
+      pub picked-keep-bit : isSpanned win k (v .t) ≡ true → PickedBits v win k (record { mask = bitOr (r .mask) (1 * 2 ^ i % 2 ^ 64); extra = r .extra })
+      picked-keep-bit s =
+          let low : i < 32 = trailing-lt 64 32 (v .mask) some h (omega arith) in
+          let bits-are = bits-onto 32 (v .x) (r .mask) i low (higher q) in
+          let kept : eventsAt v (bitOr (r .mask) (1 * 2 ^ i)) ≡ eventAt v (v .x + i) ∷ eventsAt v (r .mask) = ap (map (eventAt v)) bits-are in
+          rw (shl-exact {a = 1} 1 i 64 (omega arith) (omega arith)) (record {
+            picked = record {
+              small = or-lt 32 (r .mask) (1 * 2 ^ i) (q .picked .small) (omega (arith, pow-lt low));
+              hands = rw (kept, next true e, s) (ap (λ (l : List Event). eventAt v (v .x + i) ∷ l) hands-on);
+              counts = rw (kept, next true e) (omega (arith, q .picked .counts));
+            };
+            above = rw bits-are (omega arith, still-above q);
           })
 
-      pub picking-pass : isSpanned win n (v .t) ≡ false → Picking rest kept (extra + 1) (n + 1)
-      picking-pass s = record {
-        left = rest-left;
-        small = u .small;
-        below = still-below;
-        hands = rw add-one (rw (next true e, s) at (u .hands));
-        counts = omega (arith, rw (next true e) at (u .counts));
-        number = omega (arith, rw (next true e) at (u .number));
+      pub picked-pass-bit : isSpanned win k (v .t) ≡ false → PickedBits v win k (record { mask = r .mask; extra = r .extra + 1 })
+      picked-pass-bit s = record {
+        picked = record {
+          small = q .picked .small;
+          hands = rw (next true e, s) hands-on;
+          counts = rw (next true e) (omega (arith, q .picked .counts));
+        };
+        above = still-above q;
       }
-
--- ---- v with another mask
-
-pub narrow-masked : (v : Vector) (m : ℕ) → Narrow v → m < 2 ^ 32 → Narrow (masked v m)
-narrow-masked v m n h = record { x< = n .x<; y< = n .y<; t< = n .t<; p< = n .p<; mask< = h }
-
-pub masked-count : (v : Vector) (m : ℕ) → m < 2 ^ 32 → ones m ≡ length (eventsOf (masked v m))
-masked-count v m h = sym (length-map (bits 32 (v .x) m) (eventAt v) ∙ bits-count 32 (v .x) m h)

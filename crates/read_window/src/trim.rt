@@ -5,7 +5,7 @@ ghost use mathlib.Core.Path.{_≡_};
 ghost use Prim.Native.Nat.{_+_, _<_, _^_};
 ghost use Rattle.evt_types.specs.Event.{Narrow};
 ghost use Rattle.read_window.specs.Window.{isWithin, isSpanned, isStopped};
-ghost use Rattle.read_window.specs.Trim.{Picked, isWhole, isSkipped};
+ghost use Rattle.read_window.specs.Trim.{Picked, PickedBits, isWhole, isSkipped};
 use crate::Window;
 use evt_types::num::inside;
 use evt_types::num::saturating_add;
@@ -84,30 +84,41 @@ fn skips(v: Vector, win: Window, k: u64) -> bool
     }
 }
 
-// Bit by bit: the lowest set bit goes first, and is then cleared. `n` is the next event's number.
+// Bit by bit: the lowest set bit goes first, and is then cleared. Recursive, since a loop here is
+// inlined into the loops over words and makes them slower.
 fn pick_bits(v: Vector, win: Window, k: u64) -> Trimmed
-    requires { ⌜ Narrow v ⌝ ∗ ⌜ k < 2 ^ 62 + 2 ^ 61 ⌝ }
-    ensures { λ r. ⌜ Picked v win k r ⌝ }
+    requires { ⌜ Narrow v ⌝ ∗ ⌜ k + v .mask < 2 ^ 63 ⌝ }
+    ensures { λ r. ⌜ PickedBits v win k r ⌝ }
 {
-    let mut mask = v.mask;
-    let mut kept: u64 = 0;
-    let mut extra: u64 = 0;
-    let mut n = k;
-    while mask != 0 {
-        let rest = mask & (mask - 1);
-        let i = u64::trailing_zeros(mask) as u64;
-        let x = saturating_add(v.x, i);
-        if inside(x, v.y, win.width, win.height) {
-            if spans(win, n, v.t) {
-                kept = kept | (1 << i);
-            } else {
-                extra += 1;
-            }
-            n += 1;
-        }
-        mask = rest;
+    let mask = v.mask;
+    if mask == 0 {
+        return Trimmed { mask: 0, extra: 0 };
     }
-    Trimmed { mask: kept, extra }
+    let rest = Vector {
+        x: v.x,
+        y: v.y,
+        t: v.t,
+        p: v.p,
+        mask: mask & (mask - 1),
+    };
+    let i = u64::trailing_zeros(mask) as u64;
+    let x = saturating_add(v.x, i);
+    if inside(x, v.y, win.width, win.height) {
+        let r = pick_bits(rest, win, k + 1);
+        if spans(win, k, v.t) {
+            Trimmed {
+                mask: r.mask | (1 << i),
+                extra: r.extra,
+            }
+        } else {
+            Trimmed {
+                mask: r.mask,
+                extra: r.extra + 1,
+            }
+        }
+    } else {
+        pick_bits(rest, win, k)
+    }
 }
 
 // What the window leaves of v where an edge of it may be. That is rare, so it stays a call.

@@ -12,7 +12,7 @@ use lib.Bits.{bitAnd, bitOr, and-le-l, or-step, or-zero-r, or-lt}
 use lib.Count.{ones, trailingZeros, trailing-of-zero}
 use lib.Dec.{leb, ltb}
 use lib.Pow.{pow-lt, shl-exact}
-use borrow.Author.Tests.{leb-true, ltb-true, lt-leb, lt-ltb}
+use borrow.Author.Tests.{leb-true, ltb-true, lt-leb, lt-ltb, le-ltb}
 use Rattle.laws_stream.specs.Machine.{All, all-of, all-map, and-both}
 use Rattle.laws_stream.specs.Mask.{Inc, bits, parity, bits-zero, bits-one, bits-even, bits-odd, bits-in, bits-count, clear-lt, low-bit, trailing-lt, trailing-wide}
 use Rattle.laws_stream.specs.Slice.{onto, sift-all}
@@ -228,8 +228,8 @@ pub record PickedBits (v : Vector) (win : Window) (k : ℕ) (r : Trimmed) : Type
   pub above : All (λ c. v .x + trailingZeros 64 (v .mask) ≤ c) (bits 32 (v .x) (r .mask))
 
 module _ (v : Vector) (win : Window) (k : ℕ) where
-  pub picked-no-bits : v .mask ≡ 0 → PickedBits v win k (record { mask = 0; extra = 0 })
-  picked-no-bits z = record { picked = picked-none v win k z; above = rw (bits-zero 32 (v .x)) tt }
+  pub picked-no-bits : {extra : ℕ} → Picked v win k (record { mask = 0; extra = extra }) → PickedBits v win k (record { mask = 0; extra = extra })
+  picked-no-bits p = record { picked = p; above = rw (bits-zero 32 (v .x)) tt }
 
   module _ (some : 0 < v .mask) (h : v .mask < 2 ^ 32) (r : Trimmed) where
     abbrev i : ℕ
@@ -247,13 +247,15 @@ module _ (v : Vector) (win : Window) (k : ℕ) where
     still-above : {j : ℕ} → PickedBits (cleared v) win j r → All (λ c. v .x + i ≤ c) (bits 32 (v .x) (r .mask))
     still-above q = all-map _ _ (λ c l. omega arith) (bits 32 (v .x) (r .mask)) (higher q)
 
-    pub picked-out-bit : isInside (win .width) (win .height) (min (v .x + i) 65535) (v .y) ≡ false → PickedBits (cleared v) win k r → PickedBits v win k r
-    picked-out-bit e q = record {
-      picked = record { small = q .picked .small; hands = rw (next false e) (q .picked .hands); counts = rw (next false e) (q .picked .counts) };
-      above = still-above q;
-    }
+    pub picked-out-bit : win .width ≤ min (v .x + i) 65535 → PickedBits (cleared v) win k r → PickedBits v win k r
+    picked-out-bit w q =
+        let e = next false (rw (le-ltb (min (v .x + i) 65535) (win .width) w)) in
+        record { picked = record { small = q .picked .small; hands = rw e (q .picked .hands); counts = rw e (q .picked .counts) }; above = still-above q }
 
-    module _ (e : isInside (win .width) (win .height) (min (v .x + i) 65535) (v .y) ≡ true) (q : PickedBits (cleared v) win (k + 1) r) where
+    module _ (x : min (v .x + i) 65535 < win .width) (y : v .y < win .height) (q : PickedBits (cleared v) win (k + 1) r) where
+      first-in : numbered win v ≡ eventAt v (v .x + i) ∷ numbered win (cleared v)
+      first-in = next true (rw (lt-ltb (min (v .x + i) 65535) (win .width) x, lt-ltb (v .y) (win .height) y))
+
       -- from the number after k
       hands-on : eventsAt v (r .mask) ≡ choose win (suc k) (numbered win (cleared v))
       hands-on = rw add-one at (q .picked .hands)
@@ -266,8 +268,8 @@ module _ (v : Vector) (win : Window) (k : ℕ) where
           rw (shl-exact {a = 1} 1 i 64 (omega arith) (omega arith)) (record {
             picked = record {
               small = or-lt 32 (r .mask) (1 * 2 ^ i) (q .picked .small) (omega (arith, pow-lt low));
-              hands = rw (kept, next true e, s) (ap (λ (l : List Event). eventAt v (v .x + i) ∷ l) hands-on);
-              counts = rw (kept, next true e) (omega (arith, q .picked .counts));
+              hands = rw (kept, first-in, s) (ap (λ (l : List Event). eventAt v (v .x + i) ∷ l) hands-on);
+              counts = rw (kept, first-in) (omega (arith, q .picked .counts));
             };
             above = rw bits-are (omega arith, still-above q);
           })
@@ -276,8 +278,8 @@ module _ (v : Vector) (win : Window) (k : ℕ) where
       picked-pass-bit s = record {
         picked = record {
           small = q .picked .small;
-          hands = rw (next true e, s) hands-on;
-          counts = rw (next true e) (omega (arith, q .picked .counts));
+          hands = rw (first-in, s) hands-on;
+          counts = rw (first-in) (omega (arith, q .picked .counts));
         };
         above = still-above q;
       }

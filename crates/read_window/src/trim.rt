@@ -5,7 +5,7 @@ ghost use mathlib.Core.Path.{_≡_};
 ghost use Prim.Native.Nat.{_+_, _<_, _^_};
 ghost use Rattle.evt_types.specs.Event.{Narrow};
 ghost use Rattle.read_window.specs.Window.{isWithin, isSpanned, isStopped};
-ghost use Rattle.read_window.specs.Trim.{Picked, PickedBits, isWhole, isSkipped};
+ghost use Rattle.read_window.specs.Trim.{cleared, Picked, PickedBits, isWhole, isSkipped};
 use crate::Window;
 use evt_types::num::inside;
 use evt_types::num::saturating_add;
@@ -46,7 +46,7 @@ pub fn stopped(win: Window, k: u64, started: bool, time: u64) -> bool
 
 // Each event of v is handed over.
 pub fn whole(v: Vector, win: Window, k: u64) -> bool
-    requires { ⌜ Narrow v ⌝ ∗ ⌜ k < 2 ^ 62 + 2 ^ 61 ⌝ }
+    requires { ⌜ Narrow v ⌝ ∗ ⌜ k < 2 ^ 63 ⌝ }
     ensures { λ r. ⌜ r ≡ isWhole v win k ⌝ }
 {
     if v.y < win.height {
@@ -70,7 +70,7 @@ pub fn whole(v: Vector, win: Window, k: u64) -> bool
 
 // Each event of v, whose row is inside, is numbered, and none is handed over.
 fn skips(v: Vector, win: Window, k: u64) -> bool
-    requires { ⌜ Narrow v ⌝ ∗ ⌜ k < 2 ^ 62 + 2 ^ 61 ⌝ }
+    requires { ⌜ Narrow v ⌝ ∗ ⌜ k < 2 ^ 63 ⌝ }
     ensures { λ r. ⌜ r ≡ isSkipped v win k ⌝ }
 {
     if v.x + 32 <= win.width {
@@ -84,9 +84,24 @@ fn skips(v: Vector, win: Window, k: u64) -> bool
     }
 }
 
-// Bit by bit: the lowest set bit goes first, and is then cleared. Recursive, since a loop here is
-// inlined into the loops over words and makes them slower.
-fn pick_bits(v: Vector, win: Window, k: u64) -> Trimmed
+// v without its lowest set bit.
+fn clear_lowest(v: Vector) -> Vector
+    requires { ⌜ 0 < v .mask ⌝ }
+    ensures { λ r. ⌜ r ≡ cleared v ⌝ }
+{
+    Vector {
+        x: v.x,
+        y: v.y,
+        t: v.t,
+        p: v.p,
+        mask: v.mask & (v.mask - 1),
+    }
+}
+
+// What the window leaves of v where an edge of it may be, bit by bit: the lowest set bit goes first, and
+// is then cleared. That is rare. It is recursive, since a loop here is inlined into the loops over
+// words and makes them slower.
+pub fn pick(v: Vector, win: Window, k: u64) -> Trimmed
     requires { ⌜ Narrow v ⌝ ∗ ⌜ k + v .mask < 2 ^ 63 ⌝ }
     ensures { λ r. ⌜ PickedBits v win k r ⌝ }
 {
@@ -94,48 +109,32 @@ fn pick_bits(v: Vector, win: Window, k: u64) -> Trimmed
     if mask == 0 {
         return Trimmed { mask: 0, extra: 0 };
     }
-    let rest = Vector {
-        x: v.x,
-        y: v.y,
-        t: v.t,
-        p: v.p,
-        mask: mask & (mask - 1),
-    };
-    let i = u64::trailing_zeros(mask) as u64;
-    let x = saturating_add(v.x, i);
-    if inside(x, v.y, win.width, win.height) {
-        let r = pick_bits(rest, win, k + 1);
-        if spans(win, k, v.t) {
-            Trimmed {
-                mask: r.mask | (1 << i),
-                extra: r.extra,
-            }
-        } else {
-            Trimmed {
-                mask: r.mask,
-                extra: r.extra + 1,
-            }
-        }
-    } else {
-        pick_bits(rest, win, k)
-    }
-}
-
-// What the window leaves of v where an edge of it may be. That is rare, so it stays a call.
-pub fn pick(v: Vector, win: Window, k: u64) -> Trimmed
-    requires { ⌜ Narrow v ⌝ ∗ ⌜ k < 2 ^ 62 + 2 ^ 61 ⌝ }
-    ensures { λ r. ⌜ Picked v win k r ⌝ }
-{
     if win.height <= v.y {
         return Trimmed { mask: 0, extra: 0 };
     }
     if skips(v, win, k) {
         return Trimmed {
             mask: 0,
-            extra: u64::count_ones(v.mask) as u64,
+            extra: u64::count_ones(mask) as u64,
         };
     }
-    pick_bits(v, win, k)
+    let rest = clear_lowest(v);
+    let i = u64::trailing_zeros(mask) as u64;
+    if win.width <= saturating_add(v.x, i) {
+        return pick(rest, win, k);
+    }
+    let r = pick(rest, win, k + 1);
+    if spans(win, k, v.t) {
+        Trimmed {
+            mask: r.mask | (1 << i),
+            extra: r.extra,
+        }
+    } else {
+        Trimmed {
+            mask: r.mask,
+            extra: r.extra + 1,
+        }
+    }
 }
 
 // What the window leaves of v where the lowest bit alone is set, as in EVT2.

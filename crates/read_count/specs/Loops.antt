@@ -32,7 +32,7 @@ use Rattle.read_count.specs.Evt3Step.{AgreesWithStep, decoderOf, counted
 
 -- at a word w, which was read ahead
 pub record Word2 (width height : ℕ) (bytes : List ℕ) (s : Evt2Decoder) (bound i w : ℕ) : Type 0 where
-  pub more : i + wordSize2 ≤ length bytes
+  pub more : i + (wordSize2 - 1) < length bytes
   pub is-word : w ≡ ahead wordSize2 bytes i
   pub is-bound : bound ≡ keyBound (s .initialised) width
 
@@ -96,7 +96,7 @@ reached3 is u r is-r = rw (← is, is-r) u
 
 -- at a word w, which was read ahead: its step by tables, and how many of its events are inside
 pub record Word3 (width height bound : ℕ) (bytes : List ℕ) (s : Decoder) (i w : ℕ) (r : CountingStep) (m : ℕ) : Type 0 where
-  pub more : i + wordSize3 ≤ length bytes
+  pub more : i + (wordSize3 - 1) < length bytes
   pub is-word : w ≡ ahead wordSize3 bytes i
   pub agrees : AgreesWithStep s w r
   pub is-bound : bound ≡ columnBound width

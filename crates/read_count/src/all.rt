@@ -11,6 +11,8 @@ ghost use Rattle.evt2_decoder.specs.Range.{Bounded2};
 ghost use Rattle.evt3_decoder.specs.Range.{Bounded3};
 ghost use Rattle.read_columns.specs.Inside.{clock};
 ghost use Rattle.read_fill.specs.Iteration.{insideAll};
+use crate::LAST_BYTE2;
+use crate::LAST_BYTE3;
 use crate::evt2_inside;
 use crate::evt3_inside;
 use crate::evt3_step;
@@ -45,7 +47,7 @@ pub fn evt2(bytes: &[u8], d: Evt2Decoder, width: u64, height: u64) -> Evt2Counte
     let mut top: u64 = 0;
     let mut i: usize = 0;
     let mut w = words::four_at(bytes, 0);
-    while i + Evt2Decoder::WORD_SIZE <= bytes.len() {
+    while i + LAST_BYTE2 < bytes.len() {
         if evt2_inside::is_event_inside(w, bound, height) {
             let t = s.time_high + bits(w, 22, 6);
             s.time = t;
@@ -81,7 +83,7 @@ pub fn evt3(bytes: &[u8], d: Decoder, width: u64, height: u64) -> Evt3CountedAll
     let mut top: u64 = 0;
     let mut i: usize = 0;
     let mut w = words::two_at(bytes, 0);
-    while i + Decoder::WORD_SIZE <= bytes.len() {
+    while i + LAST_BYTE3 < bytes.len() {
         let g = s.table_step(w, &spans, &vects);
         s = g.next;
         let m = evt3_inside::count_inside(g.x, s.y, g.mask, bound, height, &counts);

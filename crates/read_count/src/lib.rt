@@ -10,12 +10,20 @@ ghost use lib.ListN.{length, drop};
 ghost use Rattle.read_fill.specs.Decode.{Bounded, Steady};
 ghost use Rattle.read_count.specs.Count.{countedAllOf, countedToOf};
 use evt_codec::Codec;
+use evt2_decoder::Evt2Decoder;
+use evt3_decoder::Decoder;
 
 mod all;
 mod evt2_inside;
 mod evt3_inside;
 mod evt3_step;
 mod to;
+
+// Where a word's last byte is, counted from its first. The loops here test for it: by the size of a word
+// they measured slower.
+const LAST_BYTE2: usize = Evt2Decoder::WORD_SIZE - 1;
+
+const LAST_BYTE3: usize = Decoder::WORD_SIZE - 1;
 
 // What counting leaves: how many events there are, their greatest time (0 of none), and the decoder.
 pub struct CountedAll {

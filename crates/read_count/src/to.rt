@@ -7,6 +7,8 @@ ghost use Rattle.evt3_decoder.specs.Evt3.{reader3};
 ghost use Rattle.evt2_decoder.specs.Range.{Bounded2};
 ghost use Rattle.evt3_decoder.specs.Range.{Bounded3, Regular3};
 ghost use Rattle.read_count.specs.Passing.{Reached};
+use crate::LAST_BYTE2;
+use crate::LAST_BYTE3;
 use crate::evt2_inside;
 use crate::evt3_inside;
 use crate::evt3_step;
@@ -38,7 +40,7 @@ pub fn evt2(bytes: &[u8], d: Evt2Decoder, width: u64, height: u64, most: usize) 
     let mut n: usize = 0;
     let mut i: usize = 0;
     let mut w = words::four_at(bytes, 0);
-    while i + Evt2Decoder::WORD_SIZE <= bytes.len() {
+    while i + LAST_BYTE2 < bytes.len() {
         if evt2_inside::is_event_inside(w, bound, height) {
             if most <= n {
                 break;
@@ -73,7 +75,7 @@ pub fn evt3(bytes: &[u8], d: Decoder, width: u64, height: u64, most: usize) -> E
     let mut n: usize = 0;
     let mut i: usize = 0;
     let mut w = words::two_at(bytes, 0);
-    while i + Decoder::WORD_SIZE <= bytes.len() {
+    while i + LAST_BYTE3 < bytes.len() {
         let g = s.table_step(w, &spans, &vects);
         let next = g.next;
         let m = evt3_inside::count_inside(g.x, next.y, g.mask, bound, height, &counts);

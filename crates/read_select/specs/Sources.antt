@@ -1,7 +1,7 @@
 -- The two decoders as sources of a pass.
 use mathlib.Core.Path.{_≡_, refl, ap, _∙_}
 use mathlib.Core.List.{List}
-use Prim.Native.Nat.{ℕ, _+_, _≤_, _<_, _^_}
+use Prim.Native.Nat.{ℕ, _+_, _-_, _≤_, _<_, _^_}
 use native.Mathlib.Omega.{arith}
 use lib.ListN.{length}
 use Rattle.laws_stream.specs.Words.{wordsOf, length-words}
@@ -62,13 +62,13 @@ mask2 d w = by-kinds (λ k. vectorAs k d w .mask ≤ 1) (type2 w) (d .initialise
 
 -- ---- a word as the loops read it, and its step
 
-pub iteration2 : {l : List ℕ} {i w : ℕ} {s s′ : Evt2Decoder} {v : Vector} → i + wordSize2 ≤ length l → w ≡ ahead wordSize2 l i → s′ ≡ step2 s w → v ≡ vector2 s w → Iteration source2 l i s s′ v
+pub iteration2 : {l : List ℕ} {i w : ℕ} {s s′ : Evt2Decoder} {v : Vector} → i + (wordSize2 - 1) < length l → w ≡ ahead wordSize2 l i → s′ ≡ step2 s w → v ≡ vector2 s w → Iteration source2 l i s s′ v
 iteration2 {l = l} {i = i} {s = s} h e n m =
     let whole : i + wordSize2 ≤ length l = omega arith in
     let is = e ∙ ahead-some wordSize2 l i whole in
     record { h = whole; is-next = n ∙ ap (step2 s) is; is-events = m ∙ ap (vector2 s) is }
 
-pub iteration3 : {l : List ℕ} {i w : ℕ} {s s′ : Decoder} {v : Vector} → i + wordSize3 ≤ length l → w ≡ ahead wordSize3 l i → s′ ≡ step3 s w → v ≡ vector3 s w → Iteration source3 l i s s′ v
+pub iteration3 : {l : List ℕ} {i w : ℕ} {s s′ : Decoder} {v : Vector} → i + (wordSize3 - 1) < length l → w ≡ ahead wordSize3 l i → s′ ≡ step3 s w → v ≡ vector3 s w → Iteration source3 l i s s′ v
 iteration3 {l = l} {i = i} {s = s} h e n m =
     let whole : i + wordSize3 ≤ length l = omega arith in
     let is = e ∙ ahead-some wordSize3 l i whole in

@@ -15,6 +15,10 @@ use evt3_decoder::widen;
 use read_window::Window;
 use read_window::trim;
 
+// Where a word's last byte is, counted from its first. The loops here test for it: by the size of a word
+// they measured slower.
+const LAST_BYTE: usize = Decoder::WORD_SIZE - 1;
+
 // Counts the events that the window leaves of each word.
 pub fn survey3(bytes: &[u8], d: Decoder, win: Window, number: u64) -> SurveyTotals
     requires { ⌜ Ready (Evt3 d) number (length (now bytes)) ⌝ }
@@ -29,7 +33,7 @@ pub fn survey3(bytes: &[u8], d: Decoder, win: Window, number: u64) -> SurveyTota
         height: 0,
     };
     let mut i: usize = 0;
-    while i + Decoder::WORD_SIZE <= bytes.len() {
+    while i + LAST_BYTE < bytes.len() {
         let w = words::two_at(bytes, i);
         let step = s.advance(w);
         let v = step.events;
@@ -75,7 +79,7 @@ pub fn fill3(
     let mut k = number;
     let mut n: usize = 0;
     let mut i: usize = 0;
-    while i + Decoder::WORD_SIZE <= bytes.len() {
+    while i + LAST_BYTE < bytes.len() {
         let w = words::two_at(bytes, i);
         let step = s.advance(w);
         let v = step.events;

@@ -67,14 +67,18 @@ module _ (t : ℕ) where
   out-requires : lts.Need-pick-requires (claims t) (at t) pick.Post
   out-requires c κs =
       let s = c .before .before .before .before .before .before .before .before .before .before in
-      rw (c .before .before .before .clear-lowest .ensures) (omega (arith, clear-lt (s .args .v .mask) (omega arith)),
-        cleared-fits (s .args .v) (s .args .k) (s .args .k) (s .pre .1 .0) (omega arith) (s .pre .1 .1) (omega arith))
+      rw (c .before .before .before .clear-lowest .ensures) (
+        omega (arith, clear-lt (s .args .v .mask) (omega arith)),
+        cleared-fits (s .args .v) (s .args .k) (s .args .k) (s .pre .1 .0) (omega arith) (s .pre .1 .1) (omega arith),
+      )
 
   in-requires : lts.Need-pick-requires-2 (claims t) (at t) pick.Post
   in-requires c κs =
       let s = c .before .before .before .before .before .before .before .before .before .before in
-      rw (c .before .before .before .clear-lowest .ensures) (omega (arith, clear-lt (s .args .v .mask) (omega arith)),
-        cleared-fits (s .args .v) (s .args .k) (s .args .k + 1) (s .pre .1 .0) (omega arith) (s .pre .1 .1) (omega arith))
+      rw (c .before .before .before .clear-lowest .ensures) (
+        omega (arith, clear-lt (s .args .v .mask) (omega arith)),
+        cleared-fits (s .args .v) (s .args .k) (s .args .k + 1) (s .pre .1 .0) (omega arith) (s .pre .1 .1) (omega arith),
+      )
 
   out : lts.Need-returns-4 (claims t) (at t) pick.Post
   out c =

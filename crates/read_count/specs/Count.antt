@@ -16,7 +16,7 @@ use Rattle.read_fill.specs.Decode.{insideEvents}
 use Rattle.read_count.specs.declared.CountedAll.{CountedAll}
 use Rattle.read_count.specs.declared.CountedTo.{CountedTo}
 
--- the greatest time of no event is 0
+-- the maximum time of no event is 0
 abbrev pub countedAllOf : (width height : ℕ) → Codec → List ℕ → CountedAll
 countedAllOf width height c l = record {
   count = length (insideEvents width height c l);

@@ -1,4 +1,4 @@
--- A loop that counts the events of some bytes and notes their greatest time, for every machine and every word size: what holds at index i, at the start, after an iteration, at the end.
+-- A loop that counts the events of some bytes and notes their maximum time, for every machine and every word size: what holds at index i, at the start, after an iteration, at the end.
 use mathlib.Core.Path.{_≡_, sym, ap, _∙_}
 use mathlib.Core.List.{List, _++_}
 use Prim.Native.Nat.{ℕ, suc, _+_, _≤_, _<_, max}

@@ -73,7 +73,8 @@ module _ (width height : ℕ) (d : Evt2Decoder) (w : ℕ) where
   pub event-count : length (insideOf width height (vector2 d w)) ≡ oneIf insideNow
   event-count = go (d .initialised) refl (ltb (type2 w) 2) refl
     where
-      go : (on : Bool) → d .initialised ≡ on → (b : Bool) → ltb (type2 w) 2 ≡ b → length (insideOf width height (vector2 d w)) ≡ oneIf (isEventInside (keyBound (d .initialised) width) height w)
+      go : (on : Bool) → d .initialised ≡ on → (b : Bool) → ltb (type2 w) 2 ≡ b
+          → length (insideOf width height (vector2 d w)) ≡ oneIf (isEventInside (keyBound (d .initialised) width) height w)
       go true e true q =
           let h = ltb-true (type2 w) 2 q in
           let f : isEventInside (keyBound (d .initialised) width) height w ≡ isInside width height (x2 w) (y2 w) = rw (e, key-event width height w h) in
@@ -91,7 +92,8 @@ module _ (width height : ℕ) (d : Evt2Decoder) (w : ℕ) where
   pub event-step : insideNow ≡ true → (step2 d w ≡ stepAs event d w) × (vector2 d w .t ≡ d .«time_high» + timeLow2 w)
   event-step s = go (d .initialised) refl (ltb (type2 w) 2) refl
     where
-      go : (on : Bool) → d .initialised ≡ on → (b : Bool) → ltb (type2 w) 2 ≡ b → (step2 d w ≡ stepAs event d w) × (vector2 d w .t ≡ d .«time_high» + timeLow2 w)
+      go : (on : Bool) → d .initialised ≡ on → (b : Bool) → ltb (type2 w) 2 ≡ b
+          → (step2 d w ≡ stepAs event d w) × (vector2 d w .t ≡ d .«time_high» + timeLow2 w)
       go true e true q =
           let r = event-word d w (type2 w) refl (ltb-true (type2 w) 2 q) e in
           (r .0, ap (λ (v : Vector). v .t) (r .1))

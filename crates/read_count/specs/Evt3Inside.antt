@@ -31,13 +31,14 @@ columnBound width = cond (ltb width 65536) width 65548
 abbrev pub insideCount : (x y mask bound height : ℕ) → ℕ
 insideCount x y mask bound height = cond (ltb y height) (ones (mask % 2 ^ (bound - x))) 0
 
--- ---- a count by the table, in two halves
+-- ---- a count by the table, of six bits at a time
 
 bit-counts-at : (l : List ℕ) (k : ℕ) → l ≡ bitCounts → k < 64 → getD l k 0 ≡ ones k
 unfolding bitCounts
 bit-counts-at l k e h = ap (λ (l : List ℕ). getD l k 0) e ∙ table-at ones 64 k h
 
-pub count-bits-of : (l : List ℕ) → l ≡ bitCounts → (m : ℕ) → m < 2 ^ 12 → (a b : ℕ) → a ≡ m / 2 ^ 0 % 2 ^ 6 → b ≡ m / 2 ^ 6 % 2 ^ 6 → getD l a 0 + getD l b 0 ≡ ones m
+pub count-bits-of : (l : List ℕ) → l ≡ bitCounts → (m : ℕ) → m < 2 ^ 12 → (a b : ℕ) → a ≡ m / 2 ^ 0 % 2 ^ 6 → b ≡ m / 2 ^ 6 % 2 ^ 6
+    → getD l a 0 + getD l b 0 ≡ ones m
 count-bits-of l e m h a b is-a is-b =
     let w : m ≡ b * 2 ^ 6 + a = omega arith in
     omega (arith, bit-counts-at l a e (omega arith), bit-counts-at l b e (omega arith), ap ones w, ones-cat 6 b a (omega arith))
@@ -90,7 +91,8 @@ bits-below (suc k) at m w h = go (ltb at w) refl (bits-below k (suc at) (m / 2) 
 
 -- ---- the events inside
 
-sift-mapped : {A E : Type 0} (f : E → Bool) (g : A → E) (h : A → Bool) → ((a : A) → f (g a) ≡ h a) → (l : List A) → length (sift f (map g l)) ≡ length (sift h l)
+sift-mapped : {A E : Type 0} (f : E → Bool) (g : A → E) (h : A → Bool) → ((a : A) → f (g a) ≡ h a) → (l : List A)
+    → length (sift f (map g l)) ≡ length (sift h l)
 sift-mapped f g h same [] = refl
 sift-mapped f g h same (a ∷ l) = rw (same a) (go (h a) (sift-mapped f g h same l))
   where

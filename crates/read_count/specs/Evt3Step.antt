@@ -176,5 +176,6 @@ quiet3 d w (inr e) = rw e (go (d .initialised))
     go true = refl
     go false = refl
 
-pub quiet-agrees : (d : Decoder) (w : ℕ) → (d .initialised ≡ false) ⊎ (type3 w ≡ 8) → (r : CountingStep) → decoderOf (r .next) ≡ widened (step3 d w) → r .x ≡ 0 → r .mask ≡ 0 → AgreesWithStep d w r
+pub quiet-agrees : (d : Decoder) (w : ℕ) → (d .initialised ≡ false) ⊎ (type3 w ≡ 8) → (r : CountingStep) → decoderOf (r .next) ≡ widened (step3 d w)
+    → r .x ≡ 0 → r .mask ≡ 0 → AgreesWithStep d w r
 quiet-agrees d w e r is-next is-x is-mask = record { next = is-next; mask = rw is-mask (omega arith); column = rw is-x (omega arith); same = nil _ _ (quiet3 d w e) is-mask }

@@ -64,7 +64,8 @@ module _ {width height : ℕ} {bytes : List ℕ} {s : Evt2Decoder} {bound i w : 
         → Counting wordSize2 reader2 Bounded2 width height s₀ bytes (stamped e t is-t) (n + 1) top′ (i + wordSize2)
     event-next e t is-t {top′} is-top = counting-next (omega arith) bounded-step2 u (iteration (stamped e t is-t) (is-timed e t is-t)) 1 (found e) top′ (rw (its-time e t is-t) at is-top)
 
-    pub other-next : isEventInside bound height w ≡ false → {s′ : Evt2Decoder} → s′ ≡ step2 s w → Counting wordSize2 reader2 Bounded2 width height s₀ bytes s′ n top (i + wordSize2)
+    pub other-next : isEventInside bound height w ≡ false → {s′ : Evt2Decoder} → s′ ≡ step2 s w
+        → Counting wordSize2 reader2 Bounded2 width height s₀ bytes s′ n top (i + wordSize2)
     other-next e {s′} is = rw add-zero at (counting-next (omega arith) bounded-step2 u (iteration s′ is) 0 (found e) top (omega arith))
 
   -- passing over
@@ -76,7 +77,8 @@ module _ {width height : ℕ} {bytes : List ℕ} {s : Evt2Decoder} {bound i w : 
         → Passing wordSize2 reader2 Bounded2 width height most s₀ bytes (stamped e t is-t) (n + 1) (i + wordSize2)
     event-pass e t is-t l = passing-next (omega arith) bounded-step2 u (iteration (stamped e t is-t) (is-timed e t is-t)) (found e) (omega arith)
 
-    pub other-pass : isEventInside bound height w ≡ false → {s′ : Evt2Decoder} → s′ ≡ step2 s w → Passing wordSize2 reader2 Bounded2 width height most s₀ bytes s′ n (i + wordSize2)
+    pub other-pass : isEventInside bound height w ≡ false → {s′ : Evt2Decoder} → s′ ≡ step2 s w
+        → Passing wordSize2 reader2 Bounded2 width height most s₀ bytes s′ n (i + wordSize2)
     other-pass e {s′} is = rw add-zero at (passing-next (omega arith) bounded-step2 u (iteration s′ is) (found e) (omega arith))
 
 -- ---- EVT3
@@ -85,12 +87,14 @@ module _ {width height : ℕ} {bytes : List ℕ} {s : Evt2Decoder} {bound i w : 
 pub started3 : {d e : Decoder} (l : List ℕ) → e ≡ d → Bounded3 (length l / wordSize3) d → Bounded3 (length (wordsOf wordSize3 l)) e
 started3 l is b = rw is (start3 l b)
 
-pub ended3 : {width height : ℕ} {bytes : List ℕ} {d e s : Decoder} {n top i : ℕ} → e ≡ d → Counting wordSize3 reader3 Bounded3 width height e bytes s n top i → length bytes < i + wordSize3
+pub ended3 : {width height : ℕ} {bytes : List ℕ} {d e s : Decoder} {n top i : ℕ} → e ≡ d → Counting wordSize3 reader3 Bounded3 width height e bytes s n top i
+    → length bytes < i + wordSize3
     → (r : Decoder) → r ≡ s
     → (n ≡ length (insideAll wordSize3 reader3 width height d bytes)) × (top ≡ greatest clock (insideAll wordSize3 reader3 width height d bytes)) × (r ≡ after wordSize3 reader3 d bytes)
 ended3 is u h r is-r = rw (← is, is-r) (counting-end (omega arith) bounded-step3 u h)
 
-pub reached3 : {width height most : ℕ} {bytes : List ℕ} {d e s : Decoder} {n i : ℕ} → e ≡ d → Reached wordSize3 reader3 Bounded3 width height most e bytes i n s → (r : Decoder) → r ≡ s
+pub reached3 : {width height most : ℕ} {bytes : List ℕ} {d e s : Decoder} {n i : ℕ} → e ≡ d
+    → Reached wordSize3 reader3 Bounded3 width height most e bytes i n s → (r : Decoder) → r ≡ s
     → Reached wordSize3 reader3 Bounded3 width height most d bytes i n r
 reached3 is u r is-r = rw (← is, is-r) u
 
@@ -116,13 +120,15 @@ module _ {width height bound : ℕ} {bytes : List ℕ} {s : Decoder} {i w : ℕ}
   }
 
   counted : m ≡ length (insideOf width height seen)
-  counted = a .is-count ∙ ap (λ (k : ℕ). insideCount (r .x) (r .next .y) (r .mask) k height) (a .is-bound) ∙ sym (inside-counted width height seen (a .agrees .column) (a .agrees .mask))
+  counted = a .is-count ∙ ap (λ (k : ℕ). insideCount (r .x) (r .next .y) (r .mask) k height) (a .is-bound)
+      ∙ sym (inside-counted width height seen (a .agrees .column) (a .agrees .mask))
 
   module _ {s₀ : Decoder} {n top : ℕ} (u : Counting wordSize3 reader3 Bounded3 width height s₀ bytes s n top i) where
     pub word3-few : n + m ≤ length (insideAll wordSize3 reader3 width height s₀ bytes)
     word3-few = omega (arith, counted, counting-few (omega arith) bounded-step3 u iteration′)
 
-    pub word3-next : {top′ : ℕ} → top′ ≡ max top (latestOf m (r .next .time)) → Counting wordSize3 reader3 Bounded3 width height s₀ bytes (slimmed (decoderOf (r .next))) (n + m) top′ (i + wordSize3)
+    pub word3-next : {top′ : ℕ} → top′ ≡ max top (latestOf m (r .next .time))
+        → Counting wordSize3 reader3 Bounded3 width height s₀ bytes (slimmed (decoderOf (r .next))) (n + m) top′ (i + wordSize3)
     word3-next {top′} is-top = counting-next (omega arith) bounded-step3 u iteration′ m counted top′ is-top
 
   module _ {most : ℕ} {s₀ : Decoder} {n : ℕ} (u : Passing wordSize3 reader3 Bounded3 width height most s₀ bytes s n i) where

@@ -1,4 +1,4 @@
-// Counting events and their greatest time: a loop for each encoding.
+// Counting events and their maximum time: a loop for each encoding.
 ghost use mathlib.Core.Path.{_≡_};
 ghost use Prim.Native.Nat.{_/_};
 ghost use lib.ListN.{length};

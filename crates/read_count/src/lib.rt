@@ -1,5 +1,5 @@
 // The loops that count over the words of a part of a recording: all events inside a sensor, with their
-// greatest time, or words up to a number of events. They serve finding out how many places columns
+// maximum time, or words up to a number of events. They serve finding out how many places columns
 // need, the opening of an index, and the start of slices by number. specs/Count.antt says what they
 // tell, over the definitions of `Decode` of the crate `read_fill`.
 //
@@ -25,7 +25,7 @@ const LAST_BYTE2: usize = Evt2Decoder::WORD_SIZE - 1;
 
 const LAST_BYTE3: usize = Decoder::WORD_SIZE - 1;
 
-// What counting leaves: how many events there are, their greatest time (0 of none), and the decoder.
+// What counting leaves: how many events there are, their maximum time (0 of none), and the decoder.
 pub struct CountedAll {
     pub count: usize,
     pub latest: u64,

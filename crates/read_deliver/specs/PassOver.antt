@@ -37,7 +37,8 @@ able-bounded (Evt3 d) n b = able-bounded3 n b
 -- ---- what is passed over
 
 module _ (width height most : ℕ) (l : List ℕ) where
-  passes2 : (d : Evt2Decoder) → Passes reader2 (inside width height) most d (wordsOf wordSize2 l) (over reader2 (inside width height) most d (wordsOf wordSize2 l))
+  passes2 : (d : Evt2Decoder)
+      → Passes reader2 (inside width height) most d (wordsOf wordSize2 l) (over reader2 (inside width height) most d (wordsOf wordSize2 l))
   passes2 d = over-passes reader2 (inside width height) most d (wordsOf wordSize2 l)
 
   passes3 : (d : Decoder) → Passes reader3 (inside width height) most d (wordsOf wordSize3 l) (over reader3 (inside width height) most d (wordsOf wordSize3 l))
@@ -51,7 +52,8 @@ module _ (width height most : ℕ) (l : List ℕ) where
   passed-few (Evt2 d) = passes2 d .few
   passed-few (Evt3 d) = passes3 d .few
 
-  pub passed-count : (c : Codec) → countedToOf width height most c l .count ≡ length (insideEvents width height c (take (countedToOf width height most c l .at) l))
+  pub passed-count : (c : Codec)
+      → countedToOf width height most c l .count ≡ length (insideEvents width height c (take (countedToOf width height most c l .at) l))
   passed-count (Evt2 d) = rw (words-taken 4 (omega arith) (over reader2 (inside width height) most d (wordsOf wordSize2 l) .words) l (passed-within (Evt2 d))) (passes2 d .count)
   passed-count (Evt3 d) = rw (words-taken 2 (omega arith) (over reader3 (inside width height) most d (wordsOf wordSize3 l) .words) l (passed-within (Evt3 d))) (passes3 d .count)
 

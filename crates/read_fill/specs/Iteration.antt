@@ -59,7 +59,8 @@ pub record Iteration {S : Type 0} (n : ℕ) (M : Machine S ℕ Event) (bytes : L
 
 pub iteration-words : {S : Type 0} {n : ℕ} {M : Machine S ℕ Event} {bytes : List ℕ} {s s′ : S} {i : ℕ} {v : Vector} → 0 < n → (t : Iteration n M bytes s i s′ v)
     → wordsOf n (drop i bytes) ≡ t .word ∷ wordsOf n (drop (i + n) bytes)
-iteration-words {S} {n} {M} {bytes} {s} {s′} {i} pos t = words-next n pos bytes i (t .more) ∙ ap (λ (w : ℕ). w ∷ wordsOf n (drop (i + n) bytes)) (sym (t .is-word))
+iteration-words {S} {n} {M} {bytes} {s} {s′} {i} pos t = words-next n pos bytes i (t .more)
+    ∙ ap (λ (w : ℕ). w ∷ wordsOf n (drop (i + n) bytes)) (sym (t .is-word))
 
 module _ {S : Type 0} {n : ℕ} {M : Machine S ℕ Event} {Inv : ℕ → S → Type 0} {width height : ℕ} {s₀ : S} {bytes : List ℕ} (pos : 0 < n)
     (keeps : (k : ℕ) (s : S) (w : ℕ) → Inv (suc k) s → Inv k (M .step s w)) where

@@ -167,7 +167,7 @@ module _ (c : Codec) (l : List ℕ) (b : Bounded (length l) c) where
       let ins : (e : Event) → Small e → inside 65536 65536 e ≡ true = λ e s. rw (lt-ltb (e .x) 65536 (s .x<), lt-ltb (e .y) 65536 (s .y<)) in
       sift-all (inside 65536 65536) (eventsFrom c l) (all-map Small _ ins (eventsFrom c l) (events-small c l b))
 
-  -- the greatest time fits an i64
+  -- the maximum time fits an i64
   pub latest-small : (width height : ℕ) → greatest clock (insideEvents width height c l) < 2 ^ 63
   latest-small width height =
       let le : (e : Event) → Small e → clock e ≤ 9223372036854775807 = λ e s. omega (arith, s .t<) in

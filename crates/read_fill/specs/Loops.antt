@@ -61,7 +61,8 @@ few3 width height d l =
     omega (arith, sift-few (inside width height) (decode wordSize3 reader3 d l), decode-few wordSize3 reader3 12 most d (wordsOf wordSize3 l), length-words wordSize3 l)
 
 module _ {bytes : List ℕ} {s : Decoder} {i : ℕ} (h : i + wordSize3 ≤ length bytes) (w : ℕ) where
-  pub iteration3 : w ≡ ahead wordSize3 bytes i → (r : WideStep) → (r .next ≡ widened (step3 s w)) × (r .events ≡ vector3 s w) → Iteration wordSize3 reader3 bytes s i (slimmed (r .next)) (r .events)
+  pub iteration3 : w ≡ ahead wordSize3 bytes i → (r : WideStep) → (r .next ≡ widened (step3 s w)) × (r .events ≡ vector3 s w)
+      → Iteration wordSize3 reader3 bytes s i (slimmed (r .next)) (r .events)
   iteration3 is-word r is =
       record { word = w; more = omega arith; is-word = is-word ∙ ahead-some wordSize3 bytes i (omega arith); is-next = ap slimmed (is .0); is-events = ap eventsOf (sym (is .1)) }
 

@@ -130,7 +130,8 @@ module _ (front : List ℕ) where
 
     -- in all
     parted : wordsOf wordSize3 front ≡ wordsOf wordSize3 (take (j * wordSize3) front) ++ (w ∷ behind k)
-    parted = sym (split-words wordSize3 reader3 (omega arith) j front (omega arith)) ∙ ap (λ (l : List ℕ). wordsOf wordSize3 (take (j * wordSize3) front) ++ l) word-here
+    parted = sym (split-words wordSize3 reader3 (omega arith) j front (omega arith))
+        ∙ ap (λ (l : List ℕ). wordsOf wordSize3 (take (j * wordSize3) front) ++ l) word-here
 
   -- no row word from word k on
   pub record Rowless (k : ℕ) : Type 0 where
@@ -185,7 +186,8 @@ module _ (front : List ℕ) where
           ∙ u .same (record { x = min (c .x + n) 65535; p = c .p }) (omega arith) ∙ ap (λ (x : ℕ). record { x = x; p = c .p }) e;
     }
 
-    pub base-found : (c : Column) {by : ℕ} → Baseless by k → t ≡ 3 → record { x = min (x3 w + by) 65535; p = eqb (polarity3 w) 1 } ≡ baseAfter c (wordsOf wordSize3 front)
+    pub base-found : (c : Column) {by : ℕ} → Baseless by k → t ≡ 3
+        → record { x = min (x3 w + by) 65535; p = eqb (polarity3 w) 1 } ≡ baseAfter c (wordsOf wordSize3 front)
     base-found c u e =
         let a = wordsOf wordSize3 (take (j * wordSize3) front) in
         sym (ap (baseAfter c) (parted k j next (u .within) w is-word) ∙ base-append c a (w ∷ behind k) ∙ base-set (baseAfter c a) w (behind k) (sym is-type ∙ e)
@@ -204,7 +206,8 @@ putBehind d front c = record {
   «high_loops» = c .loops;
 }
 
-pub put-is : (d : Decoder) (front : List ℕ) (s : Decoder) → d .initialised ≡ true → d .«base_x» < 2 ^ 16 → s ≡ run reader3 d (wordsOf wordSize3 front) → (c : Times) → c ≡ timesOf s
+pub put-is : (d : Decoder) (front : List ℕ) (s : Decoder) → d .initialised ≡ true → d .«base_x» < 2 ^ 16 → s ≡ run reader3 d (wordsOf wordSize3 front)
+    → (c : Times) → c ≡ timesOf s
     → putBehind d front c ≡ s
 put-is d front s on small is-run c is-times =
     let ws = wordsOf wordSize3 front in

@@ -107,4 +107,5 @@ module _ {S : Type 0} {n : ℕ} {M : Machine S ℕ Event} {time : S → ℕ} {ca
     seeking-same z codec =
         let r = reach M time carries t₀ t₁ s (wordsOf n (drop i bytes)) in
         let e : (u .words + r .words) * n ≡ i + r .words * n = add-mul (u .words) (r .words) n ∙ ap (λ (k : ℕ). k + r .words * n) (sym (u .is-at)) in
-        ap (soughtAs n codec) (sym (u .ends) ∙ ap (λ (f : Bool). behind (u .words) f r) z) ∙ ap (λ (k : ℕ). record { at = k; stray = r .stray; codec = codec (r .state) }) e
+        ap (soughtAs n codec) (sym (u .ends) ∙ ap (λ (f : Bool). behind (u .words) f r) z)
+        ∙ ap (λ (k : ℕ). record { at = k; stray = r .stray; codec = codec (r .state) }) e

@@ -130,7 +130,8 @@ module _ (win : Window) (k : ℕ) (low : win .n0 ≤ k) where
         → handedOver win k c l ≡ insideEvents (win .width) (win .height) c (take (soughtOf (win .t0) (win .t1) c l .at) l)
     sought-upto = go c (inside-bytes (win .width) (win .height) c l)
       where
-        go : (c : Codec) → length (insideEvents (win .width) (win .height) c l) ≤ 6 * length l → Able (length l) c → 0 < win .t1 → soughtOf (win .t0) (win .t1) c l .stray ≡ false
+        go : (c : Codec) → length (insideEvents (win .width) (win .height) c l) ≤ 6 * length l → Able (length l) c → 0 < win .t1
+            → soughtOf (win .t0) (win .t1) c l .stray ≡ false
             → handedOver win k c l ≡ insideEvents (win .width) (win .height) c (take (soughtOf (win .t0) (win .t1) c l .at) l)
         go (Evt2 d) few able some z =
             let r = reach2 (win .t0) (win .t1) d l in
@@ -170,5 +171,6 @@ module _ (t : ℕ) (c : Codec) (l : List ℕ) (at : ℕ) (c′ : Codec) (m : Mid
   pub midway-within : at + r .at ≤ length l
   midway-within = rw is (omega (arith, sought-within 0 t c′ (drop at l), length-drop at l, m .within))
 
-  pub midway-found : Bounded (length (drop (r .at) (drop at l))) (r .codec) → (further at r ≡ soughtOf 0 t c l) × Bounded (length (drop (at + r .at) l)) (r .codec)
+  pub midway-found : Bounded (length (drop (r .at) (drop at l))) (r .codec)
+      → (further at r ≡ soughtOf 0 t c l) × Bounded (length (drop (at + r .at) l)) (r .codec)
   midway-found b = (ap (further at) is ∙ sym (m .same), rw (← drop-drop (r .at) at l) b)

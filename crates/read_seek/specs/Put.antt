@@ -31,7 +31,8 @@ module _ (t₀ t₁ : ℕ) (d : Decoder) (bytes : List ℕ) where
 
   -- the state is what the bytes passed over lead to
   state-is : end .state ≡ run reader3 d (wordsOf wordSize3 (take (end .words * wordSize3) bytes))
-  state-is = reach-state reader3 (λ d. d .time) carries3 t₀ t₁ d (wordsOf wordSize3 bytes) ∙ ap (run reader3 d) (sym (take-words reader3 wordSize3 (omega arith) (end .words) bytes within))
+  state-is = reach-state reader3 (λ d. d .time) carries3 t₀ t₁ d (wordsOf wordSize3 bytes)
+      ∙ ap (run reader3 d) (sym (take-words reader3 wordSize3 (omega arith) (end .words) bytes within))
 
   module _ (on : d .initialised ≡ true) (column : d .«base_x» < 2 ^ 16) (r : Spanned) (is : r ≡ spannedOf end) (left : Bounded3 (length (drop (r .at) bytes) / wordSize3) (end .state))
       (e : Decoder) (is-put : e ≡ putBehind d (take (r .at) bytes) (r .times)) where

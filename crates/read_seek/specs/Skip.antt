@@ -178,7 +178,8 @@ module _ (t : ℕ) (d : Decoder) (bytes : List ℕ) where
       skip-on3 l room = record { marked = skip-time3 l; e = c′; here = skip-time3 l; like = record { base = refl; loops = refl }; room = rw coarse3 room }
 
   -- the decoder at the mark
-  pub midway3 : {c : Times} {at : ℕ} → d .initialised ≡ true → d .«base_x» < 2 ^ 16 → Passing 0 t d bytes c false at → (e : Decoder) → e ≡ putBehind d (take at bytes) c
+  pub midway3 : {c : Times} {at : ℕ} → d .initialised ≡ true → d .«base_x» < 2 ^ 16 → Passing 0 t d bytes c false at → (e : Decoder)
+      → e ≡ putBehind d (take at bytes) c
       → Midway t (Evt3 d) bytes at (Evt3 e)
   midway3 {c} {at} on column u e is-put =
       let q = u .seeking in

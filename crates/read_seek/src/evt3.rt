@@ -129,7 +129,7 @@ pub struct Stood {
 }
 
 // From a started decoder to the last time word before t behind which no word reaches t without
-// another: a word's time is less than 4,096 past the time word's.
+// another: a word's time is less than GRAIN past the time word's.
 fn stride(bytes: &[u8], d: Decoder, t: u64) -> Stood
     requires { ⌜ d .initialised ≡ true ⌝ ∗ ⌜ Bounded3 (length (now bytes) / wordSize3) d ⌝ ∗ ⌜ length (now bytes) ≤ 2 ^ 30 ⌝ }
     ensures { λ r. ⌜ Passing 0 t d (now (bytes .entry)) (r .times) false (r .at) ⌝ }

@@ -70,5 +70,6 @@ module _ {Q : Source} (L : Laws Q) {win : Window} {number : ℕ} {s₀ : Q .Stat
             let m = masked-count v (r .mask) (q .small) in
             record {
               at = pend-next L (u .at) o r q (ones (r .mask)) m;
-              notes = sym (extent-append (seenIn t) (eventsOf (masked v (r .mask))) _) ∙ ap (extentWith (seenIn t)) (sym (given-left L (u .at) o r q (ones (r .mask)) m)) ∙ u .notes;
+              notes = sym (extent-append (seenIn t) (eventsOf (masked v (r .mask))) _)
+                  ∙ ap (extentWith (seenIn t)) (sym (given-left L (u .at) o r q (ones (r .mask)) m)) ∙ u .notes;
             }

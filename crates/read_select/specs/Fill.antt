@@ -34,14 +34,17 @@ module _ (Q : Source) (win : Window) (number : ℕ) (s₀ : Q .State) (bytes : L
   Full xs ys ts ps s k n i = Filling [] (record { number = k; state = s; consumed = 0 }) xs ys ts ps s k n i
 
 module _ {Q : Source} (L : Laws Q) {win : Window} {number : ℕ} {s₀ : Q .State} {bytes : List ℕ} {xs₀ ys₀ : List ℕ} {ts₀ : List ℤ} {ps₀ : List ℕ} where
-  pub fills-start : Q .Inv (length (wordsOf (Q .size) bytes)) s₀ → length bytes ≤ 2 ^ 30 → number ≤ 2 ^ 62 → Fills Q win number s₀ bytes xs₀ ys₀ ts₀ ps₀ xs₀ ys₀ ts₀ ps₀ s₀ number 0 0
+  pub fills-start : Q .Inv (length (wordsOf (Q .size) bytes)) s₀ → length bytes ≤ 2 ^ 30 → number ≤ 2 ^ 62
+      → Fills Q win number s₀ bytes xs₀ ys₀ ts₀ ps₀ xs₀ ys₀ ts₀ ps₀ s₀ number 0 0
   fills-start inv long low = record { at = stand-start L inv long low; going = going-start }
 
   module _ {xs ys : List ℕ} {ts : List ℤ} {ps : List ℕ} {s : Q .State} {k n i : ℕ} where
-    pub fills-on : stops Q win number s₀ bytes k s ≡ false → FillsIf Q win number s₀ bytes xs₀ ys₀ ts₀ ps₀ xs ys ts ps s k n i → Fills Q win number s₀ bytes xs₀ ys₀ ts₀ ps₀ xs ys ts ps s k n i
+    pub fills-on : stops Q win number s₀ bytes k s ≡ false → FillsIf Q win number s₀ bytes xs₀ ys₀ ts₀ ps₀ xs ys ts ps s k n i
+        → Fills Q win number s₀ bytes xs₀ ys₀ ts₀ ps₀ xs ys ts ps s k n i
     fills-on e p = rw e at p
 
-    pub fills-stop : stops Q win number s₀ bytes k s ≡ true → FillsIf Q win number s₀ bytes xs₀ ys₀ ts₀ ps₀ xs ys ts ps s k n i → Full Q win number s₀ bytes xs₀ ys₀ ts₀ ps₀ xs ys ts ps s k n i
+    pub fills-stop : stops Q win number s₀ bytes k s ≡ true → FillsIf Q win number s₀ bytes xs₀ ys₀ ts₀ ps₀ xs ys ts ps s k n i
+        → Full Q win number s₀ bytes xs₀ ys₀ ts₀ ps₀ xs ys ts ps s k n i
     fills-stop e p = rw e at p
 
     pub full : Full Q win number s₀ bytes xs₀ ys₀ ts₀ ps₀ xs ys ts ps s k n i
@@ -50,7 +53,8 @@ module _ {Q : Source} (L : Laws Q) {win : Window} {number : ℕ} {s₀ : Q .Stat
         ap (λ (m : ℕ). record { number = k; count = m; consumed = i / Q .size; codec = Q .codec s }) (done-count L (p .at))
         ∙ ap (λ (e : End (Q .State)). filledOf (endOf (Q .codec) e) (all Q win number s₀ bytes)) (done-end L (p .at))
 
-    pub full-wrote : Fits (length (all Q win number s₀ bytes)) (length xs₀) (length ys₀) (length ts₀) (length ps₀) → Full Q win number s₀ bytes xs₀ ys₀ ts₀ ps₀ xs ys ts ps s k n i
+    pub full-wrote : Fits (length (all Q win number s₀ bytes)) (length xs₀) (length ys₀) (length ts₀) (length ps₀)
+        → Full Q win number s₀ bytes xs₀ ys₀ ts₀ ps₀ xs ys ts ps s k n i
         → Wrote (all Q win number s₀ bytes) 0 xs₀ ys₀ ts₀ ps₀ xs ys ts ps
     full-wrote f p = going-end (omega (arith, f .fit-x)) (omega (arith, f .fit-y)) (omega (arith, f .fit-t)) (omega (arith, f .fit-p)) (p .going)
 
@@ -96,7 +100,8 @@ module _ {Q : Source} (L : Laws Q) {win : Window} {number : ℕ} {s₀ : Q .Stat
               let more : r .extra ≤ 32 = picked-few (narrow-here L (u .at) o .mask<) q in
               (omega arith, omega (arith, number-here L (u .at)))
 
-          pub fills-next : {k′ : ℕ} → k′ ≡ k + (n′ - n) + r .extra → {xs′ ys′ : List ℕ} {ts′ : List ℤ} {ps′ : List ℕ} → Wrote given n xs ys ts ps xs′ ys′ ts′ ps′
+          pub fills-next : {k′ : ℕ} → k′ ≡ k + (n′ - n) + r .extra → {xs′ ys′ : List ℕ} {ts′ : List ℤ} {ps′ : List ℕ}
+              → Wrote given n xs ys ts ps xs′ ys′ ts′ ps′
               → FillsIf Q win number s₀ bytes xs₀ ys₀ ts₀ ps₀ xs′ ys′ ts′ ps′ s′ k′ n′ (i + Q .size)
           fills-next is-k wrote =
               let a = room-here in

@@ -207,7 +207,8 @@ module _ {Q : Source} (L : Laws Q) {win : Window} {number : ℕ} {s₀ : Q .Stat
           number-is = omega (arith, q .counts, is-m)
 
           pub given-left : left Q win number s₀ bytes k s i ≡ eventsOf (masked v (r .mask)) ++ leftIf Q win number s₀ bytes (stops Q win number s₀ bytes k′ s′) k′ s′ j
-          given-left = splits k′ number-is ∙ ap (λ (l : List Event). l ++ leftIf Q win number s₀ bytes (stops Q win number s₀ bytes k′ s′) k′ s′ j) (sym (q .hands))
+          given-left = splits k′ number-is
+              ∙ ap (λ (l : List Event). l ++ leftIf Q win number s₀ bytes (stops Q win number s₀ bytes k′ s′) k′ s′ j) (sym (q .hands))
 
           pub pend-next : Pend Q win number s₀ bytes s′ k′ (n + m) j
           pend-next = record {

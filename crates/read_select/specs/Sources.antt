@@ -62,17 +62,19 @@ mask2 d w = by-kinds (λ k. vectorAs k d w .mask ≤ 1) (type2 w) (d .initialise
 
 -- ---- a word as the loops read it, and its step
 
-pub iteration2 : {l : List ℕ} {i w : ℕ} {s s′ : Evt2Decoder} {v : Vector} → i + (wordSize2 - 1) < length l → w ≡ ahead wordSize2 l i → s′ ≡ step2 s w → v ≡ vector2 s w → Iteration source2 l i s s′ v
-iteration2 {l = l} {i = i} {s = s} h e n m =
-    let whole : i + wordSize2 ≤ length l = omega arith in
-    let is = e ∙ ahead-some wordSize2 l i whole in
-    record { h = whole; is-next = n ∙ ap (step2 s) is; is-events = m ∙ ap (vector2 s) is }
+iteration : {Q : Source} {l : List ℕ} {i w : ℕ} {s s′ : Q .State} {v : Vector}
+    → i + Q .size ≤ length l → w ≡ ahead (Q .size) l i → s′ ≡ Q .machine .step s w → v ≡ Q .vector s w → Iteration Q l i s s′ v
+iteration {Q} {l} {i} {w} {s} h e n m =
+    let is = e ∙ ahead-some (Q .size) l i h in
+    record { h = h; is-next = n ∙ ap (Q .machine .step s) is; is-events = m ∙ ap (Q .vector s) is }
 
-pub iteration3 : {l : List ℕ} {i w : ℕ} {s s′ : Decoder} {v : Vector} → i + (wordSize3 - 1) < length l → w ≡ ahead wordSize3 l i → s′ ≡ step3 s w → v ≡ vector3 s w → Iteration source3 l i s s′ v
-iteration3 {l = l} {i = i} {s = s} h e n m =
-    let whole : i + wordSize3 ≤ length l = omega arith in
-    let is = e ∙ ahead-some wordSize3 l i whole in
-    record { h = whole; is-next = n ∙ ap (step3 s) is; is-events = m ∙ ap (vector3 s) is }
+pub iteration2 : {l : List ℕ} {i w : ℕ} {s s′ : Evt2Decoder} {v : Vector}
+    → i + (wordSize2 - 1) < length l → w ≡ ahead wordSize2 l i → s′ ≡ step2 s w → v ≡ vector2 s w → Iteration source2 l i s s′ v
+iteration2 h e n m = iteration {Q = source2} (omega arith) e n m
+
+pub iteration3 : {l : List ℕ} {i w : ℕ} {s s′ : Decoder} {v : Vector}
+    → i + (wordSize3 - 1) < length l → w ≡ ahead wordSize3 l i → s′ ≡ step3 s w → v ≡ vector3 s w → Iteration source3 l i s s′ v
+iteration3 h e n m = iteration {Q = source3} (omega arith) e n m
 
 pub mask-here : {l : List ℕ} {i : ℕ} {s s′ : Evt2Decoder} {v : Vector} → Iteration source2 l i s s′ v → v .mask ≤ 1
 mask-here {s = s} o = rw (o .is-events) (mask2 s _)

@@ -152,7 +152,8 @@ module _ (win : Window) where
     pub over-by-number : (k : ℕ) → handedOver win k c l ≡ byNumber (win .n0) (win .n1) k (numberedOver win c l)
     over-by-number k = go c able (all-timely c l able no-start no-end)
       where
-        go : (c : Codec) → Able (length l) c → All (λ e. isTimely win e ≡ true) (numberedOver win c l) → handedOver win k c l ≡ byNumber (win .n0) (win .n1) k (numberedOver win c l)
+        go : (c : Codec) → Able (length l) c → All (λ e. isTimely win e ≡ true) (numberedOver win c l)
+            → handedOver win k c l ≡ byNumber (win .n0) (win .n1) k (numberedOver win c l)
         go (Evt2 d) a t = Select.handed-by-number (reading2 win) (selectionOf win) k d (wordsOf wordSize2 l) (calm2 no-end d l a) t
         go (Evt3 d) a t = Select.handed-by-number (reading3 win) (selectionOf win) k d (wordsOf wordSize3 l) (calm3 no-end d l a) t
 
@@ -160,7 +161,8 @@ module _ (win : Window) where
     pub over-limit : win .n0 ≡ 0 → handedOver win 0 c l ≡ take (win .n1) (numberedOver win c l)
     over-limit z = go c able (all-timely c l able no-start no-end)
       where
-        go : (c : Codec) → Able (length l) c → All (λ e. isTimely win e ≡ true) (numberedOver win c l) → handedOver win 0 c l ≡ take (win .n1) (numberedOver win c l)
+        go : (c : Codec) → Able (length l) c → All (λ e. isTimely win e ≡ true) (numberedOver win c l)
+            → handedOver win 0 c l ≡ take (win .n1) (numberedOver win c l)
         go (Evt2 d) a t = Select.handed-limit (reading2 win) (selectionOf win) d (wordsOf wordSize2 l) z (calm2 no-end d l a) t
         go (Evt3 d) a t = Select.handed-limit (reading3 win) (selectionOf win) d (wordsOf wordSize3 l) z (calm3 no-end d l a) t
 
@@ -168,7 +170,8 @@ module _ (win : Window) where
     pub over-all : (k : ℕ) → win .n0 ≤ k → k + length (numberedOver win c l) ≤ win .n1 → handedOver win k c l ≡ numberedOver win c l
     over-all k lo hi = go c able lo hi (all-timely c l able no-start no-end)
       where
-        go : (c : Codec) → Able (length l) c → win .n0 ≤ k → k + length (numberedOver win c l) ≤ win .n1 → All (λ e. isTimely win e ≡ true) (numberedOver win c l)
+        go : (c : Codec) → Able (length l) c → win .n0 ≤ k → k + length (numberedOver win c l) ≤ win .n1
+            → All (λ e. isTimely win e ≡ true) (numberedOver win c l)
             → handedOver win k c l ≡ numberedOver win c l
         go (Evt2 d) a lo hi t = Select.handed-all (reading2 win) (selectionOf win) k d (wordsOf wordSize2 l) lo hi (calm2 no-end d l a) t
         go (Evt3 d) a lo hi t = Select.handed-all (reading3 win) (selectionOf win) k d (wordsOf wordSize3 l) lo hi (calm3 no-end d l a) t

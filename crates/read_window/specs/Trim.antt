@@ -165,7 +165,8 @@ module _ (v : Vector) (win : Window) (k : ℕ) where
     pub single-in : isInside (win .width) (win .height) (v .x) (v .y) ≡ true → isSpanned win k (v .t) ≡ true → Picked v win k (record { mask = 1; extra = 0 })
     single-in i s = record { small = omega arith; hands = rw (first-is true i, s) first-kept; counts = rw (first-is true i, first-kept) }
 
-    pub single-numbered : isInside (win .width) (win .height) (v .x) (v .y) ≡ true → isSpanned win k (v .t) ≡ false → Picked v win k (record { mask = 0; extra = 1 })
+    pub single-numbered : isInside (win .width) (win .height) (v .x) (v .y) ≡ true → isSpanned win k (v .t) ≡ false
+        → Picked v win k (record { mask = 0; extra = 1 })
     single-numbered i s = record { small = omega arith; hands = rw (first-is true i, s) (events-none v); counts = rw (first-is true i, events-none v) }
 
     pub single-out : isInside (win .width) (win .height) (v .x) (v .y) ≡ false → Picked v win k (record { mask = 0; extra = 0 })
@@ -236,7 +237,8 @@ module _ (v : Vector) (win : Window) (k : ℕ) where
     i = trailingZeros 64 (v .mask)
 
     -- the lowest bit's event, and the others
-    next : (b : Bool) → isInside (win .width) (win .height) (min (v .x + i) 65535) (v .y) ≡ b → numbered win v ≡ onto b (eventAt v (v .x + i)) (numbered win (cleared v))
+    next : (b : Bool) → isInside (win .width) (win .height) (min (v .x + i) 65535) (v .y) ≡ b
+        → numbered win v ≡ onto b (eventAt v (v .x + i)) (numbered win (cleared v))
     next b e = inside-next (win .width) (win .height) v (v .mask) some h ∙ rw e
 
     higher : {j : ℕ} → PickedBits (cleared v) win j r → All (λ c. v .x + i < c) (bits 32 (v .x) (r .mask))

@@ -10,6 +10,7 @@ use Rattle.evt_codec.specs.declared.codec.Codec.{Codec}
 use Rattle.evt_codec.specs.declared.codec.Codec.the-variants.{Evt2, Evt3}
 use Rattle.evt_types.specs.Columns.{colX, colY, colT, colP}
 use Rattle.evt_types.specs.Event.{Event}
+use Rattle.evt_types.specs.Layout.{wordSize2, wordSize3}
 use Rattle.read_window.specs.declared.Window.{Window}
 use Rattle.read_capacity.specs.declared.Delivered.{Delivered}
 use Rattle.read_capacity.specs.declared.Delivered.the-variants.{Written, Needed}
@@ -42,8 +43,8 @@ pub record Delivers (es : List Event) (r : Delivered) (xs₀ ys₀ : List ℕ) (
 
 -- more events than this n bytes can't have
 abbrev pub mostFrom : Codec → (n : ℕ) → ℕ
-mostFrom (Evt2 d) n = n / 4
-mostFrom (Evt3 d) n = n / 2 * 12
+mostFrom (Evt2 d) n = n / wordSize2
+mostFrom (Evt3 d) n = n / wordSize3 * 12
 
 -- nor a window of numbers n0 to before n1
 abbrev pub mostOver : Window → Codec → (n : ℕ) → ℕ

@@ -42,7 +42,8 @@ pub fits-room : (n a b c d : ℕ) → n ≤ min (min a b) (min c d) → Fits n a
 fits-room n a b c d h = record { fit-x = omega arith; fit-y = omega arith; fit-t = omega arith; fit-p = omega arith }
 
 module _ {xs₀ ys₀ : List ℕ} {ts₀ : List ℤ} {ps₀ : List ℕ} where
-  pub handed-wrote : {es : List Event} {xs ys : List ℕ} {ts : List ℤ} {ps : List ℕ} → Wrote es 0 xs₀ ys₀ ts₀ ps₀ xs ys ts ps → Handed es xs₀ ys₀ ts₀ ps₀ xs ys ts ps
+  pub handed-wrote : {es : List Event} {xs ys : List ℕ} {ts : List ℤ} {ps : List ℕ} → Wrote es 0 xs₀ ys₀ ts₀ ps₀ xs ys ts ps
+      → Handed es xs₀ ys₀ ts₀ ps₀ xs ys ts ps
   handed-wrote {es} w = record {
     column-x = handed-one colX es xs₀ _ (w .is-x);
     column-y = handed-one colY es ys₀ _ (w .is-y);
@@ -53,13 +54,15 @@ module _ {xs₀ ys₀ : List ℕ} {ts₀ : List ℤ} {ps₀ : List ℕ} where
   pub handed-none : Handed [] xs₀ ys₀ ts₀ ps₀ xs₀ ys₀ ts₀ ps₀
   handed-none = record { column-x = refl; column-y = refl; column-t = refl; column-p = refl }
 
-  pub delivers-all : (es : List Event) (room n m : ℕ) {xs ys : List ℕ} {ts : List ℤ} {ps : List ℕ} → room ≡ shortest xs₀ ys₀ ts₀ ps₀ → Enough es room n → n ≤ room → m ≡ length es → Wrote es 0 xs₀ ys₀ ts₀ ps₀ xs ys ts ps
+  pub delivers-all : (es : List Event) (room n m : ℕ) {xs ys : List ℕ} {ts : List ℤ} {ps : List ℕ} → room ≡ shortest xs₀ ys₀ ts₀ ps₀ → Enough es room n
+      → n ≤ room → m ≡ length es → Wrote es 0 xs₀ ys₀ ts₀ ps₀ xs ys ts ps
       → Delivers es (Written m) xs₀ ys₀ ts₀ ps₀ xs ys ts ps
   delivers-all es room n m r enough h e w =
       let fits : leb (length es) (shortest xs₀ ys₀ ts₀ ps₀) ≡ true = le-leb (length es) (shortest xs₀ ys₀ ts₀ ps₀) (omega (arith, enough .holds)) in
       record { answer = rw (fits, e); columns = rw fits (handed-wrote w) }
 
-  pub delivers-none : (es : List Event) (room n : ℕ) → room ≡ shortest xs₀ ys₀ ts₀ ps₀ → Enough es room n → room < n → Delivers es (Needed n) xs₀ ys₀ ts₀ ps₀ xs₀ ys₀ ts₀ ps₀
+  pub delivers-none : (es : List Event) (room n : ℕ) → room ≡ shortest xs₀ ys₀ ts₀ ps₀ → Enough es room n → room < n
+      → Delivers es (Needed n) xs₀ ys₀ ts₀ ps₀ xs₀ ys₀ ts₀ ps₀
   delivers-none es room n r enough h =
       let is : n ≡ length es = enough .exact h in
       let short : leb (length es) (shortest xs₀ ys₀ ts₀ ps₀) ≡ false = lt-leb (length es) (shortest xs₀ ys₀ ts₀ ps₀) (omega arith) in
@@ -94,7 +97,8 @@ module _ (width height : ℕ) (c : Codec) (bytes : List ℕ) where
   pub need-all-count : (room : ℕ) (t : CountedAll) → t ≡ countedAllOf width height c bytes → Enough inner room (t .count)
   need-all-count room t is = enough-just inner room (t .count) (ap (λ (t : CountedAll). t .count) is)
 
-  pub delivers-inside : (room n : ℕ) (t : FilledAll) {xs₀ ys₀ : List ℕ} {ts₀ : List ℤ} {ps₀ xs ys : List ℕ} {ts : List ℤ} {ps : List ℕ} → room ≡ shortest xs₀ ys₀ ts₀ ps₀ → Enough inner room n → n ≤ room
+  pub delivers-inside : (room n : ℕ) (t : FilledAll) {xs₀ ys₀ : List ℕ} {ts₀ : List ℤ} {ps₀ xs ys : List ℕ} {ts : List ℤ} {ps : List ℕ}
+      → room ≡ shortest xs₀ ys₀ ts₀ ps₀ → Enough inner room n → n ≤ room
       → t ≡ filledAllOf width height c bytes → Wrote inner 0 xs₀ ys₀ ts₀ ps₀ xs ys ts ps → Delivers inner (Written (t .count)) xs₀ ys₀ ts₀ ps₀ xs ys ts ps
   delivers-inside room n t r enough h is w = delivers-all inner room n (t .count) r enough h (ap (λ (t : FilledAll). t .count) is) w
 
@@ -105,7 +109,8 @@ module _ {S : Type 0} (R : Select.Reading S ℕ Event) (span : Select.Selection)
   chosen-span k [] = omega arith
   chosen-span k (e ∷ es) = go (leb (span .n0) k) refl (ltb k (span .n1)) refl (leb (span .t0) (R .clock e) && ltb (R .clock e) (span .t1)) (chosen-span (suc k) es)
     where
-      go : (a : Bool) → leb (span .n0) k ≡ a → (b : Bool) → ltb k (span .n1) ≡ b → (c : Bool) → length (Select.chosen R span (suc k) es) ≤ span .n1 - max (span .n0) (suc k)
+      go : (a : Bool) → leb (span .n0) k ≡ a → (b : Bool) → ltb k (span .n1) ≡ b → (c : Bool)
+          → length (Select.chosen R span (suc k) es) ≤ span .n1 - max (span .n0) (suc k)
           → length (onto (a && (b && c)) e (Select.chosen R span (suc k) es)) ≤ span .n1 - max (span .n0) k
       go false p b q c h = omega arith
       go true p false q c h = omega arith
@@ -142,6 +147,7 @@ module _ (win : Window) (k : ℕ) (c : Codec) (bytes : List ℕ) where
   pub need-count : (room : ℕ) (t : SurveyTotals) → t ≡ surveyed win k c bytes → Enough over room (t .count)
   need-count room t is = enough-just over room (t .count) (ap (λ (t : SurveyTotals). t .count) is)
 
-  pub delivers-filled : (room n : ℕ) (t : Filled) {xs₀ ys₀ : List ℕ} {ts₀ : List ℤ} {ps₀ xs ys : List ℕ} {ts : List ℤ} {ps : List ℕ} → room ≡ shortest xs₀ ys₀ ts₀ ps₀ → Enough over room n → n ≤ room
+  pub delivers-filled : (room n : ℕ) (t : Filled) {xs₀ ys₀ : List ℕ} {ts₀ : List ℤ} {ps₀ xs ys : List ℕ} {ts : List ℤ} {ps : List ℕ}
+      → room ≡ shortest xs₀ ys₀ ts₀ ps₀ → Enough over room n → n ≤ room
       → t ≡ filled win k c bytes → Wrote over 0 xs₀ ys₀ ts₀ ps₀ xs ys ts ps → Delivers over (Written (t .count)) xs₀ ys₀ ts₀ ps₀ xs ys ts ps
   delivers-filled room n t r enough h is w = delivers-all over room n (t .count) r enough h (ap (λ (t : Filled). t .count) is) w

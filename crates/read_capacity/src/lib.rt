@@ -9,6 +9,8 @@ ghost use Rattle.read_select.specs.Pass.{Ready, handedOver};
 ghost use Rattle.read_capacity.specs.Deliver.{mostFrom, mostOver, Enough};
 use evt_codec::Codec;
 use evt_types::num::min_usize;
+use evt2_decoder::Evt2Decoder;
+use evt3_decoder::Decoder;
 use read_select::Window;
 
 // How many events were written, or how many places they need.
@@ -30,8 +32,8 @@ pub fn most_from(codec: Codec, n: usize) -> usize
     ensures { λ r. ⌜ r ≡ mostFrom codec n ⌝ }
 {
     match codec {
-        Codec::Evt2(_) => n / 4,
-        Codec::Evt3(_) => n / 2 * 12,
+        Codec::Evt2(_) => n / Evt2Decoder::WORD_SIZE,
+        Codec::Evt3(_) => n / Decoder::WORD_SIZE * 12,
     }
 }
 

@@ -84,7 +84,7 @@ sift-few f (e ∷ es) = go (f e) (sift-few f es)
 pub events-few : (v : Vector) (j : ℕ) → v .mask < 2 ^ j → length (eventsOf v) ≤ j
 events-few v j h = rw (length-map (bits 32 (v .x) (v .mask)) (eventAt v)) (bits-few 32 j (v .x) (v .mask) h)
 
--- the greatest time of n events, all at time t
+-- the maximum time of n events, all at time t
 abbrev pub latestOf : ℕ → ℕ → ℕ
 latestOf zero t = 0
 latestOf (suc n) t = t

@@ -154,7 +154,7 @@ fn sees(v: Vector, width: u64, height: u64) -> bool
     }
 }
 
-// The greatest time, after n events at time t.
+// The maximum time, after n events at time t.
 pub fn later(top: u64, n: usize, t: u64) -> u64
     ensures { λ r. ⌜ r ≡ max top (latestOf n t) ⌝ }
 {

@@ -16,7 +16,7 @@ use Rattle.read_fill.specs.Decode.{insideEvents}
 use Rattle.read_count.specs.declared.CountedAll.{CountedAll}
 use Rattle.read_count.specs.declared.CountedTo.{CountedTo}
 
--- the greatest time of no event is 0
+-- the maximum time of no event is 0
 abbrev pub countedAllOf : (width height : ℕ) → Codec → List ℕ → CountedAll
 countedAllOf width height c l = record {
   count = length (insideEvents width height c l);
@@ -29,5 +29,5 @@ abbrev pub passedAs : {S : Type 0} → (size : ℕ) → (S → Codec) → Over S
 passedAs size codec r = record { at = r .words * size; count = r .count; codec = codec (r .state) }
 
 abbrev pub countedToOf : (width height most : ℕ) → Codec → List ℕ → CountedTo
-countedToOf width height most (Evt2 d) l = passedAs 4 Evt2 (over reader2 (inside width height) most d (wordsOf wordSize2 l))
-countedToOf width height most (Evt3 d) l = passedAs 2 Evt3 (over reader3 (inside width height) most d (wordsOf wordSize3 l))
+countedToOf width height most (Evt2 d) l = passedAs wordSize2 Evt2 (over reader2 (inside width height) most d (wordsOf wordSize2 l))
+countedToOf width height most (Evt3 d) l = passedAs wordSize3 Evt3 (over reader3 (inside width height) most d (wordsOf wordSize3 l))

@@ -1,4 +1,4 @@
--- A loop that counts the events of some bytes and notes their greatest time, for every machine and every word size: what holds at index i, at the start, after a turn, at the end.
+-- A loop that counts the events of some bytes and notes their maximum time, for every machine and every word size: what holds at index i, at the start, after an iteration, at the end.
 use mathlib.Core.Path.{_≡_, sym, ap, _∙_}
 use mathlib.Core.List.{List, _++_}
 use Prim.Native.Nat.{ℕ, suc, _+_, _≤_, _<_, max}
@@ -11,7 +11,7 @@ use Rattle.laws_stream.specs.Stream.{after}
 use Rattle.evt_types.specs.declared.vector.Vector.{Vector}
 use Rattle.evt_types.specs.Event.{Event}
 use Rattle.read_columns.specs.Inside.{insideOf, clock, latestOf, inside-latest}
-use Rattle.read_fill.specs.Turn.{insideAll, Standing, left, Turn, none-left, at-end, stand-turn, splits, stand-start}
+use Rattle.read_fill.specs.Iteration.{insideAll, Standing, left, Iteration, none-left, at-end, stand-next, splits, stand-start}
 
 module _ {S : Type 0} (n : ℕ) (M : Machine S ℕ Event) (Inv : ℕ → S → Type 0) (width height : ℕ) (s₀ : S) (bytes : List ℕ) where
   pub record Counting (s : S) (count top i : ℕ) : Type 0 where
@@ -32,7 +32,7 @@ module _ {S : Type 0} {n : ℕ} {M : Machine S ℕ Event} {Inv : ℕ → S → T
         let t : max top 0 ≡ greatest clock (insideAll n M width height s₀ bytes) = rw (none-left pos keeps (u .stand) h) at (u .notes) in
         (omega arith, omega arith, at-end pos keeps (u .stand) h)
 
-    module _ {s′ : S} {v : Vector} (t : Turn n M bytes s i s′ v) where
+    module _ {s′ : S} {v : Vector} (t : Iteration n M bytes s i s′ v) where
       abbrev behind : List Event
       behind = left n M Inv width height s₀ bytes s′ (i + n)
 
@@ -42,16 +42,16 @@ module _ {S : Type 0} {n : ℕ} {M : Machine S ℕ Event} {Inv : ℕ → S → T
           let c : count + length (insideOf width height v ++ behind) ≡ length (insideAll n M width height s₀ bytes) = rw (splits pos keeps (u .stand) t) at (u .counts) in
           omega (arith, c, length-append (insideOf width height v) behind)
 
-      pub counting-turn : (m : ℕ) → m ≡ length (insideOf width height v) → (top′ : ℕ) → top′ ≡ max top (latestOf m (v .t))
+      pub counting-next : (m : ℕ) → m ≡ length (insideOf width height v) → (top′ : ℕ) → top′ ≡ max top (latestOf m (v .t))
           → Counting n M Inv width height s₀ bytes s′ (count + m) top′ (i + n)
-      counting-turn m is-m top′ is-top =
+      counting-next m is-m top′ is-top =
           let seen = insideOf width height v in
           let e = splits pos keeps (u .stand) t in
           let c : count + length (seen ++ behind) ≡ length (insideAll n M width height s₀ bytes) = rw e at (u .counts) in
           let l : max top (greatest clock (seen ++ behind)) ≡ greatest clock (insideAll n M width height s₀ bytes) = rw e at (u .notes) in
           let a : greatest clock seen ≡ latestOf m (v .t) = inside-latest width height v ∙ ap (λ (k : ℕ). latestOf k (v .t)) (sym is-m) in
           record {
-            stand = stand-turn pos keeps (u .stand) t;
+            stand = stand-next pos keeps (u .stand) t;
             counts = omega (arith, c, is-m, length-append seen behind);
             notes = omega (arith, l, a, is-top, greatest-append clock seen behind);
           }

@@ -1,8 +1,8 @@
 -- What each file is stands at its head.
 pub mod Tables
-pub mod Quick
-pub mod Ones
-pub mod Glance
+pub mod Evt2Inside
+pub mod Evt3Inside
+pub mod Evt3Step
 pub mod Count
 pub mod Counting
 pub mod Passing

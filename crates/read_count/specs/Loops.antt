@@ -1,4 +1,4 @@
--- The turns of the two encodings' loops that count, from what the code has at hand.
+-- The iterations of the two encodings' loops that count, from what the code has at hand.
 use mathlib.Core.Path.{_≡_, refl, sym, ap, _∙_}
 use mathlib.Core.Bool.{Bool, true, false}
 use mathlib.Core.List.{List}
@@ -13,71 +13,73 @@ use Rattle.evt_types.specs.Ahead.{ahead, ahead-some}
 use Rattle.evt_types.specs.declared.vector.Vector.{Vector}
 use Rattle.evt2_decoder.specs.declared.Evt2Decoder.{Evt2Decoder}
 use Rattle.evt3_decoder.specs.declared.Decoder.{Decoder}
-use Rattle.evt_types.specs.Layout.{timeLow2, wordSize3}
+use Rattle.evt_types.specs.Layout.{timeLow2, wordSize3, wordSize2}
 use Rattle.evt2_decoder.specs.Evt2.{step2, vector2, reader2}
 use Rattle.evt3_decoder.specs.Evt3.{vector3, reader3, slimmed}
 use Rattle.evt2_decoder.specs.Range.{Bounded2, bounded-step2}
 use Rattle.evt3_decoder.specs.Range.{Bounded3, bounded-step3}
 use Rattle.read_columns.specs.Inside.{insideOf, clock, latestOf}
-use Rattle.read_fill.specs.Turn.{Turn, insideAll}
+use Rattle.read_fill.specs.Iteration.{Iteration, insideAll}
 use Rattle.read_fill.specs.Loops.{start3}
-use Rattle.read_count.specs.declared.table.Glance.{Glance}
-use Rattle.read_count.specs.Counting.{Counting, counting-few, counting-turn, counting-end}
-use Rattle.read_count.specs.Passing.{Passing, Reached, passing-stop, passing-turn}
-use Rattle.read_count.specs.Quick.{limitOf, isSeen, oneIf, seen-count, seen-step}
-use Rattle.read_count.specs.Ones.{wideOf, countOf, inside-counted}
-use Rattle.read_count.specs.Glance.{Glanced, scanned, seenOf}
+use Rattle.read_count.specs.declared.evt3_step.CountingStep.{CountingStep}
+use Rattle.read_count.specs.Counting.{Counting, counting-few, counting-next, counting-end}
+use Rattle.read_count.specs.Passing.{Passing, Reached, passing-stop, passing-next}
+use Rattle.read_count.specs.Evt2Inside.{keyBound, isEventInside, oneIf, event-count, event-step}
+use Rattle.read_count.specs.Evt3Inside.{columnBound, insideCount, inside-counted}
+use Rattle.read_count.specs.Evt3Step.{AgreesWithStep, decoderOf, countedVector}
 
 -- ---- EVT2
 
 -- at a word w, which was read ahead
-pub record Word2 (width height : ℕ) (bytes : List ℕ) (s : Evt2Decoder) (limit i w : ℕ) : Type 0 where
-  pub more : i + 3 < length bytes
-  pub is-word : w ≡ ahead 4 bytes i
-  pub is-limit : limit ≡ limitOf (s .initialised) width
+pub record Word2 (width height : ℕ) (bytes : List ℕ) (s : Evt2Decoder) (bound i w : ℕ) : Type 0 where
+  pub more : i + (wordSize2 - 1) < length bytes
+  pub is-word : w ≡ ahead wordSize2 bytes i
+  pub is-bound : bound ≡ keyBound (s .initialised) width
 
 -- it is an event inside the sensor, or adds nothing
-module _ {width height : ℕ} {bytes : List ℕ} {s : Evt2Decoder} {limit i w : ℕ} (a : Word2 width height bytes s limit i w) where
-  turn : (s′ : Evt2Decoder) → s′ ≡ step2 s w → Turn 4 reader2 bytes s i s′ (vector2 s w)
-  turn s′ is = record { word = w; more = omega (arith, a .more); is-word = a .is-word ∙ ahead-some 4 bytes i (omega (arith, a .more)); is-next = is; is-events = refl }
+module _ {width height : ℕ} {bytes : List ℕ} {s : Evt2Decoder} {bound i w : ℕ} (a : Word2 width height bytes s bound i w) where
+  iteration : (s′ : Evt2Decoder) → s′ ≡ step2 s w → Iteration wordSize2 reader2 bytes s i s′ (vector2 s w)
+  iteration s′ is = record { word = w; more = omega (arith, a .more); is-word = a .is-word ∙ ahead-some wordSize2 bytes i (omega (arith, a .more)); is-next = is; is-events = refl }
 
-  found : {b : Bool} → isSeen limit height w ≡ b → oneIf b ≡ length (insideOf width height (vector2 s w))
-  found e = sym (seen-count width height s w ∙ ap oneIf (rw (a .is-limit) at e))
+  found : {b : Bool} → isEventInside bound height w ≡ b → oneIf b ≡ length (insideOf width height (vector2 s w))
+  found e = sym (event-count width height s w ∙ ap oneIf (rw (a .is-bound) at e))
 
-  module _ (e : isSeen limit height w ≡ true) (t : ℕ) (is-t : t ≡ s .«time_high» + timeLow2 w) where
+  module _ (e : isEventInside bound height w ≡ true) (t : ℕ) (is-t : t ≡ s .«time_high» + timeLow2 w) where
     abbrev stamped : Evt2Decoder
     stamped = record { initialised = s .initialised; «time_high» = s .«time_high»; time = t; «high_loops» = s .«high_loops» }
 
     is-timed : stamped ≡ step2 s w
     is-timed = ap (λ (t : ℕ). record { initialised = s .initialised; «time_high» = s .«time_high»; time = t; «high_loops» = s .«high_loops» }) is-t
-        ∙ sym (seen-step width height s w (rw (a .is-limit) at e) .0)
+        ∙ sym (event-step width height s w (rw (a .is-bound) at e) .0)
 
     its-time : t ≡ vector2 s w .t
-    its-time = is-t ∙ sym (seen-step width height s w (rw (a .is-limit) at e) .1)
+    its-time = is-t ∙ sym (event-step width height s w (rw (a .is-bound) at e) .1)
 
   -- counting
-  module _ {s₀ : Evt2Decoder} {n top : ℕ} (u : Counting 4 reader2 Bounded2 width height s₀ bytes s n top i) where
-    pub seen-few : isSeen limit height w ≡ true → n + 1 ≤ length (insideAll 4 reader2 width height s₀ bytes)
-    seen-few e = omega (arith, found e, counting-few (omega arith) bounded-step2 u (turn (step2 s w) refl))
+  module _ {s₀ : Evt2Decoder} {n top : ℕ} (u : Counting wordSize2 reader2 Bounded2 width height s₀ bytes s n top i) where
+    pub event-few : isEventInside bound height w ≡ true → n + 1 ≤ length (insideAll wordSize2 reader2 width height s₀ bytes)
+    event-few e = omega (arith, found e, counting-few (omega arith) bounded-step2 u (iteration (step2 s w) refl))
 
-    pub seen-turn : (e : isSeen limit height w ≡ true) (t : ℕ) (is-t : t ≡ s .«time_high» + timeLow2 w) {top′ : ℕ} → top′ ≡ max top (latestOf 1 t)
-        → Counting 4 reader2 Bounded2 width height s₀ bytes (stamped e t is-t) (n + 1) top′ (i + 4)
-    seen-turn e t is-t {top′} is-top = counting-turn (omega arith) bounded-step2 u (turn (stamped e t is-t) (is-timed e t is-t)) 1 (found e) top′ (rw (its-time e t is-t) at is-top)
+    pub event-next : (e : isEventInside bound height w ≡ true) (t : ℕ) (is-t : t ≡ s .«time_high» + timeLow2 w) {top′ : ℕ} → top′ ≡ max top (latestOf 1 t)
+        → Counting wordSize2 reader2 Bounded2 width height s₀ bytes (stamped e t is-t) (n + 1) top′ (i + wordSize2)
+    event-next e t is-t {top′} is-top = counting-next (omega arith) bounded-step2 u (iteration (stamped e t is-t) (is-timed e t is-t)) 1 (found e) top′ (rw (its-time e t is-t) at is-top)
 
-    pub unseen-turn : isSeen limit height w ≡ false → {s′ : Evt2Decoder} → s′ ≡ step2 s w → Counting 4 reader2 Bounded2 width height s₀ bytes s′ n top (i + 4)
-    unseen-turn e {s′} is = rw add-zero at (counting-turn (omega arith) bounded-step2 u (turn s′ is) 0 (found e) top (omega arith))
+    pub other-next : isEventInside bound height w ≡ false → {s′ : Evt2Decoder} → s′ ≡ step2 s w
+        → Counting wordSize2 reader2 Bounded2 width height s₀ bytes s′ n top (i + wordSize2)
+    other-next e {s′} is = rw add-zero at (counting-next (omega arith) bounded-step2 u (iteration s′ is) 0 (found e) top (omega arith))
 
   -- passing over
-  module _ {most : ℕ} {s₀ : Evt2Decoder} {n : ℕ} (u : Passing 4 reader2 Bounded2 width height most s₀ bytes s n i) where
-    pub seen-stop : isSeen limit height w ≡ true → most ≤ n → Reached 4 reader2 Bounded2 width height most s₀ bytes i n s
-    seen-stop e l = passing-stop (omega arith) bounded-step2 u (turn (step2 s w) refl) (found e) (omega arith)
+  module _ {most : ℕ} {s₀ : Evt2Decoder} {n : ℕ} (u : Passing wordSize2 reader2 Bounded2 width height most s₀ bytes s n i) where
+    pub event-stop : isEventInside bound height w ≡ true → most ≤ n → Reached wordSize2 reader2 Bounded2 width height most s₀ bytes i n s
+    event-stop e l = passing-stop (omega arith) bounded-step2 u (iteration (step2 s w) refl) (found e) (omega arith)
 
-    pub seen-pass : (e : isSeen limit height w ≡ true) (t : ℕ) (is-t : t ≡ s .«time_high» + timeLow2 w) → n < most
-        → Passing 4 reader2 Bounded2 width height most s₀ bytes (stamped e t is-t) (n + 1) (i + 4)
-    seen-pass e t is-t l = passing-turn (omega arith) bounded-step2 u (turn (stamped e t is-t) (is-timed e t is-t)) (found e) (omega arith)
+    pub event-pass : (e : isEventInside bound height w ≡ true) (t : ℕ) (is-t : t ≡ s .«time_high» + timeLow2 w) → n < most
+        → Passing wordSize2 reader2 Bounded2 width height most s₀ bytes (stamped e t is-t) (n + 1) (i + wordSize2)
+    event-pass e t is-t l = passing-next (omega arith) bounded-step2 u (iteration (stamped e t is-t) (is-timed e t is-t)) (found e) (omega arith)
 
-    pub unseen-pass : isSeen limit height w ≡ false → {s′ : Evt2Decoder} → s′ ≡ step2 s w → Passing 4 reader2 Bounded2 width height most s₀ bytes s′ n (i + 4)
-    unseen-pass e {s′} is = rw add-zero at (passing-turn (omega arith) bounded-step2 u (turn s′ is) (found e) (omega arith))
+    pub other-pass : isEventInside bound height w ≡ false → {s′ : Evt2Decoder} → s′ ≡ step2 s w
+        → Passing wordSize2 reader2 Bounded2 width height most s₀ bytes s′ n (i + wordSize2)
+    other-pass e {s′} is = rw add-zero at (passing-next (omega arith) bounded-step2 u (iteration s′ is) (found e) (omega arith))
 
 -- ---- EVT3
 
@@ -85,49 +87,53 @@ module _ {width height : ℕ} {bytes : List ℕ} {s : Evt2Decoder} {limit i w : 
 pub started3 : {d e : Decoder} (l : List ℕ) → e ≡ d → Bounded3 (length l / wordSize3) d → Bounded3 (length (wordsOf wordSize3 l)) e
 started3 l is b = rw is (start3 l b)
 
-pub ended3 : {width height : ℕ} {bytes : List ℕ} {d e s : Decoder} {n top i : ℕ} → e ≡ d → Counting wordSize3 reader3 Bounded3 width height e bytes s n top i → length bytes < i + 2
+pub ended3 : {width height : ℕ} {bytes : List ℕ} {d e s : Decoder} {n top i : ℕ} → e ≡ d → Counting wordSize3 reader3 Bounded3 width height e bytes s n top i
+    → length bytes < i + wordSize3
     → (r : Decoder) → r ≡ s
     → (n ≡ length (insideAll wordSize3 reader3 width height d bytes)) × (top ≡ greatest clock (insideAll wordSize3 reader3 width height d bytes)) × (r ≡ after wordSize3 reader3 d bytes)
 ended3 is u h r is-r = rw (← is, is-r) (counting-end (omega arith) bounded-step3 u h)
 
-pub reached3 : {width height most : ℕ} {bytes : List ℕ} {d e s : Decoder} {n i : ℕ} → e ≡ d → Reached wordSize3 reader3 Bounded3 width height most e bytes i n s → (r : Decoder) → r ≡ s
+pub reached3 : {width height most : ℕ} {bytes : List ℕ} {d e s : Decoder} {n i : ℕ} → e ≡ d
+    → Reached wordSize3 reader3 Bounded3 width height most e bytes i n s → (r : Decoder) → r ≡ s
     → Reached wordSize3 reader3 Bounded3 width height most d bytes i n r
 reached3 is u r is-r = rw (← is, is-r) u
 
--- at a word w, which was read ahead: what glancing at it gives, and how many of its events are inside
-pub record Word3 (width height wide : ℕ) (bytes : List ℕ) (s : Decoder) (i w : ℕ) (r : Glance) (m : ℕ) : Type 0 where
-  pub more : i + 1 < length bytes
-  pub is-word : w ≡ ahead 2 bytes i
-  pub glanced : Glanced s w r
-  pub is-wide : wide ≡ wideOf width
-  pub is-count : m ≡ countOf (r .x) (r .next .y) (r .mask) wide height
+-- at a word w, which was read ahead: its step by tables, and how many of its events are inside
+pub record Word3 (width height bound : ℕ) (bytes : List ℕ) (s : Decoder) (i w : ℕ) (r : CountingStep) (m : ℕ) : Type 0 where
+  pub more : i + (wordSize3 - 1) < length bytes
+  pub is-word : w ≡ ahead wordSize3 bytes i
+  pub agrees : AgreesWithStep s w r
+  pub is-bound : bound ≡ columnBound width
+  pub is-count : m ≡ insideCount (r .x) (r .next .y) (r .mask) bound height
 
-module _ {width height wide : ℕ} {bytes : List ℕ} {s : Decoder} {i w : ℕ} {r : Glance} {m : ℕ} (a : Word3 width height wide bytes s i w r m) where
+module _ {width height bound : ℕ} {bytes : List ℕ} {s : Decoder} {i w : ℕ} {r : CountingStep} {m : ℕ} (a : Word3 width height bound bytes s i w r m) where
   abbrev seen : Vector
-  seen = seenOf r (vector3 s w .p)
+  seen = countedVector r (vector3 s w .p)
 
-  turn′ : Turn wordSize3 reader3 bytes s i (slimmed (scanned (r .next))) seen
-  turn′ = record {
+  iteration′ : Iteration wordSize3 reader3 bytes s i (slimmed (decoderOf (r .next))) seen
+  iteration′ = record {
     word = w;
     more = omega (arith, a .more);
-    is-word = a .is-word ∙ ahead-some 2 bytes i (omega (arith, a .more));
-    is-next = ap slimmed (a .glanced .next);
-    is-events = a .glanced .same;
+    is-word = a .is-word ∙ ahead-some wordSize3 bytes i (omega (arith, a .more));
+    is-next = ap slimmed (a .agrees .next);
+    is-events = a .agrees .same;
   }
 
   counted : m ≡ length (insideOf width height seen)
-  counted = a .is-count ∙ ap (λ (k : ℕ). countOf (r .x) (r .next .y) (r .mask) k height) (a .is-wide) ∙ sym (inside-counted width height seen (a .glanced .column) (a .glanced .mask))
+  counted = a .is-count ∙ ap (λ (k : ℕ). insideCount (r .x) (r .next .y) (r .mask) k height) (a .is-bound)
+      ∙ sym (inside-counted width height seen (a .agrees .column) (a .agrees .mask))
 
   module _ {s₀ : Decoder} {n top : ℕ} (u : Counting wordSize3 reader3 Bounded3 width height s₀ bytes s n top i) where
-    pub glance-few : n + m ≤ length (insideAll wordSize3 reader3 width height s₀ bytes)
-    glance-few = omega (arith, counted, counting-few (omega arith) bounded-step3 u turn′)
+    pub word3-few : n + m ≤ length (insideAll wordSize3 reader3 width height s₀ bytes)
+    word3-few = omega (arith, counted, counting-few (omega arith) bounded-step3 u iteration′)
 
-    pub glance-turn : {top′ : ℕ} → top′ ≡ max top (latestOf m (r .next .time)) → Counting wordSize3 reader3 Bounded3 width height s₀ bytes (slimmed (scanned (r .next))) (n + m) top′ (i + 2)
-    glance-turn {top′} is-top = counting-turn (omega arith) bounded-step3 u turn′ m counted top′ is-top
+    pub word3-next : {top′ : ℕ} → top′ ≡ max top (latestOf m (r .next .time))
+        → Counting wordSize3 reader3 Bounded3 width height s₀ bytes (slimmed (decoderOf (r .next))) (n + m) top′ (i + wordSize3)
+    word3-next {top′} is-top = counting-next (omega arith) bounded-step3 u iteration′ m counted top′ is-top
 
   module _ {most : ℕ} {s₀ : Decoder} {n : ℕ} (u : Passing wordSize3 reader3 Bounded3 width height most s₀ bytes s n i) where
-    pub glance-stop : most - n < m → Reached wordSize3 reader3 Bounded3 width height most s₀ bytes i n s
-    glance-stop l = passing-stop (omega arith) bounded-step3 u turn′ counted l
+    pub word3-stop : most - n < m → Reached wordSize3 reader3 Bounded3 width height most s₀ bytes i n s
+    word3-stop l = passing-stop (omega arith) bounded-step3 u iteration′ counted l
 
-    pub glance-pass : m ≤ most - n → Passing wordSize3 reader3 Bounded3 width height most s₀ bytes (slimmed (scanned (r .next))) (n + m) (i + 2)
-    glance-pass l = passing-turn (omega arith) bounded-step3 u turn′ counted l
+    pub word3-pass : m ≤ most - n → Passing wordSize3 reader3 Bounded3 width height most s₀ bytes (slimmed (decoderOf (r .next))) (n + m) (i + wordSize3)
+    word3-pass l = passing-next (omega arith) bounded-step3 u iteration′ counted l

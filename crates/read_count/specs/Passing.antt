@@ -11,7 +11,7 @@ use Rattle.laws_stream.specs.PassOver.{Over, here, oneOver, over, numbersIn, ov
 use Rattle.evt_types.specs.declared.vector.Vector.{Vector}
 use Rattle.evt_types.specs.Event.{Event}
 use Rattle.read_columns.specs.Inside.{inside, insideOf}
-use Rattle.read_fill.specs.Turn.{Turn, turn-words}
+use Rattle.read_fill.specs.Iteration.{Iteration, iteration-words}
 
 module _ {S : Type 0} (n : ℕ) (M : Machine S ℕ Event) (Inv : ℕ → S → Type 0) (width height most : ℕ) (s₀ : S) (bytes : List ℕ) where
   -- how far it goes in all, and from index i where `count` events lie behind
@@ -60,20 +60,20 @@ module _ {S : Type 0} {n : ℕ} {M : Machine S ℕ Event} {Inv : ℕ → S → T
     passing-end h = reached (rw (words-end n pos bytes i h) (over-nil M (inside width height) (most - count) s))
 
     -- the next word
-    module _ {s′ : S} {v : Vector} (t : Turn n M bytes s i s′ v) {m : ℕ} (is-m : m ≡ length (insideOf width height v)) where
+    module _ {s′ : S} {v : Vector} (t : Iteration n M bytes s i s′ v) {m : ℕ} (is-m : m ≡ length (insideOf width height v)) where
       has : numbersIn M (inside width height) s (t .word) ≡ m
       has = rw (t .is-events) (sym is-m)
 
       pub passing-stop : most - count < m → Reached n M Inv width height most s₀ bytes i count s
-      passing-stop h = reached (rw (turn-words pos t) (over-stop M (inside width height) (most - count) s (t .word) (wordsOf n (drop (i + n) bytes)) (omega (arith, has))))
+      passing-stop h = reached (rw (iteration-words pos t) (over-stop M (inside width height) (most - count) s (t .word) (wordsOf n (drop (i + n) bytes)) (omega (arith, has))))
 
-      pub passing-turn : m ≤ most - count → Passing n M Inv width height most s₀ bytes s′ (count + m) (i + n)
-      passing-turn h =
+      pub passing-next : m ≤ most - count → Passing n M Inv width height most s₀ bytes s′ (count + m) (i + n)
+      passing-next h =
           let k = inside width height in
           let rest = wordsOf n (drop (i + n) bytes) in
           let on = over-on M k (most - count) s (t .word) rest (omega (arith, has)) in
           let r = over M k (most - count - m) (M .step s (t .word)) rest in
-          let f : further n M Inv width height most s₀ bytes s count i ≡ oneOver m r = rw (turn-words pos t) (rw has at on) in
+          let f : further n M Inv width height most s₀ bytes s count i ≡ oneOver m r = rw (iteration-words pos t) (rw has at on) in
           let e : most - (count + m) ≡ most - count - m = omega arith in
           let w : u .words + 1 + r .words ≡ u .words + suc (r .words) = omega arith in
           let c : count + m + r .count ≡ count + (m + r .count) = omega arith in
@@ -82,6 +82,6 @@ module _ {S : Type 0} {n : ℕ} {M : Machine S ℕ Event} {Inv : ℕ → S → T
             is-at = omega (arith, u .is-at);
             within = t .more;
             few = omega (arith, u .few);
-            inv = keeps (length rest) s (t .word) (rw (turn-words pos t) at (u .inv));
+            inv = keeps (length rest) s (t .word) (rw (iteration-words pos t) at (u .inv));
             ends = rw (e, w, c) (ap (plus n M Inv width height most s₀ bytes (u .words) count) (sym f) ∙ u .ends);
           })

@@ -1,4 +1,4 @@
-// Counting events and their greatest time: a loop for each encoding.
+// Counting events and their maximum time: a loop for each encoding.
 ghost use mathlib.Core.Path.{_≡_};
 ghost use Prim.Native.Nat.{_/_};
 ghost use lib.ListN.{length};
@@ -10,10 +10,12 @@ ghost use Rattle.evt3_decoder.specs.Evt3.{reader3};
 ghost use Rattle.evt2_decoder.specs.Range.{Bounded2};
 ghost use Rattle.evt3_decoder.specs.Range.{Bounded3};
 ghost use Rattle.read_columns.specs.Inside.{clock};
-ghost use Rattle.read_fill.specs.Turn.{insideAll};
-use crate::ones;
-use crate::quick;
-use crate::table;
+ghost use Rattle.read_fill.specs.Iteration.{insideAll};
+use crate::LAST_BYTE2;
+use crate::LAST_BYTE3;
+use crate::evt2_inside;
+use crate::evt3_inside;
+use crate::evt3_step;
 use evt_types::fields::bits;
 use evt_types::words;
 use evt2_decoder::Evt2Decoder;
@@ -35,18 +37,18 @@ pub struct Evt3CountedAll {
 
 pub fn evt2(bytes: &[u8], d: Evt2Decoder, width: u64, height: u64) -> Evt2CountedAll
     requires { ⌜ Bounded2 (length (now bytes) / wordSize2) d ⌝ }
-    ensures { λ r. ⌜ (r .count ≡ length (insideAll 4 reader2 width height d (now (bytes .entry))))
-        × (r .latest ≡ greatest clock (insideAll 4 reader2 width height d (now (bytes .entry))))
-        × (r .decoder ≡ after 4 reader2 d (now (bytes .entry))) ⌝ }
+    ensures { λ r. ⌜ (r .count ≡ length (insideAll wordSize2 reader2 width height d (now (bytes .entry))))
+        × (r .latest ≡ greatest clock (insideAll wordSize2 reader2 width height d (now (bytes .entry))))
+        × (r .decoder ≡ after wordSize2 reader2 d (now (bytes .entry))) ⌝ }
 {
     let mut s = d;
-    let mut limit = quick::limit(s.initialised, width);
+    let mut bound = evt2_inside::key_bound(s.initialised, width);
     let mut n: usize = 0;
     let mut top: u64 = 0;
     let mut i: usize = 0;
     let mut w = words::four_at(bytes, 0);
-    while i + 3 < bytes.len() {
-        if quick::seen(w, limit, height) {
+    while i + LAST_BYTE2 < bytes.len() {
+        if evt2_inside::is_event_inside(w, bound, height) {
             let t = s.time_high + bits(w, 22, 6);
             s.time = t;
             n += 1;
@@ -54,9 +56,9 @@ pub fn evt2(bytes: &[u8], d: Evt2Decoder, width: u64, height: u64) -> Evt2Counte
         } else {
             let step = advance(s, w);
             s = step.next;
-            limit = quick::limit(s.initialised, width);
+            bound = evt2_inside::key_bound(s.initialised, width);
         }
-        i += 4;
+        i += Evt2Decoder::WORD_SIZE;
         w = words::four_at(bytes, i);
     }
     Evt2CountedAll {
@@ -72,22 +74,22 @@ pub fn evt3(bytes: &[u8], d: Decoder, width: u64, height: u64) -> Evt3CountedAll
         × (r .latest ≡ greatest clock (insideAll wordSize3 reader3 width height d (now (bytes .entry))))
         × (r .decoder ≡ after wordSize3 reader3 d (now (bytes .entry))) ⌝ }
 {
-    let spans = table::span_table();
-    let vects = table::vect_table();
-    let table = ones::table();
-    let wide = ones::wide(width);
-    let mut s = table::of(widen(d));
+    let spans = evt3_step::span_table();
+    let vects = evt3_step::vect_table();
+    let counts = evt3_inside::bit_counts();
+    let bound = evt3_inside::column_bound(width);
+    let mut s = evt3_step::counting(widen(d));
     let mut n: usize = 0;
     let mut top: u64 = 0;
     let mut i: usize = 0;
     let mut w = words::two_at(bytes, 0);
-    while i + 1 < bytes.len() {
-        let g = s.glance(w, &spans, &vects);
+    while i + LAST_BYTE3 < bytes.len() {
+        let g = s.table_step(w, &spans, &vects);
         s = g.next;
-        let m = ones::count(g.x, s.y, g.mask, wide, height, &table);
+        let m = evt3_inside::count_inside(g.x, s.y, g.mask, bound, height, &counts);
         n += m;
         top = read_columns::later(top, m, s.time);
-        i += 2;
+        i += Decoder::WORD_SIZE;
         w = words::two_at(bytes, i);
     }
     let decoder = s.wide().slim();

@@ -1,5 +1,5 @@
 // The loops that count over the words of a part of a recording: all events inside a sensor, with their
-// greatest time, or words up to a number of events. They serve finding out how many places columns
+// maximum time, or words up to a number of events. They serve finding out how many places columns
 // need, the opening of an index, and the start of slices by number. specs/Count.antt says what they
 // tell, over the definitions of `Decode` of the crate `read_fill`.
 //
@@ -10,14 +10,22 @@ ghost use lib.ListN.{length, drop};
 ghost use Rattle.read_fill.specs.Decode.{Bounded, Steady};
 ghost use Rattle.read_count.specs.Count.{countedAllOf, countedToOf};
 use evt_codec::Codec;
+use evt2_decoder::Evt2Decoder;
+use evt3_decoder::Decoder;
 
 mod all;
-mod ones;
-mod quick;
-mod table;
+mod evt2_inside;
+mod evt3_inside;
+mod evt3_step;
 mod to;
 
-// What counting leaves: how many events there are, their greatest time (0 of none), and the decoder.
+// Where a word's last byte is, counted from its first. The loops here test for it: by the size of a word
+// they measured slower.
+const LAST_BYTE2: usize = Evt2Decoder::WORD_SIZE - 1;
+
+const LAST_BYTE3: usize = Decoder::WORD_SIZE - 1;
+
+// What counting leaves: how many events there are, their maximum time (0 of none), and the decoder.
 pub struct CountedAll {
     pub count: usize,
     pub latest: u64,

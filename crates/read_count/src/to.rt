@@ -7,9 +7,11 @@ ghost use Rattle.evt3_decoder.specs.Evt3.{reader3};
 ghost use Rattle.evt2_decoder.specs.Range.{Bounded2};
 ghost use Rattle.evt3_decoder.specs.Range.{Bounded3, Regular3};
 ghost use Rattle.read_count.specs.Passing.{Reached};
-use crate::ones;
-use crate::quick;
-use crate::table;
+use crate::LAST_BYTE2;
+use crate::LAST_BYTE3;
+use crate::evt2_inside;
+use crate::evt3_inside;
+use crate::evt3_step;
 use evt_types::fields::bits;
 use evt_types::words;
 use evt2_decoder::Evt2Decoder;
@@ -31,15 +33,15 @@ pub struct Evt3CountedTo {
 
 pub fn evt2(bytes: &[u8], d: Evt2Decoder, width: u64, height: u64, most: usize) -> Evt2CountedTo
     requires { ⌜ Bounded2 (length (now bytes) / wordSize2) d ⌝ }
-    ensures { λ r. ⌜ Reached 4 reader2 Bounded2 width height most d (now (bytes .entry)) (r .at) (r .count) (r .decoder) ⌝ }
+    ensures { λ r. ⌜ Reached wordSize2 reader2 Bounded2 width height most d (now (bytes .entry)) (r .at) (r .count) (r .decoder) ⌝ }
 {
     let mut s = d;
-    let mut limit = quick::limit(s.initialised, width);
+    let mut bound = evt2_inside::key_bound(s.initialised, width);
     let mut n: usize = 0;
     let mut i: usize = 0;
     let mut w = words::four_at(bytes, 0);
-    while i + 3 < bytes.len() {
-        if quick::seen(w, limit, height) {
+    while i + LAST_BYTE2 < bytes.len() {
+        if evt2_inside::is_event_inside(w, bound, height) {
             if most <= n {
                 break;
             }
@@ -49,9 +51,9 @@ pub fn evt2(bytes: &[u8], d: Evt2Decoder, width: u64, height: u64, most: usize) 
         } else {
             let step = advance(s, w);
             s = step.next;
-            limit = quick::limit(s.initialised, width);
+            bound = evt2_inside::key_bound(s.initialised, width);
         }
-        i += 4;
+        i += Evt2Decoder::WORD_SIZE;
         w = words::four_at(bytes, i);
     }
     Evt2CountedTo {
@@ -62,27 +64,27 @@ pub fn evt2(bytes: &[u8], d: Evt2Decoder, width: u64, height: u64, most: usize) 
 }
 
 pub fn evt3(bytes: &[u8], d: Decoder, width: u64, height: u64, most: usize) -> Evt3CountedTo
-    requires { ⌜ Regular3 d ⌝ ∗ ⌜ d .«high_loops» + length (now bytes) / 2 ≤ 3 * 2 ^ 28 ⌝ }
+    requires { ⌜ Regular3 d ⌝ ∗ ⌜ d .«high_loops» + length (now bytes) / wordSize3 ≤ 3 * 2 ^ 28 ⌝ }
     ensures { λ r. ⌜ Reached wordSize3 reader3 Bounded3 width height most d (now (bytes .entry)) (r .at) (r .count) (r .decoder) ⌝ }
 {
-    let spans = table::span_table();
-    let vects = table::vect_table();
-    let table = ones::table();
-    let wide = ones::wide(width);
-    let mut s = table::of(widen(d));
+    let spans = evt3_step::span_table();
+    let vects = evt3_step::vect_table();
+    let counts = evt3_inside::bit_counts();
+    let bound = evt3_inside::column_bound(width);
+    let mut s = evt3_step::counting(widen(d));
     let mut n: usize = 0;
     let mut i: usize = 0;
     let mut w = words::two_at(bytes, 0);
-    while i + 1 < bytes.len() {
-        let g = s.glance(w, &spans, &vects);
+    while i + LAST_BYTE3 < bytes.len() {
+        let g = s.table_step(w, &spans, &vects);
         let next = g.next;
-        let m = ones::count(g.x, next.y, g.mask, wide, height, &table);
+        let m = evt3_inside::count_inside(g.x, next.y, g.mask, bound, height, &counts);
         if most - n < m {
             break;
         }
         n += m;
         s = next;
-        i += 2;
+        i += Decoder::WORD_SIZE;
         w = words::two_at(bytes, i);
     }
     let decoder = s.wide().slim();

@@ -37,21 +37,23 @@ able-bounded (Evt3 d) n b = able-bounded3 n b
 -- ---- what is passed over
 
 module _ (width height most : ℕ) (l : List ℕ) where
-  passes2 : (d : Evt2Decoder) → Passes reader2 (inside width height) most d (wordsOf wordSize2 l) (over reader2 (inside width height) most d (wordsOf wordSize2 l))
+  passes2 : (d : Evt2Decoder)
+      → Passes reader2 (inside width height) most d (wordsOf wordSize2 l) (over reader2 (inside width height) most d (wordsOf wordSize2 l))
   passes2 d = over-passes reader2 (inside width height) most d (wordsOf wordSize2 l)
 
   passes3 : (d : Decoder) → Passes reader3 (inside width height) most d (wordsOf wordSize3 l) (over reader3 (inside width height) most d (wordsOf wordSize3 l))
   passes3 d = over-passes reader3 (inside width height) most d (wordsOf wordSize3 l)
 
   pub passed-within : (c : Codec) → countedToOf width height most c l .at ≤ length l
-  passed-within (Evt2 d) = omega (arith, passes2 d .words, length-words 4 l)
-  passed-within (Evt3 d) = omega (arith, passes3 d .words, length-words 2 l)
+  passed-within (Evt2 d) = omega (arith, passes2 d .words, length-words wordSize2 l)
+  passed-within (Evt3 d) = omega (arith, passes3 d .words, length-words wordSize3 l)
 
   pub passed-few : (c : Codec) → countedToOf width height most c l .count ≤ most
   passed-few (Evt2 d) = passes2 d .few
   passed-few (Evt3 d) = passes3 d .few
 
-  pub passed-count : (c : Codec) → countedToOf width height most c l .count ≡ length (insideEvents width height c (take (countedToOf width height most c l .at) l))
+  pub passed-count : (c : Codec)
+      → countedToOf width height most c l .count ≡ length (insideEvents width height c (take (countedToOf width height most c l .at) l))
   passed-count (Evt2 d) = rw (words-taken 4 (omega arith) (over reader2 (inside width height) most d (wordsOf wordSize2 l) .words) l (passed-within (Evt2 d))) (passes2 d .count)
   passed-count (Evt3 d) = rw (words-taken 2 (omega arith) (over reader3 (inside width height) most d (wordsOf wordSize3 l) .words) l (passed-within (Evt3 d))) (passes3 d .count)
 

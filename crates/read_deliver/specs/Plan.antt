@@ -102,10 +102,12 @@ pub record Planned (win : Window) (k : ℕ) (c : Codec) (l : List ℕ) (p : Plan
 
 -- what is delivered of the part is delivered of the whole
 module _ {es : List Event} {c : Codec} {l : List ℕ} {r : Delivered} {xs₀ ys₀ : List ℕ} {ts₀ : List ℤ} {ps₀ xs ys : List ℕ} {ts : List ℤ} {ps : List ℕ} where
-  pub delivers-plainly : {width height : ℕ} → Plainly es width height c l → Delivers (insideEvents width height c l) r xs₀ ys₀ ts₀ ps₀ xs ys ts ps → Delivers es r xs₀ ys₀ ts₀ ps₀ xs ys ts ps
+  pub delivers-plainly : {width height : ℕ} → Plainly es width height c l → Delivers (insideEvents width height c l) r xs₀ ys₀ ts₀ ps₀ xs ys ts ps
+      → Delivers es r xs₀ ys₀ ts₀ ps₀ xs ys ts ps
   delivers-plainly p d = rw (p .same) d
 
-  pub delivers-under : {win : Window} {k : ℕ} → Under es win k c l → Delivers (handedOver win k c l) r xs₀ ys₀ ts₀ ps₀ xs ys ts ps → Delivers es r xs₀ ys₀ ts₀ ps₀ xs ys ts ps
+  pub delivers-under : {win : Window} {k : ℕ} → Under es win k c l → Delivers (handedOver win k c l) r xs₀ ys₀ ts₀ ps₀ xs ys ts ps
+      → Delivers es r xs₀ ys₀ ts₀ ps₀ xs ys ts ps
   delivers-under u d = rw (u .same) d
 
 -- ---- what is planned
@@ -169,7 +171,8 @@ module _ (win : Window) (k : ℕ) (c : Codec) (l : List ℕ) (ready : Ready c k 
           let h : e .at ≤ length (drop (s .at) l) = rw ends (sought-within (win .t0) (win .t1) (s .codec) (drop (s .at) l)) in
           omega (arith, within-time, length-drop (s .at) l)
 
-      upto-time : e .stray ≡ false → handedOver win k (s .codec) (drop (s .at) l) ≡ insideEvents (win .width) (win .height) (s .codec) (take (e .at) (drop (s .at) l))
+      upto-time : e .stray ≡ false
+          → handedOver win k (s .codec) (drop (s .at) l) ≡ insideEvents (win .width) (win .height) (s .codec) (take (e .at) (drop (s .at) l))
       upto-time z = rw ends (sought-upto win k (omega (arith, timed .first)) (s .codec) (drop (s .at) l) (omega (arith, ready-time .long, ready .low, timed .last)) (ready-time .able) (omega (arith, timed .order)) (rw ends at z))
 
       pub planned-upto : e .stray ≡ false → Planned win k c l (record { plain = true; from = s .at; to = s .at + e .at; codec = s .codec; number = k })
@@ -192,7 +195,8 @@ module _ (win : Window) (k : ℕ) (c : Codec) (l : List ℕ) (ready : Ready c k 
     within-number : p .at ≤ length l
     within-number = rw is (passed-within (win .width) (win .height) (win .n0 - k) l c)
 
-    pub planned-number : Bounded (length (drop (p .at) l)) (p .codec) → Planned win k c l (record { plain = false; from = p .at; to = length l; codec = p .codec; number = k + p .count })
+    pub planned-number : Bounded (length (drop (p .at) l)) (p .codec)
+        → Planned win k c l (record { plain = false; from = p .at; to = length l; codec = p .codec; number = k + p .count })
     planned-number b = to-the-end win k c l (p .at) (k + p .count) (p .codec) within-number
         (handed-passed win (numbered .no-end) k (win .n0 - k) (omega arith) l c (ready .able) p is)
         (ready-passed (win .width) (win .height) (win .n0 - k) k c l (ready .long) (omega (arith, numbered .order, numbered .low)) p is b)

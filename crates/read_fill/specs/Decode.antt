@@ -6,6 +6,7 @@ use Rattle.laws_stream.specs.Slice.{sift}
 use Rattle.evt_codec.specs.declared.codec.Codec.{Codec}
 use Rattle.evt_codec.specs.declared.codec.Codec.the-variants.{Evt2, Evt3}
 use Rattle.evt_types.specs.Event.{Event}
+use Rattle.evt_types.specs.Layout.{wordSize2, wordSize3}
 pub use Rattle.evt_codec.specs.Codec.{eventsFrom, codecAfter}
 use Rattle.evt2_decoder.specs.Range.{Bounded2}
 use Rattle.evt3_decoder.specs.Range.{Bounded3, Regular3}
@@ -21,13 +22,13 @@ filledAllOf width height c l = record { count = length (insideEvents width heigh
 
 -- the decoder can take n bytes more, and no sum wraps
 abbrev pub Bounded : ℕ → Codec → Type 0
-Bounded n (Evt2 d) = Bounded2 (n / 4) d
-Bounded n (Evt3 d) = Bounded3 (n / 2) d
+Bounded n (Evt2 d) = Bounded2 (n / wordSize2) d
+Bounded n (Evt3 d) = Bounded3 (n / wordSize3) d
 
 -- the same but for the base column, which fits 16 bits by its type
 abbrev pub Steady : ℕ → Codec → Type 0
-Steady n (Evt2 d) = Bounded2 (n / 4) d
-Steady n (Evt3 d) = Regular3 d × (d .«high_loops» + n / 2 ≤ 3 * 2 ^ 28)
+Steady n (Evt2 d) = Bounded2 (n / wordSize2) d
+Steady n (Evt3 d) = Regular3 d × (d .«high_loops» + n / wordSize3 ≤ 3 * 2 ^ 28)
 
 -- a column that is 16 bits wide, as the decoder's is
 abbrev pub Fitting : Codec → Type 0

@@ -1,4 +1,4 @@
--- The greatest of a column's entries; and of a column that events were written to.
+-- The maximum of a column's entries; and of a column that events were written to.
 use mathlib.Core.Path.{_≡_, ap, _∙_}
 use mathlib.Core.List.{List, map}
 use Prim.Native.Nat.{ℕ, suc, _+_, _≤_, _<_, max}
@@ -10,7 +10,8 @@ use Rattle.laws_stream.specs.Mask.{top}
 use Rattle.laws_stream.specs.Order.{greatest, greatest-map}
 use Rattle.laws_stream.specs.Columns.{written}
 
-pub top-next : (l : List ℕ) (i most next : ℕ) → i < length l → max most (top (drop i l)) ≡ top l → next ≡ max most (getD l i 0) → max next (top (drop (i + 1) l)) ≡ top l
+pub top-next : (l : List ℕ) (i most next : ℕ) → i < length l → max most (top (drop i l)) ≡ top l → next ≡ max most (getD l i 0)
+    → max next (top (drop (i + 1) l)) ≡ top l
 top-next l i most next h e n =
     let a : top (drop i l) ≡ max (getD l i 0) (top (drop (suc i) l)) = ap top (drop-cons l i 0 h) in
     rw add-one (omega (arith, a, e, n))

@@ -27,7 +27,7 @@ use Rattle.evt2_decoder.specs.Range.{Bounded2, bounded-step2, bounded-narrow2, 
 use Rattle.evt3_decoder.specs.Range.{Bounded3, bounded-step3, bounded-narrow3, bounded-range3, fresh-range3}
 use Rattle.read_columns.specs.Inside.{inside, clock, all-mapped, events-few, sift-few}
 use Rattle.read_fill.specs.Decode.{eventsFrom, codecAfter, insideEvents, Bounded, Fitting}
-use Rattle.read_fill.specs.Turn.{decode-few}
+use Rattle.read_fill.specs.Iteration.{decode-few}
 use Rattle.read_fill.specs.Loops.{small-mask2, small-mask3}
 
 -- ---- in chunks of 4 bytes, whatever the encoding
@@ -37,14 +37,14 @@ module _ (c : Codec) (k : ℕ) (a b : List ℕ) (h : length a ≡ k * 4) where
   events-append = go c
     where
       go : (c : Codec) → eventsFrom c (a ++ b) ≡ eventsFrom c a ++ eventsFrom (codecAfter c a) b
-      go (Evt2 d) = decode-append 4 reader2 (omega arith) d k a b h
+      go (Evt2 d) = decode-append wordSize2 reader2 (omega arith) d k a b h
       go (Evt3 d) = decode-append wordSize3 reader3 (omega arith) d (k * 2) a b (omega arith)
 
   pub codec-append : codecAfter c (a ++ b) ≡ codecAfter (codecAfter c a) b
   codec-append = go c
     where
       go : (c : Codec) → codecAfter c (a ++ b) ≡ codecAfter (codecAfter c a) b
-      go (Evt2 d) = ap Evt2 (after-append 4 reader2 (omega arith) d k a b h)
+      go (Evt2 d) = ap Evt2 (after-append wordSize2 reader2 (omega arith) d k a b h)
       go (Evt3 d) = ap Evt3 (after-append wordSize3 reader3 (omega arith) d (k * 2) a b (omega arith))
 
   module _ (width height : ℕ) where
@@ -81,9 +81,9 @@ most (Evt3 d) = 12
 
 pub all-few : (c : Codec) (l : List ℕ) → length (eventsFrom c l) ≤ most c * (length l / wordSize c)
 all-few (Evt2 d) l =
-    omega (arith, decode-few 4 reader2 1 (λ s w. events-few (vector2 s w) 1 (omega (arith, small-mask2 s w))) d (wordsOf wordSize2 l), length-words 4 l)
+    omega (arith, decode-few wordSize2 reader2 1 (λ s w. events-few (vector2 s w) 1 (omega (arith, small-mask2 s w))) d (wordsOf wordSize2 l), length-words wordSize2 l)
 all-few (Evt3 d) l =
-    omega (arith, decode-few wordSize3 reader3 12 (λ s w. events-few (vector3 s w) 12 (small-mask3 s w)) d (wordsOf wordSize3 l), length-words 2 l)
+    omega (arith, decode-few wordSize3 reader3 12 (λ s w. events-few (vector3 s w) 12 (small-mask3 s w)) d (wordsOf wordSize3 l), length-words wordSize3 l)
 
 pub inside-few : (width height : ℕ) (c : Codec) (l : List ℕ) → length (insideEvents width height c l) ≤ most c * (length l / wordSize c)
 inside-few width height c l = omega (arith, sift-few (inside width height) (eventsFrom c l), all-few c l)
@@ -107,16 +107,16 @@ run-uses M Inv keeps k s (w ∷ ws) i = run-uses M Inv keeps k (M .step s w) ws 
 -- after a chunk
 pub bounded-after : (c : Codec) (k n : ℕ) (a : List ℕ) → length a ≡ k * 4 → Bounded (k * 4 + n) c → Bounded n (codecAfter c a)
 bounded-after (Evt2 d) k n a h b =
-    let e : (k * 4 + n) / 4 ≡ length (wordsOf wordSize2 a) + n / 4 = omega (arith, length-words 4 a) in
-    run-uses reader2 Bounded2 bounded-step2 (n / 4) d (wordsOf wordSize2 a) (rw e at b)
+    let e : (k * 4 + n) / wordSize2 ≡ length (wordsOf wordSize2 a) + n / wordSize2 = omega (arith, length-words wordSize2 a) in
+    run-uses reader2 Bounded2 bounded-step2 (n / wordSize2) d (wordsOf wordSize2 a) (rw e at b)
 bounded-after (Evt3 d) k n a h b =
-    let e : (k * 4 + n) / 2 ≡ length (wordsOf wordSize3 a) + n / 2 = omega (arith, length-words 2 a) in
-    run-uses reader3 Bounded3 bounded-step3 (n / 2) d (wordsOf wordSize3 a) (rw e at b)
+    let e : (k * 4 + n) / wordSize3 ≡ length (wordsOf wordSize3 a) + n / wordSize3 = omega (arith, length-words wordSize3 a) in
+    run-uses reader3 Bounded3 bounded-step3 (n / wordSize3) d (wordsOf wordSize3 a) (rw e at b)
 
 -- any decoder in range (10) takes as many bytes as are read (4)
 pub bounded-range : (c : Codec) (n : ℕ) → inRangeC c ≡ true → Fitting c → n ≤ 2 ^ 30 → Bounded n c
-bounded-range (Evt2 d) n r f h = bounded-range2 (n / 4) d r (omega arith)
-bounded-range (Evt3 d) n r f h = bounded-range3 (n / 2) d r f (omega arith)
+bounded-range (Evt2 d) n r f h = bounded-range2 (n / wordSize2) d r (omega arith)
+bounded-range (Evt3 d) n r f h = bounded-range3 (n / wordSize3) d r f (omega arith)
 
 pub fitting-fresh : (e : Encoding) → Fitting (freshC e)
 fitting-fresh E.Evt2 = tt
@@ -167,7 +167,7 @@ module _ (c : Codec) (l : List ℕ) (b : Bounded (length l) c) where
       let ins : (e : Event) → Small e → inside 65536 65536 e ≡ true = λ e s. rw (lt-ltb (e .x) 65536 (s .x<), lt-ltb (e .y) 65536 (s .y<)) in
       sift-all (inside 65536 65536) (eventsFrom c l) (all-map Small _ ins (eventsFrom c l) (events-small c l b))
 
-  -- the greatest time fits an i64
+  -- the maximum time fits an i64
   pub latest-small : (width height : ℕ) → greatest clock (insideEvents width height c l) < 2 ^ 63
   latest-small width height =
       let le : (e : Event) → Small e → clock e ≤ 9223372036854775807 = λ e s. omega (arith, s .t<) in

@@ -1,4 +1,4 @@
--- The turns of the two encodings' loops, from what the code has at hand.
+-- The iterations of the two encodings' loops, from what the code has at hand.
 use mathlib.Core.Path.{_≡_, sym, ap, _∙_}
 use mathlib.Core.List.{List}
 use Prim.Native.Nat.{ℕ, _+_, _*_, _/_, _≤_, _<_, _^_}
@@ -20,7 +20,7 @@ use Rattle.evt3_decoder.specs.Evt3.{step3, vector3, vectorAs, reader3, widened,
 use Rattle.evt2_decoder.specs.Range.{Bounded2, bounded-narrow2}
 use Rattle.evt3_decoder.specs.Range.{Bounded3, bounded-narrow3}
 use Rattle.read_columns.specs.Inside.{inside, events-few, sift-few}
-use Rattle.read_fill.specs.Turn.{Turn, insideAll, decode-few}
+use Rattle.read_fill.specs.Iteration.{Iteration, insideAll, decode-few}
 
 -- ---- EVT2
 
@@ -29,18 +29,18 @@ unfolding vector2
 small-mask2 d w = Evt2.by-kinds (λ k. Evt2.vectorAs k d w .mask ≤ 1) (type2 w) (d .initialised) (omega arith) (λ on q. omega arith) (omega arith)
 
 pub start2 : {d : Evt2Decoder} (l : List ℕ) → Bounded2 (length l / wordSize2) d → Bounded2 (length (wordsOf wordSize2 l)) d
-start2 l b = rw (length-words 4 l) b
+start2 l b = rw (length-words wordSize2 l) b
 
-pub few2 : (width height : ℕ) (d : Evt2Decoder) (l : List ℕ) → length (insideAll 4 reader2 width height d l) ≤ length l / 4
+pub few2 : (width height : ℕ) (d : Evt2Decoder) (l : List ℕ) → length (insideAll wordSize2 reader2 width height d l) ≤ length l / wordSize2
 few2 width height d l =
     let one : (s : Evt2Decoder) (w : ℕ) → length (eventsOf (vector2 s w)) ≤ 1 = λ s w. events-few (vector2 s w) 1 (omega (arith, small-mask2 s w)) in
-    omega (arith, sift-few (inside width height) (decode 4 reader2 d l), decode-few 4 reader2 1 one d (wordsOf wordSize2 l), length-words 4 l)
+    omega (arith, sift-few (inside width height) (decode wordSize2 reader2 d l), decode-few wordSize2 reader2 1 one d (wordsOf wordSize2 l), length-words wordSize2 l)
 
-module _ {bytes : List ℕ} {s : Evt2Decoder} {i : ℕ} (h : i + 3 < length bytes) (w : ℕ)
-    (is-word : w ≡ ahead 4 bytes i)
+module _ {bytes : List ℕ} {s : Evt2Decoder} {i : ℕ} (h : i + wordSize2 ≤ length bytes) (w : ℕ)
+    (is-word : w ≡ ahead wordSize2 bytes i)
     (r : Evt2Step) (is : (r .next ≡ step2 s w) × (r .events ≡ vector2 s w)) where
-  pub turn2 : Turn 4 reader2 bytes s i (r .next) (r .events)
-  turn2 = record { word = w; more = omega arith; is-word = is-word ∙ ahead-some 4 bytes i (omega arith); is-next = is .0; is-events = ap eventsOf (sym (is .1)) }
+  pub iteration2 : Iteration wordSize2 reader2 bytes s i (r .next) (r .events)
+  iteration2 = record { word = w; more = omega arith; is-word = is-word ∙ ahead-some wordSize2 bytes i (omega arith); is-next = is .0; is-events = ap eventsOf (sym (is .1)) }
 
 pub small2 : {k : ℕ} {s : Evt2Decoder} → Bounded2 k s → (w : ℕ) (v : Vector) → v ≡ vector2 s w → Narrow v × (v .mask ≤ 1)
 small2 {k} {s} b w v is = rw is (bounded-narrow2 w b, small-mask2 s w)
@@ -53,17 +53,18 @@ small-mask3 d w = by-kinds (λ k. vectorAs k d w .mask < 2 ^ 12) (type3 w) (d .i
     (λ o. omega arith) (λ o. omega arith) (λ o. omega arith) (λ o. omega arith) (λ o. omega arith) (λ o. omega arith) (λ o. omega arith) (λ o. omega arith) (omega arith)
 
 pub start3 : {d : Decoder} (l : List ℕ) → Bounded3 (length l / wordSize3) d → Bounded3 (length (wordsOf wordSize3 l)) d
-start3 l b = rw (length-words 2 l) b
+start3 l b = rw (length-words wordSize3 l) b
 
-pub few3 : (width height : ℕ) (d : Decoder) (l : List ℕ) → length (insideAll wordSize3 reader3 width height d l) ≤ 12 * (length l / 2)
+pub few3 : (width height : ℕ) (d : Decoder) (l : List ℕ) → length (insideAll wordSize3 reader3 width height d l) ≤ 12 * (length l / wordSize3)
 few3 width height d l =
     let most : (s : Decoder) (w : ℕ) → length (eventsOf (vector3 s w)) ≤ 12 = λ s w. events-few (vector3 s w) 12 (small-mask3 s w) in
-    omega (arith, sift-few (inside width height) (decode wordSize3 reader3 d l), decode-few wordSize3 reader3 12 most d (wordsOf wordSize3 l), length-words 2 l)
+    omega (arith, sift-few (inside width height) (decode wordSize3 reader3 d l), decode-few wordSize3 reader3 12 most d (wordsOf wordSize3 l), length-words wordSize3 l)
 
-module _ {bytes : List ℕ} {s : Decoder} {i : ℕ} (h : i + 1 < length bytes) (w : ℕ) where
-  pub turn3 : w ≡ ahead 2 bytes i → (r : WideStep) → (r .next ≡ widened (step3 s w)) × (r .events ≡ vector3 s w) → Turn wordSize3 reader3 bytes s i (slimmed (r .next)) (r .events)
-  turn3 is-word r is =
-      record { word = w; more = omega arith; is-word = is-word ∙ ahead-some 2 bytes i (omega arith); is-next = ap slimmed (is .0); is-events = ap eventsOf (sym (is .1)) }
+module _ {bytes : List ℕ} {s : Decoder} {i : ℕ} (h : i + wordSize3 ≤ length bytes) (w : ℕ) where
+  pub iteration3 : w ≡ ahead wordSize3 bytes i → (r : WideStep) → (r .next ≡ widened (step3 s w)) × (r .events ≡ vector3 s w)
+      → Iteration wordSize3 reader3 bytes s i (slimmed (r .next)) (r .events)
+  iteration3 is-word r is =
+      record { word = w; more = omega arith; is-word = is-word ∙ ahead-some wordSize3 bytes i (omega arith); is-next = ap slimmed (is .0); is-events = ap eventsOf (sym (is .1)) }
 
 pub small3 : {k : ℕ} {s : Decoder} → Bounded3 k s → (w : ℕ) (v : Vector) → v ≡ vector3 s w → Narrow v
 small3 b w v is = rw is (bounded-narrow3 w b)

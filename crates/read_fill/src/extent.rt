@@ -1,4 +1,4 @@
-// The greatest of a column, for a size that is derived from the events.
+// The maximum of a column, for a size that is derived from the events.
 ghost use mathlib.Core.Path.{_≡_};
 ghost use Rattle.laws_stream.specs.Mask.{top};
 

@@ -3,7 +3,7 @@ ghost use mathlib.Core.Path.{_≡_};
 ghost use lib.ListN.{length};
 ghost use Rattle.evt_codec.specs.declared.codec.Codec.the-variants.{Evt2, Evt3};
 ghost use Rattle.evt_types.specs.Columns.{Wrote};
-ghost use Rattle.read_fill.specs.Turn.{Fits};
+ghost use Rattle.read_fill.specs.Iteration.{Fits};
 ghost use Rattle.read_fill.specs.Decode.{Bounded, insideEvents, filledAllOf};
 use crate::FilledAll;
 use evt_codec::Codec;
@@ -34,12 +34,12 @@ pub fn evt2(
     let mut s = d;
     let mut n: usize = 0;
     let mut i: usize = 0;
-    while i + 3 < bytes.len() {
+    while i + Evt2Decoder::WORD_SIZE <= bytes.len() {
         let w = words::four_at(bytes, i);
         let step = advance(s, w);
         let v = step.events;
         s = step.next;
-        i += 4;
+        i += Evt2Decoder::WORD_SIZE;
         n = read_columns::put1(v, width, height, n, &mut *xs, &mut *ys, &mut *ts, &mut *ps);
     }
     FilledAll {
@@ -68,12 +68,12 @@ pub fn evt3(
     let mut s = widen(d);
     let mut n: usize = 0;
     let mut i: usize = 0;
-    while i + 1 < bytes.len() {
+    while i + Decoder::WORD_SIZE <= bytes.len() {
         let w = words::two_at(bytes, i);
         let step = s.advance(w);
         let v = step.events;
         s = clean(step.next);
-        i += 2;
+        i += Decoder::WORD_SIZE;
         n = read_columns::place(v, width, height, n, &mut *xs, &mut *ys, &mut *ts, &mut *ps);
     }
     let decoder = s.slim();

@@ -8,7 +8,7 @@ ghost use mathlib.Core.Path.{_≡_};
 ghost use lib.ListN.{length};
 ghost use Rattle.evt_codec.specs.Codec.{inRangeC};
 ghost use Rattle.evt_types.specs.Columns.{Wrote};
-ghost use Rattle.read_fill.specs.Turn.{Fits};
+ghost use Rattle.read_fill.specs.Iteration.{Fits};
 ghost use Rattle.read_fill.specs.Decode.{Bounded, Fitting, insideEvents, filledAllOf};
 use evt_codec::Codec;
 

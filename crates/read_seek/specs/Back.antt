@@ -115,29 +115,30 @@ base-run d (w ∷ ws) on small = base-run (step3 d w) ws (step-on d w on) (small
 module _ (front : List ℕ) where
   -- the words from word k on
   abbrev behind : ℕ → List ℕ
-  behind k = wordsOf wordSize3 (drop (k * 2) front)
+  behind k = wordsOf wordSize3 (drop (k * wordSize3) front)
 
-  none-behind : behind (length front / 2) ≡ []
-  none-behind = words-end 2 (omega arith) front (length front / 2 * 2) (omega arith)
+  none-behind : behind (length front / wordSize3) ≡ []
+  none-behind = words-end wordSize3 (omega arith) front (length front / wordSize3 * wordSize3) (omega arith)
 
   -- at word j, before word k
-  module _ (k j : ℕ) (next : k ≡ j + 1) (within : k * 2 ≤ length front) (w : ℕ) (is-word : w ≡ ahead 2 front (j * 2)) where
+  module _ (k j : ℕ) (next : k ≡ j + 1) (within : k * wordSize3 ≤ length front) (w : ℕ) (is-word : w ≡ ahead wordSize3 front (j * wordSize3)) where
     word-here : behind j ≡ w ∷ behind k
     word-here =
-        let e : j * 2 + 2 ≡ k * 2 = omega arith in
-        words-next 2 (omega arith) front (j * 2) (omega arith)
-        ∙ rw (← (is-word ∙ ahead-some 2 front (j * 2) (omega arith)), e)
+        let e : j * wordSize3 + wordSize3 ≡ k * wordSize3 = omega arith in
+        words-next 2 (omega arith) front (j * wordSize3) (omega arith)
+        ∙ rw (← (is-word ∙ ahead-some wordSize3 front (j * wordSize3) (omega arith)), e)
 
     -- in all
-    parted : wordsOf wordSize3 front ≡ wordsOf wordSize3 (take (j * 2) front) ++ (w ∷ behind k)
-    parted = sym (split-words wordSize3 reader3 (omega arith) j front (omega arith)) ∙ ap (λ (l : List ℕ). wordsOf wordSize3 (take (j * 2) front) ++ l) word-here
+    parted : wordsOf wordSize3 front ≡ wordsOf wordSize3 (take (j * wordSize3) front) ++ (w ∷ behind k)
+    parted = sym (split-words wordSize3 reader3 (omega arith) j front (omega arith))
+        ∙ ap (λ (l : List ℕ). wordsOf wordSize3 (take (j * wordSize3) front) ++ l) word-here
 
   -- no row word from word k on
   pub record Rowless (k : ℕ) : Type 0 where
-    pub within : k * 2 ≤ length front
+    pub within : k * wordSize3 ≤ length front
     pub same : (y : ℕ) → rowAfter y (behind k) ≡ y
 
-  pub rowless-start : Rowless (length front / 2)
+  pub rowless-start : Rowless (length front / wordSize3)
   unfolding rowAfter
   rowless-start = record { within = omega arith; same = λ y. rw none-behind }
 
@@ -146,11 +147,11 @@ module _ (front : List ℕ) where
 
   -- no base word either, and what the vectors from there on add
   pub record Baseless (by k : ℕ) : Type 0 where
-    pub within : k * 2 ≤ length front
+    pub within : k * wordSize3 ≤ length front
     pub few : by ≤ 65535
     pub same : (c : Column) → c .x ≤ 65535 → baseAfter c (behind k) ≡ record { x = min (c .x + by) 65535; p = c .p }
 
-  pub baseless-start : Baseless 0 (length front / 2)
+  pub baseless-start : Baseless 0 (length front / wordSize3)
   unfolding baseAfter
   baseless-start = record {
     within = omega arith;
@@ -161,20 +162,20 @@ module _ (front : List ℕ) where
   pub base-none : (c : Column) (by : ℕ) → c .x ≤ 65535 → Baseless by 0 → record { x = min (c .x + by) 65535; p = c .p } ≡ baseAfter c (wordsOf wordSize3 front)
   base-none c by h u = sym (u .same c h)
 
-  module _ (k j : ℕ) (next : k ≡ j + 1) (w : ℕ) (is-word : w ≡ ahead 2 front (j * 2)) (t : ℕ) (is-type : t ≡ type3 w) where
-    pub rowless-turn : Rowless k → (t ≡ 0 → ⊥) → Rowless j
-    rowless-turn u other = record {
+  module _ (k j : ℕ) (next : k ≡ j + 1) (w : ℕ) (is-word : w ≡ ahead wordSize3 front (j * wordSize3)) (t : ℕ) (is-type : t ≡ type3 w) where
+    pub rowless-next : Rowless k → (t ≡ 0 → ⊥) → Rowless j
+    rowless-next u other = record {
       within = omega (arith, u .within);
       same = λ y. ap (rowAfter y) (word-here k j next (u .within) w is-word) ∙ row-kept y w (behind k) (λ e. other (is-type ∙ e)) ∙ u .same y;
     }
 
     pub row-found : (y : ℕ) → Rowless k → t ≡ 0 → y3 w ≡ rowAfter y (wordsOf wordSize3 front)
     row-found y u e =
-        let a = wordsOf wordSize3 (take (j * 2) front) in
+        let a = wordsOf wordSize3 (take (j * wordSize3) front) in
         sym (ap (rowAfter y) (parted k j next (u .within) w is-word) ∙ row-append y a (w ∷ behind k) ∙ row-set (rowAfter y a) w (behind k) (sym is-type ∙ e) ∙ u .same (y3 w))
 
-    pub baseless-turn : {by : ℕ} → Baseless by k → (t ≡ 3 → ⊥) → (more : ℕ) → more ≡ min (by + width t) 65535 → Baseless more j
-    baseless-turn {by} u other more is-more = record {
+    pub baseless-next : {by : ℕ} → Baseless by k → (t ≡ 3 → ⊥) → (more : ℕ) → more ≡ min (by + width t) 65535 → Baseless more j
+    baseless-next {by} u other more is-more = record {
       within = omega (arith, u .within);
       few = omega arith;
       same = λ c h.
@@ -185,9 +186,10 @@ module _ (front : List ℕ) where
           ∙ u .same (record { x = min (c .x + n) 65535; p = c .p }) (omega arith) ∙ ap (λ (x : ℕ). record { x = x; p = c .p }) e;
     }
 
-    pub base-found : (c : Column) {by : ℕ} → Baseless by k → t ≡ 3 → record { x = min (x3 w + by) 65535; p = eqb (polarity3 w) 1 } ≡ baseAfter c (wordsOf wordSize3 front)
+    pub base-found : (c : Column) {by : ℕ} → Baseless by k → t ≡ 3
+        → record { x = min (x3 w + by) 65535; p = eqb (polarity3 w) 1 } ≡ baseAfter c (wordsOf wordSize3 front)
     base-found c u e =
-        let a = wordsOf wordSize3 (take (j * 2) front) in
+        let a = wordsOf wordSize3 (take (j * wordSize3) front) in
         sym (ap (baseAfter c) (parted k j next (u .within) w is-word) ∙ base-append c a (w ∷ behind k) ∙ base-set (baseAfter c a) w (behind k) (sym is-type ∙ e)
         ∙ u .same (record { x = x3 w; p = eqb (polarity3 w) 1 }) (omega arith))
 
@@ -204,7 +206,8 @@ putBehind d front c = record {
   «high_loops» = c .loops;
 }
 
-pub put-is : (d : Decoder) (front : List ℕ) (s : Decoder) → d .initialised ≡ true → d .«base_x» < 2 ^ 16 → s ≡ run reader3 d (wordsOf wordSize3 front) → (c : Times) → c ≡ timesOf s
+pub put-is : (d : Decoder) (front : List ℕ) (s : Decoder) → d .initialised ≡ true → d .«base_x» < 2 ^ 16 → s ≡ run reader3 d (wordsOf wordSize3 front)
+    → (c : Times) → c ≡ timesOf s
     → putBehind d front c ≡ s
 put-is d front s on small is-run c is-times =
     let ws = wordsOf wordSize3 front in

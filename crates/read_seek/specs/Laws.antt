@@ -91,11 +91,11 @@ wakes3 d r off = ap (λ (d : Decoder). d .time) (r .unstarted off)
 
 -- ---- how far
 
-within2 : (t₀ t₁ : ℕ) (d : Evt2Decoder) (l : List ℕ) → reach2 t₀ t₁ d l .words * 4 ≤ length l
-within2 t₀ t₁ d l = omega (arith, reach-most reader2 (λ d. d .time) carries2 t₀ t₁ d (wordsOf wordSize2 l), length-words 4 l)
+within2 : (t₀ t₁ : ℕ) (d : Evt2Decoder) (l : List ℕ) → reach2 t₀ t₁ d l .words * wordSize2 ≤ length l
+within2 t₀ t₁ d l = omega (arith, reach-most reader2 (λ d. d .time) carries2 t₀ t₁ d (wordsOf wordSize2 l), length-words wordSize2 l)
 
-within3 : (t₀ t₁ : ℕ) (d : Decoder) (l : List ℕ) → reach3 t₀ t₁ d l .words * 2 ≤ length l
-within3 t₀ t₁ d l = omega (arith, reach-most reader3 (λ d. d .time) carries3 t₀ t₁ d (wordsOf wordSize3 l), length-words 2 l)
+within3 : (t₀ t₁ : ℕ) (d : Decoder) (l : List ℕ) → reach3 t₀ t₁ d l .words * wordSize3 ≤ length l
+within3 t₀ t₁ d l = omega (arith, reach-most reader3 (λ d. d .time) carries3 t₀ t₁ d (wordsOf wordSize3 l), length-words wordSize3 l)
 
 pub sought-within : (t₀ t₁ : ℕ) (c : Codec) (l : List ℕ) → soughtOf t₀ t₁ c l .at ≤ length l
 sought-within t₀ t₁ (Evt2 d) l = within2 t₀ t₁ d l
@@ -109,18 +109,18 @@ module _ (win : Window) (k : ℕ) (low : win .n0 ≤ k) where
       → handedOver win k c l ≡ handedOver win k (soughtOf t₀ (win .t0) c l .codec) (drop (soughtOf t₀ (win .t0) c l .at) l)
   sought-from t₀ (Evt2 d) l order high =
       let r = reach2 t₀ (win .t0) d l in
-      let cut = drop-words reader2 4 (omega arith) (r .words) l (within2 t₀ (win .t0) d l) in
+      let cut = drop-words reader2 wordSize2 (omega arith) (r .words) l (within2 t₀ (win .t0) d l) in
       let all = inside-bytes (win .width) (win .height) (Evt2 d) l in
-      let left = inside-bytes (win .width) (win .height) (Evt2 (r .state)) (drop (r .words * 4) l) in
-      let fewer : k + length (Select.numbered (reading2 win) (r .state) (drop (r .words) (wordsOf wordSize2 l))) < win .n1 = rw (← cut) (omega (arith, left, length-drop (r .words * 4) l)) in
+      let left = inside-bytes (win .width) (win .height) (Evt2 (r .state)) (drop (r .words * wordSize2) l) in
+      let fewer : k + length (Select.numbered (reading2 win) (r .state) (drop (r .words) (wordsOf wordSize2 l))) < win .n1 = rw (← cut) (omega (arith, left, length-drop (r .words * wordSize2) l)) in
       handed-from (reading2 win) carries2 stamped2 (selectionOf win) t₀ (win .t0) (omega arith) order k k d (wordsOf wordSize2 l) low (omega (arith, all)) low fewer
       ∙ ap (Select.handed (reading2 win) (selectionOf win) k (r .state)) (sym cut)
   sought-from t₀ (Evt3 d) l order high =
       let r = reach3 t₀ (win .t0) d l in
-      let cut = drop-words reader3 2 (omega arith) (r .words) l (within3 t₀ (win .t0) d l) in
+      let cut = drop-words reader3 wordSize3 (omega arith) (r .words) l (within3 t₀ (win .t0) d l) in
       let all = inside-bytes (win .width) (win .height) (Evt3 d) l in
-      let left = inside-bytes (win .width) (win .height) (Evt3 (r .state)) (drop (r .words * 2) l) in
-      let fewer : k + length (Select.numbered (reading3 win) (r .state) (drop (r .words) (wordsOf wordSize3 l))) < win .n1 = rw (← cut) (omega (arith, left, length-drop (r .words * 2) l)) in
+      let left = inside-bytes (win .width) (win .height) (Evt3 (r .state)) (drop (r .words * wordSize3) l) in
+      let fewer : k + length (Select.numbered (reading3 win) (r .state) (drop (r .words) (wordsOf wordSize3 l))) < win .n1 = rw (← cut) (omega (arith, left, length-drop (r .words * wordSize3) l)) in
       handed-from (reading3 win) carries3 stamped3 (selectionOf win) t₀ (win .t0) (omega arith) order k k d (wordsOf wordSize3 l) low (omega (arith, all)) low fewer
       ∙ ap (Select.handed (reading3 win) (selectionOf win) k (r .state)) (sym cut)
 
@@ -130,16 +130,17 @@ module _ (win : Window) (k : ℕ) (low : win .n0 ≤ k) where
         → handedOver win k c l ≡ insideEvents (win .width) (win .height) c (take (soughtOf (win .t0) (win .t1) c l .at) l)
     sought-upto = go c (inside-bytes (win .width) (win .height) c l)
       where
-        go : (c : Codec) → length (insideEvents (win .width) (win .height) c l) ≤ 6 * length l → Able (length l) c → 0 < win .t1 → soughtOf (win .t0) (win .t1) c l .stray ≡ false
+        go : (c : Codec) → length (insideEvents (win .width) (win .height) c l) ≤ 6 * length l → Able (length l) c → 0 < win .t1
+            → soughtOf (win .t0) (win .t1) c l .stray ≡ false
             → handedOver win k c l ≡ insideEvents (win .width) (win .height) c (take (soughtOf (win .t0) (win .t1) c l .at) l)
         go (Evt2 d) few able some z =
             let r = reach2 (win .t0) (win .t1) d l in
             handed-upto (reading2 win) carries2 stamped2 (selectionOf win) Regular2 regular-step2 wakes2 silent2 some k d (wordsOf wordSize2 l) (able .regular) low (omega arith) z
-            ∙ ap (Select.numbered (reading2 win) d) (sym (take-words reader2 4 (omega arith) (r .words) l (within2 (win .t0) (win .t1) d l)))
+            ∙ ap (Select.numbered (reading2 win) d) (sym (take-words reader2 wordSize2 (omega arith) (r .words) l (within2 (win .t0) (win .t1) d l)))
         go (Evt3 d) few able some z =
             let r = reach3 (win .t0) (win .t1) d l in
             handed-upto (reading3 win) carries3 stamped3 (selectionOf win) Regular3 regular-step3 wakes3 silent3 some k d (wordsOf wordSize3 l) (able .regular) low (omega arith) z
-            ∙ ap (Select.numbered (reading3 win) d) (sym (take-words reader3 2 (omega arith) (r .words) l (within3 (win .t0) (win .t1) d l)))
+            ∙ ap (Select.numbered (reading3 win) d) (sym (take-words reader3 wordSize3 (omega arith) (r .words) l (within3 (win .t0) (win .t1) d l)))
 
     -- EMPTY, where the last time isn't past the first
     pub sought-none : win .t1 ≤ win .t0 → handedOver win k c l ≡ []
@@ -170,5 +171,6 @@ module _ (t : ℕ) (c : Codec) (l : List ℕ) (at : ℕ) (c′ : Codec) (m : Mid
   pub midway-within : at + r .at ≤ length l
   midway-within = rw is (omega (arith, sought-within 0 t c′ (drop at l), length-drop at l, m .within))
 
-  pub midway-found : Bounded (length (drop (r .at) (drop at l))) (r .codec) → (further at r ≡ soughtOf 0 t c l) × Bounded (length (drop (at + r .at) l)) (r .codec)
+  pub midway-found : Bounded (length (drop (r .at) (drop at l))) (r .codec)
+      → (further at r ≡ soughtOf 0 t c l) × Bounded (length (drop (at + r .at) l)) (r .codec)
   midway-found b = (ap (further at) is ∙ sym (m .same), rw (← drop-drop (r .at) at l) b)

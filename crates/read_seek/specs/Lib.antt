@@ -1,7 +1,7 @@
 -- What each file is stands at its head.
 pub mod Seek
 pub mod Cut
-pub mod Turn
+pub mod Iteration
 pub mod Times
 pub mod Back
 pub mod Loops

@@ -23,21 +23,22 @@ module _ (t₀ t₁ : ℕ) (d : Decoder) (bytes : List ℕ) where
   abbrev end : Reach Decoder
   end = reach3 t₀ t₁ d bytes
 
-  within : end .words * 2 ≤ length bytes
-  within = omega (arith, reach-most reader3 (λ d. d .time) carries3 t₀ t₁ d (wordsOf wordSize3 bytes), length-words 2 bytes)
+  within : end .words * wordSize3 ≤ length bytes
+  within = omega (arith, reach-most reader3 (λ d. d .time) carries3 t₀ t₁ d (wordsOf wordSize3 bytes), length-words wordSize3 bytes)
 
   pub passed-within : (r : Spanned) → r ≡ spannedOf end → r .at ≤ length bytes
   passed-within r is = rw is within
 
   -- the state is what the bytes passed over lead to
-  state-is : end .state ≡ run reader3 d (wordsOf wordSize3 (take (end .words * 2) bytes))
-  state-is = reach-state reader3 (λ d. d .time) carries3 t₀ t₁ d (wordsOf wordSize3 bytes) ∙ ap (run reader3 d) (sym (take-words reader3 2 (omega arith) (end .words) bytes within))
+  state-is : end .state ≡ run reader3 d (wordsOf wordSize3 (take (end .words * wordSize3) bytes))
+  state-is = reach-state reader3 (λ d. d .time) carries3 t₀ t₁ d (wordsOf wordSize3 bytes)
+      ∙ ap (run reader3 d) (sym (take-words reader3 wordSize3 (omega arith) (end .words) bytes within))
 
   module _ (on : d .initialised ≡ true) (column : d .«base_x» < 2 ^ 16) (r : Spanned) (is : r ≡ spannedOf end) (left : Bounded3 (length (drop (r .at) bytes) / wordSize3) (end .state))
       (e : Decoder) (is-put : e ≡ putBehind d (take (r .at) bytes) (r .times)) where
     whole : e ≡ end .state
     whole = is-put ∙ ap (λ (r : Spanned). putBehind d (take (r .at) bytes) (r .times)) is
-        ∙ put-is d (take (end .words * 2) bytes) (end .state) on column state-is (timesOf (end .state)) refl
+        ∙ put-is d (take (end .words * wordSize3) bytes) (end .state) on column state-is (timesOf (end .state)) refl
 
     pub put-found : (record { at = r .at; stray = r .stray; codec = Evt3 e } ≡ soughtOf t₀ t₁ (Evt3 d) bytes) × Bounded3 (length (drop (r .at) bytes) / wordSize3) e
     put-found = (λ i. record { at = is i .at; stray = is i .stray; codec = Evt3 (whole i) }, rw whole left)

@@ -13,7 +13,7 @@ use Rattle.evt_types.specs.Ahead.{ahead}
 use Rattle.evt2_decoder.specs.declared.Evt2Decoder.{Evt2Decoder}
 use Rattle.evt3_decoder.specs.declared.Decoder.{Decoder}
 use Rattle.evt_codec.specs.declared.codec.Codec.the-variants.{Evt2, Evt3}
-use Rattle.evt_types.specs.Layout.{type2, type3, wordSize2, wordSize3}
+use Rattle.evt_types.specs.Layout.{type2, type3, wordSize2, wordSize3, grain2, grain3}
 use Rattle.evt2_decoder.specs.Evt2 as Evt2
 use Rattle.evt2_decoder.specs.Evt2.{step2}
 use Rattle.evt3_decoder.specs.Evt3.{step3, reader3}
@@ -21,11 +21,11 @@ use Rattle.evt2_decoder.specs.Range.{Bounded2, Regular2, bounded-step2, bounded
 use Rattle.evt3_decoder.specs.Range.{Bounded3, bounded-step3, regular-step3}
 use Rattle.read_seek.specs.declared.times.Times.{Times}
 use Rattle.read_seek.specs.Seek.{carriesAs, Midway}
-use Rattle.read_seek.specs.Turn.{seeking-start, seeking-same}
+use Rattle.read_seek.specs.Iteration.{seeking-start, seeking-same}
 use Rattle.read_seek.specs.Times.{timesOf, ticked, tickedAs, step-on, step-times}
 use Rattle.read_seek.specs.Back.{putBehind, put-is}
 use Rattle.read_seek.specs.Cut.{take-words}
-use Rattle.read_seek.specs.Loops.{Seeking2, start2, turn2, Seeking3, Passing, passing-start, passing-turn, passing-slow}
+use Rattle.read_seek.specs.Loops.{Seeking2, start2, iteration2, Seeking3, Passing, passing-start, passing-next, passing-slow}
 
 -- no time is before 0
 none-early : (t : ℕ) (b : Bool) → (false || (ltb t 0 && b)) ≡ false
@@ -33,10 +33,10 @@ none-early t b = ap (λ (c : Bool). c && b) (le-ltb t 0 (omega arith))
 
 -- ---- EVT2
 
-near2 : (d : Evt2Decoder) → Regular2 d → d .time < d .«time_high» + 64
+near2 : (d : Evt2Decoder) → Regular2 d → d .time < d .«time_high» + grain2
 near2 d r = go (d .initialised) refl
   where
-    go : (b : Bool) → d .initialised ≡ b → d .time < d .«time_high» + 64
+    go : (b : Bool) → d .initialised ≡ b → d .time < d .«time_high» + grain2
     go true e = r .started e .near
     go false e = rw (r .unstarted e) (omega arith)
 
@@ -68,20 +68,20 @@ module _ (t : ℕ) (d : Evt2Decoder) (bytes : List ℕ) where
     pub u : Evt2Decoder
     pub here : Seeking2 0 t d bytes u false i
     pub like : Like2 s u
-    pub room : s .«time_high» + 64 ≤ t
+    pub room : s .«time_high» + grain2 ≤ t
 
   pub midway2 : {s : Evt2Decoder} {at : ℕ} → Seeking2 0 t d bytes s false at → Midway t (Evt2 d) bytes at (Evt2 s)
-  midway2 {s} {at} u = record { within = u .within; able = rw (length-words 4 (drop at bytes)) at (u .inv); same = seeking-same (omega arith) bounded-step2 u refl Evt2 }
+  midway2 {s} {at} u = record { within = u .within; able = rw (length-words wordSize2 (drop at bytes)) at (u .inv); same = seeking-same (omega arith) bounded-step2 u refl Evt2 }
 
-  pub skip-start2 : Bounded2 (length bytes / wordSize2) d → d .«time_high» + 64 ≤ t → Skipping2 d 0 0
+  pub skip-start2 : Bounded2 (length bytes / wordSize2) d → d .«time_high» + grain2 ≤ t → Skipping2 d 0 0
   skip-start2 b room = record { marked = start2 0 t d bytes b; u = d; here = start2 0 t d bytes b; like = record { high = refl; loops = refl }; room = room }
 
-  module _ {s : Evt2Decoder} {at i : ℕ} (p : Skipping2 s at i) (h : i + 3 < length bytes) (w : ℕ)
-      (is-word : w ≡ ahead 4 bytes i) (k : ℕ) (is-type : k ≡ type2 w) where
-    on2 : step2 (p .u) w .time < t → Seeking2 0 t d bytes (step2 (p .u) w) false (i + 4)
-    on2 l = turn2 0 t d bytes (p .here) h w is-word (step2 (p .u) w) refl l k is-type false (sym (none-early (step2 (p .u) w .time) (ltb k 2)))
+  module _ {s : Evt2Decoder} {at i : ℕ} (p : Skipping2 s at i) (h : i + wordSize2 ≤ length bytes) (w : ℕ)
+      (is-word : w ≡ ahead wordSize2 bytes i) (k : ℕ) (is-type : k ≡ type2 w) where
+    on2 : step2 (p .u) w .time < t → Seeking2 0 t d bytes (step2 (p .u) w) false (i + wordSize2)
+    on2 l = iteration2 0 t d bytes (p .here) h w is-word (step2 (p .u) w) refl l k is-type false (sym (none-early (step2 (p .u) w .time) (ltb k 2)))
 
-    pub skip-other2 : (k ≡ 8 → ⊥) → Skipping2 s at (i + 4)
+    pub skip-other2 : (k ≡ 8 → ⊥) → Skipping2 s at (i + wordSize2)
     skip-other2 other =
         let v = step2 (p .u) w in
         let e = kept2 (p .u) w (λ e. other (is-type ∙ e)) in
@@ -98,7 +98,7 @@ module _ (t : ℕ) (d : Evt2Decoder) (bytes : List ℕ) where
       same-next : s′ ≡ step2 (p .u) w
       same-next = is-next ∙ set2 s (p .u) w (p .like) (sym is-type ∙ is-time)
 
-      pub skip-time2 : s′ .time < t → Seeking2 0 t d bytes s′ false (i + 4)
+      pub skip-time2 : s′ .time < t → Seeking2 0 t d bytes s′ false (i + wordSize2)
       skip-time2 l = rw same-next (on2 (rw same-next at l))
 
       pub skip-small2 : s′ .time < t → s′ .time < 2 ^ 63 + 64
@@ -108,7 +108,7 @@ module _ (t : ℕ) (d : Evt2Decoder) (bytes : List ℕ) where
       coarse2 : s′ .«time_high» ≡ s′ .time
       coarse2 = rw (is-next, Evt2.time-word s w (type2 w) refl (sym is-type ∙ is-time) .0)
 
-      pub skip-on2 : s′ .time < t → s′ .time + 64 ≤ t → Skipping2 s′ (i + 4) (i + 4)
+      pub skip-on2 : s′ .time < t → s′ .time + grain2 ≤ t → Skipping2 s′ (i + wordSize2) (i + wordSize2)
       skip-on2 l room = record { marked = skip-time2 l; u = s′; here = skip-time2 l; like = record { high = refl; loops = refl }; room = rw coarse2 room }
 
 -- ---- EVT3: by the times alone
@@ -134,14 +134,14 @@ module _ (t : ℕ) (d : Decoder) (bytes : List ℕ) where
   near3 : {c : Times} {i : ℕ} → Passing 0 t d bytes c false i → c .time < c .base + 4096
   near3 u = rw (u .is) (u .seeking .inv .regular .started (u .on) .0 .near)
 
-  pub skip-start3 : d .initialised ≡ true → Bounded3 (length bytes / wordSize3) d → d .«time_base» + 4096 ≤ t → Skipping3 (timesOf d) 0 0
+  pub skip-start3 : d .initialised ≡ true → Bounded3 (length bytes / wordSize3) d → d .«time_base» + grain3 ≤ t → Skipping3 (timesOf d) 0 0
   skip-start3 on b room =
       let p = passing-start 0 t d bytes on b in
       record { marked = p; e = timesOf d; here = p; like = record { base = refl; loops = refl }; room = room }
 
-  module _ {c : Times} {at i : ℕ} (p : Skipping3 c at i) (h : i + 1 < length bytes) (w : ℕ) (is-word : w ≡ ahead 2 bytes i) (k : ℕ) (is-type : k ≡ type3 w) where
-    on3 : ticked (p .e) w .time < t → Passing 0 t d bytes (ticked (p .e) w) false (i + 2)
-    on3 l = passing-turn 0 t d bytes h w is-word (p .here) (ticked (p .e) w) refl l k is-type false (sym (none-early (ticked (p .e) w .time) (carriesAs k)))
+  module _ {c : Times} {at i : ℕ} (p : Skipping3 c at i) (h : i + wordSize3 ≤ length bytes) (w : ℕ) (is-word : w ≡ ahead wordSize3 bytes i) (k : ℕ) (is-type : k ≡ type3 w) where
+    on3 : ticked (p .e) w .time < t → Passing 0 t d bytes (ticked (p .e) w) false (i + wordSize3)
+    on3 l = passing-next 0 t d bytes h w is-word (p .here) (ticked (p .e) w) refl l k is-type false (sym (none-early (ticked (p .e) w .time) (carriesAs k)))
 
     -- what a word leaves is near its coarse time
     near-next : ticked (p .e) w .time < ticked (p .e) w .base + 4096
@@ -150,7 +150,7 @@ module _ (t : ℕ) (d : Decoder) (bytes : List ℕ) where
         let q : ticked (p .e) w ≡ timesOf (step3 s w) = ap (λ (c : Times). ticked c w) (p .here .is) ∙ sym (step-times s w (p .here .on)) in
         rw q (regular-step3 s w (p .here .seeking .inv .regular) .started (step-on s w (p .here .on)) .0 .near)
 
-    pub skip-other3 : (k ≡ 8 → ⊥) → Skipping3 c at (i + 2)
+    pub skip-other3 : (k ≡ 8 → ⊥) → Skipping3 c at (i + wordSize3)
     skip-other3 other =
         let e = kept3 (p .e) w (λ e. other (is-type ∙ e)) in
         record {
@@ -165,7 +165,7 @@ module _ (t : ℕ) (d : Decoder) (bytes : List ℕ) where
       same-next3 : c′ ≡ ticked (p .e) w
       same-next3 = is-next ∙ set3 c (p .e) w (p .like) (sym is-type ∙ is-time)
 
-      pub skip-time3 : c′ .time < t → Passing 0 t d bytes c′ false (i + 2)
+      pub skip-time3 : c′ .time < t → Passing 0 t d bytes c′ false (i + wordSize3)
       skip-time3 l = rw same-next3 (on3 (rw same-next3 at l))
 
       pub skip-small3 : c′ .time < t → c′ .time < 2 ^ 62 + 4096
@@ -174,21 +174,22 @@ module _ (t : ℕ) (d : Decoder) (bytes : List ℕ) where
       coarse3 : c′ .base ≡ c′ .time
       coarse3 = rw (is-next, sym is-type ∙ is-time)
 
-      pub skip-on3 : c′ .time < t → c′ .time + 4096 ≤ t → Skipping3 c′ (i + 2) (i + 2)
+      pub skip-on3 : c′ .time < t → c′ .time + grain3 ≤ t → Skipping3 c′ (i + wordSize3) (i + wordSize3)
       skip-on3 l room = record { marked = skip-time3 l; e = c′; here = skip-time3 l; like = record { base = refl; loops = refl }; room = rw coarse3 room }
 
   -- the decoder at the mark
-  pub midway3 : {c : Times} {at : ℕ} → d .initialised ≡ true → d .«base_x» < 2 ^ 16 → Passing 0 t d bytes c false at → (e : Decoder) → e ≡ putBehind d (take at bytes) c
+  pub midway3 : {c : Times} {at : ℕ} → d .initialised ≡ true → d .«base_x» < 2 ^ 16 → Passing 0 t d bytes c false at → (e : Decoder)
+      → e ≡ putBehind d (take at bytes) c
       → Midway t (Evt3 d) bytes at (Evt3 e)
   midway3 {c} {at} on column u e is-put =
       let q = u .seeking in
       let came : u .state ≡ run reader3 d (wordsOf wordSize3 (take at bytes))
-      = q .came ∙ ap (run reader3 d) (sym (take-words reader3 2 (omega arith) (q .words) bytes (omega (arith, q .is-at, q .within))) ∙ ap (λ (k : ℕ). wordsOf wordSize3 (take k bytes)) (sym (q .is-at))) in
+      = q .came ∙ ap (run reader3 d) (sym (take-words reader3 wordSize3 (omega arith) (q .words) bytes (omega (arith, q .is-at, q .within))) ∙ ap (λ (k : ℕ). wordsOf wordSize3 (take k bytes)) (sym (q .is-at))) in
       let is : e ≡ u .state = is-put ∙ put-is d (take at bytes) (u .state) on column came c (u .is) in
-      rw is (record { within = q .within; able = rw (length-words 2 (drop at bytes)) at (q .inv); same = seeking-same (omega arith) bounded-step3 q refl Evt3 })
+      rw is (record { within = q .within; able = rw (length-words wordSize3 (drop at bytes)) at (q .inv); same = seeking-same (omega arith) bounded-step3 q refl Evt3 })
 
   -- none
   pub midway-none3 : Bounded3 (length bytes / wordSize3) d → Midway t (Evt3 d) bytes 0 (Evt3 d)
   midway-none3 b =
-      let q : Seeking3 0 t d bytes d false 0 = seeking-start (omega arith) bounded-step3 (rw (length-words 2 bytes) b) in
+      let q : Seeking3 0 t d bytes d false 0 = seeking-start (omega arith) bounded-step3 (rw (length-words wordSize3 bytes) b) in
       record { within = omega arith; able = b; same = seeking-same (omega arith) bounded-step3 q refl Evt3 }

@@ -7,7 +7,7 @@ use borrow.Author.Tests.{eqb-true}
 use Rattle.laws_stream.specs.Loop.{loopsAfter, timeAfter}
 use Rattle.laws_stream.specs.Seek.{Reach}
 use Rattle.evt3_decoder.specs.declared.Decoder.{Decoder}
-use Rattle.evt_types.specs.Layout.{type3, time3}
+use Rattle.evt_types.specs.Layout.{type3, time3, wordSize3, grain3}
 use Rattle.evt3_decoder.specs.Evt3.{kindOn, kindOf, stepAs, step3, period3, threshold3}
 pub use Rattle.read_seek.specs.Seek.{carriesAs}
 use Rattle.read_seek.specs.declared.times.Times.{Times}
@@ -28,7 +28,7 @@ setTo coarse loops = record { base = coarse; time = coarse; loops = loops }
 abbrev pub tickedAs : ℕ → Times → ℕ → Times
 tickedAs k c w =
     cond (eqb k 8)
-    (setTo (timeAfter period3 threshold3 (c .base) (c .loops) (time3 w * 4096)) (loopsAfter period3 threshold3 (c .base) (c .loops) (time3 w * 4096)))
+    (setTo (timeAfter period3 threshold3 (c .base) (c .loops) (time3 w * grain3)) (loopsAfter period3 threshold3 (c .base) (c .loops) (time3 w * grain3)))
     (record { base = c .base; time = cond (eqb k 6) (c .base + time3 w) (c .time); loops = c .loops })
 
 abbrev pub ticked : Times → ℕ → Times
@@ -36,7 +36,7 @@ ticked c w = tickedAs (type3 w) c w
 
 -- what the loop by times alone tells of where a seek ends
 abbrev pub spannedOf : Reach Decoder → Spanned
-spannedOf r = record { at = r .words * 2; stray = r .stray; times = timesOf (r .state) }
+spannedOf r = record { at = r .words * wordSize3; stray = r .stray; times = timesOf (r .state) }
 
 -- a type that has a rule, or none of these
 pub by-type : (P : ℕ → Type 0) (k : ℕ) → P 0 → P 2 → P 3 → P 4 → P 5 → P 6 → P 8

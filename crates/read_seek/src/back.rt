@@ -7,6 +7,7 @@ ghost use Rattle.read_seek.specs.Back.{rowAfter, baseAfter, width};
 use evt_types::fields::bits;
 use evt_types::num::saturating_add;
 use evt_types::words;
+use evt3_decoder::Decoder;
 
 pub struct Column {
     pub x: u16,
@@ -17,10 +18,10 @@ pub struct Column {
 pub fn row(front: &[u8], y: u16) -> u16
     ensures { λ r. ⌜ r ≡ rowAfter y (wordsOf wordSize3 (now (front .entry))) ⌝ }
 {
-    let mut k = front.len() / 2;
+    let mut k = front.len() / Decoder::WORD_SIZE;
     while 0 < k {
         k -= 1;
-        let at = k * 2;
+        let at = k * Decoder::WORD_SIZE;
         let w = words::two_at(front, at);
         let kind = bits(w, 12, 4);
         if kind == 0 {
@@ -46,10 +47,10 @@ pub fn base(front: &[u8], x: u16, p: bool) -> Column
     ensures { λ r. ⌜ r ≡ baseAfter (record { x = x; p = p }) (wordsOf wordSize3 (now (front .entry))) ⌝ }
 {
     let mut by: u64 = 0;
-    let mut k = front.len() / 2;
+    let mut k = front.len() / Decoder::WORD_SIZE;
     while 0 < k {
         k -= 1;
-        let at = k * 2;
+        let at = k * Decoder::WORD_SIZE;
         let w = words::two_at(front, at);
         let kind = bits(w, 12, 4);
         if kind == 3 {

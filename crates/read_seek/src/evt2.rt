@@ -23,7 +23,7 @@ pub fn span2(bytes: &[u8], d: Evt2Decoder, t0: u64, t1: u64) -> Sought
     let mut s = d;
     let mut stray = false;
     let mut i: usize = 0;
-    while i + 3 < bytes.len() {
+    while i + Evt2Decoder::WORD_SIZE <= bytes.len() {
         let w = words::four_at(bytes, i);
         let step = advance(s, w);
         let next = step.next;
@@ -33,7 +33,7 @@ pub fn span2(bytes: &[u8], d: Evt2Decoder, t0: u64, t1: u64) -> Sought
         let kind = bits(w, 28, 4);
         stray = strays(stray, next.time, t0, kind < 2);
         s = next;
-        i += 4;
+        i += Evt2Decoder::WORD_SIZE;
     }
     Sought {
         at: i,
@@ -43,7 +43,7 @@ pub fn span2(bytes: &[u8], d: Evt2Decoder, t0: u64, t1: u64) -> Sought
 }
 
 // To the last time word before t behind which no word reaches t without another: a word's time is
-// less than 64 past the time word's.
+// less than GRAIN past the time word's.
 pub fn skip2(bytes: &[u8], d: Evt2Decoder, t: u64) -> Marked
     requires { ⌜ Bounded2 (length (now bytes) / wordSize2) d ⌝ ∗ ⌜ length (now bytes) ≤ 2 ^ 30 ⌝ }
     ensures { λ r. ⌜ Midway t (Evt2 d) (now (bytes .entry)) (r .at) (r .codec) ⌝ }
@@ -51,15 +51,15 @@ pub fn skip2(bytes: &[u8], d: Evt2Decoder, t: u64) -> Marked
     let mut s = d;
     let mut at: usize = 0;
     let mut i: usize = 0;
-    if t < d.time_high + 64 {
+    if t < d.time_high + Evt2Decoder::GRAIN {
         return Marked {
             at: 0,
             codec: Codec::Evt2(d),
         };
     }
-    while i + 3 < bytes.len() {
+    while i + Evt2Decoder::WORD_SIZE <= bytes.len() {
         let w = words::four_at(bytes, i);
-        i += 4;
+        i += Evt2Decoder::WORD_SIZE;
         let kind = bits(w, 28, 4);
         if kind == 8 {
             let step = advance(s, w);
@@ -69,7 +69,7 @@ pub fn skip2(bytes: &[u8], d: Evt2Decoder, t: u64) -> Marked
             }
             s = next;
             at = i;
-            if t < next.time + 64 {
+            if t < next.time + Evt2Decoder::GRAIN {
                 break;
             }
         }

@@ -35,12 +35,12 @@ pub struct Spanned {
 fn pass(bytes: &[u8], d: Decoder, t0: u64, t1: u64) -> Spanned
     requires { ⌜ d .initialised ≡ true ⌝ ∗ ⌜ Bounded3 (length (now bytes) / wordSize3) d ⌝ ∗ ⌜ length (now bytes) ≤ 2 ^ 30 ⌝ }
     ensures { λ r. ⌜ (r ≡ spannedOf (reach3 t0 t1 d (now (bytes .entry))))
-        × Bounded3 (length (drop (r .at) (now (bytes .entry))) / 2) (reach3 t0 t1 d (now (bytes .entry)) .state) ⌝ }
+        × Bounded3 (length (drop (r .at) (now (bytes .entry))) / wordSize3) (reach3 t0 t1 d (now (bytes .entry)) .state) ⌝ }
 {
     let mut c = times::of(d);
     let mut stray = false;
     let mut i: usize = 0;
-    while i + 1 < bytes.len() {
+    while i + Decoder::WORD_SIZE <= bytes.len() {
         let w = words::two_at(bytes, i);
         let next = times::tick(c, w);
         if t1 <= next.time {
@@ -49,7 +49,7 @@ fn pass(bytes: &[u8], d: Decoder, t0: u64, t1: u64) -> Spanned
         let kind = bits(w, 12, 4);
         stray = strays(stray, next.time, t0, times::carries(kind));
         c = next;
-        i += 2;
+        i += Decoder::WORD_SIZE;
     }
     Spanned {
         at: i,
@@ -67,7 +67,7 @@ fn walk(bytes: &[u8], d: Decoder, t0: u64, t1: u64) -> Sought
     let mut s = widen(d);
     let mut stray = false;
     let mut i: usize = 0;
-    while i + 1 < bytes.len() {
+    while i + Decoder::WORD_SIZE <= bytes.len() {
         let w = words::two_at(bytes, i);
         let step = s.advance(w);
         let next = step.next;
@@ -77,7 +77,7 @@ fn walk(bytes: &[u8], d: Decoder, t0: u64, t1: u64) -> Sought
         let kind = bits(w, 12, 4);
         stray = strays(stray, next.time, t0, times::carries(kind));
         s = next;
-        i += 2;
+        i += Decoder::WORD_SIZE;
     }
     let decoder = s.slim();
     Sought {
@@ -129,7 +129,7 @@ pub struct Stood {
 }
 
 // From a started decoder to the last time word before t behind which no word reaches t without
-// another: a word's time is less than 4,096 past the time word's.
+// another: a word's time is less than GRAIN past the time word's.
 fn stride(bytes: &[u8], d: Decoder, t: u64) -> Stood
     requires { ⌜ d .initialised ≡ true ⌝ ∗ ⌜ Bounded3 (length (now bytes) / wordSize3) d ⌝ ∗ ⌜ length (now bytes) ≤ 2 ^ 30 ⌝ }
     ensures { λ r. ⌜ Passing 0 t d (now (bytes .entry)) (r .times) false (r .at) ⌝ }
@@ -137,12 +137,12 @@ fn stride(bytes: &[u8], d: Decoder, t: u64) -> Stood
     let mut c = times::of(d);
     let mut at: usize = 0;
     let mut i: usize = 0;
-    if t < d.time_base + 4096 {
+    if t < d.time_base + Decoder::GRAIN {
         return Stood { at, times: c };
     }
-    while i + 1 < bytes.len() {
+    while i + Decoder::WORD_SIZE <= bytes.len() {
         let w = words::two_at(bytes, i);
-        i += 2;
+        i += Decoder::WORD_SIZE;
         let kind = bits(w, 12, 4);
         if kind == 8 {
             let next = times::tick(c, w);
@@ -151,7 +151,7 @@ fn stride(bytes: &[u8], d: Decoder, t: u64) -> Stood
             }
             c = next;
             at = i;
-            if t < next.time + 4096 {
+            if t < next.time + Decoder::GRAIN {
                 break;
             }
         }

@@ -38,7 +38,7 @@ pub fn tick(c: Times, word: u64) -> Times
     let kind = bits(word, 12, 4);
     let low = bits(word, 0, 12);
     if kind == 8 {
-        let raw = low * 4096;
+        let raw = low * Decoder::GRAIN;
         let n = clock::after(Decoder::PERIOD, Decoder::THRESHOLD, c.base, c.loops, raw);
         return Times {
             base: n.coarse,

@@ -1,4 +1,4 @@
--- The loop that counts: what is noted of the events handed over, beside what `Turn` has.
+-- The loop that counts: what is noted of the events handed over, beside what `Iteration` has.
 use mathlib.Core.Path.{_≡_, sym, ap, _∙_}
 use mathlib.Core.Bool.{true, false}
 use mathlib.Core.List.{List, []}
@@ -13,12 +13,12 @@ use Rattle.evt_types.specs.Event.{Event, eventsOf}
 use Rattle.read_window.specs.declared.Window.{Window}
 use Rattle.read_window.specs.declared.trim.Trimmed.{Trimmed}
 use Rattle.read_window.specs.declared.extent.Extent.{Extent}
-use Rattle.read_window.specs.Trim.{Picked, masked, masked-count}
+use Rattle.read_window.specs.Trim.{Picked, picked-few, masked, masked-count}
 use Rattle.read_window.specs.Extent.{extentOf, extentWith, extent-none, extent-start, extent-append}
 use Rattle.read_select.specs.declared.word.Notes.{Notes}
 use Rattle.read_select.specs.Word.{Notable, noted, seenIn}
 use Rattle.read_select.specs.Pass.{endOf, surveyOf}
-use Rattle.read_select.specs.Turn.{Source, Laws, Turned, At, all, left, last, leftIf, lastIf, stops, stand-start, stand-end, none-left, narrow-here, number-here, given-left, pend-turn, done-end, done-count}
+use Rattle.read_select.specs.Iteration.{Source, Laws, Iteration, At, all, left, last, leftIf, lastIf, stops, stand-start, stand-end, none-left, narrow-here, number-here, given-left, pend-next, done-end, done-count}
 
 module _ (Q : Source) (win : Window) (number : ℕ) (s₀ : Q .State) (bytes : List ℕ) where
   -- `seen` is noted, and `es` are still to be handed over
@@ -61,15 +61,15 @@ module _ {Q : Source} (L : Laws Q) {win : Window} {number : ℕ} {s₀ : Q .Stat
       counts-end h = record { at = stand-end L (u .at) h; notes = rw (none-left L (u .at) h) at (u .notes) }
 
       -- a word, of whose events r leaves some
-      module _ {s′ : Q .State} {v : Vector} (o : Turned Q bytes i s s′ v) (r : Trimmed) (q : Picked v win (t .number) r) where
+      module _ {s′ : Q .State} {v : Vector} (o : Iteration Q bytes i s s′ v) (r : Trimmed) (q : Picked v win (t .number) r) where
         pub notable-here : Notable t v r
-        notable-here = record { narrow = narrow-here L (u .at) o; low = q .low; few = q .few; number = number-here L (u .at); count = omega (arith, u .at .few, u .at .within, u .at .long) }
+        notable-here = record { narrow = narrow-here L (u .at) o; small = q .small; few = picked-few (narrow-here L (u .at) o .mask<) q; number = number-here L (u .at); count = omega (arith, u .at .few, u .at .within, u .at .long) }
 
-        pub counts-turn : CountsIf Q win number s₀ bytes s′ (noted t v r) (i + Q .size)
-        counts-turn =
-            let small : r .mask < 2 ^ 32 = omega (arith, q .low, narrow-here L (u .at) o .mask<) in
-            let m = masked-count v (r .mask) small in
+        pub counts-next : CountsIf Q win number s₀ bytes s′ (noted t v r) (i + Q .size)
+        counts-next =
+            let m = masked-count v (r .mask) (q .small) in
             record {
-              at = pend-turn L (u .at) o r q (ones (r .mask)) m;
-              notes = sym (extent-append (seenIn t) (eventsOf (masked v (r .mask))) _) ∙ ap (extentWith (seenIn t)) (sym (given-left L (u .at) o r q (ones (r .mask)) m)) ∙ u .notes;
+              at = pend-next L (u .at) o r q (ones (r .mask)) m;
+              notes = sym (extent-append (seenIn t) (eventsOf (masked v (r .mask))) _)
+                  ∙ ap (extentWith (seenIn t)) (sym (given-left L (u .at) o r q (ones (r .mask)) m)) ∙ u .notes;
             }

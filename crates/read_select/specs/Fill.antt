@@ -1,4 +1,4 @@
--- The loop that fills columns: what they hold, beside what `Turn` has.
+-- The loop that fills columns: what they hold, beside what `Iteration` has.
 use mathlib.Core.Path.{_≡_, refl, sym, ap, _∙_}
 use mathlib.Core.Bool.{true, false}
 use mathlib.Core.List.{List, [], _++_}
@@ -11,11 +11,12 @@ use Rattle.laws_stream.specs.Select.{End}
 use Rattle.evt_types.specs.declared.vector.Vector.{Vector}
 use Rattle.evt_types.specs.Event.{Event, eventsOf}
 use Rattle.evt_types.specs.Columns.{Going, Room, Wrote, going-start, going-run, going-end}
+use Rattle.read_columns.specs.Inside.{events-few}
 use Rattle.read_window.specs.declared.Window.{Window}
 use Rattle.read_window.specs.declared.trim.Trimmed.{Trimmed}
-use Rattle.read_window.specs.Trim.{Picked, masked, events-few}
+use Rattle.read_window.specs.Trim.{Picked, picked-few, masked}
 use Rattle.read_select.specs.Pass.{Fits, endOf, filledOf}
-use Rattle.read_select.specs.Turn.{Source, Laws, Turned, At, all, left, last, leftIf, lastIf, stops, stand-start, stand-end, none-left, narrow-here, number-here, given-left, pend-turn, done-end, done-count}
+use Rattle.read_select.specs.Iteration.{Source, Laws, Iteration, At, all, left, last, leftIf, lastIf, stops, stand-start, stand-end, none-left, narrow-here, number-here, given-left, pend-next, done-end, done-count}
 
 module _ (Q : Source) (win : Window) (number : ℕ) (s₀ : Q .State) (bytes : List ℕ) (xs₀ ys₀ : List ℕ) (ts₀ : List ℤ) (ps₀ : List ℕ) where
   -- n events are in the columns, and `es` are still to be written
@@ -33,14 +34,17 @@ module _ (Q : Source) (win : Window) (number : ℕ) (s₀ : Q .State) (bytes : L
   Full xs ys ts ps s k n i = Filling [] (record { number = k; state = s; consumed = 0 }) xs ys ts ps s k n i
 
 module _ {Q : Source} (L : Laws Q) {win : Window} {number : ℕ} {s₀ : Q .State} {bytes : List ℕ} {xs₀ ys₀ : List ℕ} {ts₀ : List ℤ} {ps₀ : List ℕ} where
-  pub fills-start : Q .Inv (length (wordsOf (Q .size) bytes)) s₀ → length bytes ≤ 2 ^ 30 → number ≤ 2 ^ 62 → Fills Q win number s₀ bytes xs₀ ys₀ ts₀ ps₀ xs₀ ys₀ ts₀ ps₀ s₀ number 0 0
+  pub fills-start : Q .Inv (length (wordsOf (Q .size) bytes)) s₀ → length bytes ≤ 2 ^ 30 → number ≤ 2 ^ 62
+      → Fills Q win number s₀ bytes xs₀ ys₀ ts₀ ps₀ xs₀ ys₀ ts₀ ps₀ s₀ number 0 0
   fills-start inv long low = record { at = stand-start L inv long low; going = going-start }
 
   module _ {xs ys : List ℕ} {ts : List ℤ} {ps : List ℕ} {s : Q .State} {k n i : ℕ} where
-    pub fills-on : stops Q win number s₀ bytes k s ≡ false → FillsIf Q win number s₀ bytes xs₀ ys₀ ts₀ ps₀ xs ys ts ps s k n i → Fills Q win number s₀ bytes xs₀ ys₀ ts₀ ps₀ xs ys ts ps s k n i
+    pub fills-on : stops Q win number s₀ bytes k s ≡ false → FillsIf Q win number s₀ bytes xs₀ ys₀ ts₀ ps₀ xs ys ts ps s k n i
+        → Fills Q win number s₀ bytes xs₀ ys₀ ts₀ ps₀ xs ys ts ps s k n i
     fills-on e p = rw e at p
 
-    pub fills-stop : stops Q win number s₀ bytes k s ≡ true → FillsIf Q win number s₀ bytes xs₀ ys₀ ts₀ ps₀ xs ys ts ps s k n i → Full Q win number s₀ bytes xs₀ ys₀ ts₀ ps₀ xs ys ts ps s k n i
+    pub fills-stop : stops Q win number s₀ bytes k s ≡ true → FillsIf Q win number s₀ bytes xs₀ ys₀ ts₀ ps₀ xs ys ts ps s k n i
+        → Full Q win number s₀ bytes xs₀ ys₀ ts₀ ps₀ xs ys ts ps s k n i
     fills-stop e p = rw e at p
 
     pub full : Full Q win number s₀ bytes xs₀ ys₀ ts₀ ps₀ xs ys ts ps s k n i
@@ -49,7 +53,8 @@ module _ {Q : Source} (L : Laws Q) {win : Window} {number : ℕ} {s₀ : Q .Stat
         ap (λ (m : ℕ). record { number = k; count = m; consumed = i / Q .size; codec = Q .codec s }) (done-count L (p .at))
         ∙ ap (λ (e : End (Q .State)). filledOf (endOf (Q .codec) e) (all Q win number s₀ bytes)) (done-end L (p .at))
 
-    pub full-wrote : Fits (length (all Q win number s₀ bytes)) (length xs₀) (length ys₀) (length ts₀) (length ps₀) → Full Q win number s₀ bytes xs₀ ys₀ ts₀ ps₀ xs ys ts ps s k n i
+    pub full-wrote : Fits (length (all Q win number s₀ bytes)) (length xs₀) (length ys₀) (length ts₀) (length ps₀)
+        → Full Q win number s₀ bytes xs₀ ys₀ ts₀ ps₀ xs ys ts ps s k n i
         → Wrote (all Q win number s₀ bytes) 0 xs₀ ys₀ ts₀ ps₀ xs ys ts ps
     full-wrote f p = going-end (omega (arith, f .fit-x)) (omega (arith, f .fit-y)) (omega (arith, f .fit-t)) (omega (arith, f .fit-p)) (p .going)
 
@@ -58,7 +63,7 @@ module _ {Q : Source} (L : Laws Q) {win : Window} {number : ℕ} {s₀ : Q .Stat
       fills-end h = record { at = stand-end L (u .at) h; going = rw (none-left L (u .at) h) at (u .going) }
 
       -- a word, of whose events r leaves those of `kept`
-      module _ {s′ : Q .State} {v : Vector} (o : Turned Q bytes i s s′ v) (fits : Fits (length (all Q win number s₀ bytes)) (length xs₀) (length ys₀) (length ts₀) (length ps₀))
+      module _ {s′ : Q .State} {v : Vector} (o : Iteration Q bytes i s s′ v) (fits : Fits (length (all Q win number s₀ bytes)) (length xs₀) (length ys₀) (length ts₀) (length ps₀))
           (r : Trimmed) (q : Picked v win k r) {kept : Vector} (is-kept : kept ≡ masked v (r .mask)) where
         abbrev given : List Event
         given = eventsOf kept
@@ -77,7 +82,7 @@ module _ {Q : Source} (L : Laws Q) {win : Window} {number : ℕ} {s₀ : Q .Stat
             let g = going-here (length given) refl in
             let cut = length-append given (leftIf Q win number s₀ bytes (stops Q win number s₀ bytes (k + length given + r .extra) s′) (k + length given + r .extra) s′ (i + Q .size)) in
             record {
-              mask = rw is-kept (omega (arith, q .low, b .mask<));
+              mask = rw is-kept (q .small);
               column = rw is-kept (omega (arith, b .x<));
               row = rw is-kept (omega (arith, b .y<));
               time = rw is-kept (b .t<);
@@ -91,17 +96,18 @@ module _ {Q : Source} (L : Laws Q) {win : Window} {number : ℕ} {s₀ : Q .Stat
         module _ (n′ : ℕ) (e : n′ ≡ n + length given) where
           pub number-fits : (n ≤ n′) × (k + (n′ - n) + r .extra < 2 ^ 64)
           number-fits =
-              let few : length given ≤ 32 = events-few 32 32 kept (room-here .mask) in
-              let low : r .extra < 2 ^ 32 = omega (arith, q .few, narrow-here L (u .at) o .mask<) in
+              let few : length given ≤ 32 = events-few kept 32 (room-here .mask) in
+              let more : r .extra ≤ 32 = picked-few (narrow-here L (u .at) o .mask<) q in
               (omega arith, omega (arith, number-here L (u .at)))
 
-          pub fills-turn : {k′ : ℕ} → k′ ≡ k + (n′ - n) + r .extra → {xs′ ys′ : List ℕ} {ts′ : List ℤ} {ps′ : List ℕ} → Wrote given n xs ys ts ps xs′ ys′ ts′ ps′
+          pub fills-next : {k′ : ℕ} → k′ ≡ k + (n′ - n) + r .extra → {xs′ ys′ : List ℕ} {ts′ : List ℤ} {ps′ : List ℕ}
+              → Wrote given n xs ys ts ps xs′ ys′ ts′ ps′
               → FillsIf Q win number s₀ bytes xs₀ ys₀ ts₀ ps₀ xs′ ys′ ts′ ps′ s′ k′ n′ (i + Q .size)
-          fills-turn is-k wrote =
+          fills-next is-k wrote =
               let a = room-here in
               let m : n′ - n ≡ length given = omega (arith, e) in
               let back : n + (n′ - n) ≡ n′ = omega (arith, e) in
               rw is-k (record {
-                at = rw back at (pend-turn L (u .at) o r q (n′ - n) (count-of (n′ - n) m));
+                at = rw back at (pend-next L (u .at) o r q (n′ - n) (count-of (n′ - n) m));
                 going = rw (sym e) at (going-run given (a .room-x) (a .room-y) (a .room-t) (a .room-p) wrote (going-here (n′ - n) m));
               })

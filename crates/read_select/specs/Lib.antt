@@ -1,7 +1,7 @@
 -- What each file is stands at its head.
 pub mod Pass
 pub mod Word
-pub mod Turn
+pub mod Iteration
 pub mod Count
 pub mod Fill
 pub mod Sources

@@ -30,10 +30,10 @@ module _ (a b : List ℕ) (j : ℕ) where
         → byNumber (win .n0) (win .n1) (length (numberedOver win c a)) (numberedOver win (codecAfter c a) b) ≡ take (win .n1 - win .n0) (drop (win .n0) (numberedOver win c (a ++ b)))
     number-from (Evt2 d) h l =
         Select.by-number-from (reading2 win) (selectionOf win) d (wordsOf wordSize2 a) (wordsOf wordSize2 b) l
-        ∙ ap (λ (ws : List ℕ). take (win .n1 - win .n0) (drop (win .n0) (Select.numbered (reading2 win) d ws))) (sym (wordsOf-append 4 (omega arith) j a b h))
+        ∙ ap (λ (ws : List ℕ). take (win .n1 - win .n0) (drop (win .n0) (Select.numbered (reading2 win) d ws))) (sym (wordsOf-append wordSize2 (omega arith) j a b h))
     number-from (Evt3 d) h l =
         Select.by-number-from (reading3 win) (selectionOf win) d (wordsOf wordSize3 a) (wordsOf wordSize3 b) l
-        ∙ ap (λ (ws : List ℕ). take (win .n1 - win .n0) (drop (win .n0) (Select.numbered (reading3 win) d ws))) (sym (wordsOf-append 2 (omega arith) j a b h))
+        ∙ ap (λ (ws : List ℕ). take (win .n1 - win .n0) (drop (win .n0) (Select.numbered (reading3 win) d ws))) (sym (wordsOf-append wordSize3 (omega arith) j a b h))
 
     pub handed-number-from : (c : Codec) → Whole c → Able (length b) (codecAfter c a) → win .t0 ≡ 0 → 2 ^ 63 ≤ win .t1 → length (numberedOver win c a) ≤ win .n0
         → handedOver win (length (numberedOver win c a)) (codecAfter c a) b ≡ take (win .n1 - win .n0) (drop (win .n0) (numberedOver win c (a ++ b)))
@@ -44,11 +44,11 @@ module _ (a b : List ℕ) (j : ℕ) where
     pub time-from : (c : Codec) → Whole c → All (λ e. isTimely win e ≡ false) (numberedOver win c a) → PastOver win c (a ++ b)
         → sift (isTimely win) (untilOver win (codecAfter c a) b) ≡ sift (isTimely win) (numberedOver win c (a ++ b))
     time-from (Evt2 d) h e p =
-        let ws = wordsOf-append 4 (omega arith) j a b h in
+        let ws = wordsOf-append wordSize2 (omega arith) j a b h in
         Select.by-time-from (reading2 win) (selectionOf win) d (wordsOf wordSize2 a) (wordsOf wordSize2 b) e (rw ws at p)
         ∙ ap (λ (ws : List ℕ). sift (isTimely win) (Select.numbered (reading2 win) d ws)) (sym ws)
     time-from (Evt3 d) h e p =
-        let ws = wordsOf-append 2 (omega arith) j a b h in
+        let ws = wordsOf-append wordSize3 (omega arith) j a b h in
         Select.by-time-from (reading3 win) (selectionOf win) d (wordsOf wordSize3 a) (wordsOf wordSize3 b) e (rw ws at p)
         ∙ ap (λ (ws : List ℕ). sift (isTimely win) (Select.numbered (reading3 win) d ws)) (sym ws)
 

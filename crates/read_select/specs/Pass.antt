@@ -61,8 +61,8 @@ pub record Paced3 (n : ℕ) (d : Decoder) : Type 0 where
 
 -- the decoder takes so many bytes, and no sum wraps
 abbrev pub Able : ℕ → Codec → Type 0
-Able bytes (Evt2 d) = Bounded2 (bytes / 4) d
-Able bytes (Evt3 d) = Paced3 (bytes / 2) d
+Able bytes (Evt2 d) = Bounded2 (bytes / wordSize2) d
+Able bytes (Evt3 d) = Paced3 (bytes / wordSize3) d
 
 pub record Ready (c : Codec) (number bytes : ℕ) : Type 0 where
   pub able : Able bytes c

@@ -1,7 +1,7 @@
 -- The two decoders as sources of a pass.
 use mathlib.Core.Path.{_≡_, refl, ap, _∙_}
 use mathlib.Core.List.{List}
-use Prim.Native.Nat.{ℕ, _+_, _≤_, _<_, _^_}
+use Prim.Native.Nat.{ℕ, _+_, _-_, _≤_, _<_, _^_}
 use native.Mathlib.Omega.{arith}
 use lib.ListN.{length}
 use Rattle.laws_stream.specs.Words.{wordsOf, length-words}
@@ -16,12 +16,12 @@ use Rattle.evt2_decoder.specs.Range.{Bounded2, bounded-step2, bounded-narrow2}
 use Rattle.evt3_decoder.specs.Range.{Bounded3, bounded-step3, bounded-narrow3}
 use Rattle.evt_types.specs.Ahead.{ahead, ahead-some}
 use Rattle.read_select.specs.Pass.{Ready}
-use Rattle.read_select.specs.Turn.{Source, Laws, Turned}
+use Rattle.read_select.specs.Iteration.{Source, Laws, Iteration}
 
 abbrev pub source2 : Source
 source2 = record {
   State = Evt2Decoder;
-  size = 4;
+  size = wordSize2;
   machine = reader2;
   live = λ d. d .initialised;
   time = λ d. d .time;
@@ -33,7 +33,7 @@ source2 = record {
 abbrev pub source3 : Source
 source3 = record {
   State = Decoder;
-  size = 2;
+  size = wordSize3;
   machine = reader3;
   live = λ d. d .initialised;
   time = λ d. d .time;
@@ -50,10 +50,10 @@ laws3 = record { some = omega arith; emits = λ d w. refl; steps = bounded-step3
 
 -- a pass that is asked for what it may be
 pub inv2 : {number : ℕ} (d : Evt2Decoder) (l : List ℕ) → Ready (Evt2 d) number (length l) → Bounded2 (length (wordsOf wordSize2 l)) d
-inv2 d l r = rw (length-words 4 l) (r .able)
+inv2 d l r = rw (length-words wordSize2 l) (r .able)
 
 pub inv3 : {number : ℕ} (d : Decoder) (l : List ℕ) → Ready (Evt3 d) number (length l) → d .«base_x» < 2 ^ 16 → Bounded3 (length (wordsOf wordSize3 l)) d
-inv3 d l r x = rw (length-words 2 l) (record { regular = r .able .regular; loops = r .able .loops; column = x })
+inv3 d l r x = rw (length-words wordSize3 l) (record { regular = r .able .regular; loops = r .able .loops; column = x })
 
 -- an EVT2 word has one event at most
 mask2 : (d : Evt2Decoder) (w : ℕ) → vector2 d w .mask ≤ 1
@@ -62,17 +62,19 @@ mask2 d w = by-kinds (λ k. vectorAs k d w .mask ≤ 1) (type2 w) (d .initialise
 
 -- ---- a word as the loops read it, and its step
 
-pub turned2 : {l : List ℕ} {i w : ℕ} {s s′ : Evt2Decoder} {v : Vector} → i + 3 < length l → w ≡ ahead 4 l i → s′ ≡ step2 s w → v ≡ vector2 s w → Turned source2 l i s s′ v
-turned2 {l = l} {i = i} {s = s} h e n m =
-    let whole : i + 4 ≤ length l = omega arith in
-    let is = e ∙ ahead-some 4 l i whole in
-    record { h = whole; is-next = n ∙ ap (step2 s) is; is-events = m ∙ ap (vector2 s) is }
+iteration : {Q : Source} {l : List ℕ} {i w : ℕ} {s s′ : Q .State} {v : Vector}
+    → i + Q .size ≤ length l → w ≡ ahead (Q .size) l i → s′ ≡ Q .machine .step s w → v ≡ Q .vector s w → Iteration Q l i s s′ v
+iteration {Q} {l} {i} {w} {s} h e n m =
+    let is = e ∙ ahead-some (Q .size) l i h in
+    record { h = h; is-next = n ∙ ap (Q .machine .step s) is; is-events = m ∙ ap (Q .vector s) is }
 
-pub turned3 : {l : List ℕ} {i w : ℕ} {s s′ : Decoder} {v : Vector} → i + 1 < length l → w ≡ ahead 2 l i → s′ ≡ step3 s w → v ≡ vector3 s w → Turned source3 l i s s′ v
-turned3 {l = l} {i = i} {s = s} h e n m =
-    let whole : i + 2 ≤ length l = omega arith in
-    let is = e ∙ ahead-some 2 l i whole in
-    record { h = whole; is-next = n ∙ ap (step3 s) is; is-events = m ∙ ap (vector3 s) is }
+pub iteration2 : {l : List ℕ} {i w : ℕ} {s s′ : Evt2Decoder} {v : Vector}
+    → i + (wordSize2 - 1) < length l → w ≡ ahead wordSize2 l i → s′ ≡ step2 s w → v ≡ vector2 s w → Iteration source2 l i s s′ v
+iteration2 h e n m = iteration {Q = source2} (omega arith) e n m
 
-pub mask-here : {l : List ℕ} {i : ℕ} {s s′ : Evt2Decoder} {v : Vector} → Turned source2 l i s s′ v → v .mask ≤ 1
+pub iteration3 : {l : List ℕ} {i w : ℕ} {s s′ : Decoder} {v : Vector}
+    → i + (wordSize3 - 1) < length l → w ≡ ahead wordSize3 l i → s′ ≡ step3 s w → v ≡ vector3 s w → Iteration source3 l i s s′ v
+iteration3 h e n m = iteration {Q = source3} (omega arith) e n m
+
+pub mask-here : {l : List ℕ} {i : ℕ} {s s′ : Evt2Decoder} {v : Vector} → Iteration source2 l i s s′ v → v .mask ≤ 1
 mask-here {s = s} o = rw (o .is-events) (mask2 s _)

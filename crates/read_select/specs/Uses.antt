@@ -18,28 +18,27 @@ use Rattle.evt_codec.specs.declared.codec.Codec.{Codec}
 use Rattle.evt_codec.specs.declared.codec.Codec.the-variants.{Evt2, Evt3}
 use Rattle.evt_types.specs.declared.vector.Vector.{Vector}
 use Rattle.evt_types.specs.Event.{Event, eventAt, eventsOf}
-use Rattle.evt_types.specs.Layout.{type3, time3, wordSize2, wordSize3}
+use Rattle.evt_types.specs.Layout.{type3, time3, wordSize2, wordSize3, grain3}
 use Rattle.evt2_decoder.specs.Evt2.{reader2, vector2}
 use Rattle.evt3_decoder.specs.Evt3 as Evt3
 use Rattle.evt3_decoder.specs.Evt3.{reader3, step3, vector3, period3, threshold3}
 use Rattle.evt_codec.specs.Codec.{inRangeC, wordSize, eventsFrom, codecAfter}
 use Rattle.evt2_decoder.specs.Range.{Bounded2, bounded-range2, bounded-step2, bounded-narrow2}
 use Rattle.evt3_decoder.specs.Range.{Bounded3, regular-range3, regular-step3}
-use Rattle.read_columns.specs.Inside.{inside, clock}
+use Rattle.read_columns.specs.Inside.{inside, clock, all-mapped}
 use Rattle.read_window.specs.declared.Window.{Window}
 use Rattle.read_window.specs.Window.{selectionOf, reading, reading2, reading3}
-use Rattle.read_window.specs.Trim.{all-mapped}
 use Rattle.read_select.specs.Pass.{handedOver, endOver, endOf, Paced3, Able}
 
 -- ---- a decoder in range is able
 
 pub able-range : (c : Codec) (bytes : ℕ) → inRangeC c ≡ true → bytes ≤ 2 ^ 30 → Able bytes c
-able-range (Evt2 d) bytes h l = bounded-range2 (bytes / 4) d h (omega arith)
+able-range (Evt2 d) bytes h l = bounded-range2 (bytes / wordSize2) d h (omega arith)
 able-range (Evt3 d) bytes h l =
     let r = regular-range3 d h in
     record { regular = r .0; loops = omega (arith, r .1) }
 
-pub able-bounded3 : (bytes : ℕ) {d : Decoder} → Bounded3 (bytes / 2) d → Able bytes (Evt3 d)
+pub able-bounded3 : (bytes : ℕ) {d : Decoder} → Bounded3 (bytes / wordSize3) d → Able bytes (Evt3 d)
 able-bounded3 bytes b = record { regular = b .regular; loops = b .loops }
 
 -- ---- no time reaches 2^63
@@ -68,7 +67,7 @@ unfolding step3
 loops3 d w =
     let same : d .«high_loops» ≤ suc (d .«high_loops») = omega arith in
     Evt3.by-kinds (λ k. Evt3.stepAs k d w .«high_loops» ≤ suc (d .«high_loops»)) (type3 w) (d .initialised)
-    (λ o. same) (λ o. loops-one period3 threshold3 (d .«time_base») (d .«high_loops») (time3 w * 4096) .1)
+    (λ o. same) (λ o. loops-one period3 threshold3 (d .«time_base») (d .«high_loops») (time3 w * grain3) .1)
     (λ o. same) (λ o. same) (λ o. same) (λ o. same) (λ o. same) (λ o. same) same
 
 time3-lt : (n : ℕ) (d : Decoder) → Paced3 n d → d .time < 2 ^ 63
@@ -136,15 +135,15 @@ module _ (win : Window) where
 
   -- no decoder on the way reaches t1
   pub calm2 : 2 ^ 63 ≤ win .t1 → (d : Evt2Decoder) (l : List ℕ) → Able (length l) (Evt2 d) → Calm2 d l
-  calm2 no-end d l a = calm timed2 (λ d. d .initialised) win no-end d (wordsOf wordSize2 l) (rw (length-words 4 l) a)
+  calm2 no-end d l a = calm timed2 (λ d. d .initialised) win no-end d (wordsOf wordSize2 l) (rw (length-words wordSize2 l) a)
 
   pub calm3 : 2 ^ 63 ≤ win .t1 → (d : Decoder) (l : List ℕ) → Able (length l) (Evt3 d) → Calm3 d l
-  calm3 no-end d l a = calm timed3 (λ d. d .initialised) win no-end d (wordsOf wordSize3 l) (rw (length-words 2 l) a)
+  calm3 no-end d l a = calm timed3 (λ d. d .initialised) win no-end d (wordsOf wordSize3 l) (rw (length-words wordSize3 l) a)
 
   -- every event is in time
   pub all-timely : (c : Codec) (l : List ℕ) → Able (length l) c → win .t0 ≡ 0 → 2 ^ 63 ≤ win .t1 → All (λ e. isTimely win e ≡ true) (numberedOver win c l)
-  all-timely (Evt2 d) l a z no-end = in-window timed2 (λ d. d .initialised) win no-end d (wordsOf wordSize2 l) (rw (length-words 4 l) a) z
-  all-timely (Evt3 d) l a z no-end = in-window timed3 (λ d. d .initialised) win no-end d (wordsOf wordSize3 l) (rw (length-words 2 l) a) z
+  all-timely (Evt2 d) l a z no-end = in-window timed2 (λ d. d .initialised) win no-end d (wordsOf wordSize2 l) (rw (length-words wordSize2 l) a) z
+  all-timely (Evt3 d) l a z no-end = in-window timed3 (λ d. d .initialised) win no-end d (wordsOf wordSize3 l) (rw (length-words wordSize3 l) a) z
 
   -- ---- where the window has all times
 
@@ -153,7 +152,8 @@ module _ (win : Window) where
     pub over-by-number : (k : ℕ) → handedOver win k c l ≡ byNumber (win .n0) (win .n1) k (numberedOver win c l)
     over-by-number k = go c able (all-timely c l able no-start no-end)
       where
-        go : (c : Codec) → Able (length l) c → All (λ e. isTimely win e ≡ true) (numberedOver win c l) → handedOver win k c l ≡ byNumber (win .n0) (win .n1) k (numberedOver win c l)
+        go : (c : Codec) → Able (length l) c → All (λ e. isTimely win e ≡ true) (numberedOver win c l)
+            → handedOver win k c l ≡ byNumber (win .n0) (win .n1) k (numberedOver win c l)
         go (Evt2 d) a t = Select.handed-by-number (reading2 win) (selectionOf win) k d (wordsOf wordSize2 l) (calm2 no-end d l a) t
         go (Evt3 d) a t = Select.handed-by-number (reading3 win) (selectionOf win) k d (wordsOf wordSize3 l) (calm3 no-end d l a) t
 
@@ -161,7 +161,8 @@ module _ (win : Window) where
     pub over-limit : win .n0 ≡ 0 → handedOver win 0 c l ≡ take (win .n1) (numberedOver win c l)
     over-limit z = go c able (all-timely c l able no-start no-end)
       where
-        go : (c : Codec) → Able (length l) c → All (λ e. isTimely win e ≡ true) (numberedOver win c l) → handedOver win 0 c l ≡ take (win .n1) (numberedOver win c l)
+        go : (c : Codec) → Able (length l) c → All (λ e. isTimely win e ≡ true) (numberedOver win c l)
+            → handedOver win 0 c l ≡ take (win .n1) (numberedOver win c l)
         go (Evt2 d) a t = Select.handed-limit (reading2 win) (selectionOf win) d (wordsOf wordSize2 l) z (calm2 no-end d l a) t
         go (Evt3 d) a t = Select.handed-limit (reading3 win) (selectionOf win) d (wordsOf wordSize3 l) z (calm3 no-end d l a) t
 
@@ -169,7 +170,8 @@ module _ (win : Window) where
     pub over-all : (k : ℕ) → win .n0 ≤ k → k + length (numberedOver win c l) ≤ win .n1 → handedOver win k c l ≡ numberedOver win c l
     over-all k lo hi = go c able lo hi (all-timely c l able no-start no-end)
       where
-        go : (c : Codec) → Able (length l) c → win .n0 ≤ k → k + length (numberedOver win c l) ≤ win .n1 → All (λ e. isTimely win e ≡ true) (numberedOver win c l)
+        go : (c : Codec) → Able (length l) c → win .n0 ≤ k → k + length (numberedOver win c l) ≤ win .n1
+            → All (λ e. isTimely win e ≡ true) (numberedOver win c l)
             → handedOver win k c l ≡ numberedOver win c l
         go (Evt2 d) a lo hi t = Select.handed-all (reading2 win) (selectionOf win) k d (wordsOf wordSize2 l) lo hi (calm2 no-end d l a) t
         go (Evt3 d) a lo hi t = Select.handed-all (reading3 win) (selectionOf win) k d (wordsOf wordSize3 l) lo hi (calm3 no-end d l a) t
@@ -178,9 +180,9 @@ module _ (win : Window) where
   pub over-all-end : (c : Codec) (l : List ℕ) → Able (length l) c → 2 ^ 63 ≤ win .t1 → (k : ℕ) → k + length (numberedOver win c l) < win .n1
       → endOver win k c l ≡ endAfterAll win k c l
   over-all-end (Evt2 d) l a no-end k hi =
-      ap (endOf Evt2) (Select.ended-all (reading2 win) (selectionOf win) k d (wordsOf wordSize2 l) hi (calm2 no-end d l a)) ∙ rw (length-words 4 l)
+      ap (endOf Evt2) (Select.ended-all (reading2 win) (selectionOf win) k d (wordsOf wordSize2 l) hi (calm2 no-end d l a)) ∙ rw (length-words wordSize2 l)
   over-all-end (Evt3 d) l a no-end k hi =
-      ap (endOf Evt3) (Select.ended-all (reading3 win) (selectionOf win) k d (wordsOf wordSize3 l) hi (calm3 no-end d l a)) ∙ rw (length-words 2 l)
+      ap (endOf Evt3) (Select.ended-all (reading3 win) (selectionOf win) k d (wordsOf wordSize3 l) hi (calm3 no-end d l a)) ∙ rw (length-words wordSize3 l)
 
   -- ---- BY TIME: where the window has all numbers
 

@@ -28,7 +28,7 @@ noted t v r = record {
 -- no sum wraps
 pub record Notable (t : Notes) (v : Vector) (r : Trimmed) : Type 0 where
   pub narrow : Narrow v
-  pub low : r .mask ≤ v .mask
-  pub few : r .extra ≤ v .mask
+  pub small : r .mask < 2 ^ 32
+  pub few : r .extra ≤ 32
   pub number : t .number < 2 ^ 62 + 2 ^ 61
   pub count : t .count ≤ 2 ^ 62

@@ -15,6 +15,10 @@ use evt2_decoder::advance;
 use read_window::Window;
 use read_window::trim;
 
+// Where a word's last byte is, counted from its first. The loops here test for it: by the size of a word
+// they measured slower.
+const LAST_BYTE: usize = Evt2Decoder::WORD_SIZE - 1;
+
 // Counts the events that the window leaves of each word.
 pub fn survey2(bytes: &[u8], d: Evt2Decoder, win: Window, number: u64) -> SurveyTotals
     requires { ⌜ Ready (Evt2 d) number (length (now bytes)) ⌝ }
@@ -29,12 +33,12 @@ pub fn survey2(bytes: &[u8], d: Evt2Decoder, win: Window, number: u64) -> Survey
         height: 0,
     };
     let mut i: usize = 0;
-    while i + 3 < bytes.len() {
+    while i + LAST_BYTE < bytes.len() {
         let w = words::four_at(bytes, i);
         let step = advance(s, w);
         let v = step.events;
         s = step.next;
-        i += 4;
+        i += Evt2Decoder::WORD_SIZE;
         let r = word::cut2(v, win, t.number);
         t = word::note(t, v, r);
         if trim::stopped(win, t.number, s.initialised, s.time) {
@@ -47,7 +51,7 @@ pub fn survey2(bytes: &[u8], d: Evt2Decoder, win: Window, number: u64) -> Survey
         latest: t.latest,
         width: t.width,
         height: t.height,
-        consumed: i / 4,
+        consumed: i / Evt2Decoder::WORD_SIZE,
         codec: Codec::Evt2(s),
     }
 }
@@ -74,12 +78,12 @@ pub fn fill2(
     let mut k = number;
     let mut n: usize = 0;
     let mut i: usize = 0;
-    while i + 3 < bytes.len() {
+    while i + LAST_BYTE < bytes.len() {
         let w = words::four_at(bytes, i);
         let step = advance(s, w);
         let v = step.events;
         s = step.next;
-        i += 4;
+        i += Evt2Decoder::WORD_SIZE;
         let r = word::cut2(v, win, k);
         let kept = word::masked(v, r.mask);
         let was = n;
@@ -92,7 +96,7 @@ pub fn fill2(
     Filled {
         number: k,
         count: n,
-        consumed: i / 4,
+        consumed: i / Evt2Decoder::WORD_SIZE,
         codec: Codec::Evt2(s),
     }
 }

@@ -15,6 +15,10 @@ use evt3_decoder::widen;
 use read_window::Window;
 use read_window::trim;
 
+// Where a word's last byte is, counted from its first. The loops here test for it: by the size of a word
+// they measured slower.
+const LAST_BYTE: usize = Decoder::WORD_SIZE - 1;
+
 // Counts the events that the window leaves of each word.
 pub fn survey3(bytes: &[u8], d: Decoder, win: Window, number: u64) -> SurveyTotals
     requires { ⌜ Ready (Evt3 d) number (length (now bytes)) ⌝ }
@@ -29,12 +33,12 @@ pub fn survey3(bytes: &[u8], d: Decoder, win: Window, number: u64) -> SurveyTota
         height: 0,
     };
     let mut i: usize = 0;
-    while i + 1 < bytes.len() {
+    while i + LAST_BYTE < bytes.len() {
         let w = words::two_at(bytes, i);
         let step = s.advance(w);
         let v = step.events;
         s = step.next;
-        i += 2;
+        i += Decoder::WORD_SIZE;
         let r = word::cut3(v, win, t.number);
         t = word::note(t, v, r);
         if trim::stopped(win, t.number, s.initialised, s.time) {
@@ -48,7 +52,7 @@ pub fn survey3(bytes: &[u8], d: Decoder, win: Window, number: u64) -> SurveyTota
         latest: t.latest,
         width: t.width,
         height: t.height,
-        consumed: i / 2,
+        consumed: i / Decoder::WORD_SIZE,
         codec: Codec::Evt3(decoder),
     }
 }
@@ -75,12 +79,12 @@ pub fn fill3(
     let mut k = number;
     let mut n: usize = 0;
     let mut i: usize = 0;
-    while i + 1 < bytes.len() {
+    while i + LAST_BYTE < bytes.len() {
         let w = words::two_at(bytes, i);
         let step = s.advance(w);
         let v = step.events;
         s = step.next;
-        i += 2;
+        i += Decoder::WORD_SIZE;
         let r = word::keep3(v, win, k);
         let kept = word::masked(v, r.mask);
         let was = n;
@@ -94,7 +98,7 @@ pub fn fill3(
     Filled {
         number: k,
         count: n,
-        consumed: i / 2,
+        consumed: i / Decoder::WORD_SIZE,
         codec: Codec::Evt3(decoder),
     }
 }

@@ -10,7 +10,7 @@ ghost use Rattle.read_select.specs.Pass.{Ready, Fits, handedOver, survey
 use evt_codec::Codec;
 pub use read_window::Window;
 
-// What a survey tells: the next event's number, how many events were handed over, their greatest
+// What a survey tells: the next event's number, how many events were handed over, their maximum
 // time, column plus 1 and row plus 1 (0 of no events), the words consumed, and the decoder.
 pub struct SurveyTotals {
     pub number: u64,

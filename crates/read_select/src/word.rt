@@ -54,7 +54,16 @@ pub fn cut3(v: Vector, win: Window, k: u64) -> Trimmed
     if v.mask == 0 {
         return Trimmed { mask: 0, extra: 0 };
     }
-    trim::trim(v, win, k)
+    if v.mask == 1 {
+        return trim::single(v, win, k);
+    }
+    if trim::whole(v, win, k) {
+        return Trimmed {
+            mask: v.mask,
+            extra: 0,
+        };
+    }
+    trim::pick(v, win, k)
 }
 
 // `cut3` for `fill3`: with two callers it would stay a call, and cost a third more.
@@ -65,7 +74,16 @@ pub fn keep3(v: Vector, win: Window, k: u64) -> Trimmed
     if v.mask == 0 {
         return Trimmed { mask: 0, extra: 0 };
     }
-    trim::trim(v, win, k)
+    if v.mask == 1 {
+        return trim::single(v, win, k);
+    }
+    if trim::whole(v, win, k) {
+        return Trimmed {
+            mask: v.mask,
+            extra: 0,
+        };
+    }
+    trim::pick(v, win, k)
 }
 
 // The next event's number, after a word of which n - was events were handed over and `extra` more

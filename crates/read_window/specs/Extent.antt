@@ -1,4 +1,4 @@
--- The greatest time, column and row of events.
+-- The maximum time, column and row of events.
 use mathlib.Core.Path.{_≡_, sym, ap, _∙_}
 use mathlib.Core.List.{List, [], _++_, map}
 use Prim.Native.Nat.{ℕ, _+_, _-_, _≤_, _<_, _^_, max, min}
@@ -10,7 +10,7 @@ use Rattle.evt_types.specs.declared.vector.Vector.{Vector}
 use Rattle.evt_types.specs.Event.{Event, eventAt, eventsOf}
 use Rattle.read_window.specs.declared.extent.Extent.{Extent}
 
--- of events: the greatest time, the greatest column plus 1, the greatest row plus 1, each 0 of none
+-- of events: the maximum time, the maximum column plus 1, the maximum row plus 1, each 0 of none
 abbrev pub extentOf : List Event → Extent
 extentOf es = record { latest = greatest (λ e. e .t) es; width = greatest (λ e. e .x + 1) es; height = greatest (λ e. e .y + 1) es }
 
@@ -26,7 +26,8 @@ noExtent = record { latest = 0; width = 0; height = 0 }
 
 -- ---- laws
 
-extent-is : {a b c a′ b′ c′ : ℕ} → a ≡ a′ → b ≡ b′ → c ≡ c′ → _≡_ {A = Extent} (record { latest = a; width = b; height = c }) (record { latest = a′; width = b′; height = c′ })
+extent-is : {a b c a′ b′ c′ : ℕ} → a ≡ a′ → b ≡ b′ → c ≡ c′
+    → _≡_ {A = Extent} (record { latest = a; width = b; height = c }) (record { latest = a′; width = b′; height = c′ })
 extent-is p q r = λ i. record { latest = p i; width = q i; height = r i }
 
 pub extent-none : (n : Extent) → extentWith n [] ≡ n
@@ -50,10 +51,12 @@ module _ (v : Vector) (some : v .mask ≡ 0 → ⊥) (h : v .mask < 2 ^ 32) wher
   pub zeros-lt : leadingZeros 64 (v .mask) < 64
   zeros-lt = omega (arith, leading-top 64 (v .mask) (omega arith) (omega arith) .1)
 
-  by-top : (f : Event → ℕ) → ((a b : ℕ) → a ≤ b → f (eventAt v a) ≤ f (eventAt v b)) → greatest f (eventsOf v) ≡ f (eventAt v (v .x + (63 - leadingZeros 64 (v .mask))))
+  by-top : (f : Event → ℕ) → ((a b : ℕ) → a ≤ b → f (eventAt v a) ≤ f (eventAt v b))
+      → greatest f (eventsOf v) ≡ f (eventAt v (v .x + (63 - leadingZeros 64 (v .mask))))
   by-top f rises =
       greatest-map f (eventAt v) (bits 32 (v .x) (v .mask))
       ∙ greatest-leading (λ a. f (eventAt v a)) rises 32 64 (v .x) (v .mask) (omega arith) h (omega arith)
 
-  pub extent-top : (n : Extent) → extentWith n (eventsOf v) ≡ joined n (record { latest = v .t; width = min (v .x + (63 - leadingZeros 64 (v .mask))) 65535 + 1; height = v .y + 1 })
+  pub extent-top : (n : Extent)
+      → extentWith n (eventsOf v) ≡ joined n (record { latest = v .t; width = min (v .x + (63 - leadingZeros 64 (v .mask))) 65535 + 1; height = v .y + 1 })
   extent-top n = ap (joined n) (extent-is (by-top (λ e. e .t) (λ a b l. omega arith)) (by-top (λ e. e .x + 1) (λ a b l. omega arith)) (by-top (λ e. e .y + 1) (λ a b l. omega arith)))

@@ -1,4 +1,4 @@
-// The greatest time, column and row of events, for a recording that names no size.
+// The maximum time, column and row of events, for a recording that names no size.
 ghost use mathlib.Core.Path.{_≡_};
 ghost use Rattle.evt_types.specs.Event.{Narrow, eventsOf};
 ghost use Rattle.read_window.specs.Extent.{extentWith};
@@ -6,7 +6,7 @@ use evt_types::num::max_u64;
 use evt_types::num::saturate;
 use evt_types::vector::Vector;
 
-// The greatest time, and the greatest column and row plus 1; 0 of no events.
+// The maximum time, and the maximum column and row plus 1; 0 of no events.
 pub struct Extent {
     pub latest: u64,
     pub width: u64,

@@ -1,12 +1,14 @@
-// Which events of one word a window hands over.
+// Which events of one word a window hands over, numbered from k on: `single` of a word with one event,
+// `whole` tells whether it is all of them, and `pick` goes bit by bit. The loops keep all numbers small
+// enough that no sum wraps.
 ghost use mathlib.Core.Path.{_≡_};
 ghost use Prim.Native.Nat.{_+_, _<_, _^_};
 ghost use Rattle.evt_types.specs.Event.{Narrow};
 ghost use Rattle.read_window.specs.Window.{isWithin, isSpanned, isStopped};
-ghost use Rattle.read_window.specs.Trim.{Pickable, Picked, isWhole, isSkipped};
+ghost use Rattle.read_window.specs.Trim.{cleared, Picked, PickedBits, isWhole, isSkipped};
 use crate::Window;
 use evt_types::num::inside;
-use evt_types::num::saturate;
+use evt_types::num::saturating_add;
 use evt_types::vector::Vector;
 
 // The bits of the events that are handed over, and how many events are numbered besides.
@@ -43,8 +45,8 @@ pub fn stopped(win: Window, k: u64, started: bool, time: u64) -> bool
 }
 
 // Each event of v is handed over.
-fn whole(v: Vector, win: Window, k: u64) -> bool
-    requires { ⌜ Pickable v k ⌝ }
+pub fn whole(v: Vector, win: Window, k: u64) -> bool
+    requires { ⌜ Narrow v ⌝ ∗ ⌜ k < 2 ^ 63 ⌝ }
     ensures { λ r. ⌜ r ≡ isWhole v win k ⌝ }
 {
     if v.y < win.height {
@@ -68,7 +70,7 @@ fn whole(v: Vector, win: Window, k: u64) -> bool
 
 // Each event of v, whose row is inside, is numbered, and none is handed over.
 fn skips(v: Vector, win: Window, k: u64) -> bool
-    requires { ⌜ Pickable v k ⌝ }
+    requires { ⌜ Narrow v ⌝ ∗ ⌜ k < 2 ^ 63 ⌝ }
     ensures { λ r. ⌜ r ≡ isSkipped v win k ⌝ }
 {
     if v.x + 32 <= win.width {
@@ -82,10 +84,26 @@ fn skips(v: Vector, win: Window, k: u64) -> bool
     }
 }
 
-// Bit by bit, for where an edge of the window may be: rare, and recursive to stay out of the loops.
-fn pick(v: Vector, win: Window, k: u64) -> Trimmed
-    requires { ⌜ Pickable v k ⌝ }
-    ensures { λ r. ⌜ Picked v win k r ⌝ }
+// v without its lowest set bit.
+fn clear_lowest(v: Vector) -> Vector
+    requires { ⌜ 0 < v .mask ⌝ }
+    ensures { λ r. ⌜ r ≡ cleared v ⌝ }
+{
+    Vector {
+        x: v.x,
+        y: v.y,
+        t: v.t,
+        p: v.p,
+        mask: v.mask & (v.mask - 1),
+    }
+}
+
+// What the window leaves of v where an edge of it may be, bit by bit: the lowest set bit goes first, and
+// is then cleared. That is rare. It is recursive, since a loop here is inlined into the loops over
+// words and makes them slower.
+pub fn pick(v: Vector, win: Window, k: u64) -> Trimmed
+    requires { ⌜ Narrow v ⌝ ∗ ⌜ k + v .mask < 2 ^ 63 ⌝ }
+    ensures { λ r. ⌜ PickedBits v win k r ⌝ }
 {
     let mask = v.mask;
     if mask == 0 {
@@ -100,56 +118,26 @@ fn pick(v: Vector, win: Window, k: u64) -> Trimmed
             extra: u64::count_ones(mask) as u64,
         };
     }
-    let rest = Vector {
-        x: v.x + 1,
-        y: v.y,
-        t: v.t,
-        p: v.p,
-        mask: mask / 2,
-    };
-    if mask % 2 == 0 {
-        let r = pick(rest, win, k);
-        return Trimmed {
-            mask: r.mask * 2,
-            extra: r.extra,
-        };
-    }
-    if win.width <= saturate(v.x) {
-        let r = pick(rest, win, k);
-        return Trimmed {
-            mask: r.mask * 2,
-            extra: r.extra,
-        };
+    let rest = clear_lowest(v);
+    let i = u64::trailing_zeros(mask) as u64;
+    if win.width <= saturating_add(v.x, i) {
+        return pick(rest, win, k);
     }
     let r = pick(rest, win, k + 1);
     if spans(win, k, v.t) {
         Trimmed {
-            mask: r.mask * 2 + 1,
+            mask: r.mask | (1 << i),
             extra: r.extra,
         }
     } else {
         Trimmed {
-            mask: r.mask * 2,
+            mask: r.mask,
             extra: r.extra + 1,
         }
     }
 }
 
-// Several bits.
-fn several(v: Vector, win: Window, k: u64) -> Trimmed
-    requires { ⌜ Pickable v k ⌝ }
-    ensures { λ r. ⌜ Picked v win k r ⌝ }
-{
-    if whole(v, win, k) {
-        return Trimmed {
-            mask: v.mask,
-            extra: 0,
-        };
-    }
-    pick(v, win, k)
-}
-
-// `trim` where the lowest bit alone is set, as in EVT2.
+// What the window leaves of v where the lowest bit alone is set, as in EVT2.
 pub fn single(v: Vector, win: Window, k: u64) -> Trimmed
     requires { ⌜ (v .mask ≡ 1) × (v .x < 65536) ⌝ }
     ensures { λ r. ⌜ Picked v win k r ⌝ }
@@ -162,18 +150,5 @@ pub fn single(v: Vector, win: Window, k: u64) -> Trimmed
         }
     } else {
         Trimmed { mask: 0, extra: 0 }
-    }
-}
-
-// What the window leaves of v, whose events are numbered from k on. The loops keep all numbers small
-// enough that no sum wraps.
-pub fn trim(v: Vector, win: Window, k: u64) -> Trimmed
-    requires { ⌜ Narrow v ⌝ ∗ ⌜ k < 2 ^ 62 + 2 ^ 61 ⌝ }
-    ensures { λ r. ⌜ Picked v win k r ⌝ }
-{
-    if v.mask == 1 {
-        single(v, win, k)
-    } else {
-        several(v, win, k)
     }
 }

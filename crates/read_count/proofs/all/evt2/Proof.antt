@@ -1,4 +1,4 @@
--- `read_count::all::evt2` meets its contract. The loop: `Counting`; the limit is the decoder's, and the word was read ahead.
+-- `read_count::all::evt2` meets its contract. The loop: `Counting`; the bound is the decoder's, and the word was read ahead.
 use native.Mathlib.Omega.{arith}
 use mathlib.Core.Logic.{⊎-elim}
 use borrow.Author.Needs.{needs}
@@ -10,23 +10,24 @@ use Rattle.evt2_decoder.specs.Evt2.{reader2}
 use Rattle.evt2_decoder.specs.Range.{Bounded2, bounded-step2, bounded-sane2}
 use Rattle.read_count.specs.Counting.{Counting, counting-start, counting-end}
 use Rattle.evt_types.specs.Ahead.{ahead}
-use Rattle.read_count.specs.Quick.{limitOf}
+use Rattle.evt_types.specs.Layout.{wordSize2}
+use Rattle.read_count.specs.Evt2Inside.{keyBound}
 use Rattle.read_fill.specs.Loops.{start2, few2}
-use Rattle.read_count.specs.Loops.{Word2, seen-few, seen-turn, unseen-turn}
+use Rattle.read_count.specs.Loops.{Word2, event-few, event-next, other-next}
 use Rattle.read_count.proofs.all.evt2.Statement.{statement}
 use Rattle.read_count.proofs.all.evt2.Tie as tie
 
 abbrev Inv-loop : tie.InvT-loop
-Inv-loop bytes width height s₀ limit₀ n₀ top₀ i₀ w₀ s limit n top i w =
-    Counting 4 reader2 Bounded2 width height s₀ bytes s n top i × (limit ≡ limitOf (s .initialised) width) × (w ≡ ahead 4 bytes i)
+Inv-loop bytes width height s₀ bound₀ n₀ top₀ i₀ w₀ s bound n top i w =
+    Counting wordSize2 reader2 Bounded2 width height s₀ bytes s n top i × (bound ≡ keyBound (s .initialised) width) × (w ≡ ahead wordSize2 bytes i)
 
 abbrev μ-loop : tie.MeasureT-loop
-μ-loop bytes width height s₀ limit₀ n₀ top₀ i₀ w₀ s limit n top i w = length bytes - i
+μ-loop bytes width height s₀ bound₀ n₀ top₀ i₀ w₀ s bound n top i w = length bytes - i
 
 loop-holds : tie.Need-loop-holds Inv-loop μ-loop
 loop-holds c = (
   counting-start (omega arith) bounded-step2 (start2 (now (c .before .before .before .args .bytes)) (c .before .before .before .pre)),
-  c .before .limit .ensures,
+  c .before .key-bound .ensures,
   c .four-at .ensures,
 )
 
@@ -39,8 +40,8 @@ add-n c =
     let inv = c .before .before .before .before .before .loop .inv in
     omega (
       arith,
-      seen-few (record { more = c .before .before .before .before .loop-test .taken; is-word = inv .2; is-limit = inv .1 }) (inv .0)
-          (sym (c .before .before .before .seen .ensures) ∙ c .before .before .if1 .taken),
+      event-few (record { more = c .before .before .before .before .loop-test .taken; is-word = inv .2; is-bound = inv .1 }) (inv .0)
+          (sym (c .before .before .before .is-event-inside .ensures) ∙ c .before .before .if1 .taken),
       few2 (a .width) (a .height) (a .d) (now (a .bytes)),
     )
 
@@ -51,16 +52,16 @@ loop-again : tie.Need-loop-again Inv-loop μ-loop
 loop-again c =
     let l = c .before .before .before .before .loop in
     let x = c .before .before .before .before .before .before .before .before .args in
-    let a : Word2 (x .width) (x .height) (now (x .bytes)) (l .s) (l .limit) (l .i) (l .w) =
-    record { more = c .before .before .before .loop-test .taken; is-word = l .inv .2; is-limit = l .inv .1 } in
-    let e = sym (c .before .before .seen .ensures) in
+    let a : Word2 (x .width) (x .height) (now (x .bytes)) (l .s) (l .bound) (l .i) (l .w) =
+    record { more = c .before .before .before .loop-test .taken; is-word = l .inv .2; is-bound = l .inv .1 } in
+    let e = sym (c .before .before .is-event-inside .ensures) in
     ⊎-elim
     (λ q. (
-      rw (q .4, q .6, q .7) (seen-turn a (l .inv .0) (e ∙ q .0 .taken) (l .s .«time_high» + q .1 .result) (rw (q .1 .ensures)) (q .3 .ensures)),
+      rw (q .4, q .6, q .7) (event-next a (l .inv .0) (e ∙ q .0 .taken) (l .s .«time_high» + q .1 .result) (rw (q .1 .ensures)) (q .3 .ensures)),
       rw (q .4, q .5) (l .inv .1),
       c .four-at2 .ensures,
     ))
-    (λ q. (rw (q .4, q .6, q .7) (unseen-turn a (l .inv .0) (e ∙ q .0 .left) (q .1 .ensures .0)), rw (q .4, q .5) (q .3 .ensures), c .four-at2 .ensures))
+    (λ q. (rw (q .4, q .6, q .7) (other-next a (l .inv .0) (e ∙ q .0 .left) (q .1 .ensures .0)), rw (q .4, q .5) (q .3 .ensures), c .four-at2 .ensures))
     (c .before .if1 .came)
 
 returns : tie.Need-returns Inv-loop μ-loop

@@ -10,38 +10,38 @@ use Rattle.evt3_decoder.specs.Evt3.{reader3, slimmed}
 use Rattle.evt3_decoder.specs.Range.{Bounded3, bounded-step3, bounded-sane3, bounded-slim3}
 use Rattle.read_count.specs.Counting.{Counting, counting-start}
 use Rattle.evt_types.specs.Ahead.{ahead}
-use Rattle.read_count.specs.Glance.{scanned}
+use Rattle.read_count.specs.Evt3Step.{decoderOf}
 use Rattle.read_fill.specs.Loops.{few3}
-use Rattle.read_count.specs.Loops.{started3, ended3, glance-few, glance-turn}
+use Rattle.read_count.specs.Loops.{started3, ended3, word3-few, word3-next}
 use Rattle.read_count.proofs.all.evt3.Statement.{statement}
 use Rattle.read_count.proofs.all.evt3.Tie as tie
 
 abbrev Inv-loop : tie.InvT-loop
-Inv-loop bytes width height spans vects table wide s₀ n₀ top₀ i₀ w₀ s n top i w =
-    Counting wordSize3 reader3 Bounded3 width height (slimmed (scanned s₀)) bytes (slimmed (scanned s)) n top i × (w ≡ ahead 2 bytes i)
+Inv-loop bytes width height spans vects counts bound s₀ n₀ top₀ i₀ w₀ s n top i w =
+    Counting wordSize3 reader3 Bounded3 width height (slimmed (decoderOf s₀)) bytes (slimmed (decoderOf s)) n top i × (w ≡ ahead wordSize3 bytes i)
 
 abbrev μ-loop : tie.MeasureT-loop
-μ-loop bytes width height spans vects table wide s₀ n₀ top₀ i₀ w₀ s n top i w = length bytes - i
+μ-loop bytes width height spans vects counts bound s₀ n₀ top₀ i₀ w₀ s n top i w = length bytes - i
 
 loop-holds : tie.Need-loop-holds Inv-loop μ-loop
 loop-holds c =
     let s = c .before .before .before .before .before .before .before .before in (
       counting-start (omega arith) bounded-step3
-          (started3 (now (s .args .bytes)) (ap slimmed (c .before .of .ensures ∙ c .before .before .widen .ensures .0)) (s .pre)),
+          (started3 (now (s .args .bytes)) (ap slimmed (c .before .counting .ensures ∙ c .before .before .widen .ensures .0)) (s .pre)),
       c .two-at .ensures,
     )
 
-glance-requires : tie.Need-glance-requires Inv-loop μ-loop
-glance-requires c κs =
+table-step-requires : tie.Need-table-step-requires Inv-loop μ-loop
+table-step-requires c κs =
     let inv = c .before .before .before .loop .inv .0 .stand .inv in
     let span-table = c .before .before .before .before .before .before .before .before .before .before .span-table in
     let vect-table = c .before .before .before .before .before .before .before .before .before .vect-table in
     (bounded-sane3 inv, (bounded-slim3 inv, (span-table .ensures, vect-table .ensures)))
 
-count-requires : tie.Need-count-requires Inv-loop μ-loop
-count-requires c κs = (
-  (c .before .before .glance .ensures .column, c .before .before .glance .ensures .mask),
-  c .before .before .before .before .before .before .before .before .before .before .before .table .ensures,
+count-inside-requires : tie.Need-count-inside-requires Inv-loop μ-loop
+count-inside-requires c κs = (
+  (c .before .before .table-step .ensures .column, c .before .before .table-step .ensures .mask),
+  c .before .before .before .before .before .before .before .before .before .before .before .bit-counts .ensures,
 )
 
 add-n : tie.Need-add-n Inv-loop μ-loop
@@ -50,15 +50,15 @@ add-n c =
     let inv = c .before .before .before .before .before .before .before .loop .inv in
     omega (
       arith,
-      glance-few (record {
+      word3-few (record {
         more = c .before .before .before .before .before .before .loop-test .taken;
         is-word = inv .1;
-        glanced = c .before .before .before .glance .ensures;
-        is-wide = c .before .before .before .before .before .before .before .before .before .before .before .wide .ensures;
-        is-count = c .count .ensures;
+        agrees = c .before .before .before .table-step .ensures;
+        is-bound = c .before .before .before .before .before .before .before .before .before .before .before .column-bound .ensures;
+        is-count = c .count-inside .ensures;
       }) (inv .0),
       few3 (s .args .width) (s .args .height)
-          (slimmed (scanned (c .before .before .before .before .before .before .before .before .before .of .result)))
+          (slimmed (decoderOf (c .before .before .before .before .before .before .before .before .before .counting .result)))
           (now (s .args .bytes)),
       s .pre .loops,
     )
@@ -80,23 +80,23 @@ two-at-requires-2 c κs =
 loop-again : tie.Need-loop-again Inv-loop μ-loop
 loop-again c =
     let b = c .before .before .before .before .before .before .before .before in (
-      glance-turn (record {
+      word3-next (record {
         more = b .loop-test .taken;
         is-word = b .before .loop .inv .1;
-        glanced = c .before .before .before .before .before .glance .ensures;
-        is-wide = b .before .before .before .before .before .wide .ensures;
-        is-count = c .before .before .count .ensures;
+        agrees = c .before .before .before .before .before .table-step .ensures;
+        is-bound = b .before .before .before .before .before .column-bound .ensures;
+        is-count = c .before .before .count-inside .ensures;
       }) (b .before .loop .inv .0) (c .before .later .ensures),
       c .two-at2 .ensures,
     )
 
 slim-requires : tie.Need-slim-requires Inv-loop μ-loop
-slim-requires c κs = rw (c .wide2 .ensures) (bounded-slim3 (c .before .before .loop .inv .0 .stand .inv))
+slim-requires c κs = rw (c .wide .ensures) (bounded-slim3 (c .before .before .loop .inv .0 .stand .inv))
 
 returns : tie.Need-returns Inv-loop μ-loop
 returns c =
-    ended3 (ap slimmed (c .before .before .before .before .before .of .ensures ∙ c .before .before .before .before .before .before .widen .ensures .0))
-    (c .before .before .before .loop .inv .0) (omega arith) (c .slim .result) (c .slim .ensures ∙ ap slimmed (c .before .wide2 .ensures))
+    ended3 (ap slimmed (c .before .before .before .before .before .counting .ensures ∙ c .before .before .before .before .before .before .widen .ensures .0))
+    (c .before .before .before .loop .inv .0) (omega arith) (c .slim .result) (c .slim .ensures ∙ ap slimmed (c .before .wide .ensures))
 
 pub evt3-spec : {M : Type 1} → statement M
 evt3-spec =
@@ -108,8 +108,8 @@ evt3-spec =
     (λ c κs. search needs) (λ c κs. search needs)
     loop-holds
     (λ c. omega arith)
-    glance-requires
-    count-requires
+    table-step-requires
+    count-inside-requires
     add-n
     (λ c κs. search needs)
     add-i

@@ -1,4 +1,4 @@
--- `read_count::to::evt2` meets its contract. The loop: `Passing`; the limit is the decoder's, and the word was read ahead.
+-- `read_count::to::evt2` meets its contract. The loop: `Passing`; the bound is the decoder's, and the word was read ahead.
 use mathlib.Core.Path.{_≡_, sym, _∙_}
 use mathlib.Core.Logic.{⊎-elim}
 use Prim.Native.Nat.{_+_, _-_}
@@ -10,23 +10,24 @@ use Rattle.evt2_decoder.specs.Evt2.{reader2}
 use Rattle.evt2_decoder.specs.Range.{Bounded2, bounded-step2, bounded-sane2}
 use Rattle.read_count.specs.Passing.{Passing, passing-start, passing-end}
 use Rattle.evt_types.specs.Ahead.{ahead}
-use Rattle.read_count.specs.Quick.{limitOf}
+use Rattle.evt_types.specs.Layout.{wordSize2}
+use Rattle.read_count.specs.Evt2Inside.{keyBound}
 use Rattle.read_fill.specs.Loops.{start2}
-use Rattle.read_count.specs.Loops.{Word2, seen-stop, seen-pass, unseen-pass}
+use Rattle.read_count.specs.Loops.{Word2, event-stop, event-pass, other-pass}
 use Rattle.read_count.proofs.to.evt2.Statement.{statement}
 use Rattle.read_count.proofs.to.evt2.Tie as tie
 
 abbrev Inv-loop : tie.InvT-loop
-Inv-loop bytes width height most s₀ limit₀ n₀ i₀ w₀ s limit n i w =
-    Passing 4 reader2 Bounded2 width height most s₀ bytes s n i × (limit ≡ limitOf (s .initialised) width) × (w ≡ ahead 4 bytes i)
+Inv-loop bytes width height most s₀ bound₀ n₀ i₀ w₀ s bound n i w =
+    Passing wordSize2 reader2 Bounded2 width height most s₀ bytes s n i × (bound ≡ keyBound (s .initialised) width) × (w ≡ ahead wordSize2 bytes i)
 
 abbrev μ-loop : tie.MeasureT-loop
-μ-loop bytes width height most s₀ limit₀ n₀ i₀ w₀ s limit n i w = length bytes - i
+μ-loop bytes width height most s₀ bound₀ n₀ i₀ w₀ s bound n i w = length bytes - i
 
 loop-holds : tie.Need-loop-holds Inv-loop μ-loop
 loop-holds c = (
   passing-start (omega arith) bounded-step2 (start2 (now (c .before .before .before .args .bytes)) (c .before .before .before .pre)),
-  c .before .limit .ensures,
+  c .before .key-bound .ensures,
   c .four-at .ensures,
 )
 
@@ -40,16 +41,16 @@ loop-again : tie.Need-loop-again Inv-loop μ-loop
 loop-again c =
     let l = c .before .before .before .before .loop in
     let x = c .before .before .before .before .before .before .before .before .args in
-    let a : Word2 (x .width) (x .height) (now (x .bytes)) (l .s) (l .limit) (l .i) (l .w) =
-    record { more = c .before .before .before .loop-test .taken; is-word = l .inv .2; is-limit = l .inv .1 } in
-    let e = sym (c .before .before .seen .ensures) in
+    let a : Word2 (x .width) (x .height) (now (x .bytes)) (l .s) (l .bound) (l .i) (l .w) =
+    record { more = c .before .before .before .loop-test .taken; is-word = l .inv .2; is-bound = l .inv .1 } in
+    let e = sym (c .before .before .is-event-inside .ensures) in
     ⊎-elim
     (λ q. (
-      rw (q .4, q .6) (seen-pass a (l .inv .0) (e ∙ q .0 .taken) (l .s .«time_high» + q .2 .result) (rw (q .2 .ensures)) (omega arith)),
+      rw (q .4, q .6) (event-pass a (l .inv .0) (e ∙ q .0 .taken) (l .s .«time_high» + q .2 .result) (rw (q .2 .ensures)) (omega arith)),
       rw (q .4, q .5) (l .inv .1),
       c .four-at2 .ensures,
     ))
-    (λ q. (rw (q .4, q .6) (unseen-pass a (l .inv .0) (e ∙ q .0 .left) (q .1 .ensures .0)), rw (q .4, q .5) (q .3 .ensures), c .four-at2 .ensures))
+    (λ q. (rw (q .4, q .6) (other-pass a (l .inv .0) (e ∙ q .0 .left) (q .1 .ensures .0)), rw (q .4, q .5) (q .3 .ensures), c .four-at2 .ensures))
     (c .before .if1 .came)
 
 returns : tie.Need-returns Inv-loop μ-loop
@@ -58,8 +59,8 @@ returns c = passing-end (omega arith) bounded-step2 (c .before .loop .inv .0) (o
 returns-2 : tie.Need-returns-2 Inv-loop μ-loop
 returns-2 c =
     let inv = c .before .before .before .before .loop .inv in
-    seen-stop (record { more = c .before .before .before .loop-test .taken; is-word = inv .2; is-limit = inv .1 }) (inv .0)
-    (sym (c .before .before .seen .ensures) ∙ c .before .if1 .taken) (c .if2 .taken)
+    event-stop (record { more = c .before .before .before .loop-test .taken; is-word = inv .2; is-bound = inv .1 }) (inv .0)
+    (sym (c .before .before .is-event-inside .ensures) ∙ c .before .if1 .taken) (c .if2 .taken)
 
 pub evt2-spec : {M : Type 1} → statement M
 evt2-spec =

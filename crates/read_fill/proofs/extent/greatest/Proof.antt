@@ -1,4 +1,4 @@
--- `read_fill::extent::greatest` meets its contract. The loop: the greatest so far and that of the rest are the whole's.
+-- `read_fill::extent::greatest` meets its contract. The loop: the maximum so far and that of the rest are the whole's.
 use mathlib.Core.Path.{_≡_}
 use mathlib.Core.Logic.{⊎-elim}
 use Prim.Native.Nat.{_-_, _≤_, max}

@@ -1,29 +1,30 @@
--- `read_fill::fill::evt2` meets its contract. The loop: `Filling`, of Turn.
+-- `read_fill::fill::evt2` meets its contract. The loop: `Filling`, of Iteration.
 use Prim.Native.Nat.{_-_, _≤_}
 use native.Mathlib.Omega.{arith}
 use lib.ListN.{length}
 use denote.Ref.{now}
 use Rattle.evt_types.specs.Event.{Narrow}
+use Rattle.evt_types.specs.Layout.{wordSize2}
 use Rattle.evt2_decoder.specs.Evt2.{reader2}
 use Rattle.evt2_decoder.specs.Range.{Bounded2, bounded-step2, bounded-sane2}
-use Rattle.read_fill.specs.Turn.{Turn, Filling, filling-start, filling-room, filling-turn, filling-end}
-use Rattle.read_fill.specs.Loops.{start2, turn2, small2}
+use Rattle.read_fill.specs.Iteration.{Iteration, Filling, filling-start, filling-room, filling-next, filling-end}
+use Rattle.read_fill.specs.Loops.{start2, iteration2, small2}
 use Rattle.read_fill.proofs.fill.evt2.Statement.{statement}
 use Rattle.read_fill.proofs.fill.evt2.Tie as tie
 
 abbrev Inv-loop : tie.InvT-loop
-Inv-loop bytes width height xs₀ ys₀ ts₀ ps₀ s₀ n₀ i₀ xs ys ts ps s n i = Filling 4 reader2 Bounded2 width height s₀ bytes xs₀ ys₀ ts₀ ps₀ xs ys ts ps s n i
+Inv-loop bytes width height xs₀ ys₀ ts₀ ps₀ s₀ n₀ i₀ xs ys ts ps s n i = Filling wordSize2 reader2 Bounded2 width height s₀ bytes xs₀ ys₀ ts₀ ps₀ xs ys ts ps s n i
 
 abbrev μ-loop : tie.MeasureT-loop
 μ-loop bytes width height xs₀ ys₀ ts₀ ps₀ s₀ n₀ i₀ xs ys ts ps s n i = length bytes - i
 
 -- the word's step, and its events
-turn : (c : tie.After-s Inv-loop μ-loop) →
+iteration : (c : tie.After-s Inv-loop μ-loop) →
     let k = c .before .before .before .before .before .loop in
-    Turn 4 reader2 (now (c .before .before .before .before .before .before .before .before .before .before .args .bytes)) (k .s) (k .i)
+    Iteration wordSize2 reader2 (now (c .before .before .before .before .before .before .before .before .before .before .args .bytes)) (k .s) (k .i)
     (c .before .before .advance .result .next) (c .before .before .advance .result .events)
-turn c =
-    turn2 (c .before .before .before .before .loop-test .taken) (c .before .before .before .four-at .result)
+iteration c =
+    iteration2 (c .before .before .before .before .loop-test .taken) (c .before .before .before .four-at .result)
     (c .before .before .before .four-at .ensures) (c .before .before .advance .result) (c .before .before .advance .ensures)
 
 small : (c : tie.After-s Inv-loop μ-loop) →
@@ -44,7 +45,7 @@ put1-requires : tie.Need-put1-requires Inv-loop μ-loop
 put1-requires c κs = (
   filling-room (omega arith) bounded-step2
       (c .before .before .before .before .before .before .before .before .before .before .before .before .before .before .pre .1)
-      (c .before .before .before .before .before .before .before .before .before .loop .inv) (turn (c .before .before .before .before))
+      (c .before .before .before .before .before .before .before .before .before .loop .inv) (iteration (c .before .before .before .before))
       (small (c .before .before .before .before) .0),
   small (c .before .before .before .before) .1,
 )
@@ -52,10 +53,10 @@ put1-requires c κs = (
 loop-again : tie.Need-loop-again Inv-loop μ-loop
 loop-again c =
     let put1 = c .before .before .before .before .before .before .before .put1 .ensures in
-    rw (put1 .0) (filling-turn (omega arith) bounded-step2 (c .before .before .before .before .before .before .before .before .before
+    rw (put1 .0) (filling-next (omega arith) bounded-step2 (c .before .before .before .before .before .before .before .before .before
     .before .before .before .before .before .before .before .before .before .before .before .before .before .pre .1)
     (c .before .before .before .before .before .before .before .before .before .before .before .before .before .before .before .before .before .loop .inv)
-    (turn (c .before .before .before .before .before .before .before .before .before .before .before .before))
+    (iteration (c .before .before .before .before .before .before .before .before .before .before .before .before))
     (small (c .before .before .before .before .before .before .before .before .before .before .before .before) .0) (put1 .1))
 
 returns : tie.Need-returns Inv-loop μ-loop

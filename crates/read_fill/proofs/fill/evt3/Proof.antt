@@ -1,4 +1,4 @@
--- `read_fill::fill::evt3` meets its contract. The loop: `Filling`, of Turn, over the decoder as its public struct has it.
+-- `read_fill::fill::evt3` meets its contract. The loop: `Filling`, of Iteration, over the decoder as its public struct has it.
 use Prim.Native.Nat.{_-_}
 use native.Mathlib.Omega.{arith}
 use borrow.Author.Needs.{needs}
@@ -8,8 +8,8 @@ use Rattle.evt_types.specs.Layout.{wordSize3}
 use Rattle.evt_types.specs.Event.{Narrow}
 use Rattle.evt3_decoder.specs.Evt3.{reader3, slimmed}
 use Rattle.evt3_decoder.specs.Range.{Bounded3, bounded-step3, bounded-sane3, bounded-slim3}
-use Rattle.read_fill.specs.Turn.{Fits, insideAll, Turn, Filling, filling-start, filling-room, filling-turn, filling-end}
-use Rattle.read_fill.specs.Loops.{start3, turn3, small3}
+use Rattle.read_fill.specs.Iteration.{Fits, insideAll, Iteration, Filling, filling-start, filling-room, filling-next, filling-end}
+use Rattle.read_fill.specs.Loops.{start3, iteration3, small3}
 use Rattle.read_fill.proofs.fill.evt3.Statement.{statement}
 use Rattle.read_fill.proofs.fill.evt3.Tie as tie
 
@@ -28,12 +28,12 @@ fits-at : (c : tie.After-widen Inv-loop μ-loop) →
 fits-at c = rw (c .widen .ensures .0) (c .before .before .before .before .before .pre .1)
 
 -- the word's step, and its events
-turn : (c : tie.After-clean Inv-loop μ-loop) →
+iteration : (c : tie.After-clean Inv-loop μ-loop) →
     let k = c .before .before .before .before .before .loop in
-    Turn wordSize3 reader3 (now (c .before .before .before .before .before .before .before .before .before .before .before .args .bytes))
+    Iteration wordSize3 reader3 (now (c .before .before .before .before .before .before .before .before .before .before .before .args .bytes))
     (slimmed (k .s)) (k .i) (slimmed (c .before .before .advance .result .next)) (c .before .before .advance .result .events)
-turn c =
-    turn3 (c .before .before .before .before .loop-test .taken) (c .before .before .before .two-at .result)
+iteration c =
+    iteration3 (c .before .before .before .before .loop-test .taken) (c .before .before .before .two-at .result)
     (c .before .before .before .two-at .ensures) (c .before .before .advance .result) (c .before .before .advance .ensures)
 
 small : (c : tie.After-clean Inv-loop μ-loop) → Narrow (c .before .before .advance .result .events)
@@ -52,17 +52,17 @@ advance-requires c κs = bounded-sane3 (c .before .before .loop .inv .stand .inv
 place-requires : tie.Need-place-requires Inv-loop μ-loop
 place-requires c κs =
     filling-room (omega arith) bounded-step3 (fits-at (c .before .before .before .before .before .before .before .before .before .before))
-    (c .before .before .before .before .before .before .before .before .before .loop .inv) (turn (c .before .before .before .before))
+    (c .before .before .before .before .before .before .before .before .before .loop .inv) (iteration (c .before .before .before .before))
     (small (c .before .before .before .before))
 
 loop-again : tie.Need-loop-again Inv-loop μ-loop
 loop-again c =
     let place = c .before .before .before .before .before .before .before .place .ensures in
     rw (c .before .before .before .before .before .before .before .before .before .before .before .before .clean .ensures, place .0)
-    (filling-turn (omega arith) bounded-step3 (fits-at
+    (filling-next (omega arith) bounded-step3 (fits-at
     (c .before .before .before .before .before .before .before .before .before .before .before .before .before .before .before .before .before .before))
     (c .before .before .before .before .before .before .before .before .before .before .before .before .before .before .before .before .before .loop .inv)
-    (turn (c .before .before .before .before .before .before .before .before .before .before .before .before))
+    (iteration (c .before .before .before .before .before .before .before .before .before .before .before .before))
     (small (c .before .before .before .before .before .before .before .before .before .before .before .before)) (place .1))
 
 returns : tie.Need-returns Inv-loop μ-loop

@@ -3,7 +3,7 @@ use native.Mathlib.Omega.{arith}
 use borrow.Author.Needs.{needs}
 use Prim.Native.Nat.{_-_}
 use denote.Ref.{now}
-use Rattle.read_seek.specs.Back.{Baseless, baseless-start, baseless-turn, base-found, base-none, width-small}
+use Rattle.read_seek.specs.Back.{Baseless, baseless-start, baseless-next, base-found, base-none, width-small}
 use Rattle.read_seek.proofs.back.base.Statement.{statement}
 use Rattle.read_seek.proofs.back.base.Tie as tie
 
@@ -29,7 +29,7 @@ loop-again : tie.Need-loop-again Inv-loop μ-loop
 loop-again c =
     let k = c .before .before .before .before .before .before .loop in
     let two-at = c .before .before .before .before .two-at in
-    baseless-turn (now (c .before .before .before .before .before .before .before .before .args .front)) (k .k) (k .k - 1) (omega arith)
+    baseless-next (now (c .before .before .before .before .before .before .before .before .args .front)) (k .k) (k .k - 1) (omega arith)
     (two-at .result) (two-at .ensures) (c .before .before .before .bits .result) (c .before .before .before .bits .ensures) (k .inv)
     (c .before .before .if1 .left) (c .saturating-add2 .result) (c .saturating-add2 .ensures ∙ rw (c .before .moves .ensures))
 

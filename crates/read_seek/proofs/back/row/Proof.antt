@@ -3,7 +3,7 @@ use borrow.Author.Needs.{needs}
 use mathlib.Core.Path.{_≡_, _∙_}
 use Prim.Native.Nat.{_-_}
 use denote.Ref.{now}
-use Rattle.read_seek.specs.Back.{Rowless, rowless-start, rowless-turn, row-found, row-none}
+use Rattle.read_seek.specs.Back.{Rowless, rowless-start, rowless-next, row-found, row-none}
 use Rattle.read_seek.proofs.back.row.Statement.{statement}
 use Rattle.read_seek.proofs.back.row.Tie as tie
 
@@ -24,7 +24,7 @@ returns c =
 loop-again : tie.Need-loop-again Inv-loop μ-loop
 loop-again c =
     let k = c .before .before .before .before .loop .k in
-    rowless-turn (now (c .before .before .before .before .before .before .args .front)) k (k - 1) (omega arith)
+    rowless-next (now (c .before .before .before .before .before .before .args .front)) k (k - 1) (omega arith)
     (c .before .before .two-at .result) (c .before .before .two-at .ensures) (c .before .bits .result) (c .before .bits .ensures)
     (c .before .before .before .before .loop .inv) (c .if1 .left)
 

@@ -4,7 +4,7 @@ use borrow.Author.Needs.{needs}
 use lib.ListN.{length}
 use denote.Ref.{now}
 use Rattle.evt2_decoder.specs.Range.{bounded-sane2}
-use Rattle.read_seek.specs.Loops.{Seeking2, start2, end2, stop2, turn2}
+use Rattle.read_seek.specs.Loops.{Seeking2, start2, end2, stop2, iteration2}
 use Rattle.read_seek.proofs.evt2.span2.Statement.{statement}
 use Rattle.read_seek.proofs.evt2.span2.Tie as tie
 
@@ -21,7 +21,7 @@ loop-again : tie.Need-loop-again Inv-loop μ-loop
 loop-again c =
     let b = c .before .before .before .before .before in
     let a = b .before .before .before .before .before .args in
-    turn2 (a .t0) (a .t1) (a .d) (now (a .bytes)) (b .before .before .before .loop .inv) (b .before .before .loop-test .taken)
+    iteration2 (a .t0) (a .t1) (a .d) (now (a .bytes)) (b .before .before .before .loop .inv) (b .before .before .loop-test .taken)
     (b .before .four-at .result) (b .before .four-at .ensures) (b .advance .result .next) (b .advance .ensures .0)
     (c .before .before .if1 .left) (c .before .bits .result) (c .before .bits .ensures) (c .strays .result) (c .strays .ensures)
 

@@ -9,7 +9,7 @@ use Rattle.evt_types.specs.Layout.{wordSize3}
 use Rattle.evt3_decoder.specs.declared.Decoder.{Decoder}
 use Rattle.evt3_decoder.specs.Range.{Bounded3}
 use Rattle.read_seek.specs.Times.{timesOf}
-use Rattle.read_seek.specs.Loops.{Passing, passing-start, passing-end, passing-slow, passing-stop, passing-turn}
+use Rattle.read_seek.specs.Loops.{Passing, passing-start, passing-end, passing-slow, passing-stop, passing-next}
 use Rattle.read_seek.proofs.evt3.pass.Statement.{statement}
 use Rattle.read_seek.proofs.evt3.pass.Tie as tie
 
@@ -42,7 +42,7 @@ loop-again : tie.Need-loop-again Inv-loop μ-loop
 loop-again c =
     let b′ = c .before .before .before .before .before in
     let a = b′ .before .before .before .before .before .before .args in
-    λ d on is b. passing-turn (a .t0) (a .t1) d (now (a .bytes)) (b′ .before .before .loop-test .taken) (b′ .before .two-at .result)
+    λ d on is b. passing-next (a .t0) (a .t1) d (now (a .bytes)) (b′ .before .before .loop-test .taken) (b′ .before .two-at .result)
     (b′ .before .two-at .ensures) (b′ .before .before .before .loop .inv d on is b) (b′ .tick .result) (b′ .tick .ensures)
     (c .before .before .before .if1 .left) (c .before .before .bits .result) (c .before .before .bits .ensures) (c .strays .result)
     (c .strays .ensures ∙ rw (c .before .carries .ensures))

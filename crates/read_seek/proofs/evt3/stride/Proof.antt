@@ -5,7 +5,7 @@ use lib.ListN.{length}
 use denote.Ref.{now}
 use mathlib.Core.Path.{_≡_, sym, ap, _∙_}
 use mathlib.Core.Bool.{true}
-use Rattle.evt_types.specs.Layout.{wordSize3}
+use Rattle.evt_types.specs.Layout.{wordSize3, grain3}
 use Rattle.evt3_decoder.specs.declared.Decoder.{Decoder}
 use Rattle.evt3_decoder.specs.Range.{Bounded3, bounded-sane3}
 use Rattle.read_seek.specs.declared.times.Times.{Times}
@@ -33,7 +33,7 @@ loop-holds : tie.Need-loop-holds Inv-loop μ-loop
 loop-holds c =
     λ d on is b. let e : d .«time_base» ≡ c .before .before .before .before .args .d .«time_base» =
     ap (λ (c : Times). c .base) (sym is ∙ c .before .before .of .ensures) in
-    let h : d .«time_base» + 4096 ≤ c .before .before .before .before .args .t = omega arith in
+    let h : d .«time_base» + grain3 ≤ c .before .before .before .before .args .t = omega arith in
     rw is (skip-start3 (c .before .before .before .before .args .t) d (now (c .before .before .before .before .args .bytes)) on b h)
 
 add-loop : tie.Need-add-loop Inv-loop μ-loop

@@ -7,7 +7,7 @@ use mathlib.Core.Path.{ap, _∙_}
 use mathlib.Core.Logic.{⊎-elim}
 use Rattle.evt3_decoder.specs.Evt3.{slimmed}
 use Rattle.evt3_decoder.specs.Range.{bounded-sane3, bounded-slim3}
-use Rattle.read_seek.specs.Loops.{Seeking3, Ends3, start3, end3, stop3, turn3}
+use Rattle.read_seek.specs.Loops.{Seeking3, Ends3, start3, end3, stop3, iteration3}
 use Rattle.read_seek.proofs.evt3.walk.Statement.{statement}
 use Rattle.read_seek.proofs.evt3.walk.Tie as tie
 
@@ -26,7 +26,7 @@ loop-again : tie.Need-loop-again Inv-loop μ-loop
 loop-again c =
     let b = c .before .before .before .before .before .before in
     let a = b .before .before .before .before .before .before .args in
-    turn3 (a .t0) (a .t1) (slimmed (b .before .before .before .before .widen .result)) (now (a .bytes))
+    iteration3 (a .t0) (a .t1) (slimmed (b .before .before .before .before .widen .result)) (now (a .bytes))
     (b .before .before .loop-test .taken) (b .before .two-at .result) (b .before .two-at .ensures)
     (b .before .before .before .loop .inv) (slimmed (b .advance .result .next)) (ap slimmed (b .advance .ensures .0))
     (c .before .before .before .if1 .left) (c .before .before .bits .result) (c .before .before .bits .ensures) (c .strays .result)

@@ -1,4 +1,4 @@
--- `read_select::evt2::fill2` meets its contract. The loop's invariant is `Fills`; what a turn keeps is in specs/Turn.antt and specs/Fill.antt.
+-- `read_select::evt2::fill2` meets its contract. The loop's invariant is `Fills`; what an iteration keeps is in specs/Iteration.antt and specs/Fill.antt.
 use mathlib.Core.Path.{sym, _∙_}
 use mathlib.Core.Logic.{⊎-elim}
 use native.Mathlib.Omega.{arith}
@@ -8,9 +8,9 @@ use denote.Ref.{now}
 use lib.ListN.{length}
 use Rattle.evt2_decoder.specs.Range.{bounded-sane2}
 use Rattle.read_select.specs.Pass.{Fits}
-use Rattle.read_select.specs.Turn.{Turned, all, narrow-here}
-use Rattle.read_select.specs.Fill.{Fills, Full, fills-start, fills-on, fills-stop, full, full-wrote, fills-end, fills-turn, room-here, number-fits}
-use Rattle.read_select.specs.Sources.{source2, laws2, inv2, turned2, mask-here}
+use Rattle.read_select.specs.Iteration.{Iteration, all, narrow-here}
+use Rattle.read_select.specs.Fill.{Fills, Full, fills-start, fills-on, fills-stop, full, full-wrote, fills-end, fills-next, room-here, number-fits}
+use Rattle.read_select.specs.Sources.{source2, laws2, inv2, iteration2, mask-here}
 use Rattle.read_select.proofs.evt2.fill2.Statement.{statement}
 use Rattle.read_select.proofs.evt2.fill2.Tie as tie
 
@@ -27,12 +27,12 @@ fits-at : (c : tie.After-slice-known3 Inv-loop μ-loop) →
     (length (now (a .ts))) (length (now (a .ps)))
 fits-at c = c .before .before .before .before .pre .1
 
-turned : (c : tie.After-s Inv-loop μ-loop) →
+iteration : (c : tie.After-s Inv-loop μ-loop) →
     let k = c .before .before .before .before .before .loop in
-    Turned source2 (now (c .before .before .before .before .before .before .before .before .before .before .args .bytes)) (k .i) (k .s)
+    Iteration source2 (now (c .before .before .before .before .before .before .before .before .before .before .args .bytes)) (k .i) (k .s)
     (c .before .before .advance .result .next) (c .before .before .advance .result .events)
-turned c =
-    turned2 (c .before .before .before .before .loop-test .taken) (c .before .before .before .four-at .ensures)
+iteration c =
+    iteration2 (c .before .before .before .before .loop-test .taken) (c .before .before .before .four-at .ensures)
     (c .before .before .advance .ensures .0) (c .before .before .advance .ensures .1)
 
 done : (c : tie.Left-loop Inv-loop μ-loop) →
@@ -43,7 +43,7 @@ done c =
     ⊎-elim
     (λ w. rw (w .1, w .2, w .3, w .4, w .5, w .6, w .7, w .8) (fills-end laws2 (c .before .loop .inv) (omega arith)))
     (λ w. rw (w .22, w .23, w .24, w .25, w .26, w .27, w .28, w .29) (fills-stop laws2 (sym (w .20 .ensures) ∙ w .21 .taken)
-    (fills-turn laws2 (c .before .loop .inv) (turned (record {
+    (fills-next laws2 (c .before .loop .inv) (iteration (record {
       before = record
           { before = record { before = record { before = record { before = c .before; loop-test = w .0 }; four-at = w .1 }; advance = w .2 }; v = w .3 };
       s = w .4;
@@ -60,12 +60,12 @@ advance-requires : tie.Need-advance-requires Inv-loop μ-loop
 advance-requires c κs = bounded-sane2 (c .before .before .loop .inv .at .inv)
 
 cut2-requires : tie.Need-cut2-requires Inv-loop μ-loop
-cut2-requires c κs = (mask-here (turned c), narrow-here laws2 (c .before .before .before .before .before .loop .inv .at) (turned c) .x<)
+cut2-requires c κs = (mask-here (iteration c), narrow-here laws2 (c .before .before .before .before .before .loop .inv .at) (iteration c) .x<)
 
 put-all-requires : tie.Need-put-all-requires Inv-loop μ-loop
 put-all-requires c κs =
     let b = c .before .before .before .before in
-    room-here laws2 (b .before .before .before .before .before .before .before .loop .inv) (turned (b .before .before))
+    room-here laws2 (b .before .before .before .before .before .before .before .loop .inv) (iteration (b .before .before))
     (fits-at (b .before .before .before .before .before .before .before .before)) (b .before .cut2 .result) (b .before .cut2 .ensures)
     (b .masked .ensures)
 
@@ -73,7 +73,7 @@ after-requires : tie.Need-after-requires Inv-loop μ-loop
 after-requires c κs =
     let b = c .before .before .before .before .before .before .before .before .before .before .before .before in
     let put-all = c .before .before .before .before .before .before .before .put-all in
-    number-fits laws2 (b .before .before .before .before .before .before .before .loop .inv) (turned (b .before .before))
+    number-fits laws2 (b .before .before .before .before .before .before .before .loop .inv) (iteration (b .before .before))
     (fits-at (b .before .before .before .before .before .before .before .before)) (b .before .cut2 .result) (b .before .cut2 .ensures)
     (b .masked .ensures) (put-all .result) (put-all .ensures .0)
 
@@ -81,8 +81,8 @@ loop-again : tie.Need-loop-again Inv-loop μ-loop
 loop-again c =
     let b = c .before .before .before .before .before .before .before .before .before .before in
     let b′ = b .before .before .before .before .before in
-    fills-on laws2 (sym (c .before .stopped .ensures) ∙ c .if1 .left) (fills-turn laws2
-    (b′ .before .before .before .before .before .before .before .loop .inv) (turned (b′ .before .before))
+    fills-on laws2 (sym (c .before .stopped .ensures) ∙ c .if1 .left) (fills-next laws2
+    (b′ .before .before .before .before .before .before .before .loop .inv) (iteration (b′ .before .before))
     (fits-at (b′ .before .before .before .before .before .before .before .before)) (b′ .before .cut2 .result)
     (b′ .before .cut2 .ensures) (b′ .masked .ensures) (b .put-all .result) (b .put-all .ensures .0) (c .before .before .after .ensures)
     (b .put-all .ensures .1))

@@ -1,4 +1,4 @@
--- `read_select::evt2::survey2` meets its contract. The loop's invariant is `Counts`; what a turn keeps is in specs/Turn.antt and specs/Count.antt.
+-- `read_select::evt2::survey2` meets its contract. The loop's invariant is `Counts`; what an iteration keeps is in specs/Iteration.antt and specs/Count.antt.
 use mathlib.Core.Path.{sym, _∙_}
 use mathlib.Core.Logic.{⊎-elim}
 use native.Mathlib.Omega.{arith}
@@ -6,10 +6,11 @@ use borrow.Author.Needs.{needs}
 use Prim.Native.Nat.{_+_, _-_}
 use denote.Ref.{now}
 use lib.ListN.{length}
+use Rattle.evt_types.specs.Layout.{wordSize2}
 use Rattle.evt2_decoder.specs.Range.{bounded-sane2}
-use Rattle.read_select.specs.Turn.{Turned, narrow-here}
-use Rattle.read_select.specs.Count.{Counts, CountsIf, Counted, counts-start, counts-on, counts-stop, counted, counts-end, notable-here, counts-turn}
-use Rattle.read_select.specs.Sources.{source2, laws2, inv2, turned2, mask-here}
+use Rattle.read_select.specs.Iteration.{Iteration, narrow-here}
+use Rattle.read_select.specs.Count.{Counts, CountsIf, Counted, counts-start, counts-on, counts-stop, counted, counts-end, notable-here, counts-next}
+use Rattle.read_select.specs.Sources.{source2, laws2, inv2, iteration2, mask-here}
 use Rattle.read_select.proofs.evt2.survey2.Statement.{statement}
 use Rattle.read_select.proofs.evt2.survey2.Tie as tie
 
@@ -19,22 +20,22 @@ Inv-loop bytes win number s₀ t₀ i₀ s t i = Counts source2 win number s₀ 
 abbrev μ-loop : tie.MeasureT-loop
 μ-loop bytes win number s₀ t₀ i₀ s t i = length bytes - i
 
-turned : (c : tie.After-s Inv-loop μ-loop) →
+iteration : (c : tie.After-s Inv-loop μ-loop) →
     let k = c .before .before .before .before .before .loop in
-    Turned source2 (now (c .before .before .before .before .before .before .before .args .bytes)) (k .i) (k .s)
+    Iteration source2 (now (c .before .before .before .before .before .before .before .args .bytes)) (k .i) (k .s)
     (c .before .before .advance .result .next) (c .before .before .advance .result .events)
-turned c =
-    turned2 (c .before .before .before .before .loop-test .taken) (c .before .before .before .four-at .ensures)
+iteration c =
+    iteration2 (c .before .before .before .before .loop-test .taken) (c .before .before .before .four-at .ensures)
     (c .before .before .advance .ensures .0) (c .before .before .advance .ensures .1)
 
 -- after the word, before it is asked whether the pass stops
 pend : (c : tie.After-note Inv-loop μ-loop) →
     let a = c .before .before .before .before .before .before .before .before .before .args in
     CountsIf source2 (a .win) (a .number) (a .d) (now (a .bytes)) (c .before .before .before .before .advance .result .next)
-    (c .note .result) (c .before .before .before .before .before .before .before .loop .i + 4)
+    (c .note .result) (c .before .before .before .before .before .before .before .loop .i + wordSize2)
 pend c =
-    rw (c .note .ensures) (counts-turn laws2 (c .before .before .before .before .before .before .before .loop .inv)
-    (turned (c .before .before)) (c .before .cut2 .result) (c .before .cut2 .ensures))
+    rw (c .note .ensures) (counts-next laws2 (c .before .before .before .before .before .before .before .loop .inv)
+    (iteration (c .before .before)) (c .before .cut2 .result) (c .before .cut2 .ensures))
 
 done : (c : tie.Left-loop Inv-loop μ-loop) →
     let a = c .before .before .before .args in
@@ -62,10 +63,10 @@ advance-requires : tie.Need-advance-requires Inv-loop μ-loop
 advance-requires c κs = bounded-sane2 (c .before .before .loop .inv .at .inv)
 
 cut2-requires : tie.Need-cut2-requires Inv-loop μ-loop
-cut2-requires c κs = (mask-here (turned c), narrow-here laws2 (c .before .before .before .before .before .loop .inv .at) (turned c) .x<)
+cut2-requires c κs = (mask-here (iteration c), narrow-here laws2 (c .before .before .before .before .before .loop .inv .at) (iteration c) .x<)
 
 note-requires : tie.Need-note-requires Inv-loop μ-loop
-note-requires c κs = notable-here laws2 (c .before .before .before .before .before .before .loop .inv) (turned (c .before)) (c .cut2 .result) (c .cut2 .ensures)
+note-requires c κs = notable-here laws2 (c .before .before .before .before .before .before .loop .inv) (iteration (c .before)) (c .cut2 .result) (c .cut2 .ensures)
 
 loop-again : tie.Need-loop-again Inv-loop μ-loop
 loop-again c = counts-on laws2 (sym (c .before .stopped .ensures) ∙ c .if1 .left) (pend (c .before .before))

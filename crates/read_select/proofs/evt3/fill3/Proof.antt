@@ -1,4 +1,4 @@
--- `read_select::evt3::fill3` meets its contract. The loop's invariant is `Fills`; what a turn keeps is in specs/Turn.antt and specs/Fill.antt.
+-- `read_select::evt3::fill3` meets its contract. The loop's invariant is `Fills`; what an iteration keeps is in specs/Iteration.antt and specs/Fill.antt.
 use mathlib.Core.Path.{sym, ap, _∙_}
 use mathlib.Core.Logic.{⊎-elim}
 use native.Mathlib.Omega.{arith}
@@ -9,9 +9,9 @@ use lib.ListN.{length}
 use Rattle.evt3_decoder.specs.Range.{bounded-sane3, bounded-slim3}
 use Rattle.evt3_decoder.specs.Evt3.{slimmed}
 use Rattle.read_select.specs.Pass.{Fits}
-use Rattle.read_select.specs.Turn.{Turned, all, narrow-here, number-here}
-use Rattle.read_select.specs.Fill.{Fills, Full, fills-start, fills-on, fills-stop, full, full-wrote, fills-end, fills-turn, room-here, number-fits}
-use Rattle.read_select.specs.Sources.{source3, laws3, inv3, turned3}
+use Rattle.read_select.specs.Iteration.{Iteration, all, narrow-here, number-here}
+use Rattle.read_select.specs.Fill.{Fills, Full, fills-start, fills-on, fills-stop, full, full-wrote, fills-end, fills-next, room-here, number-fits}
+use Rattle.read_select.specs.Sources.{source3, laws3, inv3, iteration3}
 use Rattle.read_select.proofs.evt3.fill3.Statement.{statement}
 use Rattle.read_select.proofs.evt3.fill3.Tie as tie
 
@@ -29,12 +29,12 @@ fits-at : (c : tie.After-widen Inv-loop μ-loop) →
     (length (now (a .ys))) (length (now (a .ts))) (length (now (a .ps)))
 fits-at c = rw (c .widen .ensures .0) (c .before .before .before .before .before .pre .1)
 
-turned : (c : tie.After-s Inv-loop μ-loop) →
+iteration : (c : tie.After-s Inv-loop μ-loop) →
     let k = c .before .before .before .before .before .loop in
-    Turned source3 (now (c .before .before .before .before .before .before .before .before .before .before .before .args .bytes)) (k .i)
+    Iteration source3 (now (c .before .before .before .before .before .before .before .before .before .before .before .args .bytes)) (k .i)
     (slimmed (k .s)) (slimmed (c .before .before .advance .result .next)) (c .before .before .advance .result .events)
-turned c =
-    turned3 (c .before .before .before .before .loop-test .taken) (c .before .before .before .two-at .ensures)
+iteration c =
+    iteration3 (c .before .before .before .before .loop-test .taken) (c .before .before .before .two-at .ensures)
     (ap slimmed (c .before .before .advance .ensures .0)) (c .before .before .advance .ensures .1)
 
 done : (c : tie.Left-loop Inv-loop μ-loop) →
@@ -46,7 +46,7 @@ done c =
     ⊎-elim
     (λ w. rw (w .1, w .2, w .3, w .4, w .5, w .6, w .7, w .8) (fills-end laws3 (c .before .loop .inv) (omega arith)))
     (λ w. rw (w .22, w .23, w .24, w .25, w .26, w .27, w .28, w .29) (fills-stop laws3 (sym (w .20 .ensures) ∙ w .21 .taken)
-    (fills-turn laws3 (c .before .loop .inv) (turned (record {
+    (fills-next laws3 (c .before .loop .inv) (iteration (record {
       before =
           record { before = record { before = record { before = record { before = c .before; loop-test = w .0 }; two-at = w .1 }; advance = w .2 }; v = w .3 };
       s = w .4;
@@ -66,12 +66,12 @@ advance-requires c κs = bounded-sane3 (c .before .before .loop .inv .at .inv)
 keep3-requires : tie.Need-keep3-requires Inv-loop μ-loop
 keep3-requires c κs =
     let at′ = c .before .before .before .before .before .loop .inv .at in
-    (narrow-here laws3 at′ (turned c), number-here laws3 at′)
+    (narrow-here laws3 at′ (iteration c), number-here laws3 at′)
 
 put-all-requires : tie.Need-put-all-requires Inv-loop μ-loop
 put-all-requires c κs =
     let b = c .before .before .before .before in
-    room-here laws3 (b .before .before .before .before .before .before .before .loop .inv) (turned (b .before .before))
+    room-here laws3 (b .before .before .before .before .before .before .before .loop .inv) (iteration (b .before .before))
     (fits-at (b .before .before .before .before .before .before .before .before)) (b .before .keep3 .result) (b .before .keep3 .ensures)
     (b .masked .ensures)
 
@@ -79,7 +79,7 @@ after-requires : tie.Need-after-requires Inv-loop μ-loop
 after-requires c κs =
     let b = c .before .before .before .before .before .before .before .before .before .before .before .before in
     let put-all = c .before .before .before .before .before .before .before .put-all in
-    number-fits laws3 (b .before .before .before .before .before .before .before .loop .inv) (turned (b .before .before))
+    number-fits laws3 (b .before .before .before .before .before .before .before .loop .inv) (iteration (b .before .before))
     (fits-at (b .before .before .before .before .before .before .before .before)) (b .before .keep3 .result) (b .before .keep3 .ensures)
     (b .masked .ensures) (put-all .result) (put-all .ensures .0)
 
@@ -87,8 +87,8 @@ loop-again : tie.Need-loop-again Inv-loop μ-loop
 loop-again c =
     let b = c .before .before .before .before .before .before .before .before .before .before in
     let b′ = b .before .before .before .before .before in
-    fills-on laws3 (sym (c .before .stopped .ensures) ∙ c .if1 .left) (fills-turn laws3
-    (b′ .before .before .before .before .before .before .before .loop .inv) (turned (b′ .before .before))
+    fills-on laws3 (sym (c .before .stopped .ensures) ∙ c .if1 .left) (fills-next laws3
+    (b′ .before .before .before .before .before .before .before .loop .inv) (iteration (b′ .before .before))
     (fits-at (b′ .before .before .before .before .before .before .before .before)) (b′ .before .keep3 .result)
     (b′ .before .keep3 .ensures) (b′ .masked .ensures) (b .put-all .result) (b .put-all .ensures .0) (c .before .before .after .ensures)
     (b .put-all .ensures .1))

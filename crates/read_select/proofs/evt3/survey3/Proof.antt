@@ -1,4 +1,4 @@
--- `read_select::evt3::survey3` meets its contract. The loop's invariant is `Counts`; what a turn keeps is in specs/Turn.antt and specs/Count.antt.
+-- `read_select::evt3::survey3` meets its contract. The loop's invariant is `Counts`; what an iteration keeps is in specs/Iteration.antt and specs/Count.antt.
 use mathlib.Core.Path.{sym, ap, _∙_}
 use mathlib.Core.Logic.{⊎-elim}
 use native.Mathlib.Omega.{arith}
@@ -6,11 +6,12 @@ use borrow.Author.Needs.{needs}
 use Prim.Native.Nat.{_+_, _-_}
 use denote.Ref.{now}
 use lib.ListN.{length}
+use Rattle.evt_types.specs.Layout.{wordSize3}
 use Rattle.evt3_decoder.specs.Range.{bounded-sane3, bounded-slim3}
 use Rattle.evt3_decoder.specs.Evt3.{slimmed}
-use Rattle.read_select.specs.Turn.{Turned, narrow-here, number-here}
-use Rattle.read_select.specs.Count.{Counts, CountsIf, Counted, counts-start, counts-on, counts-stop, counted, counts-end, notable-here, counts-turn}
-use Rattle.read_select.specs.Sources.{source3, laws3, inv3, turned3}
+use Rattle.read_select.specs.Iteration.{Iteration, narrow-here, number-here}
+use Rattle.read_select.specs.Count.{Counts, CountsIf, Counted, counts-start, counts-on, counts-stop, counted, counts-end, notable-here, counts-next}
+use Rattle.read_select.specs.Sources.{source3, laws3, inv3, iteration3}
 use Rattle.read_select.proofs.evt3.survey3.Statement.{statement}
 use Rattle.read_select.proofs.evt3.survey3.Tie as tie
 
@@ -20,12 +21,12 @@ Inv-loop bytes win number s₀ t₀ i₀ s t i = Counts source3 win number (slim
 abbrev μ-loop : tie.MeasureT-loop
 μ-loop bytes win number s₀ t₀ i₀ s t i = length bytes - i
 
-turned : (c : tie.After-s Inv-loop μ-loop) →
+iteration : (c : tie.After-s Inv-loop μ-loop) →
     let k = c .before .before .before .before .before .loop in
-    Turned source3 (now (c .before .before .before .before .before .before .before .before .args .bytes)) (k .i) (slimmed (k .s))
+    Iteration source3 (now (c .before .before .before .before .before .before .before .before .args .bytes)) (k .i) (slimmed (k .s))
     (slimmed (c .before .before .advance .result .next)) (c .before .before .advance .result .events)
-turned c =
-    turned3 (c .before .before .before .before .loop-test .taken) (c .before .before .before .two-at .ensures)
+iteration c =
+    iteration3 (c .before .before .before .before .loop-test .taken) (c .before .before .before .two-at .ensures)
     (ap slimmed (c .before .before .advance .ensures .0)) (c .before .before .advance .ensures .1)
 
 -- after the word, before it is asked whether the pass stops
@@ -33,10 +34,10 @@ pend : (c : tie.After-note Inv-loop μ-loop) →
     let a = c .before .before .before .before .before .before .before .before .before .before .args in
     CountsIf source3 (a .win) (a .number) (slimmed (c .before .before .before .before .before .before .before .before .widen .result))
     (now (a .bytes)) (slimmed (c .before .before .before .before .advance .result .next)) (c .note .result)
-    (c .before .before .before .before .before .before .before .loop .i + 2)
+    (c .before .before .before .before .before .before .before .loop .i + wordSize3)
 pend c =
-    rw (c .note .ensures) (counts-turn laws3 (c .before .before .before .before .before .before .before .loop .inv)
-    (turned (c .before .before)) (c .before .cut3 .result) (c .before .cut3 .ensures))
+    rw (c .note .ensures) (counts-next laws3 (c .before .before .before .before .before .before .before .loop .inv)
+    (iteration (c .before .before)) (c .before .cut3 .result) (c .before .cut3 .ensures))
 
 done : (c : tie.Left-loop Inv-loop μ-loop) →
     let a = c .before .before .before .before .args in
@@ -70,10 +71,10 @@ advance-requires c κs = bounded-sane3 (c .before .before .loop .inv .at .inv)
 cut3-requires : tie.Need-cut3-requires Inv-loop μ-loop
 cut3-requires c κs =
     let at′ = c .before .before .before .before .before .loop .inv .at in
-    (narrow-here laws3 at′ (turned c), number-here laws3 at′)
+    (narrow-here laws3 at′ (iteration c), number-here laws3 at′)
 
 note-requires : tie.Need-note-requires Inv-loop μ-loop
-note-requires c κs = notable-here laws3 (c .before .before .before .before .before .before .loop .inv) (turned (c .before)) (c .cut3 .result) (c .cut3 .ensures)
+note-requires c κs = notable-here laws3 (c .before .before .before .before .before .before .loop .inv) (iteration (c .before)) (c .cut3 .result) (c .cut3 .ensures)
 
 loop-again : tie.Need-loop-again Inv-loop μ-loop
 loop-again c = counts-on laws3 (sym (c .before .stopped .ensures) ∙ c .if1 .left) (pend (c .before .before))

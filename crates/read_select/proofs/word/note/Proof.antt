@@ -12,12 +12,12 @@ use Rattle.read_select.proofs.word.note.Statement.{statement}
 use Rattle.read_select.proofs.word.note.Tie as tie
 
 few : {t : Notes} {v : Vector} {r : Trimmed} → Notable t v r → ones (r .mask) ≤ 32
-few {r = r} p = ones-le 32 (r .mask) (omega arith)
+few {r = r} p = ones-le 32 (r .mask) (p .small)
 
 see-requires : tie.Need-see-requires
 see-requires c κs =
     rw (c .masked .ensures)
-    (narrow-masked (c .before .before .args .v) (c .before .before .args .r .mask) (c .before .before .pre .narrow) (c .before .before .pre .low))
+    (narrow-masked (c .before .before .args .v) (c .before .before .args .r .mask) (c .before .before .pre .narrow) (c .before .before .pre .small))
 
 add-t9 : tie.Need-add-t9
 add-t9 c = omega (arith, few (c .before .before .before .before .pre))

@@ -259,7 +259,7 @@ module _ (s : RawSliceSource) where
         go [] h = tt
         go (c ∷ cs) h = all-map (Ranged 0 (pos 0)) (Good s) (λ d r. r .0) (c ∷ cs) (all-ranged (s .«data_offset») 0 (pos 0) (c ∷ cs) refl h)
 
-    -- a search by halves finds the last record that passes, where what fails at a record fails at all behind it
+    -- a binary search finds the last record that passes, where what fails at a record fails at all behind it
     pub parted : (p : Checkpoint → Bool) → ((c d : Checkpoint) → Before c d → p c ≡ false → p d ≡ false) → Parted p records
     unfolding indexInRange
     parted p falls = go records ok

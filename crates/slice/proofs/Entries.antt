@@ -51,8 +51,10 @@ use Rattle.index_build.specs.declared.Checkpoint.{Checkpoint}
 use Rattle.index_records.specs.declared.Choice.{Choice}
 use Rattle.index_records.specs.declared.Judging.{Judging}
 use Rattle.index_build.specs.declared.RawSliceSource.{RawSliceSource}
+use Rattle.index_records.specs.BinarySearch.{chosenOf}
 use Rattle.index_records.specs.Choose.{Chose}
 use Rattle.index_records.specs.Judge.{judgedAll}
+use Rattle.index_records.specs.Search.{chosen}
 use Rattle.slice_rules.specs.declared.Asked.{Asked}
 use Rattle.slice_rules.specs.declared.SliceAnswer.{SliceAnswer}
 use Rattle.slice_rules.specs.From.{passedFrom, SlicesFrom, Startable}
@@ -218,8 +220,8 @@ module _ {M : Type 1} (𝓤 : URA M) (H : Heap 𝓤) (A : Atoms 𝓤) (at-mem : 
   Chooses = tripleOf 𝓤 H A choose.signature (choose.spec 𝓤 H A at-mem run)
 
   choose-of : (κ : Lft) (xr : RefT (List Checkpoint)) (asked : Choice) (r : Checkpoint)
-      → ent 𝓤 (ensured 𝓤 H A choose.ended (choose.clauses 𝓤 H A at-mem run) (κ, tt) (xr, (asked, tt)) tt r) (fact 𝓤 (Chose asked (xr .now) r))
-  choose-of κ xr asked r = exE 𝓤 _ (λ ws. snd∗ 𝓤 (sem 𝓤 H A (lasts choose.ended (κ, tt) (xr, (asked, tt)) ws)) (fact 𝓤 (Chose asked (xr .now) r)))
+      → ent 𝓤 (ensured 𝓤 H A choose.ended (choose.clauses 𝓤 H A at-mem run) (κ, tt) (xr, (asked, tt)) tt r) (fact 𝓤 (r ≡ chosenOf asked (xr .now)))
+  choose-of κ xr asked r = exE 𝓤 _ (λ ws. snd∗ 𝓤 (sem 𝓤 H A (lasts choose.ended (κ, tt) (xr, (asked, tt)) ws)) (fact 𝓤 (r ≡ chosenOf asked (xr .now))))
 
   abbrev pub Slicing : Contract 𝓤
   Slicing = tripleOf 𝓤 H A slicing.signature (slicing.spec 𝓤 H A at-mem run)
@@ -421,7 +423,7 @@ module _ (𝓔 : Entry) where
     Sliced-from a j c r = SlicesFrom (xb .now) s (j .ok) (passedFrom (xb .now) (a .window) c) r (xx .now) (xy .now) (xt .now) (xp .now)
 
     module _ (a : Asked) (e : a ≡ 𝓔 .asked s n u v) (j : Judging) (c : Checkpoint) (ej : j ≡ judgedAll (a .judging) (xr .now))
-        (ec : Chose (a .choice) (xr .now) c) (r : SliceAnswer) (xs ys : List ℕ) (ts : List ℤ) (ps : List ℕ)
+        (ec : c ≡ chosenOf (a .choice) (xr .now)) (r : SliceAnswer) (xs ys : List ℕ) (ts : List ℤ) (ps : List ℕ)
         (e-xs : length xs ≡ length (xx .now)) (e-ys : length ys ≡ length (xy .now)) (e-ts : length ts ≡ length (xt .now))
         (e-ps : length ps ≡ length (xp .now)) where
       exits : Sliced-from a j c r xs ys ts ps → Is E.the-row r (machE r ∷ []) → ent 𝓤 (⋆ 𝓤 H A (Had xs ys ts ps)) (Post (machE r))
@@ -429,7 +431,7 @@ module _ (𝓔 : Entry) where
           qed W (Had xs ys ts ps) ∵
           suffices ! _ (ends-at 𝓤 H A ended stayed (clauses 𝓤 H A) W bound (machE r) r
           (tt, (tt, (tt, (𝓔 .last u, (𝓔 .last v, (xs, (ys, (ts, (ps, tt))))))))) (tt, (tt, (tt, (tt, (tt, (e-xs, (e-ys, (e-ts, (e-ps, tt)))))))))) $
-          says ! (𝓔 .slices (xb .now) s (xr .now) a j c u v e ej ec er) $
+          says ! (𝓔 .slices (xb .now) s (xr .now) a j c u v e ej (chosen (a .choice) (xr .now) c ec) er) $
           nothing ! $ move ! (10 ∷ 0 ∷ []) $ join ! $ move ! (9 ∷ 0 ∷ []) $ join ! $ move ! (8 ∷ 0 ∷ []) $ join ! $ move ! (7 ∷ 0 ∷ []) $
           join ! $ move ! (6 ∷ 0 ∷ []) $ join ! $ move ! (5 ∷ 0 ∷ []) $ join ! $ frame ! $
           nothing ! $ move ! (4 ∷ 0 ∷ []) $ fjoin ! $ move ! (3 ∷ 0 ∷ []) $ fjoin ! $ move ! (2 ∷ 0 ∷ []) $ fjoin ! $ move ! (1 ∷ 0 ∷ []) $ fjoin ! $
@@ -494,8 +496,8 @@ module _ (𝓔 : Entry) where
             use1 W (later (some (λ (r : Checkpoint). ((‵ (flft κ₁ q₁) ⊛ ‵ ftrue) ⊛ ‵ (T.the-row .own r (vc ∷ [])))
             ⊛ raw (ensured 𝓤 H A choose.ended (choose.clauses 𝓤 H A at-mem run) (κ₁, tt) (xr, (a .choice, tt)) tt r)))) (id⊢ 𝓤 _) $
             await ! tt $ pick ! (λ c.
-            split ! $ move ! (1 ∷ []) $ use1 W (raw (fact 𝓤 (Chose (a .choice) (xr .now) c))) (choose-of 𝓤 H A at-mem run κ₁ xr (a .choice) c) $
-            heard ! (Chose (a .choice) (xr .now) c) (λ ec. split ! $
+            split ! $ move ! (1 ∷ []) $ use1 W (raw (fact 𝓤 (c ≡ chosenOf (a .choice) (xr .now)))) (choose-of 𝓤 H A at-mem run κ₁ xr (a .choice) c) $
+            heard ! (c ≡ chosenOf (a .choice) (xr .now)) (λ ec. split ! $
             split ! $ move ! (1 ∷ []) $ drop ! $ move ! (1 ∷ []) $ peeks ! T.the-row (Is T.the-row) (shows 𝓤 H A T.the-row) c (vc ∷ []) (λ ic.
             land ! (from ! (stop !)) (init ! 15 refl (LL.lawful T.the-type T′.the-laws 𝓤 H A W .typed c _ ic .0)) $
             rewrite ! 15 (λ (u : Val). ‵ (fat fullShare T′.mir l₁₂ 0 u)) (ap only (LL.tells T.the-type T′.the-laws c _ ic)) refl $ drop ! $
@@ -526,7 +528,7 @@ module _ (𝓔 : Entry) where
             nothing ! $ move ! (30 ∷ 0 ∷ []) $ join ! $
             move ! (29 ∷ 0 ∷ []) $ join ! $ move ! (28 ∷ 0 ∷ []) $ join ! $ move ! (27 ∷ 0 ∷ []) $ join ! $ move ! (26 ∷ 0 ∷ []) $ join ! $
             use2 W (raw (Slicing 𝓤 H A at-mem run .pre (to-from a j c)))
-            (goes-from a j c (startable s (xr .now) a j c (𝓔 .began (xb .now) s (xr .now) a j c u v e ej ec))) $
+            (goes-from a j c (startable s (xr .now) a j c (𝓔 .began (xb .now) s (xr .now) a j c u v e ej (chosen (a .choice) (xr .now) c ec)))) $
             calls-at ! (fmOf 𝓤 H (W .laws) 𝓣) (Slicing 𝓤 H A at-mem run) (known .slicing) (to-from a j c) (and-then !
             (load ! (from ! (stop !)) (look ! 4 refl)) (and-then ! (load ! (from ! (stop !)) (look ! 5 refl)) (and-then !
             (load ! (from ! (fld ! refl (stop !))) (look-in ! 13 (sub ! 2 refl (whole !)))) (and-then !

@@ -82,5 +82,6 @@ abbrev pub judgedNext : JudgeState → Checkpoint → JudgeState
 judgedNext s c = judgeAt (min (s .at + 1) (s .n)) (s .n) (judgedOf (s .judging) c)
 
 -- by the outcome of each test
-pub admits-by : (s : Judging) (c : Checkpoint) (a b k : Bool) → isOther (c .codec) (s .encoding) ≡ a → standsOf s c ≡ b → s .ok ≡ k → admitsOf s c ≡ cond a false (cond b (cond k (inRangeC (c .codec)) false) false)
+pub admits-by : (s : Judging) (c : Checkpoint) (a b k : Bool) → isOther (c .codec) (s .encoding) ≡ a → standsOf s c ≡ b → s .ok ≡ k
+    → admitsOf s c ≡ cond a false (cond b (cond k (inRangeC (c .codec)) false) false)
 admits-by s c a b k p q r = λ i. cond (p i) false (cond (q i) (cond (r i) (inRangeC (c .codec)) false) false)

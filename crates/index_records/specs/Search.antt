@@ -48,7 +48,8 @@ module _ (p : Checkpoint → Bool) where
   parted-at (c ∷ cs) a (suc i) (suc j) o h e = parted-at cs (a .1) i j (le-of-suc-le-suc o) (le-of-suc-le-suc h) e
 
   -- the first k pass and no more
-  last-at : (c : Checkpoint) (l : List Checkpoint) (k : ℕ) → k ≤ length l → ((i : ℕ) → i < k → p (nth l i) ≡ true) → ((i : ℕ) → k ≤ i → i < length l → p (nth l i) ≡ false) → lastPassing p c l ≡ nth (c ∷ l) k
+  last-at : (c : Checkpoint) (l : List Checkpoint) (k : ℕ) → k ≤ length l → ((i : ℕ) → i < k → p (nth l i) ≡ true)
+      → ((i : ℕ) → k ≤ i → i < length l → p (nth l i) ≡ false) → lastPassing p c l ≡ nth (c ∷ l) k
   last-at c [] zero h f g = refl
   last-at c [] (suc k) h f g = absurd (not-suc-le-zero h)
   last-at c (d ∷ ds) zero h f g =
@@ -79,13 +80,15 @@ module _ (p : Checkpoint → Bool) where
       none i a b = omega arith
 
   -- both ends have met
-  bracket-end : (c : Checkpoint) (cs : List Checkpoint) (lo hi : ℕ) → Bracket p (c ∷ cs) lo hi → hi ≤ lo → Parted p (c ∷ cs) → nth (c ∷ cs) (lo - 1) ≡ lastPassing p c cs
+  bracket-end : (c : Checkpoint) (cs : List Checkpoint) (lo hi : ℕ) → Bracket p (c ∷ cs) lo hi → hi ≤ lo → Parted p (c ∷ cs)
+      → nth (c ∷ cs) (lo - 1) ≡ lastPassing p c cs
   bracket-end c cs zero hi w m h =
       sym (last-at p c cs zero (omega arith) (λ i l. absurd (not-suc-le-zero l)) (λ i a b. w .back h (suc i) (omega arith) (omega arith)))
   bracket-end c cs (suc k) hi w m h =
       let before : suc k - 1 ≡ k = omega arith in
       ap (nth (c ∷ cs)) before
-      ∙ sym (last-at p c cs k (omega (arith, w .order, w .within)) (λ i l. w .front h (suc i) (omega arith)) (λ i a b. w .back h (suc i) (omega arith) (omega arith)))
+      ∙ sym (last-at p c cs k (omega (arith, w .order, w .within)) (λ i l. w .front h (suc i) (omega arith))
+      (λ i a b. w .back h (suc i) (omega arith) (omega arith)))
 
   module _ (l : List Checkpoint) (lo hi : ℕ) (w : Bracket p l lo hi) (some : lo < hi) where
     bracket-up : p (nth l (middleOf lo hi)) ≡ true → Bracket p l (middleOf lo hi + 1) hi
@@ -177,7 +180,8 @@ module _ (asked : Choice) (l : List Checkpoint) where
 
     -- by whether the ends have met, and whether the record passes
     next-by : (b v : Bool) → ltb lo hi ≡ b → ok c ≡ v → Next m c
-        (cond b (cond v (bracketOf true (middleOf lo hi + 1) hi (t .asked) c) (bracketOf true lo (middleOf lo hi) (t .asked) c)) (bracketOf false lo hi (t .asked) c))
+        (cond b (cond v (bracketOf true (middleOf lo hi + 1) hi (t .asked) c) (bracketOf true lo (middleOf lo hi) (t .asked) c))
+        (bracketOf false lo hi (t .asked) c))
     next-by true true q v =
         let some : lo < hi = ltb-true lo hi q in
         let apart : hi - lo < suc m = s .left e in

@@ -5,9 +5,8 @@
 // what differs. src/given.rt has the appends, and what each cut owes.
 ghost use Prim.Native.Nat.{_≤_, _<_};
 ghost use lib.ListN.{length};
-use prophesee_raw::Decoder;
+use prophesee_raw::Codec;
 use prophesee_raw::Encoding;
-use prophesee_raw::Evt2Decoder;
 
 mod compare;
 mod exact;
@@ -19,10 +18,8 @@ mod write;
 fn word_size(encoding: Encoding) -> usize
     ensures { λ r. ⌜ 0 < r ⌝ }
 {
-    match encoding {
-        Encoding::Evt2 => Evt2Decoder::WORD_SIZE,
-        Encoding::Evt3 => Decoder::WORD_SIZE,
-    }
+    let codec = Codec::new(encoding);
+    codec.word_size()
 }
 
 // The stream, cut, and then joined with what a second writer makes of the events that are missing.

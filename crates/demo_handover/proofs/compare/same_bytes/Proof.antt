@@ -1,4 +1,4 @@
--- `demo_handover::compare::same_bytes` meets its contract. Assumes nothing.
+-- `demo_handover::compare::same_bytes` meets its contract.
 use Prim.Native.Nat.{_-_}
 use borrow.Author.Needs.{needs}
 use Rattle.demo_handover.specs.Laws.{Agreeing, agreeing-start, agreeing-next, agreeing-end, differ-at}

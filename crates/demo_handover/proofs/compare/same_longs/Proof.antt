@@ -1,4 +1,4 @@
--- `demo_handover::compare::same_longs` meets its contract. Assumes nothing.
+-- `demo_handover::compare::same_longs` meets its contract.
 use mathlib.Core.Path.{sym, ap, _∙_}
 use Prim.Native.Nat.{_-_}
 use borrow.Author.Needs.{needs}

@@ -1,4 +1,4 @@
--- `demo_handover::write::copy` meets its contract. Assumes nothing.
+-- `demo_handover::write::copy` meets its contract.
 use Prim.Native.Nat.{_-_}
 use native.Mathlib.Omega.{arith}
 use lib.ListN.{length}

@@ -12,4 +12,4 @@ positive (Evt2 d) = omega arith
 positive (Evt3 d) = omega arith
 
 pub word-size-spec : {M : Type 1} → statement M
-word-size-spec = tie.close (tie.spec (λ c κs. search needs) (λ c κs. search needs) (λ c. rw (c .word-size .ensures) (positive _)))
+word-size-spec = tie.close (tie.spec (λ c κs. search needs) (λ c κs. search needs) (λ c. rw (c .word-size .ensures) (positive (c .before .new .result))))

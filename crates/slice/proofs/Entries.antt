@@ -16,10 +16,12 @@ use package.mir.Val.{Val, vbool, vint}
 use base.Logic.{SProp, ent, sep, id⊢, via, exE, emp, fst∗, snd∗}
 use base.Fml.{Lft, Share, Fml, ftrue, fat, froom, fdies, flft}
 use prog.Memory.{Memory}
-use prog.Routine.{Routine}
+use prog.Model.{Model}
+use prog.Routine.{Routine, Env as Means}
 use prog.Wp.{Heap, Env, WpFn, Tables}
 use ghost.Atoms.{Atoms, sem}
 use contract.Monad.{Fun, fact}
+use contract.Running.{GhostRules, Running, givenOf, tables, tablesOf}
 use types.Kit.{Given, Item, Sq, runs, ‵, raw, _⊛_, some, later, ⋆, atRet, _$_, _∵_, !, qed, by, move, keep, drop, use0, use1, use2, split, join, pick, rewrite}
 use types.Kit.{fsplit, fjoin, feqL, suffices, frame, await, done}
 use types.Part.{whole, sub, look-in, agg}
@@ -43,6 +45,7 @@ use denote.Triple.Call.{calls-at}
 use denote.Triple.Clauses.{Clauses, Ended, Lasts, ensured, lasts, closing}
 use denote.Triple.Entry.{onEntry}
 use denote.Triple.Spec.{Meets, tripleOf}
+use denote.Triple.Table.{cited}
 use denote.Triple.Walked.{says, Stay, Stays, stay-dropped, gave-slice, walkOf, Silent, Goes, AllGo, goes-dropped, goes-gave-slice, Walks}
 use denote.Triple.Walked.{ends-at, walked, walk-meets}
 use Rattle.evt_types.proofs.Lent.{fits}
@@ -74,11 +77,17 @@ use Rattle.slice_rules.proofs.Asked.Laws as K′
 use Rattle.slice_rules.proofs.SliceAnswer as E
 use Rattle.slice_rules.proofs.SliceAnswer.Laws as E′
 use Rattle.index_records.proofs.judge_all as judge
+use Rattle.index_records.proofs.judge_all.Symbol as judge-def
 use Rattle.index_records.proofs.judge_all.Symbol.{name as #index_records·judges}
+use Rattle.index_records.proofs.judge_all.Met as judge-thm
 use Rattle.index_records.proofs.choose as choose
+use Rattle.index_records.proofs.choose.Symbol as choose-def
 use Rattle.index_records.proofs.choose.Symbol.{name as #index_records·choose}
+use Rattle.index_records.proofs.choose.Met as choose-thm
 use Rattle.slice.proofs.slice_from as slicing
+use Rattle.slice.proofs.slice_from.Symbol as from-def
 use Rattle.slice.proofs.slice_from.Symbol.{name as #slice·from}
+use Rattle.slice.proofs.slice_from.Met as from-thm
 
 -- ---- the types of the locals
 abbrev word : Ty
@@ -209,21 +218,21 @@ abbrev machO : Window → Val
 machO d = LL.val O.the-type O′.the-laws d
 
 module _ {M : Type 1} (𝓤 : URA M) (H : Heap 𝓤) (A : Atoms 𝓤) (at-mem : Memory → SProp 𝓤) (run : Routine → Fun 𝓤) where
-  abbrev pub Judges : Contract 𝓤
+  abbrev Judges : Contract 𝓤
   Judges = tripleOf 𝓤 H A judge.signature (judge.spec 𝓤 H A at-mem run)
 
   judge-of : (κ : Lft) (xr : RefT (List Checkpoint)) (s r : Judging)
       → ent 𝓤 (ensured 𝓤 H A judge.ended (judge.clauses 𝓤 H A at-mem run) (κ, tt) (xr, (s, tt)) tt r) (fact 𝓤 (r ≡ judgedAll s (xr .now)))
   judge-of κ xr s r = exE 𝓤 _ (λ ws. snd∗ 𝓤 (sem 𝓤 H A (lasts judge.ended (κ, tt) (xr, (s, tt)) ws)) (fact 𝓤 (r ≡ judgedAll s (xr .now))))
 
-  abbrev pub Chooses : Contract 𝓤
+  abbrev Chooses : Contract 𝓤
   Chooses = tripleOf 𝓤 H A choose.signature (choose.spec 𝓤 H A at-mem run)
 
   choose-of : (κ : Lft) (xr : RefT (List Checkpoint)) (asked : Choice) (r : Checkpoint)
       → ent 𝓤 (ensured 𝓤 H A choose.ended (choose.clauses 𝓤 H A at-mem run) (κ, tt) (xr, (asked, tt)) tt r) (fact 𝓤 (r ≡ chosenOf asked (xr .now)))
   choose-of κ xr asked r = exE 𝓤 _ (λ ws. snd∗ 𝓤 (sem 𝓤 H A (lasts choose.ended (κ, tt) (xr, (asked, tt)) ws)) (fact 𝓤 (r ≡ chosenOf asked (xr .now))))
 
-  abbrev pub Slicing : Contract 𝓤
+  abbrev Slicing : Contract 𝓤
   Slicing = tripleOf 𝓤 H A slicing.signature (slicing.spec 𝓤 H A at-mem run)
 
 module _ (𝓔 : Entry) where
@@ -287,7 +296,7 @@ module _ (𝓔 : Entry) where
     ask-of s n u v r = exE 𝓤 _ (λ ws. snd∗ 𝓤 (sem 𝓤 H A (lasts asking tt (s, (n, (u, (v, tt)))) ws)) (fact 𝓤 (r ≡ 𝓔 .asked s n u v)))
 
   -- what the callees are known to meet
-  pub record Known {M : Type 1} (𝓤 : URA M) (H : Heap 𝓤) (A : Atoms 𝓤) (at-mem : Memory → SProp 𝓤) (run : Routine → Fun 𝓤) (𝓣 : Tables 𝓤 H) : Type 1 where
+  record Known {M : Type 1} (𝓤 : URA M) (H : Heap 𝓤) (A : Atoms 𝓤) (at-mem : Memory → SProp 𝓤) (run : Routine → Fun 𝓤) (𝓣 : Tables 𝓤 H) : Type 1 where
     pub asks : Triple 𝓤 (𝓣 .C (𝓔 .ask)) (Asks 𝓤 H A)
     pub judges : Triple 𝓤 (𝓣 .C #index_records·judges) (Judges 𝓤 H A at-mem run)
     pub chooses : Triple 𝓤 (𝓣 .C #index_records·choose) (Chooses 𝓤 H A at-mem run)
@@ -669,8 +678,22 @@ module _ (𝓔 : Entry) where
     columns-go : AllGo 𝓤 H A W 6 columns (yes, (yes, (yes, (yes, tt)))) gave
     columns-go = (column-goes 2 tt u16, (column-goes 3 tt u16, (column-goes 4 tt i64, (column-goes 5 tt u8, tt))))
 
-    pub meets : Meets 𝓤 H A (ended .signature) (WpFn 𝓤 H (𝓣 .C) (𝓣 .Λ) (function (𝓔 .ask))) (closing 𝓤 H A ended (clauses 𝓤 H A))
+    meets : Meets 𝓤 H A (ended .signature) (WpFn 𝓤 H (𝓣 .C) (𝓣 .Λ) (function (𝓔 .ask))) (closing 𝓤 H A ended (clauses 𝓤 H A))
     meets =
         walk-meets 𝓤 H A ended stayed W
         (silent bytes (λ κs x f. refl), (silent source (λ κs x f. refl), (silent records (λ κs x f. refl), (bound-goes, (bound-goes, columns-go)))))
         (clauses 𝓤 H A) (WpFn 𝓤 H (𝓣 .C) (𝓣 .Λ) (function (𝓔 .ask))) (WpFn-mono 𝓤 H (W .laws) 𝓣 (function (𝓔 .ask))) walks
+
+  -- over what the names in the code mean
+  module _ {M : Type 1} (𝓤 : URA M) (H : Heap 𝓤) (𝓜 : Model 𝓤 H) (𝓖 : GhostRules 𝓤 H) (𝓡 : Running 𝓤 H 𝓜) (γ : Means)
+      (asks : Triple 𝓤 (tables 𝓤 H 𝓜 𝓡 γ .C (𝓔 .ask)) (Asks 𝓤 H (𝓖 .A))) (judges : γ #index_records·judges ≡ judge-def.routine)
+      (chooses : γ #index_records·choose ≡ choose-def.routine) (slices : γ #slice·from ≡ from-def.routine) where
+    pub met : Meets 𝓤 H (𝓖 .A) (ended .signature) (WpFn 𝓤 H (tables 𝓤 H 𝓜 𝓡 γ .C) (tables 𝓤 H 𝓜 𝓡 γ .Λ) (function (𝓔 .ask)))
+        (closing 𝓤 H (𝓖 .A) ended (clauses 𝓤 H (𝓖 .A)))
+    unfolding tablesOf
+    met = meets 𝓤 H (𝓖 .A) (givenOf 𝓤 H 𝓜 𝓖) (𝓜 .mem) (𝓡 .run) (tablesOf 𝓤 H 𝓜 (tables 𝓤 H 𝓜 𝓡 γ)) (record {
+      asks = asks;
+      judges = cited 𝓤 H (Judges 𝓤 H (𝓖 .A) (𝓜 .mem) (𝓡 .run)) 𝓜 𝓡 γ #index_records·judges judge-def.routine judges (judge-thm.met 𝓤 H 𝓜 𝓖 𝓡);
+      chooses = cited 𝓤 H (Chooses 𝓤 H (𝓖 .A) (𝓜 .mem) (𝓡 .run)) 𝓜 𝓡 γ #index_records·choose choose-def.routine chooses (choose-thm.met 𝓤 H 𝓜 𝓖 𝓡);
+      slicing = cited 𝓤 H (Slicing 𝓤 H (𝓖 .A) (𝓜 .mem) (𝓡 .run)) 𝓜 𝓡 γ #slice·from from-def.routine slices (from-thm.met 𝓤 H 𝓜 𝓖 𝓡);
+    })

@@ -96,7 +96,7 @@ pub record Scan : Type 2 where
   pub stepOf : state .row .Denot → Checkpoint → state .row .Denot
   -- what holds with so many iterations left at most
   pub Holds : param .row .Denot → List Checkpoint → ℕ → state .row .Denot → Type 0
-  pub starts : (p : param .row .Denot) (l : List Checkpoint) (t : state .row .Denot) → t ≡ firstOf (length l) p → Holds p l (suc (length l)) t
+  pub starts : (p : param .row .Denot) (l : List Checkpoint) → length l < 2 ^ 64 → (t : state .row .Denot) → t ≡ firstOf (length l) p → Holds p l (suc (length l)) t
   pub stops : (p : param .row .Denot) (l : List Checkpoint) (t : state .row .Denot) → Holds p l zero t → state .more t ≡ true → ⊥
   pub within : (p : param .row .Denot) (l : List Checkpoint) (m : ℕ) (t : state .row .Denot) → Holds p l m t → state .more t ≡ true → state .at t < length l
   pub steps : (p : param .row .Denot) (l : List Checkpoint) (m : ℕ) (t : state .row .Denot) → Holds p l (suc m) t → state .more t ≡ true
@@ -399,7 +399,7 @@ module _ (𝓕 : Scan) where
             (λ t. guardE 𝓤 (Facts m t) (⋆ 𝓤 H A (At t)) (λ fs. one m t (S .more t) refl fs))
 
         loops : (t : Current) → t ≡ 𝓕 .firstOf n p → IsS t → ent 𝓤 (⋆ 𝓤 H A (At t)) (Wp 𝓤 H C Λ En (loop iteration) Left)
-        loops t is gt = via 𝓤 (Inv (suc n)) (inv-in (suc n) t (𝓕 .starts p ys t is, gt))
+        loops t is gt = via 𝓤 (Inv (suc n)) (inv-in (suc n) t (𝓕 .starts p ys (g .0) t is, gt))
             (loop-rule 𝓤 H (W .laws) 𝓣 _<_ (Nat·lt-wfRel .wf) En iteration Left Inv each (suc n))
 
         loops-on : (t : Current) → t ≡ 𝓕 .firstOf n p → IsS t → Sq W (At t) (runs C Λ En looped (atRet En Post))

@@ -2,7 +2,7 @@
 use mathlib.Core.Path.{_≡_}
 use mathlib.Core.Bool.{Bool, true, false, cond}
 use mathlib.Core.List.{List, [], _∷_}
-use Prim.Native.Nat.{ℕ, _+_, _-_, min}
+use Prim.Native.Nat.{ℕ, _+_, _-_, _%_, _^_}
 use lib.Dec.{ltb}
 use lib.IntN.{pos}
 use lib.Signed.{leZ}
@@ -79,7 +79,7 @@ abbrev pub judgeAt : (at n : ℕ) → Judging → JudgeState
 judgeAt at n s = record { more = ltb at n; at = at; judging = s; n = n }
 
 abbrev pub judgedNext : JudgeState → Checkpoint → JudgeState
-judgedNext s c = judgeAt (min (s .at + 1) (s .n)) (s .n) (judgedOf (s .judging) c)
+judgedNext s c = judgeAt ((s .at + 1) % 2 ^ 64) (s .n) (judgedOf (s .judging) c)
 
 -- by the outcome of each test
 pub admits-by : (s : Judging) (c : Checkpoint) (a b k : Bool) → isOther (c .codec) (s .encoding) ≡ a → standsOf s c ≡ b → s .ok ≡ k

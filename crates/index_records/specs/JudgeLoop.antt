@@ -2,7 +2,8 @@
 use mathlib.Core.Path.{_≡_, refl, sym, ap, _∙_}
 use mathlib.Core.Bool.{true, false}
 use mathlib.Core.List.{List}
-use Prim.Native.Nat.{ℕ, zero, suc, _+_, _≤_, _<_, min}
+use Prim.Native.Nat.{ℕ, zero, suc, _+_, _%_, _^_, _≤_, _<_}
+use native.Mathlib.Nat.{mod-eq-of-lt}
 use native.Mathlib.Omega.{arith}
 use native.Mathlib.Numerals.{add-one}
 use lib.Dec.{ltb}
@@ -13,14 +14,11 @@ use Rattle.index_build.specs.declared.Checkpoint.{Checkpoint}
 use Rattle.index_build.specs.Nth.{nth, blank}
 use Rattle.index_records.specs.declared.Judging.{Judging}
 use Rattle.index_records.specs.declared.JudgeState.{JudgeState}
-use Rattle.index_records.specs.Judge.{judgedOf, judgedAll, judgeAt, judgedNext}
-
-pub next-is : (s : JudgeState) (c : Checkpoint) {j : Judging} {at : ℕ} {r : JudgeState}
-    → j ≡ judgedOf (s .judging) c → at ≡ min (s .at + 1) (s .n) → r ≡ judgeAt at (s .n) j → r ≡ judgedNext s c
-next-is s c p q is = is ∙ (λ i. judgeAt (q i) (s .n) (p i))
+use Rattle.index_records.specs.Judge.{judgedAll, judgeAt, judgedNext}
 
 -- with m iterations left at most
 pub record Judges (s : Judging) (l : List Checkpoint) (m : ℕ) (t : JudgeState) : Type 0 where
+  pub small : length l < 2 ^ 64
   pub is-n : t .n ≡ length l
   pub is-more : t .more ≡ ltb (t .at) (t .n)
   pub within : t .at ≤ length l
@@ -28,8 +26,8 @@ pub record Judges (s : Judging) (l : List Checkpoint) (m : ℕ) (t : JudgeState)
   pub same : judgedAll (t .judging) (drop (t .at) l) ≡ judgedAll s l
 
 module _ (s : Judging) (l : List Checkpoint) where
-  pub judges-first : (t : JudgeState) → t ≡ judgeAt 0 (length l) s → Judges s l (suc (length l)) t
-  judges-first t is = rw is (record { is-n = refl; is-more = refl; within = omega arith; left = omega arith; same = refl })
+  pub judges-first : length l < 2 ^ 64 → (t : JudgeState) → t ≡ judgeAt 0 (length l) s → Judges s l (suc (length l)) t
+  judges-first small t is = rw is (record { small = small; is-n = refl; is-more = refl; within = omega arith; left = omega arith; same = refl })
 
   pub judges-stops : (t : JudgeState) → Judges s l zero t → t .more ≡ true → ⊥
   judges-stops t j e = omega (arith, j .left, j .within)
@@ -45,13 +43,13 @@ module _ (s : Judging) (l : List Checkpoint) where
 
   pub judges-next : (m : ℕ) (t : JudgeState) → Judges s l (suc m) t → t .more ≡ true → (r : JudgeState) → r ≡ judgedNext t (nth l (t .at)) → Judges s l m r
   judges-next m t j e r is =
-      let small : t .at < length l = judges-place (suc m) t j e in
-      let n : t .n ≡ length l = j .is-n in
-      let step : min (t .at + 1) (t .n) ≡ t .at + 1 = omega arith in
+      let before : t .at < length l = judges-place (suc m) t j e in
+      let step : (t .at + 1) % 2 ^ 64 ≡ t .at + 1 = mod-eq-of-lt (omega (arith, j .small)) in
       rw (is, step) (record {
-        is-n = n;
+        small = j .small;
+        is-n = j .is-n;
         is-more = refl;
         within = omega arith;
         left = omega (arith, j .left);
-        same = rw add-one (sym (ap (judgedAll (t .judging)) (drop-cons l (t .at) blank small)) ∙ j .same);
+        same = rw add-one (sym (ap (judgedAll (t .judging)) (drop-cons l (t .at) blank before)) ∙ j .same);
       })

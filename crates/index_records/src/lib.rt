@@ -255,10 +255,8 @@ fn judge_next(s: JudgeState, c: Checkpoint) -> JudgeState
 {
     let before = s.judging;
     let judging = judge(before, c);
-    if s.at < s.n {
-        return judge_at(s.at + 1, s.n, judging);
-    }
-    judge_at(s.n, s.n, judging)
+    let at = std::num::wrapping_add_usize(s.at, 1);
+    judge_at(at, s.n, judging)
 }
 
 // All records, each read singly into a copy.

@@ -83,7 +83,7 @@ module _ (e : Encoding) (l : List ℕ) where
   abbrev apart : Search → ℕ
   apart t = t .hi - t .lo
 
-  -- how many iterations are left at most
+  -- how many iterations of the binary search are left at most
   abbrev pub left-of : Search → ℕ
   left-of t = cond (t .more) (suc (apart t)) 0
 

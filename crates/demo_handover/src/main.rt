@@ -1,5 +1,5 @@
 // Demand 3, run: a few appends to a fresh writer of each encoding, cut at every byte. The bytes
-// before a cut are decoded, a second writer goes on with the events that are missing, and the joined
+// before a cut are decoded, a second writer appends the events that are missing, and the joined
 // stream is decoded; both are indexed at two spacings and sliced by number and by time. A line for
 // each cut says how many events were whole before it, how long the joined stream is, and `exact`, or
 // what differs. src/given.rt has the appends, and what each cut owes.

@@ -1,4 +1,4 @@
-// Appending: what is given, and what a second writer goes on with.
+// Appending: what is given, and what a second writer resumes with.
 ghost use mathlib.Core.Path.{_≡_};
 ghost use mathlib.Core.List.{_++_};
 ghost use Prim.Native.Nat.{_≤_};
@@ -113,7 +113,7 @@ pub fn appends(encoding: Encoding, out: &mut [u8]) -> usize
     third.at
 }
 
-// A fresh writer goes on at `at` with the given events from number `from` on. Answers where it ends.
+// A fresh writer resumes at `at` with the given events from number `from` on. Answers where it ends.
 pub fn resume(encoding: Encoding, from: usize, out: &mut [u8], at: usize) -> usize
     requires { ⌜ (from ≤ 16) × (at ≤ length (now out)) ⌝ }
     ensures { λ r. ⌜ r ≤ length (now (out .entry)) ⌝ }

@@ -21,8 +21,10 @@ use Rattle.read_rules.specs.Read as Read
 use Rattle.index_build.specs.declared.Checkpoint.{Checkpoint}
 use Rattle.index_records.specs.declared.Judging.{Judging}
 use Rattle.index_build.specs.declared.RawSliceSource.{RawSliceSource}
+use Rattle.index_records.specs.BinarySearch.{chosenOf}
 use Rattle.index_records.specs.Choose.{Chose}
 use Rattle.index_records.specs.Judge.{judgedAll}
+use Rattle.index_records.specs.Search.{chosen}
 use Rattle.slice_rules.specs.declared.Asked.{Asked}
 use Rattle.slice_rules.specs.declared.SliceAnswer.{SliceAnswer}
 use Rattle.slice_rules.specs.Slice as Slice
@@ -172,12 +174,15 @@ module _ (e : Encoding) (recording entries : List ℕ) (given : PropheseeSource)
 
 -- the records are judged, and one of them is chosen to start at
 module _ (e : Encoding) (recording entries : List ℕ) (s : RawSliceSource) (asked : Asked) (fine : Bool) (start : Checkpoint)
-    (all : fine ≡ judgedAll (asked .judging) (recordsIn e entries) .ok) (chose : Chose (asked .choice) (recordsIn e entries) start) where
+    (all : fine ≡ judgedAll (asked .judging) (recordsIn e entries) .ok) (is-start : start ≡ chosenOf (asked .choice) (recordsIn e entries)) where
   abbrev records : List Checkpoint
   records = recordsIn e entries
 
   abbrev judged : Judging
   judged = judgedAll (asked .judging) records
+
+  chose : Chose (asked .choice) records start
+  chose = chosen (asked .choice) records start is-start
 
   module _ (i0 i1 : ℕ) (is : asked ≡ askedByNumber s (roomOf entries) i0 i1) where
     by-number : asked ≡ askedByNumber s (length records) i0 i1

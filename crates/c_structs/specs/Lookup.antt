@@ -15,14 +15,13 @@ use Rattle.index_build.specs.declared.Checkpoint.{Checkpoint}
 use Rattle.index_records.specs.declared.Choice.{Choice}
 use Rattle.index_records.specs.declared.Judging.{Judging}
 use Rattle.index_records.specs.declared.Search.{Search}
-use Rattle.index_records.specs.Choose.{Chose}
 use Rattle.index_build.specs.Index.{firsts}
-use Rattle.index_records.specs.Halves.{bracketOf, narrowed}
+use Rattle.index_records.specs.BinarySearch.{narrowed, firstSearch, chosenOf}
 use Rattle.index_records.specs.Judge.{judgedOf, judgedAll}
 use Rattle.index_records.specs.JudgeLaws.{judged-failed}
 use Rattle.index_build.specs.Laws.{length-firsts}
 use Rattle.index_build.specs.Nth.{nth, blank}
-use Rattle.index_records.specs.Search.{Searching, search-start, search-place, search-turn}
+use Rattle.index_records.specs.Search.{Searching, enough, Finds, finds-first, finds-place, finds-next, finds-end}
 use Rattle.c_structs.specs.Records.{roomOf, recordAt, recordsIn}
 
 judged-more : (s : Judging) (l : List Checkpoint) (c : Checkpoint) → judgedAll s (l ++ (c ∷ [])) ≡ judgedOf (judgedAll s l) c
@@ -65,8 +64,8 @@ module _ (e : Encoding) (l : List ℕ) where
   abbrev pub Judged : Judging → ℕ → Judging → Type 0
   Judged s i t = t ≡ judgedAll s (firsts (recordAt e l) i)
 
-  pub judged-turn : (s : Judging) (i : ℕ) (t r : Judging) (c : Checkpoint) → Judged s i t → c ≡ recordAt e l i → r ≡ judgedOf t c → Judged s (i + 1) r
-  judged-turn s i t r c h is-c is-r =
+  pub judged-next : (s : Judging) (i : ℕ) (t r : Judging) (c : Checkpoint) → Judged s i t → c ≡ recordAt e l i → r ≡ judgedOf t c → Judged s (i + 1) r
+  judged-next s i t r c h is-c is-r =
       is-r ∙ (λ k. judgedOf (h k) (is-c k)) ∙ sym (judged-more s (firsts (recordAt e l) i) (recordAt e l i)) ∙ ap (λ (n : ℕ). judgedAll s (firsts (recordAt e l) n)) (sym (add-one i))
 
   pub judged-end : (s : Judging) (i : ℕ) (t : Judging) → i ≡ roomOf l → Judged s i t → t ≡ judgedAll s (recordsIn e l)
@@ -89,34 +88,41 @@ module _ (e : Encoding) (l : List ℕ) where
   left-of t = cond (t .more) (suc (apart t)) 0
 
   abbrev pub Looks : Choice → Search → Type 0
-  Looks asked t = Searching asked (recordsIn e l) (suc (apart t)) t
+  Looks asked t = Finds asked (recordsIn e l) (suc (apart t)) t
 
   -- any bound on the distance will do
-  rebound : (asked : Choice) (m : ℕ) (t : Search) → Searching asked (recordsIn e l) m t → Looks asked t
-  rebound asked m t s = record { is-asked = s .is-asked; is-at = s .is-at; parts = s .parts; left = λ _. omega arith; some = s .some; found = s .found }
+  rebound : (asked : Choice) (m : ℕ) (t : Search) → Finds asked (recordsIn e l) m t → Looks asked t
+  rebound asked m t f = record { searching = near; finds = ap (λ (u : Search). u .best) (enough asked (recordsIn e l) (suc (apart t)) m t near s) ∙ f .finds }
+    where
+      s : Searching asked (recordsIn e l) m t
+      s = f .searching
 
-  pub looks-start : (asked : Choice) (t : Search) → t ≡ bracketOf (ltb 0 (roomOf l)) 0 (roomOf l) asked blank → Looks (t .asked) t
+      near : Searching asked (recordsIn e l) (suc (apart t)) t
+      near = record { is-asked = s .is-asked; is-at = s .is-at; parts = s .parts; left = λ _. omega arith; some = s .some }
+
+  pub looks-start : (asked : Choice) (t : Search) → t ≡ firstSearch (roomOf l) asked → Looks (t .asked) t
   looks-start asked t is =
       subst (λ (a : Choice). Looks a t) (sym (ap (λ (u : Search). u .asked) is))
-      (rebound asked (suc (length (recordsIn e l))) t (search-start asked (recordsIn e l) t (is ∙ ap (λ (k : ℕ). bracketOf (ltb 0 k) 0 k asked blank) (sym length-records))))
+      (rebound asked (suc (length (recordsIn e l))) t (finds-first asked (recordsIn e l) t (is ∙ ap (λ (k : ℕ). firstSearch k asked) (sym length-records))))
 
   module _ (asked : Choice) (t : Search) (s : Looks asked t) (more : t .more ≡ true) where
     pub looks-place : t .at < roomOf l
-    looks-place = subst (λ (n : ℕ). t .at < n) length-records (search-place asked (recordsIn e l) (suc (apart t)) t s more)
+    looks-place = subst (λ (n : ℕ). t .at < n) length-records (finds-place asked (recordsIn e l) (suc (apart t)) t s more)
 
     module _ (c : Checkpoint) (is-c : c ≡ recordAt e l (t .at)) (r : Search) (is-r : r ≡ narrowed t c) where
-      turned : Searching asked (recordsIn e l) (apart t) r
-      turned = search-turn asked (recordsIn e l) (apart t) t s more r (is-r ∙ ap (narrowed t) (is-c ∙ sym (nth-records (t .at) looks-place)))
+      next : Finds asked (recordsIn e l) (apart t) r
+      next = finds-next asked (recordsIn e l) (apart t) t s more r (is-r ∙ ap (narrowed t) (is-c ∙ sym (nth-records (t .at) looks-place)))
 
-      pub looks-turn : Looks asked r
-      looks-turn = rebound asked (apart t) r turned
+      pub looks-next : Looks asked r
+      looks-next = rebound asked (apart t) r next
 
       pub looks-less : left-of r < left-of t
       looks-less = go (r .more) refl
         where
           go : (b : Bool) → r .more ≡ b → cond b (suc (apart r)) 0 < left-of t
-          go true p = rw more (omega (arith, turned .left p))
+          go true p = rw more (omega (arith, next .searching .left p))
           go false p = rw more (omega arith)
 
-  pub looks-end : (asked : Choice) (t₀ : Search) → t₀ ≡ bracketOf (ltb 0 (roomOf l)) 0 (roomOf l) asked blank → (t : Search) → Looks (t₀ .asked) t → t .more ≡ false → Chose asked (recordsIn e l) (t .best)
-  looks-end asked t₀ is t s stopped = subst (λ (a : Choice). Looks a t) (ap (λ (u : Search). u .asked) is) s .found stopped
+  pub looks-end : (asked : Choice) (t₀ : Search) → t₀ ≡ firstSearch (roomOf l) asked → (t : Search) → Looks (t₀ .asked) t → t .more ≡ false
+      → t .best ≡ chosenOf asked (recordsIn e l)
+  looks-end asked t₀ is t s = finds-end asked (recordsIn e l) (suc (apart t)) t (subst (λ (a : Choice). Looks a t) (ap (λ (u : Search). u .asked) is) s)

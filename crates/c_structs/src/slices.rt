@@ -1,6 +1,6 @@
 // An index and a slice's answer in numbers; judging and choosing among records that are entries.
 ghost use mathlib.Core.Path.{_≡_};
-ghost use Rattle.index_records.specs.Choose.{Chose};
+ghost use Rattle.index_records.specs.BinarySearch.{chosenOf};
 ghost use Rattle.index_records.specs.Judge.{judgedAll};
 ghost use Rattle.slice_rules.specs.Slice.{toldSlice};
 ghost use Rattle.c_structs.specs.Opening.{sourceOf};
@@ -61,7 +61,7 @@ pub fn judge_entries(encoding: Encoding, records: &[u64], s: Judging) -> bool
 
 // The record that a slice starts at, by binary search.
 pub fn choose_entries(encoding: Encoding, records: &[u64], asked: Choice) -> Checkpoint
-    ensures { λ r. ⌜ Chose asked (recordsIn encoding (now (records .entry))) r ⌝ }
+    ensures { λ r. ⌜ r ≡ chosenOf asked (recordsIn encoding (now (records .entry))) ⌝ }
 {
     let n = records.len() / 10;
     let mut t = index_records::first_search(n, asked);

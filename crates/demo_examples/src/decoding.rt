@@ -2,7 +2,7 @@
 use crate::print;
 use prophesee_raw::Decoder;
 
-// A step answers the decoder to go on with, and the word's events. The words 8001 300A 4003 have two,
+// A step answers the next decoder, and the word's events. The words 8001 300A 4003 have two,
 // at columns 10 and 11.
 pub fn decode_singly() {
     let decoder = Decoder::new();

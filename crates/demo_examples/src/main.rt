@@ -1,5 +1,5 @@
 // The examples that the comment of `prophesee_raw` names, run: reading, indexing and slicing,
-// writing, a stream that is cut and gone on with, single words, and refusals. Every call is one of
+// writing, a stream that is cut and resumed, single words, and refusals. Every call is one of
 // `prophesee_raw`; `test_text` only prints, an event as `t,x,y,p` and bytes in hex. Each line begins
 // with the name of its example.
 mod decoding;

@@ -87,7 +87,7 @@ pub fn slice(name: &[u8], answer: SliceAnswer) -> usize {
     }
 }
 
-// The bytes written. Answers the writer to go on with.
+// The bytes written. Answers the next writer.
 pub fn append(name: &[u8], appended: Appended, output: &[u8]) -> RawEventSink {
     let answer = appended.answer;
     show::text(name);

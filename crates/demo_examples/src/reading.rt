@@ -40,7 +40,7 @@ pub fn read_limited() {
 }
 
 // Words without a header: the caller names the encoding. Without a size all events are kept, and the
-// size is the least that holds them. Answers how many events there are.
+// size is the minimum that holds them. Answers how many events there are.
 pub fn decode(name: &[u8], words: &[u8], encoding: Encoding) -> usize {
     let mut xs = [0; 4];
     let mut ys = [0; 4];

@@ -26,7 +26,7 @@ pub fn records_too_few() {
     print::opening(b"records_too_few: ", answer);
 }
 
-// Times that fall: 6. The writer that comes back is the one that was given, and goes on.
+// Times that fall: 6. The writer that comes back is the one that was given.
 pub fn times_fall() {
     let mut output = [0; 32];
     let writer = RawEventSink::to_writer(Encoding::Evt3, false);

@@ -1,4 +1,4 @@
-// A stream that breaks off, and is gone on with. The contracts say that every number is within bounds
+// A stream that breaks off, and is resumed. The contracts say that every number is within bounds
 // here; `at_most` spares the proof.
 use crate::reading;
 use crate::slicing;

@@ -16,13 +16,13 @@ pub fn append(writer: RawEventSink, t: i64, output: &mut [u8]) -> Appended {
     prophesee_raw::append(writer, 64, 48, &xs, &ys, &ts, &ps, &mut *output)
 }
 
-// The same, and what it answered. The writer to go on with is answered.
+// The same, and what it answered. Answers the next writer.
 pub fn append_told(name: &[u8], writer: RawEventSink, t: i64, output: &mut [u8]) -> RawEventSink {
     let appended = append(writer, t, &mut *output);
     print::append(name, appended, output)
 }
 
-// Words without a header. An append answers the writer to go on with, which knows the time and the
+// Words without a header. An append answers the next writer, which knows the time and the
 // row that were sent: the second one sends less.
 pub fn write_words() {
     let mut output = [0; 32];

@@ -59,15 +59,16 @@ module _ {A : Type 0} (d : A) (got given : List A) (from n : ℕ) where
   pub agreeing-start : Agreeing 0
   agreeing-start = record { within = omega arith; alike = below-none (λ k. getD got k d ≡ getD given (from + k) d) }
 
-  pub agreeing-turn : {i : ℕ} → Agreeing i → i < n → getD got i d ≡ getD given (from + i) d → Agreeing (i + 1)
-  agreeing-turn {i} s h e = record { within = omega arith; alike = below-more (λ k. getD got k d ≡ getD given (from + k) d) i (s .alike) e }
+  pub agreeing-next : {i : ℕ} → Agreeing i → i < n → getD got i d ≡ getD given (from + i) d → Agreeing (i + 1)
+  agreeing-next {i} s h e = record { within = omega arith; alike = below-more (λ k. getD got k d ≡ getD given (from + k) d) i (s .alike) e }
 
   pub agreeing-end : {i : ℕ} → Agreeing i → n ≤ i → n ≤ length got → from + n ≤ length given → Same true (take n got) (take n (drop from given))
   agreeing-end {i} s h fits fits' =
       let end : i ≡ n = omega (arith, s .within) in
       let long : length (take n got) ≡ n = length-take-le n got fits in
       let long' : length (take n (drop from given)) ≡ n = length-take-le n (drop from given) (omega (arith, length-drop from given)) in
-      let alike : (k : ℕ) → k < n → getD got k d ≡ getD given (from + k) d = subst (λ (m : ℕ). (k : ℕ) → k < m → getD got k d ≡ getD given (from + k) d) end (s .alike) in (
+      let alike : (k : ℕ) → k < n → getD got k d ≡ getD given (from + k) d
+      = subst (λ (m : ℕ). (k : ℕ) → k < m → getD got k d ≡ getD given (from + k) d) end (s .alike) in (
         (λ _. ext-getD d (take n got) (take n (drop from given)) (long ∙ sym long') (λ k h.
             let below : k < n = omega arith in
             getD-take n got k d below ∙ alike k below ∙ sym (getD-drop from given k d) ∙ sym (getD-take n (drop from given) k d below))),
@@ -75,7 +76,11 @@ module _ {A : Type 0} (d : A) (got given : List A) (from n : ℕ) where
       )
 
   pub differ-at : {i : ℕ} → Agreeing i → i < n → (getD got i d ≡ getD given (from + i) d → ⊥) → Same false (take n got) (take n (drop from given))
-  differ-at {i} s h ne = ((λ e. never e), λ e. absurd (ne (sym (getD-take n got i d h) ∙ ap (λ (l : List A). getD l i d) e ∙ getD-take n (drop from given) i d h ∙ getD-drop from given i d)))
+  differ-at {i} s h ne = (
+    (λ e. never e),
+    λ e. absurd (ne (sym (getD-take n got i d h) ∙ ap (λ (l : List A). getD l i d) e
+        ∙ getD-take n (drop from given) i d h ∙ getD-drop from given i d)),
+  )
 
 pub fits-rest : {from to : ℕ} → from ≤ to → to ≤ 16 → from + (to - from) ≤ 16
 fits-rest h fits = omega arith
@@ -97,7 +102,8 @@ some (Count n) = 1
 some (Column b) = 1
 
 pub judged-other : (got : Got) (from to : ℕ) (r : Difference) → some r ≡ 1 → (Matches got from to → ⊥) → Judges got from to r
-judged-other got from to r e h = record { if-nothing = λ k. absurd (let z : _≡_ {A = ℕ} 1 0 = sym e ∙ ap some k in omega arith); if-matches = λ m. absurd (h m) }
+judged-other got from to r e h =
+    record { if-nothing = λ k. absurd (let z : _≡_ {A = ℕ} 1 0 = sym e ∙ ap some k in omega arith); if-matches = λ m. absurd (h m) }
 
 -- ---- copying to the front: the first i are stored
 
@@ -110,8 +116,8 @@ module _ (from to₀ : List ℕ) where
   pub copying-start : Copying to₀ 0
   copying-start = record { long = refl; within = omega arith; rest = refl }
 
-  pub copying-turn : {to : List ℕ} {i : ℕ} → Copying to i → i < length from → Copying (set to i (getD from i 0)) (i + 1)
-  copying-turn {to} {i} s h = record {
+  pub copying-next : {to : List ℕ} {i : ℕ} → Copying to i → i < length from → Copying (set to i (getD from i 0)) (i + 1)
+  copying-next {to} {i} s h = record {
     long = length-set to i (getD from i 0) ∙ s .long;
     within = omega arith;
     rest = rw (add-one i) (ap (λ (l : List ℕ). sets to i l) (sym (drop-cons from i 0 h)) ∙ s .rest);
@@ -119,4 +125,5 @@ module _ (from to₀ : List ℕ) where
 
   pub copying-end : {to : List ℕ} {i : ℕ} → Copying to i → length from ≤ i → length from ≤ length to₀ → to ≡ from ++ drop (length from) to₀
   copying-end {to} {i} s h fits =
-      ap (λ (l : List ℕ). sets to i l) (sym (drop-of-length-le from h)) ∙ s .rest ∙ sets-eq from to₀ 0 (omega arith) ∙ ap (λ (n : ℕ). from ++ drop n to₀) (zero-add (length from))
+      ap (λ (l : List ℕ). sets to i l) (sym (drop-of-length-le from h)) ∙ s .rest
+      ∙ sets-eq from to₀ 0 (omega arith) ∙ ap (λ (n : ℕ). from ++ drop n to₀) (zero-add (length from))

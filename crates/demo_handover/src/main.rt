@@ -1,13 +1,12 @@
 // Demand 3, run: a few appends to a fresh writer of each encoding, cut at every byte. The bytes
-// before a cut are decoded, a second writer goes on with the events that are missing, and the joined
+// before a cut are decoded, a second writer appends the events that are missing, and the joined
 // stream is decoded; both are indexed at two spacings and sliced by number and by time. A line for
 // each cut says how many events were whole before it, how long the joined stream is, and `exact`, or
 // what differs. src/given.rt has the appends, and what each cut owes.
 ghost use Prim.Native.Nat.{_≤_, _<_};
 ghost use lib.ListN.{length};
-use prophesee_raw::Decoder;
+use prophesee_raw::Codec;
 use prophesee_raw::Encoding;
-use prophesee_raw::Evt2Decoder;
 
 mod compare;
 mod exact;
@@ -19,10 +18,8 @@ mod write;
 fn word_size(encoding: Encoding) -> usize
     ensures { λ r. ⌜ 0 < r ⌝ }
 {
-    match encoding {
-        Encoding::Evt2 => Evt2Decoder::WORD_SIZE,
-        Encoding::Evt3 => Decoder::WORD_SIZE,
-    }
+    let codec = Codec::new(encoding);
+    codec.word_size()
 }
 
 // The stream, cut, and then joined with what a second writer makes of the events that are missing.

@@ -1,4 +1,4 @@
-// Appending: what is given, and what a second writer goes on with.
+// Appending: what is given, and what a second writer resumes with.
 ghost use mathlib.Core.Path.{_≡_};
 ghost use mathlib.Core.List.{_++_};
 ghost use Prim.Native.Nat.{_≤_};
@@ -8,6 +8,8 @@ use crate::print;
 use prophesee_raw::AppendAnswer;
 use prophesee_raw::Encoding;
 use prophesee_raw::RawEventSink;
+use test_text::columns;
+use test_text::text;
 
 // A writer, how many bytes of the output are written, and whether the answers are told.
 struct Progress {
@@ -70,34 +72,6 @@ fn append(w: Progress, xs: &[u16], ys: &[u16], ts: &[i64], ps: &[u8], out: &mut 
     }
 }
 
-// Parts of columns; one that isn't there is empty.
-fn shorts(s: &[u16], from: usize, to: usize) -> &[u16] {
-    if from <= to {
-        if to <= s.len() {
-            return &s[from..to];
-        }
-    }
-    &s[..0]
-}
-
-fn longs(s: &[i64], from: usize, to: usize) -> &[i64] {
-    if from <= to {
-        if to <= s.len() {
-            return &s[from..to];
-        }
-    }
-    &s[..0]
-}
-
-fn bytes(s: &[u8], from: usize, to: usize) -> &[u8] {
-    if from <= to {
-        if to <= s.len() {
-            return &s[from..to];
-        }
-    }
-    &s[..0]
-}
-
 // Appends the given events from number `from` on, up to `to`.
 fn append_given(w: Progress, from: usize, to: usize, out: &mut [u8]) -> Progress
     requires { ⌜ w .at ≤ length (now out) ⌝ }
@@ -109,10 +83,10 @@ fn append_given(w: Progress, from: usize, to: usize, out: &mut [u8]) -> Progress
     let ps = given::polarities();
     append(
         w,
-        shorts(&xs, from, to),
-        shorts(&ys, from, to),
-        longs(&ts, from, to),
-        bytes(&ps, from, to),
+        columns::part_of_shorts(&xs, from, to),
+        columns::part_of_shorts(&ys, from, to),
+        columns::part_of_longs(&ts, from, to),
+        text::part(&ps, from, to),
         &mut *out,
     )
 }
@@ -139,7 +113,7 @@ pub fn appends(encoding: Encoding, out: &mut [u8]) -> usize
     third.at
 }
 
-// A fresh writer goes on at `at` with the given events from number `from` on. Answers where it ends.
+// A fresh writer resumes at `at` with the given events from number `from` on. Answers where it ends.
 pub fn resume(encoding: Encoding, from: usize, out: &mut [u8], at: usize) -> usize
     requires { ⌜ (from ≤ 16) × (at ≤ length (now out)) ⌝ }
     ensures { λ r. ⌜ r ≤ length (now (out .entry)) ⌝ }

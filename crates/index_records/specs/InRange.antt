@@ -10,7 +10,8 @@ use Rattle.index_build.specs.declared.Checkpoint.{Checkpoint}
 use Rattle.index_build.specs.declared.RawSliceSource.{RawSliceSource}
 use Rattle.index_records.specs.Judge.{isOther}
 
--- a record stands at `offset`, which is no place at all from 2^64 on, and is of the source's encoding, with a decoder in range; its count is no less than `count`, at most 2^33 and at most the total, its time no less than `time`
+-- a record stands at `offset`, which is no place at all from 2^64 on, and is of the source's encoding, with a decoder in range; its count is no less than
+-- `count`, at most 2^33 and at most the total, its time no less than `time`
 abbrev pub recordInRange : RawSliceSource → (offset count : ℕ) → (time : ℤ) → Checkpoint → Bool
 recordInRange s offset count time c =
     ltb offset (2 ^ 64)

@@ -2,7 +2,7 @@
 use mathlib.Core.Path.{_≡_}
 use mathlib.Core.Bool.{Bool, true, false, cond}
 use mathlib.Core.List.{List, [], _∷_}
-use Prim.Native.Nat.{ℕ, _+_, _-_}
+use Prim.Native.Nat.{ℕ, _+_, _-_, _%_, _^_}
 use lib.Dec.{ltb}
 use lib.IntN.{pos}
 use lib.Signed.{leZ}
@@ -13,6 +13,7 @@ use Rattle.evt_codec.specs.declared.codec.Codec.{Codec}
 use Rattle.evt_codec.specs.declared.codec.Codec.the-variants.{Evt2, Evt3}
 use Rattle.index_build.specs.declared.Checkpoint.{Checkpoint}
 use Rattle.index_records.specs.declared.Judging.{Judging}
+use Rattle.index_records.specs.declared.JudgeState.{JudgeState}
 use Rattle.index_build.specs.declared.RawSliceSource.{RawSliceSource}
 
 -- a record of the other encoding
@@ -73,6 +74,14 @@ abbrev pub judgedAll : Judging → List Checkpoint → Judging
 judgedAll s [] = s
 judgedAll s (c ∷ cs) = judgedAll (judgedOf s c) cs
 
+-- record `at` of n is read next
+abbrev pub judgeAt : (at n : ℕ) → Judging → JudgeState
+judgeAt at n s = record { more = ltb at n; at = at; judging = s; n = n }
+
+abbrev pub judgedNext : JudgeState → Checkpoint → JudgeState
+judgedNext s c = judgeAt ((s .at + 1) % 2 ^ 64) (s .n) (judgedOf (s .judging) c)
+
 -- by the outcome of each test
-pub admits-by : (s : Judging) (c : Checkpoint) (a b k : Bool) → isOther (c .codec) (s .encoding) ≡ a → standsOf s c ≡ b → s .ok ≡ k → admitsOf s c ≡ cond a false (cond b (cond k (inRangeC (c .codec)) false) false)
+pub admits-by : (s : Judging) (c : Checkpoint) (a b k : Bool) → isOther (c .codec) (s .encoding) ≡ a → standsOf s c ≡ b → s .ok ≡ k
+    → admitsOf s c ≡ cond a false (cond b (cond k (inRangeC (c .codec)) false) false)
 admits-by s c a b k p q r = λ i. cond (p i) false (cond (q i) (cond (r i) (inRangeC (c .codec)) false) false)

@@ -58,10 +58,12 @@ reorder false false decoder rest = refl
 module _ (s : RawSliceSource) where
   -- where the records before were all fine
   abbrev judging : (past : Bool) (offset count : ℕ) (time : ℤ) → Judging
-  judging past offset count time = record { ok = true; past = past; offset = offset; spacing = s .spacing; encoding = s .encoding; total = s .«n_events»; count = count; time = time }
+  judging past offset count time =
+      record { ok = true; past = past; offset = offset; spacing = s .spacing; encoding = s .encoding; total = s .«n_events»; count = count; time = time }
 
   stands-is : (offset count : ℕ) (time : ℤ) (c : Checkpoint) → standsOf (judging false offset count time) c
-      ≡ (eqb (c .«byte_offset») offset && (leb count (c .«event_index») && (leb (c .«event_index») (2 ^ 33) && (leb (c .«event_index») (s .«n_events») && leZ time (c .time)))))
+      ≡ (eqb (c .«byte_offset») offset && (leb count (c .«event_index») &&
+      (leb (c .«event_index») (2 ^ 33) && (leb (c .«event_index») (s .«n_events») && leZ time (c .time)))))
   stands-is offset count time c =
       let b = c .«byte_offset» in
       let n = c .«event_index» in
@@ -71,14 +73,16 @@ module _ (s : RawSliceSource) where
         cond-not (ltb n count),
         cond-not (ltb 8589934592 n),
         cond-not (ltb (s .«n_events») n),
-        ← and-assoc (not (ltb b offset)) (not (ltb offset b)) (not (ltb n count) && (not (ltb 8589934592 n) && (not (ltb (s .«n_events») n) && leZ time (c .time)))),
+        ← and-assoc (not (ltb b offset)) (not (ltb offset b))
+            (not (ltb n count) && (not (ltb 8589934592 n) && (not (ltb (s .«n_events») n) && leZ time (c .time)))),
         not-both b offset,
         not-ltb n count,
         not-ltb 8589934592 n,
         not-ltb (s .«n_events») n,
       )
 
-  admits-place : (offset count : ℕ) (time : ℤ) (c : Checkpoint) → offset < 2 ^ 64 → admitsOf (judging false offset count time) c ≡ recordInRange s offset count time c
+  admits-place : (offset count : ℕ) (time : ℤ) (c : Checkpoint) → offset < 2 ^ 64
+      → admitsOf (judging false offset count time) c ≡ recordInRange s offset count time c
   admits-place offset count time c h =
       let other = isOther (c .codec) (s .encoding) in
       let e = eqb (c .«byte_offset») offset in
@@ -89,7 +93,8 @@ module _ (s : RawSliceSource) where
       ∙ reorder e (not other) (inRangeC (c .codec)) rest
       ∙ rw (lt-ltb offset (2 ^ 64) h)
 
-  admits-past : (o offset count : ℕ) (time : ℤ) (c : Checkpoint) → 2 ^ 64 ≤ offset → admitsOf (judging true o count time) c ≡ recordInRange s offset count time c
+  admits-past : (o offset count : ℕ) (time : ℤ) (c : Checkpoint) → 2 ^ 64 ≤ offset
+      → admitsOf (judging true o count time) c ≡ recordInRange s offset count time c
   admits-past o offset count time c h = rw (le-ltb offset (2 ^ 64) h) (go (isOther (c .codec) (s .encoding)))
     where
       go : (t : Bool) → cond t false false ≡ false
@@ -128,8 +133,12 @@ module _ (s : RawSliceSource) (small : s .spacing ≤ 4194304) where
     where
       go : (t : Bool) → ltb (18446744073709551615 - s .spacing) o ≡ t
           → judgedAll (cond t (judging s true 0 (c .«event_index») (c .time)) (judging s false (o + s .spacing) (c .«event_index») (c .time))) cs .ok ≡ rest
-      go true q = next true 0 (lt-ltb 18446744073709551615 (offset + s .spacing) (omega (arith, ltb-true (18446744073709551615 - s .spacing) o q))) (λ f. let z : _≡_ {A = ℕ} 0 1 = cc in absurd (omega arith))
-      go false q = next false (o + s .spacing) (le-ltb 18446744073709551615 (offset + s .spacing) (omega (arith, ltb-false (18446744073709551615 - s .spacing) o q))) (λ f. omega arith)
+      go true q =
+          next true 0 (lt-ltb 18446744073709551615 (offset + s .spacing) (omega (arith, ltb-true (18446744073709551615 - s .spacing) o q)))
+          (λ f. let z : _≡_ {A = ℕ} 0 1 = cc in absurd (omega arith))
+      go false q =
+          next false (o + s .spacing) (le-ltb 18446744073709551615 (offset + s .spacing) (omega (arith, ltb-false (18446744073709551615 - s .spacing) o q)))
+          (λ f. omega arith)
 
   -- the code's offset o is the record's, unless that passes 2^64
   judged-from : (past : Bool) (o offset count : ℕ) (time : ℤ) (cs : List Checkpoint) → ltb 18446744073709551615 offset ≡ past → (past ≡ false → o ≡ offset)
@@ -137,7 +146,8 @@ module _ (s : RawSliceSource) (small : s .spacing ≤ 4194304) where
   judged-from past o offset count time [] p q = refl
   judged-from true o offset count time (c ∷ cs) p q =
       let h : 2 ^ 64 ≤ offset = omega (arith, ltb-true 18446744073709551615 offset p) in
-      failed (judging s true o count time) c cs (recordsInRange s (offset + s .spacing) (c .«event_index») (c .time) cs) (recordInRange s offset count time c) (admits-past s o offset count time c h) (rw (le-ltb offset (2 ^ 64) h))
+      failed (judging s true o count time) c cs (recordsInRange s (offset + s .spacing) (c .«event_index») (c .time) cs) (recordInRange s offset count time c)
+      (admits-past s o offset count time c h) (rw (le-ltb offset (2 ^ 64) h))
   judged-from false o offset count time (c ∷ cs) p q =
       go (recordInRange s offset count time c) (recordsInRange s (offset + s .spacing) (c .«event_index») (c .time) cs)
       (ap (λ (u : ℕ). admitsOf (judging s false u count time) c) (q refl) ∙ admits-place s offset count time c h)
@@ -150,14 +160,17 @@ module _ (s : RawSliceSource) (small : s .spacing ≤ 4194304) where
           → ((past : Bool) (u : ℕ) → ltb 18446744073709551615 (offset + s .spacing) ≡ past → (past ≡ false → u ≡ offset + s .spacing)
           → judgedAll (judging s past u (c .«event_index») (c .time)) cs .ok ≡ rest)
           → judgedAll (judgedOf (judging s false o count time) c) cs .ok ≡ (b && rest)
-      go true rest r ih = ap (λ (t : Bool). judgedAll (onwardOf (judging s false o count time) c t) cs .ok) r ∙ passed o offset count time c cs rest h (q refl) ih
+      go true rest r ih =
+          ap (λ (t : Bool). judgedAll (onwardOf (judging s false o count time) c t) cs .ok) r ∙ passed o offset count time c cs rest h (q refl) ih
       go false rest r ih = failed (judging s false o count time) c cs rest false r refl
 
   -- RULE 10, as the code judges it
   pub judged-in-range : (records : List Checkpoint) → judgedAll (firstJudging s (length records)) records .ok ≡ indexInRange s records
   unfolding indexInRange
   judged-in-range [] = refl
-  judged-in-range (c ∷ cs) = rw (lt-ltb 0 (suc (length cs)) (omega arith)) (judged-from (ltb 18446744073709551615 (s .«data_offset»)) (s .«data_offset») (s .«data_offset») 0 (pos 0) (c ∷ cs) refl (λ _. refl))
+  judged-in-range (c ∷ cs) =
+      rw (lt-ltb 0 (suc (length cs)) (omega arith)) (judged-from (ltb 18446744073709551615 (s .«data_offset»)) (s .«data_offset») (s .«data_offset») 0 (pos 0)
+      (c ∷ cs) refl (λ _. refl))
 
 -- ---- the records of an index in range
 
@@ -228,14 +241,16 @@ module _ (s : RawSliceSource) where
   abbrev Ranged : (count : ℕ) (time : ℤ) → Checkpoint → Type 0
   Ranged count time c = Good s c × ((count ≤ c .«event_index») × (leZ time (c .time) ≡ true))
 
-  all-ranged : (offset count : ℕ) (time : ℤ) (cs : List Checkpoint) → leZ (pos 0) time ≡ true → recordsInRange s offset count time cs ≡ true → All (Ranged count time) cs
+  all-ranged : (offset count : ℕ) (time : ℤ) (cs : List Checkpoint) → leZ (pos 0) time ≡ true → recordsInRange s offset count time cs ≡ true
+      → All (Ranged count time) cs
   all-ranged offset count time [] t h = tt
   all-ranged offset count time (c ∷ cs) t h =
       let a = and-both (recordInRange s offset count time c) (recordsInRange s (offset + s .spacing) (c .«event_index») (c .time) cs) h in
       let p = tested offset count time c (a .0) in
       let g = p .good t in (
         (g, (p .counts, p .times)),
-        all-map (Ranged (c .«event_index») (c .time)) (Ranged count time) (λ d r. (r .0, (omega (arith, p .counts, r .1 .0), leZ-trans time (c .time) (d .time) (p .times) (r .1 .1)))) cs
+        all-map (Ranged (c .«event_index») (c .time)) (Ranged count time)
+            (λ d r. (r .0, (omega (arith, p .counts, r .1 .0), leZ-trans time (c .time) (d .time) (p .times) (r .1 .1)))) cs
             (all-ranged (offset + s .spacing) (c .«event_index») (c .time) cs (g .since) (a .1)),
       )
 
@@ -259,7 +274,7 @@ module _ (s : RawSliceSource) where
         go [] h = tt
         go (c ∷ cs) h = all-map (Ranged 0 (pos 0)) (Good s) (λ d r. r .0) (c ∷ cs) (all-ranged (s .«data_offset») 0 (pos 0) (c ∷ cs) refl h)
 
-    -- a search by halves finds the last record that passes, where what fails at a record fails at all behind it
+    -- a binary search finds the last record that passes, where what fails at a record fails at all behind it
     pub parted : (p : Checkpoint → Bool) → ((c d : Checkpoint) → Before c d → p c ≡ false → p d ≡ false) → Parted p records
     unfolding indexInRange
     parted p falls = go records ok
@@ -269,7 +284,8 @@ module _ (s : RawSliceSource) where
         go (c ∷ cs) h = parted-from p falls (s .«data_offset») 0 (pos 0) (c ∷ cs) refl h
 
     pub parted-count : (i : ℕ) → Parted (λ c. leb (c .«event_index») i) records
-    parted-count i = parted (λ c. leb (c .«event_index») i) (λ c d b q. lt-leb (d .«event_index») i (omega (arith, leb-false (c .«event_index») i q, b .counts)))
+    parted-count i =
+        parted (λ c. leb (c .«event_index») i) (λ c d b q. lt-leb (d .«event_index») i (omega (arith, leb-false (c .«event_index») i q, b .counts)))
 
     pub parted-time : (t : ℤ) → Parted (λ c. ltZ (c .time) t) records
     parted-time t = parted (λ c. ltZ (c .time) t) (λ c d b q. ltZ-falls (c .time) (d .time) t (b .times) q)
@@ -284,7 +300,8 @@ module _ (s : RawSliceSource) where
 -- ---- the record that a slice starts at
 
 -- what holds of the first record, and of each that passes
-pub last-passes : (Q : Checkpoint → Type 0) (p : Checkpoint → Bool) (c : Checkpoint) (cs : List Checkpoint) → Q c → All (λ d. p d ≡ true → Q d) cs → Q (lastPassing p c cs)
+pub last-passes : (Q : Checkpoint → Type 0) (p : Checkpoint → Bool) (c : Checkpoint) (cs : List Checkpoint) → Q c → All (λ d. p d ≡ true → Q d) cs
+    → Q (lastPassing p c cs)
 last-passes Q p c [] q h = q
 last-passes Q p c (d ∷ ds) q h = last-passes Q p (cond (p d) d c) ds (go (p d) refl) (h .1)
   where
@@ -296,5 +313,6 @@ last-passes Q p c (d ∷ ds) q h = last-passes Q p (cond (p d) d c) ds (go (p d)
 pub last-all : (P : Checkpoint → Type 0) (p : Checkpoint → Bool) (c : Checkpoint) (cs : List Checkpoint) → All P (c ∷ cs) → P (lastPassing p c cs)
 last-all P p c cs h = last-passes P p c cs (h .0) (all-map P (λ d. p d ≡ true → P d) (λ d q _. q) cs (h .1))
 
-pub last-good : (s : RawSliceSource) (p : Checkpoint → Bool) (c : Checkpoint) (cs : List Checkpoint) → indexInRange s (c ∷ cs) ≡ true → Good s (lastPassing p c cs)
+pub last-good : (s : RawSliceSource) (p : Checkpoint → Bool) (c : Checkpoint) (cs : List Checkpoint) → indexInRange s (c ∷ cs) ≡ true
+    → Good s (lastPassing p c cs)
 last-good s p c cs ok = last-all (Good s) p c cs (all-good s (c ∷ cs) ok)

@@ -1,4 +1,4 @@
--- The search by halves finds the record that a slice starts at.
+-- The binary search finds the record that a slice starts at.
 use mathlib.Core.Path.{_≡_, refl, sym, ap, _∙_, subst}
 use mathlib.Core.Bool.{Bool, true, false, cond, true≢false}
 use mathlib.Core.List.{List, [], _∷_}
@@ -12,10 +12,10 @@ use Rattle.laws_stream.specs.Machine.{All}
 use Rattle.index_build.specs.declared.Checkpoint.{Checkpoint}
 use Rattle.index_records.specs.declared.Choice.{Choice}
 use Rattle.index_records.specs.declared.Search.{Search}
-use Rattle.index_build.specs.Nth.{nth, blank}
+use Rattle.index_build.specs.Nth.{nth}
 use Rattle.index_records.specs.Start.{Parted, lastPassing}
 use Rattle.index_records.specs.Choose.{passesOf, Chose}
-use Rattle.index_records.specs.Halves.{middleOf, placeOf, bracketOf, narrowed}
+use Rattle.index_records.specs.BinarySearch.{middleOf, placeOf, bracketOf, narrowed, firstSearch, searched, chosenOf}
 
 -- ---- by the outcome of each test
 
@@ -48,7 +48,8 @@ module _ (p : Checkpoint → Bool) where
   parted-at (c ∷ cs) a (suc i) (suc j) o h e = parted-at cs (a .1) i j (le-of-suc-le-suc o) (le-of-suc-le-suc h) e
 
   -- the first k pass and no more
-  last-at : (c : Checkpoint) (l : List Checkpoint) (k : ℕ) → k ≤ length l → ((i : ℕ) → i < k → p (nth l i) ≡ true) → ((i : ℕ) → k ≤ i → i < length l → p (nth l i) ≡ false) → lastPassing p c l ≡ nth (c ∷ l) k
+  last-at : (c : Checkpoint) (l : List Checkpoint) (k : ℕ) → k ≤ length l → ((i : ℕ) → i < k → p (nth l i) ≡ true)
+      → ((i : ℕ) → k ≤ i → i < length l → p (nth l i) ≡ false) → lastPassing p c l ≡ nth (c ∷ l) k
   last-at c [] zero h f g = refl
   last-at c [] (suc k) h f g = absurd (not-suc-le-zero h)
   last-at c (d ∷ ds) zero h f g =
@@ -79,13 +80,15 @@ module _ (p : Checkpoint → Bool) where
       none i a b = omega arith
 
   -- both ends have met
-  bracket-end : (c : Checkpoint) (cs : List Checkpoint) (lo hi : ℕ) → Bracket p (c ∷ cs) lo hi → hi ≤ lo → Parted p (c ∷ cs) → nth (c ∷ cs) (lo - 1) ≡ lastPassing p c cs
+  bracket-end : (c : Checkpoint) (cs : List Checkpoint) (lo hi : ℕ) → Bracket p (c ∷ cs) lo hi → hi ≤ lo → Parted p (c ∷ cs)
+      → nth (c ∷ cs) (lo - 1) ≡ lastPassing p c cs
   bracket-end c cs zero hi w m h =
       sym (last-at p c cs zero (omega arith) (λ i l. absurd (not-suc-le-zero l)) (λ i a b. w .back h (suc i) (omega arith) (omega arith)))
   bracket-end c cs (suc k) hi w m h =
       let before : suc k - 1 ≡ k = omega arith in
       ap (nth (c ∷ cs)) before
-      ∙ sym (last-at p c cs k (omega (arith, w .order, w .within)) (λ i l. w .front h (suc i) (omega arith)) (λ i a b. w .back h (suc i) (omega arith) (omega arith)))
+      ∙ sym (last-at p c cs k (omega (arith, w .order, w .within)) (λ i l. w .front h (suc i) (omega arith))
+      (λ i a b. w .back h (suc i) (omega arith) (omega arith)))
 
   module _ (l : List Checkpoint) (lo hi : ℕ) (w : Bracket p l lo hi) (some : lo < hi) where
     bracket-up : p (nth l (middleOf lo hi)) ≡ true → Bracket p l (middleOf lo hi + 1) hi
@@ -108,7 +111,7 @@ module _ (p : Checkpoint → Bool) where
       back = λ h i a b. parted-at p l h (middleOf lo hi) i a b e;
     }
 
--- ---- the search, with at most m turns left
+-- ---- the search, with at most m iterations left
 
 pub record Searching (asked : Choice) (l : List Checkpoint) (m : ℕ) (t : Search) : Type 0 where
   pub is-asked : t .asked ≡ asked
@@ -116,31 +119,25 @@ pub record Searching (asked : Choice) (l : List Checkpoint) (m : ℕ) (t : Searc
   pub parts : Bracket (passesOf asked) l (t .lo) (t .hi)
   pub left : t .more ≡ true → t .hi - t .lo < m
   pub some : t .more ≡ true → 0 < length l
-  pub found : t .more ≡ false → Chose asked l (t .best)
 
 module _ (asked : Choice) (l : List Checkpoint) where
   abbrev ok : Checkpoint → Bool
   ok = passesOf asked
 
-  pub search-start : (t : Search) → t ≡ bracketOf (ltb 0 (length l)) 0 (length l) asked blank → Searching asked l (suc (length l)) t
-  search-start t e = subst (Searching asked l (suc (length l))) (sym e) (record {
+  start : Searching asked l (suc (length l)) (firstSearch (length l) asked)
+  start = record {
     is-asked = refl;
     is-at = refl;
     parts = bracket-start ok l;
     left = λ _. omega arith;
     some = λ h. ltb-true 0 (length l) h;
-    found = λ h. none l h;
-  })
-    where
-      none : (k : List Checkpoint) → ltb 0 (length k) ≡ false → Chose asked k blank
-      none [] h = tt
-      none (c ∷ cs) h = absurd (not-suc-le-zero (ltb-false 0 (suc (length cs)) h))
+  }
 
-  pub search-stops : (t : Search) → Searching asked l zero t → t .more ≡ true → ⊥
+  search-stops : (t : Search) → Searching asked l zero t → t .more ≡ true → ⊥
   search-stops t s e = not-suc-le-zero (s .left e)
 
   module _ (m : ℕ) (t : Search) (s : Searching asked l m t) (e : t .more ≡ true) where
-    pub search-place : t .at < length l
+    search-place : t .at < length l
     search-place = subst (λ (k : ℕ). k < length l) (sym (s .is-at)) (go (ltb (t .lo) (t .hi)) refl)
       where
         go : (b : Bool) → ltb (t .lo) (t .hi) ≡ b → cond b (middleOf (t .lo) (t .hi)) (t .lo - 1) < length l
@@ -154,7 +151,12 @@ module _ (asked : Choice) (l : List Checkpoint) where
       go [] w h = tt
       go (c ∷ cs) w h = bracket-end ok c cs lo hi w h
 
-  -- a turn reads the record at `at`
+  -- an iteration reads the record at `at`: where it is the last one, it is the one looked for
+  pub record Next (m : ℕ) (c : Checkpoint) (r : Search) : Type 0 where
+    pub searching : Searching asked l m r
+    pub is-best : r .best ≡ c
+    pub chose : r .more ≡ false → Chose asked l c
+
   module _ (m : ℕ) (t : Search) (s : Searching asked l (suc m) t) (e : t .more ≡ true) where
     abbrev lo : ℕ
     lo = t .lo
@@ -166,36 +168,113 @@ module _ (asked : Choice) (l : List Checkpoint) where
     c = nth l (t .at)
 
     -- with any two ends that hold, fewer apart
-    halved : (a b : ℕ) → Bracket ok l a b → b - a < m → Searching asked l m (bracketOf true a b (t .asked) c)
+    halved : (a b : ℕ) → Bracket ok l a b → b - a < m → Next m c (bracketOf true a b (t .asked) c)
     halved a b w h = record {
-      is-asked = s .is-asked;
-      is-at = refl;
-      parts = w;
-      left = λ _. h;
-      some = λ _. s .some e;
-      found = λ h′. absurd (true≢false h′);
+      searching = record { is-asked = s .is-asked; is-at = refl; parts = w; left = λ _. h; some = λ _. s .some e };
+      is-best = refl;
+      chose = λ h′. absurd (true≢false h′);
     }
+
+    middle-is : {v : Bool} → lo < hi → ok c ≡ v → ok (nth l (middleOf lo hi)) ≡ v
+    middle-is some v = sym (ap (λ (i : ℕ). ok (nth l i)) (s .is-at ∙ place-between lo hi some)) ∙ v
 
     -- by whether the ends have met, and whether the record passes
-    turn-by : (b v : Bool) → ltb lo hi ≡ b → ok c ≡ v
-        → Searching asked l m (cond b (cond v (bracketOf true (middleOf lo hi + 1) hi (t .asked) c) (bracketOf true lo (middleOf lo hi) (t .asked) c)) (bracketOf false lo hi (t .asked) c))
-    turn-by true true q v =
+    next-by : (b v : Bool) → ltb lo hi ≡ b → ok c ≡ v → Next m c
+        (cond b (cond v (bracketOf true (middleOf lo hi + 1) hi (t .asked) c) (bracketOf true lo (middleOf lo hi) (t .asked) c))
+        (bracketOf false lo hi (t .asked) c))
+    next-by true true q v =
         let some : lo < hi = ltb-true lo hi q in
         let apart : hi - lo < suc m = s .left e in
-        halved (middleOf lo hi + 1) hi (bracket-up ok l lo hi (s .parts) some (sym (ap (λ (i : ℕ). ok (nth l i)) (s .is-at ∙ place-between lo hi some)) ∙ v)) (omega arith)
-    turn-by true false q v =
+        halved (middleOf lo hi + 1) hi (bracket-up ok l lo hi (s .parts) some (middle-is some v)) (omega arith)
+    next-by true false q v =
         let some : lo < hi = ltb-true lo hi q in
         let apart : hi - lo < suc m = s .left e in
-        halved lo (middleOf lo hi) (bracket-down ok l lo hi (s .parts) some (sym (ap (λ (i : ℕ). ok (nth l i)) (s .is-at ∙ place-between lo hi some)) ∙ v)) (omega arith)
-    turn-by false v q _ = record {
-      is-asked = s .is-asked;
-      is-at = refl;
-      parts = s .parts;
-      left = λ h. absurd (true≢false (sym h));
-      some = λ _. s .some e;
-      found = λ _. subst (λ (i : ℕ). Chose asked l (nth l i)) (sym (s .is-at ∙ place-met lo hi (ltb-false lo hi q))) (found-at lo hi (s .parts) (ltb-false lo hi q));
-    }
+        halved lo (middleOf lo hi) (bracket-down ok l lo hi (s .parts) some (middle-is some v)) (omega arith)
+    next-by false v q _ =
+        let met = ltb-false lo hi q in
+        record {
+          searching = record {
+            is-asked = s .is-asked;
+            is-at = refl;
+            parts = s .parts;
+            left = λ h. absurd (true≢false (sym h));
+            some = λ _. s .some e;
+          };
+          is-best = refl;
+          chose = λ _. subst (λ (i : ℕ). Chose asked l (nth l i)) (sym (s .is-at ∙ place-met lo hi met)) (found-at lo hi (s .parts) met);
+        }
 
-    pub search-turn : (r : Search) → r ≡ narrowed t c → Searching asked l m r
-    search-turn r is =
-        subst (Searching asked l m) (sym is) (turn-by (ltb lo hi) (passesOf (t .asked) c) refl (ap (λ (a : Choice). passesOf a c) (sym (s .is-asked))))
+    next : Next m c (narrowed t c)
+    next = next-by (ltb lo hi) (passesOf (t .asked) c) refl (ap (λ (a : Choice). passesOf a c) (sym (s .is-asked)))
+
+  -- ---- what it finds
+
+  stopped : (m : ℕ) (t : Search) → t .more ≡ false → searched m l t ≡ t
+  stopped zero t e = refl
+  stopped (suc m) t e = rw e
+
+  -- a search that may take that long takes no longer
+  pub enough : (m k : ℕ) (t : Search) → Searching asked l m t → Searching asked l k t → searched m l t ≡ searched k l t
+  enough zero k t s u = go (t .more) refl
+    where
+      go : (b : Bool) → t .more ≡ b → t ≡ searched k l t
+      go false e = sym (stopped k t e)
+      go true e = absurd (search-stops t s e)
+  enough (suc m) k t s u = go k (t .more) refl u (λ k′. enough m k′ (narrowed t (nth l (t .at))))
+    where
+      go : (k : ℕ) (b : Bool) → t .more ≡ b → Searching asked l k t
+          → ((k : ℕ) → Searching asked l m (narrowed t (nth l (t .at))) → Searching asked l k (narrowed t (nth l (t .at)))
+          → searched m l (narrowed t (nth l (t .at))) ≡ searched k l (narrowed t (nth l (t .at))))
+          → searched (suc m) l t ≡ searched k l t
+      go k false e u more = stopped (suc m) t e ∙ sym (stopped k t e)
+      go zero true e u more = absurd (search-stops t u e)
+      go (suc k) true e u more = rw e (more k (next m t s e .searching) (next k t u e .searching))
+
+  chose-by : (m : ℕ) (t : Search) → Searching asked l m t → t .more ≡ true → Chose asked l (searched m l t .best)
+  chose-by zero t s e = absurd (search-stops t s e)
+  chose-by (suc m) t s e = rw e (go (r .more) refl (λ p. chose-by m r (n .searching) p))
+    where
+      r : Search
+      r = narrowed t (nth l (t .at))
+
+      n : Next m (nth l (t .at)) r
+      n = next m t s e
+
+      go : (b : Bool) → r .more ≡ b → (r .more ≡ true → Chose asked l (searched m l r .best)) → Chose asked l (searched m l r .best)
+      go true p more = more p
+      go false p more = rw (stopped m r p, n .is-best) (n .chose p)
+
+  -- the last record that passes, or else the first, where none passes behind one that doesn't
+  pub chosen : (r : Checkpoint) → r ≡ chosenOf asked l → Chose asked l r
+  unfolding chosenOf
+  chosen r is = rw is (go (ltb 0 (length l)) refl)
+    where
+      go : (b : Bool) → ltb 0 (length l) ≡ b → Chose asked l (searched (suc (length l)) l (firstSearch (length l) asked) .best)
+      go true h = chose-by (suc (length l)) (firstSearch (length l) asked) start h
+      go false h = none l h
+        where
+          none : (k : List Checkpoint) → ltb 0 (length k) ≡ false → Chose asked k (searched (suc (length k)) k (firstSearch (length k) asked) .best)
+          none [] h = tt
+          none (c ∷ cs) h = absurd (not-suc-le-zero (ltb-false 0 (suc (length cs)) h))
+
+  -- ---- a loop that searches
+
+  pub record Finds (m : ℕ) (t : Search) : Type 0 where
+    pub searching : Searching asked l m t
+    pub finds : searched m l t .best ≡ chosenOf asked l
+
+  pub finds-first : (t : Search) → t ≡ firstSearch (length l) asked → Finds (suc (length l)) t
+  unfolding chosenOf
+  finds-first t is = rw is (record { searching = start; finds = refl })
+
+  pub finds-stops : (t : Search) → Finds zero t → t .more ≡ true → ⊥
+  finds-stops t f = search-stops t (f .searching)
+
+  pub finds-place : (m : ℕ) (t : Search) → Finds m t → t .more ≡ true → t .at < length l
+  finds-place m t f = search-place m t (f .searching)
+
+  pub finds-next : (m : ℕ) (t : Search) → Finds (suc m) t → t .more ≡ true → (r : Search) → r ≡ narrowed t (nth l (t .at)) → Finds m r
+  finds-next m t f e r is = rw is (record { searching = next m t (f .searching) e .searching; finds = rw e at (f .finds) })
+
+  pub finds-end : (m : ℕ) (t : Search) → Finds m t → t .more ≡ false → t .best ≡ chosenOf asked l
+  finds-end m t f e = rw (stopped m t e) at (f .finds)

@@ -10,7 +10,7 @@ abbrev pub lastPassing : (Checkpoint → Bool) → Checkpoint → List Checkpoin
 lastPassing p c [] = c
 lastPassing p c (d ∷ ds) = lastPassing p (cond (p d) d c) ds
 
--- no record that passes stands behind one that doesn't: then a search by halves finds the last one
+-- no record that passes stands behind one that doesn't: then a binary search finds the last one
 abbrev pub Parted : (Checkpoint → Bool) → List Checkpoint → Type 0
 Parted p [] = Unit
 Parted p (c ∷ cs) = (p c ≡ false → All (λ d. p d ≡ false) cs) × Parted p cs

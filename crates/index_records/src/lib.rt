@@ -1,15 +1,13 @@
 // The records of an index: judging them (rule 10), and searching the one that a slice starts at.
 // specs/InRange.antt has when an index is in range, specs/Judge.antt the judging record by record, which
-// comes to it (specs/JudgeLaws.antt); specs/Choose.antt which record is looked for, specs/Halves.antt the
-// search by halves, which finds it (specs/Search.antt). The functions take a record by value, but for
-// `judge_all` and `choose`, which are lent records and proved by hand.
+// comes to it (specs/JudgeLaws.antt); specs/Choose.antt which record is looked for, specs/BinarySearch.antt
+// the binary search, which finds it (specs/Search.antt). The functions take a record by value, but for
+// `judge_all` and `choose`, which are lent records: one proof by hand, proofs/Scan.antt, has both.
 ghost use mathlib.Core.Path.{_≡_};
 ghost use Prim.Native.Nat.{_<_};
-ghost use lib.Dec.{ltb};
-ghost use Rattle.index_build.specs.Nth.{blank};
-ghost use Rattle.index_records.specs.Choose.{passesOf, Chose};
-ghost use Rattle.index_records.specs.Halves.{middleOf, placeOf, bracketOf, narrowed};
-ghost use Rattle.index_records.specs.Judge.{isOther, standsOf, aheadOf, onwardOf, admitsOf, judgedOf, judgedAll};
+ghost use Rattle.index_records.specs.Choose.{passesOf};
+ghost use Rattle.index_records.specs.BinarySearch.{middleOf, placeOf, bracketOf, narrowed, firstSearch, chosenOf};
+ghost use Rattle.index_records.specs.Judge.{isOther, standsOf, aheadOf, onwardOf, admitsOf, judgedOf, judgedAll, judgeAt, judgedNext};
 use evt_codec::Codec;
 use evt_types::Encoding;
 use index_build::Checkpoint;
@@ -22,15 +20,15 @@ pub struct Choice {
     pub time: i64,
 }
 
-// A search by halves: the records before `lo` pass, those from `hi` on don't. Record `at` is read
+// A binary search: the records before `lo` pass, those from `hi` on don't. Record `at` is read
 // next, and `best` was read last.
 pub struct Search {
     pub more: bool,
     pub at: usize,
+    pub best: Checkpoint,
     pub lo: usize,
     pub hi: usize,
     pub asked: Choice,
-    pub best: Checkpoint,
 }
 
 fn passes(asked: Choice, c: Checkpoint) -> bool
@@ -70,16 +68,16 @@ fn bracket(more: bool, lo: usize, hi: usize, asked: Choice, best: Checkpoint) ->
     Search {
         more,
         at,
+        best,
         lo,
         hi,
         asked,
-        best,
     }
 }
 
 // Before any of `n` records is read.
 pub fn first_search(n: usize, asked: Choice) -> Search
-    ensures { λ r. ⌜ r ≡ bracketOf (ltb 0 n) 0 n asked blank ⌝ }
+    ensures { λ r. ⌜ r ≡ firstSearch n asked ⌝ }
 {
     let codec = Codec::new(Encoding::Evt2);
     let best = Checkpoint {
@@ -106,9 +104,9 @@ pub fn narrow(s: Search, c: Checkpoint) -> Search
     bracket(false, s.lo, s.hi, asked, c)
 }
 
-// The last record that passes, or else the first, by halves. Without a record: a blank one.
+// The last record that passes, or else the first, by binary search. Without a record: a blank one.
 pub fn choose(records: &[Checkpoint], asked: Choice) -> Checkpoint
-    ensures { λ r. ⌜ Chose asked (now (records .entry)) r ⌝ }
+    ensures { λ r. ⌜ r ≡ chosenOf asked (now (records .entry)) ⌝ }
 {
     let n = records.len();
     let mut t = first_search(n, asked);
@@ -225,16 +223,52 @@ pub fn judge(s: Judging, c: Checkpoint) -> Judging
     onward(s, c, ok)
 }
 
+// How far the judging of `n` records is: record `at` is read next.
+pub struct JudgeState {
+    pub more: bool,
+    pub at: usize,
+    pub judging: Judging,
+    pub n: usize,
+}
+
+fn judge_at(at: usize, n: usize, judging: Judging) -> JudgeState
+    ensures { λ r. ⌜ r ≡ judgeAt at n judging ⌝ }
+{
+    JudgeState {
+        more: at < n,
+        at,
+        judging,
+        n,
+    }
+}
+
+// Before any of `n` records is read.
+fn judge_first(n: usize, s: Judging) -> JudgeState
+    ensures { λ r. ⌜ r ≡ judgeAt 0 n s ⌝ }
+{
+    judge_at(0, n, s)
+}
+
+// Record `at` is read.
+fn judge_next(s: JudgeState, c: Checkpoint) -> JudgeState
+    ensures { λ r. ⌜ r ≡ judgedNext s c ⌝ }
+{
+    let before = s.judging;
+    let judging = judge(before, c);
+    let at = std::num::wrapping_add_usize(s.at, 1);
+    judge_at(at, s.n, judging)
+}
+
 // All records, each read singly into a copy.
 pub fn judge_all(records: &[Checkpoint], s: Judging) -> Judging
     ensures { λ r. ⌜ r ≡ judgedAll s (now (records .entry)) ⌝ }
 {
-    let mut t = s;
-    let mut i = 0;
-    while i < records.len() {
+    let n = records.len();
+    let mut t = judge_first(n, s);
+    while t.more {
+        let i = t.at;
         let c = records[i];
-        t = judge(t, c);
-        i += 1;
+        t = judge_next(t, c);
     }
-    t
+    t.judging
 }

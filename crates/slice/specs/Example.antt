@@ -1,4 +1,5 @@
--- Where times step back a slice by time depends on the spacing, as in the Rust: the smallest case. No event steps back, only the decoder's time, from 4196 to 4101.
+-- Where times step back a slice by time depends on the spacing, as in the Rust: the smallest case.
+-- No event steps back, only the decoder's time, from 4196 to 4101.
 use mathlib.Core.Path.{_≡_, refl}
 use mathlib.Core.List.{List, [], _∷_}
 use Prim.Native.Nat.{ℕ}
@@ -20,7 +21,8 @@ recording = stream 2 (32769 ∷ 24676 ∷ 24581 ∷ 8193 ∷ [])
 
 -- 4101 ≤ t < 4102
 abbrev sliced : (spacing : ℕ) → List Event
-sliced spacing = timeEvents recording (ownSource (Known 2048 2048) Evt3 0 spacing recording) (ownRecords (Known 2048 2048) Evt3 0 spacing recording) (pos 4101) (pos 4102)
+sliced spacing =
+    timeEvents recording (ownSource (Known 2048 2048) Evt3 0 spacing recording) (ownRecords (Known 2048 2048) Evt3 0 spacing recording) (pos 4101) (pos 4102)
 
 -- from the first record the second word stops the slice; the second record stands behind that word
 pub steps-back : (sliced 8 ≡ []) × (sliced 4 ≡ record { t = 4101; x = 1; y = 0; p = 0 } ∷ [])

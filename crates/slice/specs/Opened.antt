@@ -30,7 +30,8 @@ use Rattle.index_build.specs.declared.OpenAnswer.{OpenAnswer}
 use Rattle.index_build.specs.declared.OpenAnswer.the-variants.{Opened, Refused}
 use Rattle.index_build.specs.declared.OpenOptions.{OpenOptions}
 use Rattle.index_build.specs.declared.WordsOptions.{WordsOptions}
-use Rattle.index_build.specs.Index.{keptEvents, recordCount, recordsOf, spacingOk, bodyAnswer, bodyMade, answerAfter, madeAfter, rawAnswer, rawMade, wordsAnswer, wordsMade, OpensRaw, OpensWords}
+use Rattle.index_build.specs.Index.{keptEvents, recordCount, recordsOf, spacingOk, bodyAnswer, bodyMade, answerAfter, madeAfter, rawAnswer, rawMade}
+use Rattle.index_build.specs.Index.{wordsAnswer, wordsMade, OpensRaw, OpensWords}
 use Rattle.index_records.specs.InRange.{indexInRange}
 use Rattle.index_build.specs.Laws.{length-firsts}
 use Rattle.slice_rules.specs.Slice.{sizeOf, firstOf, endOf, indexEvents, isDuring, timeEvents, byRules}
@@ -81,7 +82,8 @@ module _ (l : List ℕ) (start : ℕ) (e : Encoding) (size : SensorSize) (spacin
     where
       go : (a : Bool) → spacingOk e spacing ≡ a → (b c : Bool)
           → cond a (cond b (Refused (TooFewRecords need)) (cond c (Refused InvalidSensorSize) (Opened made))) (Refused InvalidSpacing) ≡ Opened o
-          → records ≡ cond a (cond b [] (cond c [] (ownRecords size e start spacing l))) [] ++ drop (length (cond a (cond b [] (cond c [] (ownRecords size e start spacing l))) [])) records₀
+          → records ≡ cond a (cond b [] (cond c [] (ownRecords size e start spacing l))) []
+          ++ drop (length (cond a (cond b [] (cond c [] (ownRecords size e start spacing l))) [])) records₀
           → OpenedAs l start e size spacing o records
       go false p b c q u = never InvalidSpacing o q
       go true p true c q u = never (TooFewRecords need) o q
@@ -94,7 +96,9 @@ module _ (l : List ℕ) (start : ℕ) (e : Encoding) (size : SensorSize) (spacin
             allowed = p;
             positive = positive-own size (ownEvents size e start l) positive;
             is-source = ap (λ (x : Opening). x .source) (sym is);
-            is-records = (λ i. take (sym is i .records) (u i)) ∙ take-at (ownRecords size e start spacing l) (drop (length (ownRecords size e start spacing l)) records₀) need length-own;
+            is-records =
+                (λ i. take (sym is i .records) (u i))
+                ∙ take-at (ownRecords size e start spacing l) (drop (length (ownRecords size e start spacing l)) records₀) need length-own;
           }
 
 module _ (o : Opening) (r : OpenAnswer) (records₀ records : List Checkpoint) (accepted : r ≡ Opened o) where
@@ -104,14 +108,16 @@ module _ (o : Opening) (r : OpenAnswer) (records₀ records : List Checkpoint) (
   opened-words words options h = go (ltb (2 ^ 30) (length words)) refl (hasZero (options .«sensor_size»)) refl (sym (h .is-answer) ∙ accepted) (h .is-records)
     where
       go : (a : Bool) → ltb (2 ^ 30) (length words) ≡ a → (b : Bool) → hasZero (options .«sensor_size») ≡ b
-          → cond a (Refused TooLong) (cond b (Refused InvalidSensorSize) (bodyAnswer (length words) 0 (options .encoding) (options .«sensor_size») (options .spacing) words (length records₀))) ≡ Opened o
+          → cond a (Refused TooLong) (cond b (Refused InvalidSensorSize)
+          (bodyAnswer (length words) 0 (options .encoding) (options .«sensor_size») (options .spacing) words (length records₀))) ≡ Opened o
           → records ≡ cond a [] (cond b [] (bodyMade 0 (options .encoding) (options .«sensor_size») (options .spacing) words (length records₀)))
           ++ drop (length (cond a [] (cond b [] (bodyMade 0 (options .encoding) (options .«sensor_size») (options .spacing) words (length records₀))))) records₀
           → OpenedAs words 0 (options .encoding) (options .«sensor_size») (options .spacing) o records
       go true p b q e u = never TooLong o e
       go false p true q e u = never InvalidSensorSize o e
       go false p false q e u =
-          opened-body words 0 (options .encoding) (options .«sensor_size») (options .spacing) o records₀ records (length records₀) (omega arith) (ltb-false (2 ^ 30) (length words) p) q e u
+          opened-body words 0 (options .encoding) (options .«sensor_size») (options .spacing) o records₀ records (length records₀) (omega arith)
+          (ltb-false (2 ^ 30) (length words) p) q e u
 
   pub opened-raw : (recording : List ℕ) (options : OpenOptions) → OpensRaw recording options r records₀ records
       → (h : header.Header) × (headerOf recording (options .«sensor_size») ≡ Header h)
@@ -121,26 +127,37 @@ module _ (o : Opening) (r : OpenAnswer) (records₀ records : List Checkpoint) (
     where
       go : (a : HeaderAnswer) → headerOf recording (options .«sensor_size») ≡ a
           → answerAfter a recording (options .spacing) (length records₀) ≡ Opened o
-          → records ≡ madeAfter a recording (options .spacing) (length records₀) ++ drop (length (madeAfter a recording (options .spacing) (length records₀))) records₀
+          → records ≡ madeAfter a recording (options .spacing) (length records₀)
+          ++ drop (length (madeAfter a recording (options .spacing) (length records₀))) records₀
           → (h : header.Header) × (headerOf recording (options .«sensor_size») ≡ Header h)
           × OpenedAs recording (h .«data_offset») (h .encoding) (h .«sensor_size») (options .spacing) o records
       go (NoHeader q) p e u = never q o e
       go (Header k) p e u =
-          let a = of-accepted recording (options .«sensor_size») k p in
-          (k, p, opened-body recording (k .«data_offset») (k .encoding) (k .«sensor_size») (options .spacing) o records₀ records (length records₀) (a .within) (a .short) (a .positive) e u)
+          let a = of-accepted recording (options .«sensor_size») k p in (
+            k,
+            p,
+            opened-body recording (k .«data_offset») (k .encoding) (k .«sensor_size») (options .spacing) o records₀ records (length records₀) (a .within)
+                (a .short) (a .positive) e u,
+          )
 
 -- the other way: where no rule of the table applies, opening accepts
-pub words-opened : (words : List ℕ) (options : WordsOptions) (room : ℕ) → length words ≤ 2 ^ 30 → hasZero (options .«sensor_size») ≡ false → spacingOk (options .encoding) (options .spacing) ≡ true
-    → recordCount (length words) (options .spacing) ≤ room → sizeless (options .«sensor_size») (ownEvents (options .«sensor_size») (options .encoding) 0 words) ≡ false
+pub words-opened : (words : List ℕ) (options : WordsOptions) (room : ℕ) → length words ≤ 2 ^ 30 → hasZero (options .«sensor_size») ≡ false
+    → spacingOk (options .encoding) (options .spacing) ≡ true
+    → recordCount (length words) (options .spacing) ≤ room
+    → sizeless (options .«sensor_size») (ownEvents (options .«sensor_size») (options .encoding) 0 words) ≡ false
     → wordsAnswer words options room
-    ≡ Opened (record { source = ownSource (options .«sensor_size») (options .encoding) 0 (options .spacing) words; records = recordCount (length words) (options .spacing) })
+    ≡ Opened (record {
+      source = ownSource (options .«sensor_size») (options .encoding) 0 (options .spacing) words;
+      records = recordCount (length words) (options .spacing);
+    })
 unfolding wordsAnswer bodyAnswer
 words-opened words options room long positive allowed enough sized =
     rw (le-ltb (2 ^ 30) (length words) long, positive, allowed, le-ltb room (recordCount (length words) (options .spacing)) enough, sized)
 
 -- ---- slices over it
 
-module _ (l : List ℕ) (start : ℕ) (e : Encoding) (size : SensorSize) (spacing : ℕ) (o : Opening) (records : List Checkpoint) (w : OpenedAs l start e size spacing o records) where
+module _ (l : List ℕ) (start : ℕ) (e : Encoding) (size : SensorSize) (spacing : ℕ) (o : Opening) (records : List Checkpoint)
+    (w : OpenedAs l start e size spacing o records) where
   abbrev lent : List Checkpoint
   lent = take (o .records) records
 
@@ -154,10 +171,13 @@ module _ (l : List ℕ) (start : ℕ) (e : Encoding) (size : SensorSize) (spacin
       (λ i. byRules l (w .is-source i) (w .is-records i) is4 is1 is8 is10 passed)
       ∙ own-rules size e start spacing l (w .within) (w .long) (w .allowed) (w .positive) is4 is1 is8 is10 passed
 
-  pub opened-number : (i0 i1 : ℕ) → indexEvents l (o .source) lent i0 i1 ≡ take (endOf (o .source) i0 i1 - firstOf (o .source) i0) (drop (firstOf (o .source) i0) (ownEvents size e start l))
+  pub opened-number : (i0 i1 : ℕ)
+      → indexEvents l (o .source) lent i0 i1
+      ≡ take (endOf (o .source) i0 i1 - firstOf (o .source) i0) (drop (firstOf (o .source) i0) (ownEvents size e start l))
   opened-number i0 i1 =
       (λ i. indexEvents l (w .is-source i) (w .is-records i) i0 i1) ∙ own-number size e start spacing l (w .within) (w .long) (w .allowed) i0 i1
       ∙ sym (λ i. take (endOf (w .is-source i) i0 i1 - firstOf (w .is-source i) i0) (drop (firstOf (w .is-source i) i0) (ownEvents size e start l)))
 
   pub opened-time : (t0 t1 : ℤ) → OwnPast size e start l t0 t1 → timeEvents l (o .source) lent t0 t1 ≡ sift (isDuring t0 t1) (ownEvents size e start l)
-  opened-time t0 t1 past = (λ i. timeEvents l (w .is-source i) (w .is-records i) t0 t1) ∙ own-time size e start spacing l (w .within) (w .long) (w .allowed) t0 t1 past
+  opened-time t0 t1 past =
+      (λ i. timeEvents l (w .is-source i) (w .is-records i) t0 t1) ∙ own-time size e start spacing l (w .within) (w .long) (w .allowed) t0 t1 past

@@ -52,13 +52,15 @@ up-next f j (suc n) = ap (λ (k : ℕ). f j ∷ (upFrom f (suc j) n ++ (f k ∷ 
 
 firsts-up : (f : ℕ → Checkpoint) (n : ℕ) → firsts f n ≡ upFrom f 0 n
 firsts-up f zero = refl
-firsts-up f (suc n) = ap (λ (cs : List Checkpoint). cs ++ (f n ∷ [])) (firsts-up f n) ∙ ap (λ (k : ℕ). upFrom f 0 n ++ (f k ∷ [])) (sym (zero-add n)) ∙ up-next f 0 n
+firsts-up f (suc n) =
+    ap (λ (cs : List Checkpoint). cs ++ (f n ∷ [])) (firsts-up f n) ∙ ap (λ (k : ℕ). upFrom f 0 n ++ (f k ∷ [])) (sym (zero-add n)) ∙ up-next f 0 n
 
 all-up : (P : Checkpoint → Type 0) (f : ℕ → Checkpoint) (j n : ℕ) → ((i : ℕ) → j ≤ i → i < j + n → P (f i)) → All P (upFrom f j n)
 all-up P f j zero h = tt
 all-up P f j (suc n) h = (h j (omega arith) (omega arith), all-up P f (suc j) n (λ i a b. h i (omega arith) (omega arith)))
 
-starting : (p : Checkpoint → Bool) (g : Checkpoint → List Event) (f : ℕ → Checkpoint) (n : ℕ) (es : List Event) → 0 < n → g (f 0) ≡ es → ((j : ℕ) → j < n → p (f j) ≡ true → g (f j) ≡ es)
+starting : (p : Checkpoint → Bool) (g : Checkpoint → List Event) (f : ℕ → Checkpoint) (n : ℕ) (es : List Event) → 0 < n → g (f 0) ≡ es
+    → ((j : ℕ) → j < n → p (f j) ≡ true → g (f j) ≡ es)
     → startingAt p g (firsts f n) ≡ es
 starting p g f zero es h a b = absurd (omega arith)
 starting p g f (suc n) es h a b = rw (firsts-up f (suc n)) (last-passes (λ c. g c ≡ es) p (f 0) (upFrom f 1 n) a (all-up _ f 1 n (λ i _ lt. b i (omega arith))))
@@ -69,7 +71,8 @@ starting p g f (suc n) es h a b = rw (firsts-up f (suc n)) (last-passes (λ c. g
 kept-split : (size : SensorSize) (e : Encoding) (k : ℕ) (a b : List ℕ) → length a ≡ k * 4
     → keptEvents size e (a ++ b) ≡ keptEvents size e a ++ kept size (eventsFrom (codecAfter (freshC e) a) b)
 kept-split Unknown e k a b h = events-append (freshC e) k a b h
-kept-split (Known w d) e k a b h = ap (sift (inside w d)) (events-append (freshC e) k a b h) ∙ sift-append (inside w d) (eventsFrom (freshC e) a) (eventsFrom (codecAfter (freshC e) a) b)
+kept-split (Known w d) e k a b h =
+    ap (sift (inside w d)) (events-append (freshC e) k a b h) ∙ sift-append (inside w d) (eventsFrom (freshC e) a) (eventsFrom (codecAfter (freshC e) a) b)
 
 kept-nil : (size : SensorSize) (e : Encoding) → keptEvents size e [] ≡ []
 kept-nil Unknown e = events-nil (freshC e)
@@ -94,7 +97,8 @@ Held size es e = inside (widthOf size es) (heightOf size es) e ≡ true
 kept-derived : (size : SensorSize) (es x : List Event) → (All (Held size es) es → All (Held size es) (kept size x)) → kept (derived size es) x ≡ kept size x
 kept-derived (Known w h) es x among = refl
 kept-derived Unknown es x among =
-    let all = all-inside (suc (greatest colX es)) (suc (greatest colY es)) es (greatest-lt colX (suc (greatest colX es)) es (omega arith)) (greatest-lt colY (suc (greatest colY es)) es (omega arith)) in
+    let all = all-inside (suc (greatest colX es)) (suc (greatest colY es)) es (greatest-lt colX (suc (greatest colX es)) es (omega arith))
+    (greatest-lt colY (suc (greatest colY es)) es (omega arith)) in
     sift-all (inside (suc (greatest colX es)) (suc (greatest colY es))) x (among all)
 
 all-first : (P : Event → Type 0) (es a b : List Event) → es ≡ a ++ b → All P es → All P a
@@ -129,10 +133,21 @@ OwnPast size e start l t0 t1 =
     let es = ownEvents size e start l in
     PastOver (timeWindow (widthOf size es) (heightOf size es) 0 0 t0 t1) (freshC e) (drop start l)
 
-in-range-by : (s : RawSliceSource) (offset count : ℕ) (time : ℤ) (c : Checkpoint) → offset < 2 ^ 64 → c .«byte_offset» ≡ offset → isOther (c .codec) (s .encoding) ≡ false → inRangeC (c .codec) ≡ true
-    → count ≤ c .«event_index» → c .«event_index» ≤ 2 ^ 33 → c .«event_index» ≤ s .«n_events» → leZ time (c .time) ≡ true → recordInRange s offset count time c ≡ true
+in-range-by : (s : RawSliceSource) (offset count : ℕ) (time : ℤ) (c : Checkpoint) → offset < 2 ^ 64 → c .«byte_offset» ≡ offset
+    → isOther (c .codec) (s .encoding) ≡ false → inRangeC (c .codec) ≡ true
+    → count ≤ c .«event_index» → c .«event_index» ≤ 2 ^ 33 → c .«event_index» ≤ s .«n_events» → leZ time (c .time) ≡ true
+    → recordInRange s offset count time c ≡ true
 in-range-by s offset count time c a b d f g h k m =
-    rw (lt-ltb offset (2 ^ 64) a, eq-eqb (c .«byte_offset») offset b, d, f, le-leb count (c .«event_index») g, le-leb (c .«event_index») (2 ^ 33) h, le-leb (c .«event_index») (s .«n_events») k, m)
+    rw (
+      lt-ltb offset (2 ^ 64) a,
+      eq-eqb (c .«byte_offset») offset b,
+      d,
+      f,
+      le-leb count (c .«event_index») g,
+      le-leb (c .«event_index») (2 ^ 33) h,
+      le-leb (c .«event_index») (s .«n_events») k,
+      m,
+    )
 
 same-encoding : (e : Encoding) (l : List ℕ) → isOther (codecAfter (freshC e) l) e ≡ false
 same-encoding Evt2 l = refl
@@ -147,7 +162,8 @@ whole-words : (e : Encoding) (k : ℕ) (a b : List ℕ) → length a ≡ k * 4 �
 whole-words Evt2 k a b h = omega arith
 whole-words Evt3 k a b h = omega arith
 
-module _ (size : SensorSize) (e : Encoding) (start spacing : ℕ) (l : List ℕ) (within : start ≤ length l) (long : length l ≤ 2 ^ 30) (allowed : spacingOk e spacing ≡ true) where
+module _ (size : SensorSize) (e : Encoding) (start spacing : ℕ) (l : List ℕ) (within : start ≤ length l) (long : length l ≤ 2 ^ 30)
+    (allowed : spacingOk e spacing ≡ true) where
   abbrev body : List ℕ
   body = drop start l
 
@@ -191,7 +207,8 @@ module _ (size : SensorSize) (e : Encoding) (start spacing : ℕ) (l : List ℕ)
     events-split = ap (keptEvents size e) (sym body-split) ∙ kept-split size e (j * (spacing / 4)) (front j) (drop (start + j * spacing) l) front-fours
 
     seen-few : length (seen j) ≤ 2 ^ 33
-    seen-few = omega (arith, kept-bytes size e (front j) (omega (arith, front-long, front-within, length-drop start l)), front-long, front-within, length-drop start l)
+    seen-few =
+        omega (arith, kept-bytes size e (front j) (omega (arith, front-long, front-within, length-drop start l)), front-long, front-within, length-drop start l)
 
     seen-within : length (seen j) ≤ length es
     seen-within = omega (arith, ap length events-split, length-append (seen j) (kept size (onward j)))
@@ -217,7 +234,8 @@ module _ (size : SensorSize) (e : Encoding) (start spacing : ℕ) (l : List ℕ)
     record-range : (n time : ℕ) → n ≤ length (seen j) → time ≤ greatest clock (seen j) → recordInRange source (start + j * spacing) n (pos time) (at j) ≡ true
     unfolding recordAt
     record-range n time h k =
-        in-range-by source (start + j * spacing) n (pos time) (at j) (omega (arith, front-within, length-drop start l)) refl (same-encoding e (front j)) decoder-range h seen-few seen-within
+        in-range-by source (start + j * spacing) n (pos time) (at j) (omega (arith, front-within, length-drop start l)) refl (same-encoding e (front j))
+        decoder-range h seen-few seen-within
         (le-leb time (greatest clock (seen j)) k)
 
   some : 0 < count
@@ -228,7 +246,8 @@ module _ (size : SensorSize) (e : Encoding) (start spacing : ℕ) (l : List ℕ)
 
   -- ---- IN RANGE
 
-  range-from : (n j before time : ℕ) → j + n ≡ count → before ≤ length (seen j) → time ≤ greatest clock (seen j) → recordsInRange source (start + j * spacing) before (pos time) (upFrom at j n) ≡ true
+  range-from : (n j before time : ℕ) → j + n ≡ count → before ≤ length (seen j) → time ≤ greatest clock (seen j)
+      → recordsInRange source (start + j * spacing) before (pos time) (upFrom at j n) ≡ true
   unfolding recordAt
   range-from zero j before time is h k = refl
   range-from (suc n) j before time is h k =
@@ -258,7 +277,8 @@ module _ (size : SensorSize) (e : Encoding) (start spacing : ℕ) (l : List ℕ)
     number-at : (j : ℕ) → j < count → length (seen j) ≤ firstOf source i0
         → byNumber (firstOf source i0) (endOf source i0 i1) (length (seen j)) (kept (sizeOf source) (onward j)) ≡ numbers
     number-at j lt h =
-        let k : kept (sizeOf source) (onward j) ≡ kept size (onward j) = kept-derived size es (onward j) (all-last (Held size es) es (seen j) (kept size (onward j)) (events-split j lt)) in
+        let k : kept (sizeOf source) (onward j) ≡ kept size (onward j)
+        = kept-derived size es (onward j) (all-last (Held size es) es (seen j) (kept size (onward j)) (events-split j lt)) in
         ap (byNumber (firstOf source i0) (endOf source i0 i1) (length (seen j))) k
         ∙ by-number-after (firstOf source i0) (endOf source i0 i1) (seen j) (kept size (onward j)) h
         ∙ ap (λ (x : List Event). take (endOf source i0 i1 - firstOf source i0) (drop (firstOf source i0) x)) (sym (events-split j lt))
@@ -282,36 +302,43 @@ module _ (size : SensorSize) (e : Encoding) (start spacing : ℕ) (l : List ℕ)
 
     -- from any record before which no event is in time
     time-at : OwnPast size e start l t0 t1 → (j : ℕ) → j < count → All (λ e. isTimely window e ≡ false) (seen j)
-        → sift (isDuring t0 t1) (kept (sizeOf source) (eventsUntil t1 (codecAfter (freshC e) (front j)) (drop (start + j * spacing) l))) ≡ sift (isDuring t0 t1) es
+        → sift (isDuring t0 t1) (kept (sizeOf source) (eventsUntil t1 (codecAfter (freshC e) (front j)) (drop (start + j * spacing) l)))
+        ≡ sift (isDuring t0 t1) es
     time-at past j lt early =
         let rest = drop (start + j * spacing) l in
         let front-sized : kept (sizeOf source) (eventsFrom (freshC e) (front j)) ≡ seen j
         = kept-derived size es (eventsFrom (freshC e) (front j)) (all-first (Held size es) es (seen j) (kept size (onward j)) (events-split j lt)) in
         time-over (source .width) (source .height) 0 0 t0 t1 (codecAfter (freshC e) (front j)) rest
-        ∙ time-from (front j) rest (j * (spacing / 4) * perFour e) window (freshC e) (whole-words e (j * (spacing / 4)) (front j) rest (front-fours j lt)) (rw front-sized early) (rw (body-split j lt) past)
+        ∙ time-from (front j) rest (j * (spacing / 4) * perFour e) window (freshC e) (whole-words e (j * (spacing / 4)) (front j) rest (front-fours j lt))
+        (rw front-sized early) (rw (body-split j lt) past)
         ∙ ap (λ (b : List ℕ). sift (isTimely window) (numberedOver window (freshC e) b)) (body-split j lt)
         ∙ ap (sift (isTimely window)) sized-all ∙ ap (λ (f : Event → Bool). sift f es) (sym (during-natural t0 t1))
 
     pub own-time : OwnPast size e start l t0 t1 → timeEvents l source (ownRecords size e start spacing l) t0 t1 ≡ sift (isDuring t0 t1) es
     unfolding timeEvents recordsOf recordAt
     own-time past =
-        starting (λ c. ltZ (c .time) t0) (λ c. sift (isDuring t0 t1) (kept (sizeOf source) (eventsUntil t1 (c .codec) (drop (c .«byte_offset») l)))) at count (sift (isDuring t0 t1) es) some
+        starting (λ c. ltZ (c .time) t0) (λ c. sift (isDuring t0 t1) (kept (sizeOf source) (eventsUntil t1 (c .codec) (drop (c .«byte_offset») l)))) at count
+        (sift (isDuring t0 t1) es) some
         (time-at past 0 some (rw seen-none tt))
         (λ j lt p. time-at past j lt (all-early clock (natural t0) (natural t1) (seen j)
         (greatest-lt clock (natural t0) (seen j) (ltb-true (greatest clock (seen j)) (natural t0) (sym (before-natural t0 (greatest clock (seen j))) ∙ p)))))
 
   -- ---- no refusal but 5
 
-  pub own-rules : hasZero (sizeOf source) ≡ false → {A : Type 0} (is4 is1 is8 is10 passed : A) → byRules l source (ownRecords size e start spacing l) is4 is1 is8 is10 passed ≡ passed
+  pub own-rules : hasZero (sizeOf source) ≡ false → {A : Type 0} (is4 is1 is8 is10 passed : A)
+      → byRules l source (ownRecords size e start spacing l) is4 is1 is8 is10 passed ≡ passed
   own-rules sized is4 is1 is8 is10 passed = rw (le-ltb (2 ^ 30) (length l) long, sized, allowed, own-in-range)
 
 -- ---- slices don't depend on the spacing: by time, where nothing in time follows the stop
 
-module _ (size : SensorSize) (e : Encoding) (start a b : ℕ) (l : List ℕ) (within : start ≤ length l) (long : length l ≤ 2 ^ 30) (allowed-a : spacingOk e a ≡ true) (allowed-b : spacingOk e b ≡ true) where
+module _ (size : SensorSize) (e : Encoding) (start a b : ℕ) (l : List ℕ) (within : start ≤ length l) (long : length l ≤ 2 ^ 30)
+    (allowed-a : spacingOk e a ≡ true) (allowed-b : spacingOk e b ≡ true) where
   pub number-spacing : (i0 i1 : ℕ)
-      → indexEvents l (ownSource size e start a l) (ownRecords size e start a l) i0 i1 ≡ indexEvents l (ownSource size e start b l) (ownRecords size e start b l) i0 i1
+      → indexEvents l (ownSource size e start a l) (ownRecords size e start a l) i0 i1
+      ≡ indexEvents l (ownSource size e start b l) (ownRecords size e start b l) i0 i1
   number-spacing i0 i1 = own-number size e start a l within long allowed-a i0 i1 ∙ sym (own-number size e start b l within long allowed-b i0 i1)
 
   pub time-spacing : (t0 t1 : ℤ) → OwnPast size e start l t0 t1
-      → timeEvents l (ownSource size e start a l) (ownRecords size e start a l) t0 t1 ≡ timeEvents l (ownSource size e start b l) (ownRecords size e start b l) t0 t1
+      → timeEvents l (ownSource size e start a l) (ownRecords size e start a l) t0 t1
+      ≡ timeEvents l (ownSource size e start b l) (ownRecords size e start b l) t0 t1
   time-spacing t0 t1 past = own-time size e start a l within long allowed-a t0 t1 past ∙ sym (own-time size e start b l within long allowed-b t0 t1 past)

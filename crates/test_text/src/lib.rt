@@ -10,7 +10,7 @@ pub mod show;
 pub mod state;
 pub mod text;
 
-// Room for all cases. The `ensures` keeps the array itself out of its callers' proofs.
+// Room for all cases, or for the bytes of one. The `ensures` keeps the array itself out of its callers' proofs.
 pub fn room() -> [u8; 1048576]
     ensures { λ r. ⌜ 1048576 ≡ length r ⌝ }
 {

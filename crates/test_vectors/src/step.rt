@@ -9,9 +9,9 @@ use test_text::show;
 use test_text::state;
 use test_text::text;
 
-// How far a run has come: the decoder, the number of a refusal (0 if there was none) and of the
-// events so far.
-struct Run {
+// What the steps so far come to: the decoder, the number of a refusal (0 if there was none) and of
+// the events.
+struct Stepped {
     codec: Codec,
     refused: u64,
     count: u64,
@@ -21,8 +21,8 @@ struct Run {
 fn walk(v: EventVector, before: u64, shown: bool) -> u64 {
     let mut rest = v;
     let mut count = before;
-    let mut turns: u32 = 32;
-    while turns > 0 {
+    let mut left: u32 = 32;
+    while left > 0 {
         let NextEvent::Event(e, others) = rest.next() else {
             return count;
         };
@@ -32,27 +32,27 @@ fn walk(v: EventVector, before: u64, shown: bool) -> u64 {
         }
         rest = others;
         count = std::num::wrapping_add_u64(count, 1);
-        turns -= 1;
+        left -= 1;
     }
     count
 }
 
 // One step over `bytes`, unless an earlier one was refused.
-fn turn(r: Run, bytes: &[u8], shown: bool) -> Run {
+fn step(r: Stepped, bytes: &[u8], shown: bool) -> Stepped {
     if r.refused != 0 {
         return r;
     }
     let codec = r.codec;
-    let stepped = codec.step(bytes);
-    let next = stepped.next;
-    let answer = stepped.answer;
+    let decoded = codec.step(bytes);
+    let next = decoded.next;
+    let answer = decoded.answer;
     match answer {
-        DecodeAnswer::Events(v) => Run {
+        DecodeAnswer::Events(v) => Stepped {
             codec: next,
             refused: 0,
             count: walk(v, r.count, shown),
         },
-        DecodeAnswer::Refused(why) => Run {
+        DecodeAnswer::Refused(why) => Stepped {
             codec: next,
             refused: evt_types::refusal_number(why) as u64,
             count: r.count,
@@ -70,8 +70,8 @@ fn steps(len: usize, size: usize, every: bool) -> usize {
     1
 }
 
-fn over(codec: Codec, bytes: &[u8], every: bool, shown: bool) -> Run {
-    let mut r = Run {
+fn over(codec: Codec, bytes: &[u8], every: bool, shown: bool) -> Stepped {
+    let mut r = Stepped {
         codec,
         refused: 0,
         count: 0,
@@ -80,15 +80,15 @@ fn over(codec: Codec, bytes: &[u8], every: bool, shown: bool) -> Run {
     let mut at = 0;
     let mut left = steps(bytes.len(), size, every);
     while left > 0 {
-        r = turn(r, text::part(bytes, at, bytes.len()), shown);
+        r = step(r, text::part(bytes, at, bytes.len()), shown);
         at = std::num::wrapping_add_usize(at, size);
         left -= 1;
     }
     r
 }
 
-// State and count stand before the events, so a first run tells them and a second shows the events.
-fn show_run(codec: Codec, bytes: &[u8], every: bool) {
+// State and count stand before the events, so the steps are taken twice: first to tell these, then to show the events.
+fn show_steps(codec: Codec, bytes: &[u8], every: bool) {
     let r = over(codec, bytes, every, false);
     if r.refused != 0 {
         show::text(b"refused");
@@ -106,5 +106,5 @@ pub fn answer(case: &[u8], every: bool) {
     let codec = state::read(text::field(case, b' ', 2));
     let mut buffer = io::buffer();
     let n = text::read_hex(text::field(case, b' ', 3), &mut buffer);
-    show_run(codec, text::part(&buffer, 0, n), every);
+    show_steps(codec, text::part(&buffer, 0, n), every);
 }

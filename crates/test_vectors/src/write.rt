@@ -2,7 +2,6 @@
 // APPEND is `WxH:ROOM:XS:YS:TS:PS`, ROOM the length of the output. Answers `ok` and for each append
 // ` | HEX SINK`, `-` for no bytes, or ` | refused N SINK`, with the count that 11 tells; and ` dirty`
 // behind it if a byte behind those handed over changed, or any one by a refused call.
-use crate::given;
 use crate::writer;
 use test_text::columns;
 use test_text::show;
@@ -46,37 +45,26 @@ fn lend(
     write_append::append(sink, width, height, xs, ys, ts, ps, &mut out[..n])
 }
 
-// With the columns of the places: reads those of times and polarities. Answers the writer after it.
-fn with_places(sink: RawEventSink, append: &[u8], xs: &[u16], ys: &[u16]) -> RawEventSink {
+// Answers the writer after it.
+fn one(sink: RawEventSink, append: &[u8]) -> RawEventSink {
+    let given = text::from_field(append, b':', 2);
+    let mut xs = columns::shorts();
+    let mut ys = columns::shorts();
     let mut ts = columns::longs();
-    let t = given::longs(text::field(append, b':', 4), &mut ts);
     let mut ps = columns::bytes();
-    let p = given::bytes(text::field(append, b':', 5), &mut ps);
+    columns::read(given, &mut xs, &mut ys, &mut ts, &mut ps);
     let mut out = columns::bytes();
     let appended = lend(
         sink,
         append,
-        xs,
-        ys,
-        given::first_longs(&ts, t),
-        text::part(&ps, 0, p),
+        columns::part_of_shorts(&xs, 0, columns::count(given, 0)),
+        columns::part_of_shorts(&ys, 0, columns::count(given, 1)),
+        columns::part_of_longs(&ts, 0, columns::count(given, 2)),
+        text::part(&ps, 0, columns::count(given, 3)),
         &mut out,
     );
     show_answer(appended, &out);
     appended.sink
-}
-
-fn one(sink: RawEventSink, append: &[u8]) -> RawEventSink {
-    let mut xs = columns::shorts();
-    let x = given::shorts(text::field(append, b':', 2), &mut xs);
-    let mut ys = columns::shorts();
-    let y = given::shorts(text::field(append, b':', 3), &mut ys);
-    with_places(
-        sink,
-        append,
-        given::first_shorts(&xs, x),
-        given::first_shorts(&ys, y),
-    )
 }
 
 pub fn answer(case: &[u8]) {

@@ -1,14 +1,5 @@
 // A case's bytes: `HEX`, or `HEX*K*N`, where the last K bytes come again and again until there are N.
-ghost use mathlib.Core.Path.{_≡_};
-ghost use lib.ListN.{length};
 use test_text::text;
-
-// Room for them. The `ensures` keeps the array itself out of its callers' proofs.
-pub fn buffer() -> [u8; 131072]
-    ensures { λ r. ⌜ 131072 ≡ length r ⌝ }
-{
-    [0; 131072]
-}
 
 // Byte i becomes the one k before it.
 fn copy(into: &mut [u8], i: usize, k: usize) {

@@ -14,6 +14,7 @@ use prophesee_raw::WordsOptions;
 use prophesee_raw::fixed::FixedIndex;
 use test_text::columns;
 use test_text::options;
+use test_text::room;
 use test_text::show;
 use test_text::text;
 
@@ -71,7 +72,7 @@ fn show_answer(made: FixedIndex) {
 
 // With the fields behind: size, spacing, room, bytes.
 fn with_entry(entry: Entry, rest: &[u8]) {
-    let mut buffer = given::buffer();
+    let mut buffer = room();
     let n = given::read(text::field(rest, b' ', 3), &mut buffer);
     let size = options::read_size(rest);
     let made = open(

@@ -9,6 +9,7 @@ use crate::source;
 use prophesee_raw::RawSliceSource;
 use prophesee_raw::SliceAnswer;
 use test_text::columns;
+use test_text::room;
 use test_text::show;
 use test_text::text;
 
@@ -136,7 +137,7 @@ pub fn answer(case: &[u8]) {
     show::text(b"ok");
     let source = source::read(text::field(case, b' ', 2));
     let given = record::read_all(text::field(case, b' ', 3));
-    let mut buffer = given::buffer();
+    let mut buffer = room();
     let n = given::read(text::field(case, b' ', 6), &mut buffer);
     let bytes = text::part(&buffer, 0, n);
     all(

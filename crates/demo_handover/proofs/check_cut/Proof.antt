@@ -1,4 +1,4 @@
--- `demo_handover::check_cut` is safe and ends. Assumes nothing.
+-- `demo_handover::check_cut` is safe and ends.
 use mathlib.Core.Path.{_≡_, sym}
 use Prim.Native.Nat.{_-_, _%_}
 use native.Mathlib.Nat.{mod-le}

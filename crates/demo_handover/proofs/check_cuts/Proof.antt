@@ -1,4 +1,4 @@
--- `demo_handover::check_cuts` is safe and ends. Assumes nothing.
+-- `demo_handover::check_cuts` is safe and ends.
 use Prim.Native.Nat.{_+_, _-_}
 use borrow.Author.Needs.{needs}
 use lib.ListN.{length}

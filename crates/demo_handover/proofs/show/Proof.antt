@@ -1,4 +1,4 @@
--- `demo_handover::show` is safe and ends. Assumes nothing.
+-- `demo_handover::show` is safe and ends.
 use mathlib.Core.Path.{_≡_, sym}
 use native.Mathlib.Omega.{arith}
 use lib.ListN.{length, take}

@@ -1,4 +1,4 @@
--- `test_text::room` meets its contract: the length by a law, since to compute it would walk the list. Assumes nothing.
+-- `test_text::room` meets its contract: the length by a law, since to compute it would walk the list.
 use mathlib.Core.Path.{sym}
 use Prim.Native.Nat.{ℕ}
 use lib.ListN.{length-replicate}

@@ -1,4 +1,4 @@
--- `test_vectors::lines` is safe and ends. Nothing has to hold from turn to turn. Assumes nothing.
+-- `test_vectors::lines` is safe and ends. Nothing has to hold from one iteration to the next.
 use Prim.Native.Nat.{_-_}
 use lib.ListN.{length}
 use borrow.Author.Needs.{needs}

@@ -1,5 +1,5 @@
 use native.Mathlib.Omega.{arith}
-use Rattle.c_structs.specs.Lookup.{room-fits, left-of, Looks, looks-start, looks-place, looks-turn, looks-less, looks-end}
+use Rattle.c_structs.specs.Lookup.{room-fits, left-of, Looks, looks-start, looks-place, looks-next, looks-less, looks-end}
 use Rattle.c_structs.proofs.slices.choose_entries.Statement.{statement}
 use Rattle.c_structs.proofs.slices.choose_entries.Tie as tie
 
@@ -32,7 +32,7 @@ loop-less c =
 loop-again : tie.Need-loop-again Inv-loop μ-loop
 loop-again c =
     let a = c .before .before .before .before .before .before .args in
-    looks-turn (a .encoding) (a .records .now) _ _ (c .before .before .before .loop .inv) (c .before .before .loop-test .taken) _
+    looks-next (a .encoding) (a .records .now) _ _ (c .before .before .before .loop .inv) (c .before .before .loop-test .taken) _
     (c .before .record-at .ensures) _ (c .narrow .ensures)
 
 returns : tie.Need-returns Inv-loop μ-loop

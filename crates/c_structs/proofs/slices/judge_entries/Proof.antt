@@ -2,7 +2,7 @@ use mathlib.Core.Path.{refl, sym, ap}
 use Prim.Native.Nat.{_+_, _≤_, _-_}
 use native.Mathlib.Omega.{arith}
 use Rattle.index_records.specs.declared.Judging.{Judging}
-use Rattle.c_structs.specs.Lookup.{room-fits, Judged, judged-turn, judged-stop, judged-end}
+use Rattle.c_structs.specs.Lookup.{room-fits, Judged, judged-next, judged-stop, judged-end}
 use Rattle.c_structs.specs.Records.{roomOf}
 use Rattle.c_structs.proofs.slices.judge_entries.Statement.{statement}
 use Rattle.c_structs.proofs.slices.judge_entries.Tie as tie
@@ -17,15 +17,15 @@ returns : tie.Need-returns Inv-loop μ-loop
 returns c =
     let i = c .before .before .before .before .loop .i in
     let a = c .before .before .before .before .before .before .args in
-    let turn = judged-turn (a .encoding) (a .records .now) (a .s) i _ _ _ (c .before .before .before .before .loop .inv .1)
+    let next = judged-next (a .encoding) (a .records .now) (a .s) i _ _ _ (c .before .before .before .before .loop .inv .1)
     (c .before .before .record-at .ensures) (c .before .judge .ensures) in
-    sym (judged-stop (a .encoding) (a .records .now) (a .s) (i + 1) _ (omega arith) turn (c .if1 .left))
+    sym (judged-stop (a .encoding) (a .records .now) (a .s) (i + 1) _ (omega arith) next (c .if1 .left))
 
 loop-again : tie.Need-loop-again Inv-loop μ-loop
 loop-again c =
     let a = c .before .before .before .before .before .before .args in (
       omega arith,
-      judged-turn (a .encoding) (a .records .now) (a .s) (c .before .before .before .before .loop .i) _ _ _
+      judged-next (a .encoding) (a .records .now) (a .s) (c .before .before .before .before .loop .i) _ _ _
           (c .before .before .before .before .loop .inv .1) (c .before .before .record-at .ensures) (c .before .judge .ensures),
     )
 

@@ -1,4 +1,4 @@
--- `demo_handover::compare::judge` meets its contract. Assumes nothing.
+-- `demo_handover::compare::judge` meets its contract.
 use mathlib.Core.Path.{refl}
 use Prim.Native.Nat.{_-_}
 use borrow.Author.Needs.{needs}

@@ -1,7 +1,7 @@
--- `demo_handover::compare::same_bytes` meets its contract. Assumes nothing.
+-- `demo_handover::compare::same_bytes` meets its contract.
 use Prim.Native.Nat.{_-_}
 use borrow.Author.Needs.{needs}
-use Rattle.demo_handover.specs.Laws.{Agreeing, agreeing-start, agreeing-turn, agreeing-end, differ-at}
+use Rattle.demo_handover.specs.Laws.{Agreeing, agreeing-start, agreeing-next, agreeing-end, differ-at}
 use Rattle.demo_handover.proofs.compare.same_bytes.Statement.{statement}
 use Rattle.demo_handover.proofs.compare.same_bytes.Tie as tie
 
@@ -15,7 +15,7 @@ returns : tie.Need-returns Inv-loop μ-loop
 returns c = differ-at 0 _ _ _ _ (c .before .before .loop .inv) (c .before .loop-test .taken) (c .if1 .taken)
 
 loop-again : tie.Need-loop-again Inv-loop μ-loop
-loop-again c = agreeing-turn 0 _ _ _ _ (c .before .before .loop .inv) (c .before .loop-test .taken) (c .if1 .left)
+loop-again c = agreeing-next 0 _ _ _ _ (c .before .before .loop .inv) (c .before .loop-test .taken) (c .if1 .left)
 
 returns-2 : tie.Need-returns-2 Inv-loop μ-loop
 returns-2 c = agreeing-end 0 _ _ _ _ (c .before .loop .inv) (c .loop-test .left) (search needs) (search needs)

@@ -1,4 +1,4 @@
--- `demo_handover::compare::same_longs` meets its contract. Assumes nothing.
+-- `demo_handover::compare::same_longs` meets its contract.
 use mathlib.Core.Path.{sym, ap, _∙_}
 use Prim.Native.Nat.{_-_}
 use borrow.Author.Needs.{needs}
@@ -6,7 +6,7 @@ use lib.IntN.{pos}
 use mir.Syntax.{w64}
 use mir.Val.{toZ, ofZ}
 use mir.ValLaws.{toZ-ofZ}
-use Rattle.demo_handover.specs.Laws.{Agreeing, agreeing-start, agreeing-turn, agreeing-end, differ-at}
+use Rattle.demo_handover.specs.Laws.{Agreeing, agreeing-start, agreeing-next, agreeing-end, differ-at}
 use Rattle.demo_handover.proofs.compare.same_longs.Statement.{statement}
 use Rattle.demo_handover.proofs.compare.same_longs.Tie as tie
 
@@ -22,7 +22,7 @@ returns c =
 
 loop-again : tie.Need-loop-again Inv-loop μ-loop
 loop-again c =
-    agreeing-turn (pos 0) _ _ _ _ (c .before .before .before .before .loop .inv) (c .before .before .before .loop-test .taken)
+    agreeing-next (pos 0) _ _ _ _ (c .before .before .before .before .loop .inv) (c .before .before .before .loop-test .taken)
     (sym (toZ-ofZ w64 _ (record { sfits = c .before .before .if12 .given })) ∙ ap (toZ w64) (c .if1 .left)
     ∙ toZ-ofZ w64 _ (record { sfits = c .before .if13 .given }))
 

@@ -1,4 +1,4 @@
--- `demo_handover::given::columns` meets its contract. Assumes nothing.
+-- `demo_handover::given::columns` meets its contract.
 use mathlib.Core.Path.{refl}
 use Rattle.demo_handover.specs.Given.{givenXs}
 use Rattle.demo_handover.proofs.given.columns.Statement.{statement}

@@ -1,4 +1,4 @@
--- `demo_handover::given::count_earlier` meets its contract. Assumes nothing.
+-- `demo_handover::given::count_earlier` meets its contract.
 use mathlib.Core.Path.{_≡_, sym, ap, _∙_}
 use mathlib.Core.Logic.{⊎-elim}
 use Prim.Native.Nat.{_-_}

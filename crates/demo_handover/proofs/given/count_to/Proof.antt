@@ -1,4 +1,4 @@
--- `demo_handover::given::count_to` meets its contract. Assumes nothing.
+-- `demo_handover::given::count_to` meets its contract.
 use mathlib.Core.Logic.{⊎-elim}
 use Prim.Native.Nat.{_-_}
 use native.Mathlib.Omega.{arith}

@@ -1,4 +1,4 @@
--- `demo_handover::given::earlier` meets its contract. Assumes nothing.
+-- `demo_handover::given::earlier` meets its contract.
 use mathlib.Core.Path.{_≡_, sym, ap, _∙_}
 use mathlib.Core.List.{List}
 use native.Mathlib.Omega.{arith}

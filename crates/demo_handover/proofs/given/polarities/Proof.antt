@@ -1,4 +1,4 @@
--- `demo_handover::given::polarities` meets its contract. Assumes nothing.
+-- `demo_handover::given::polarities` meets its contract.
 use mathlib.Core.Path.{refl}
 use Rattle.demo_handover.specs.Given.{givenPs}
 use Rattle.demo_handover.proofs.given.polarities.Statement.{statement}

@@ -1,4 +1,4 @@
--- `demo_handover::given::rows` meets its contract. Assumes nothing.
+-- `demo_handover::given::rows` meets its contract.
 use mathlib.Core.Path.{refl}
 use Rattle.demo_handover.specs.Given.{givenYs}
 use Rattle.demo_handover.proofs.given.rows.Statement.{statement}

@@ -1,4 +1,4 @@
--- `demo_handover::given::times` meets its contract. Assumes nothing.
+-- `demo_handover::given::times` meets its contract.
 use mathlib.Core.Path.{refl}
 use Rattle.demo_handover.specs.Given.{givenTs}
 use Rattle.demo_handover.proofs.given.times.Statement.{statement}

@@ -1,4 +1,4 @@
--- `demo_handover::given::whole_before` meets its contract. Assumes nothing.
+-- `demo_handover::given::whole_before` meets its contract.
 use mathlib.Core.Path.{ap, _∙_}
 use mathlib.Core.List.{List}
 use Prim.Native.Nat.{ℕ}

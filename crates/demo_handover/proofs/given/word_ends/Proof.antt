@@ -1,4 +1,4 @@
--- `demo_handover::given::word_ends` meets its contract. Assumes nothing.
+-- `demo_handover::given::word_ends` meets its contract.
 use mathlib.Core.Path.{refl}
 use borrow.Author.Needs.{needs}
 use Rattle.demo_handover.specs.Given.{wordEnds}

@@ -1,4 +1,4 @@
--- `demo_handover::print::word` is safe and ends. Assumes nothing.
+-- `demo_handover::print::word` is safe and ends.
 use Prim.Native.Nat.{_≤_}
 use borrow.Author.Needs.{needs}
 use lib.ListN.{length}

@@ -1,8 +1,8 @@
--- `demo_handover::write::copy` meets its contract. Assumes nothing.
+-- `demo_handover::write::copy` meets its contract.
 use Prim.Native.Nat.{_-_}
 use native.Mathlib.Omega.{arith}
 use lib.ListN.{length}
-use Rattle.demo_handover.specs.Laws.{Copying, copying-start, copying-turn, copying-end}
+use Rattle.demo_handover.specs.Laws.{Copying, copying-start, copying-next, copying-end}
 use Rattle.demo_handover.proofs.write.copy.Statement.{statement}
 use Rattle.demo_handover.proofs.write.copy.Tie as tie
 
@@ -13,7 +13,7 @@ abbrev μ-loop : tie.MeasureT-loop
 μ-loop from to₀ i₀ to i = length from - i
 
 loop-again : tie.Need-loop-again Inv-loop μ-loop
-loop-again c = copying-turn _ _ (c .before .before .loop .inv) (c .before .loop-test .taken)
+loop-again c = copying-next _ _ (c .before .before .loop .inv) (c .before .loop-test .taken)
 
 returns : tie.Need-returns Inv-loop μ-loop
 returns c = copying-end _ _ (c .before .loop .inv) (c .loop-test .left) (c .before .before .pre)

@@ -1,4 +1,4 @@
--- `test_text::columns::show_events` is safe and ends. Nothing has to hold from turn to turn. Assumes nothing.
+-- `test_text::columns::show_events` is safe and ends. Nothing has to hold from one iteration to the next.
 use Prim.Native.Nat.{_-_}
 use borrow.Author.Needs.{needs}
 use Rattle.test_text.proofs.columns.show_events.Statement.{statement}

@@ -1,4 +1,4 @@
--- `test_text::show::signed` is safe and ends: the bits of a number below 0, turned over, are below 2^63. Assumes nothing.
+-- `test_text::show::signed` is safe and ends: the bits of a number below 0, turned over, are below 2^63.
 use mathlib.Core.Path.{_≡_}
 use mathlib.Core.Bool.{true, false, true≢false}
 use Prim.Native.Nat.{ℕ, _+_, _-_, _^_, _<_}

@@ -1,4 +1,4 @@
--- `test_text::text::from_field` is safe and ends. Nothing has to hold from turn to turn. Assumes nothing.
+-- `test_text::text::from_field` is safe and ends. Nothing has to hold from one iteration to the next.
 use borrow.Author.Needs.{needs}
 use Rattle.test_text.proofs.text.from_field.Statement.{statement}
 use Rattle.test_text.proofs.text.from_field.Tie as tie

@@ -1,4 +1,4 @@
--- `test_text::text::read_hex` is safe and ends. The lent slice keeps its length. Assumes nothing.
+-- `test_text::text::read_hex` is safe and ends. The lent slice keeps its length.
 use Prim.Native.Nat.{_-_}
 use mathlib.Core.Path.{_≡_}
 use lib.ListN.{length}

@@ -1,4 +1,4 @@
--- `test_text::text::seek` is safe and ends. Nothing has to hold from turn to turn. Assumes nothing.
+-- `test_text::text::seek` is safe and ends. Nothing has to hold from one iteration to the next.
 use Prim.Native.Nat.{_-_}
 use borrow.Author.Needs.{needs}
 use lib.ListN.{length}

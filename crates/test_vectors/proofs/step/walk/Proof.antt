@@ -1,4 +1,4 @@
--- `test_vectors::step::walk` is safe and ends. Nothing has to hold from turn to turn. Assumes nothing.
+-- `test_vectors::step::walk` is safe and ends. Nothing has to hold from one iteration to the next.
 use borrow.Author.Needs.{needs}
 use Rattle.test_vectors.proofs.step.walk.Statement.{statement}
 use Rattle.test_vectors.proofs.step.walk.Tie as tie

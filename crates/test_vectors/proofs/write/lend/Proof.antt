@@ -1,4 +1,4 @@
--- `test_vectors::write::lend` is safe and ends: the part is no longer than the output. Assumes nothing.
+-- `test_vectors::write::lend` is safe and ends: the part is no longer than the output.
 use mathlib.Core.Path.{sym}
 use lib.Seq.{length-take-le}
 use borrow.Author.Needs.{needs}

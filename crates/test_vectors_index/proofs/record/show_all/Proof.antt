@@ -1,4 +1,4 @@
--- `test_vectors_index::record::show_all` is safe and ends. Nothing has to hold from turn to turn. Assumes nothing.
+-- `test_vectors_index::record::show_all` is safe and ends. Nothing has to hold from one iteration to the next.
 use Prim.Native.Nat.{_-_}
 use borrow.Author.Needs.{needs}
 use Rattle.test_vectors_index.proofs.record.show_all.Statement.{statement}

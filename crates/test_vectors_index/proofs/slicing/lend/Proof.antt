@@ -1,4 +1,4 @@
--- `test_vectors_index::slicing::lend` is safe and ends: each part is no longer than its column. Assumes nothing.
+-- `test_vectors_index::slicing::lend` is safe and ends: each part is no longer than its column.
 use mathlib.Core.Path.{sym}
 use lib.Seq.{length-take-le}
 use borrow.Author.Needs.{needs}

@@ -14,10 +14,12 @@ use Rattle.evt_types.specs.declared.Refusal.{Refusal}
 use Rattle.evt_types.specs.declared.Sent.{Sent}
 use Rattle.evt_types.specs.declared.Sent.the-variants.{Nothing, Value}
 use Rattle.evt_types.specs.Event.{Event}
-use Rattle.evt_types.specs.Told.{Told, told, told-numbered, naturals}
+use Rattle.evt_types.specs.Told.{told, told-numbered, naturals}
 use Rattle.read_rules.specs.declared.LoadOptions.{LoadOptions}
 use Rattle.read_rules.specs.declared.ReadAnswer.{ReadAnswer}
 use Rattle.read_rules.specs.Read as Read
+use Rattle.read_rules.specs.Read.{ReadEvents}
+use Rattle.evt_types.specs.Outcome.{Outcome}
 use Rattle.index_build.specs.declared.Checkpoint.{Checkpoint}
 use Rattle.index_records.specs.declared.Judging.{Judging}
 use Rattle.index_build.specs.declared.RawSliceSource.{RawSliceSource}
@@ -91,8 +93,8 @@ refused-slice r n k p q = λ i. record { refusal = p i; told = q i; count = sym 
 -- ---- reading
 
 module _ (o : PropheseeOptions) (given : LoadOptions) (is-given : given ≡ optionsOf o) (a : ReadAnswer) (r : PropheseeReading) (is-r : r ≡ readingOf (Read.toldRead a)) where
-  reads : {verdict : Told} {answer : ReadAnswer} {es : List Event} {xs₀ ys₀ : List ℕ} {ts₀ : List ℤ} {ps₀ xs ys : List ℕ} {ts : List ℤ} {ps : List ℕ}
-      → Read.Reads verdict answer es a xs₀ ys₀ ts₀ ps₀ xs ys ts ps → Reads verdict es r xs₀ ys₀ ts₀ ps₀ xs ys ts ps
+  reads : {outcome : Outcome ReadEvents} {xs₀ ys₀ : List ℕ} {ts₀ : List ℤ} {ps₀ xs ys : List ℕ} {ts : List ℤ} {ps : List ℕ}
+      → Read.Reads outcome a xs₀ ys₀ ts₀ ps₀ xs ys ts ps → Reads outcome r xs₀ ys₀ ts₀ ps₀ xs ys ts ps
   reads h = record { is-answer = is-r ∙ ap readingOf (h .is-told); columns = h .columns }
 
   pub reads-words : (words : List ℕ) (e : Encoding) {xs₀ ys₀ : List ℕ} {ts₀ : List ℤ} {ps₀ xs ys : List ℕ} {ts : List ℤ} {ps : List ℕ}

@@ -7,6 +7,7 @@ use borrow.Author.Tests.{le-ltb}
 use lib.IntN.{ℤ}
 use lib.ListN.{length, take}
 use Rattle.evt_types.specs.Event.{Event}
+use Rattle.evt_types.specs.Outcome.{give}
 use Rattle.evt_codec.specs.Codec.{freshC, eventsFrom}
 use Rattle.evt_types.specs.declared.Encoding.{Encoding}
 use Rattle.evt_types.specs.declared.Limit.the-variants.{Unlimited}
@@ -14,8 +15,7 @@ use Rattle.evt_types.specs.declared.SensorSize.{SensorSize}
 use Rattle.header.specs.Header.{hasZero}
 use Rattle.read_window.specs.declared.Window.{Window}
 use Rattle.read_select.specs.Uses.{PastOver}
-use Rattle.read_rules.specs.declared.ReadAnswer.the-variants.{Read}
-use Rattle.read_rules.specs.Read.{wordsAnswer, wordsHanded, bodyEvents, shortest, sizeless, widthOf, heightOf}
+use Rattle.read_rules.specs.Read.{wordsOutcome, bodyEvents, shortest, sizeless, widthOf, heightOf}
 use Rattle.index_build.specs.declared.Checkpoint.{Checkpoint}
 use Rattle.index_build.specs.declared.Opening.{Opening}
 use Rattle.index_build.specs.declared.OpenAnswer.the-variants.{Opened}
@@ -53,18 +53,15 @@ module _ (e : Encoding) (size : SensorSize) (bytes : List ℕ) (few : length byt
 
   module _ (is-sized : sizeless size own ≡ false) where
     module _ (room : ℕ) (fits : length own ≤ room) where
-      read-answer : wordsAnswer bytes e size Unlimited room ≡ Read (record { encoding = e; width = widthOf size own; height = heightOf size own; count = length own })
-      unfolding wordsAnswer bodyEvents
-      read-answer = rw (le-ltb (2 ^ 30) (length bytes) few, no-zero, is-sized, le-ltb room (length own) fits)
-
-      read-handed : wordsHanded bytes e size Unlimited room ≡ own
-      unfolding wordsHanded bodyEvents
-      read-handed = rw (le-ltb (2 ^ 30) (length bytes) few, no-zero, is-sized, le-ltb room (length own) fits)
+      read-outcome : wordsOutcome bytes e size Unlimited room
+          ≡ give (record { reading = record { encoding = e; width = widthOf size own; height = heightOf size own; count = length own }; events = own })
+      unfolding wordsOutcome bodyEvents
+      read-outcome = rw (le-ltb (2 ^ 30) (length bytes) few, no-zero, is-sized, le-ltb room (length own) fits)
 
     decodes : Decodes e size bytes own
     decodes r xs₀ ys₀ ts₀ ps₀ xs ys ts ps d fits =
-        let room = shortest xs₀ ys₀ ts₀ ps₀ in
-        (d .is-answer ∙ read-answer room fits, rw (read-handed room fits) at (d .columns))
+        let d′ = rw (read-outcome (shortest xs₀ ys₀ ts₀ ps₀) fits) at d in
+        (d′ .is-answer, d′ .columns)
 
     module _ (past : (win : Window) → PastOver win (freshC e) bytes) where
       indexes : Indexes e size bytes own

@@ -22,7 +22,7 @@ loop-again c =
     let a = b .before .before .before .before .before .before .before .before .args in
     let l = b .before .before .before .loop in
     let t : b .natural-time .result ≡ natural (getD (a .ts .now) (l .i) (pos 0)) =
-    b .natural-time .ensures ∙ ap natural (toZ-ofZ w64 (getD (a .ts .now) (l .i) (pos 0)) (record { sfits = b .before .time-of-arg .given })) in
+    b .natural-time .ensures ∙ ap natural (toZ-ofZ w64 (getD (a .ts .now) (l .i) (pos 0)) (record { sfits = b .before .natural-time-arg .given })) in
     listing-turn (c .before .before .event-at .result) _ (b .before .before .loop-test .taken) (rw t at (c .before .before .event-at .ensures)) (l .inv)
 
 returns : tie.Need-returns Inv-loop μ-loop

@@ -28,6 +28,7 @@ use Rattle.index_records.specs.Judge.{judgedAll}
 use Rattle.slice_rules.specs.declared.Asked.{Asked}
 use Rattle.slice_rules.specs.declared.SliceAnswer.{SliceAnswer}
 use Rattle.slice_rules.specs.Slice as Slice
+use Rattle.index_records.specs.InRange.{indexInRange}
 use Rattle.slice_rules.specs.Slice.{toldSlice}
 use Rattle.slice_rules.specs.From.{askedByNumber, askedByTime, passedFrom, SlicesFrom, Startable}
 use Rattle.slice_rules.specs.Laws.{startable, began-index, slices-index, began-time, slices-time}
@@ -47,7 +48,7 @@ use Rattle.c_structs.specs.Opening.{openingOf, sourceOf}
 use Rattle.c_structs.specs.Options.{flag, optionsOf}
 use Rattle.c_structs.specs.Reading.{valueOf, countOf, readingOf, Reads, DecodesWords, ReadsRaw}
 use Rattle.c_structs.specs.Records.{roomOf, recordsIn}
-use Rattle.c_structs.specs.Slicing.{slicedOf, Slices, SlicesIndex, SlicesTime}
+use Rattle.c_structs.specs.Slicing.{slicedOf, SlicesFrom as SlicedFrom, SlicesIndex, SlicesTime}
 use Rattle.c_structs.specs.Writer.{versionOf, sentOf, lastOf, sinkOf, bit, evt3Of, hasSent, sentValue, hasLast, lastValue, flatSink, appendedOf, Appends}
 
 -- a refusal is no acceptance, and has none of its values
@@ -167,9 +168,10 @@ appends given s is-s width height xs ys ts ps out₀ a out owed r is-r =
 
 module _ (e : Encoding) (recording entries : List ℕ) (given : PropheseeSource) (s : RawSliceSource) (is-s : s ≡ sourceOf e given) (a : SliceAnswer) (r : PropheseeSlice) (is-r : r ≡ slicedOf (toldSlice a)) where
   sliced : (f : RawSliceSource → List Event) {xs₀ ys₀ : List ℕ} {ts₀ : List ℤ} {ps₀ xs ys : List ℕ} {ts : List ℤ} {ps : List ℕ}
-      → Slice.Slices recording s (recordsIn e entries) (f s) a xs₀ ys₀ ts₀ ps₀ xs ys ts ps → Slices recording (sourceOf e given) (recordsIn e entries) (f (sourceOf e given)) r xs₀ ys₀ ts₀ ps₀ xs ys ts ps
+      → Slice.SlicesFrom recording s (indexInRange s (recordsIn e entries)) (f s) a xs₀ ys₀ ts₀ ps₀ xs ys ts ps
+      → SlicedFrom recording (sourceOf e given) (indexInRange (sourceOf e given) (recordsIn e entries)) (f (sourceOf e given)) r xs₀ ys₀ ts₀ ps₀ xs ys ts ps
   sliced f {xs₀} {ys₀} {ts₀} {ps₀} {xs} {ys} {ts} {ps} h =
-      subst (λ (k : RawSliceSource). Slices recording k (recordsIn e entries) (f k) r xs₀ ys₀ ts₀ ps₀ xs ys ts ps) is-s
+      subst (λ (k : RawSliceSource). SlicedFrom recording k (indexInRange k (recordsIn e entries)) (f k) r xs₀ ys₀ ts₀ ps₀ xs ys ts ps) is-s
       (record { is-answer = is-r ∙ ap slicedOf (h .is-told); columns = h .columns })
 
 -- the records are judged, and one of them is chosen to start at

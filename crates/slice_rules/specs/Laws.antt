@@ -1,33 +1,28 @@
 -- The parts of a slice come to what specs/Slice.antt defines.
 use mathlib.Core.Path.{_≡_, refl, sym, ap, _∙_}
-use mathlib.Core.Bool.{Bool, true, false, cond, _&&_, true≢false}
+use mathlib.Core.Bool.{Bool, true, false, cond, true≢false}
 use mathlib.Core.List.{List, [], _∷_}
-use Prim.Native.Nat.{ℕ, suc, _+_, _-_, _*_, _≤_, _<_, _^_, min, max}
+use Prim.Native.Nat.{ℕ, _+_, _-_, _*_, _≤_, _<_, _^_, min}
 use native.Mathlib.Omega.{arith}
 use lib.Dec.{leb, ltb}
 use lib.IntN.{ℤ}
 use lib.Signed.{ltZ}
 use lib.ListN.{length, take, drop, length-drop, drop-of-length-le}
-use borrow.Author.Tests.{leb-true, leb-false, ltb-true, ltb-false, lt-ltb, le-ltb}
-use Rattle.laws_stream.specs.Slice.{onto, sift}
+use borrow.Author.Tests.{leb-true, leb-false, ltb-false, lt-ltb, le-ltb}
+use Rattle.laws_stream.specs.Slice.{sift}
 use Rattle.laws_stream.specs.Select as Select
 use Rattle.laws_stream.specs.Select.{byNumber}
-use Rattle.laws_stream.specs.Words.{wordsOf}
 use Rattle.evt_types.specs.declared.Refusal.the-variants.{InvalidSensorSize, TooLong, ColumnsTooShort, InvalidSpacing, StateOutOfRange}
 use Rattle.evt_codec.specs.declared.codec.Codec.{Codec}
 use Rattle.evt_codec.specs.declared.codec.Codec.the-variants.{Evt2, Evt3}
 use Rattle.evt_codec.specs.Codec.{eventsFrom}
-use Rattle.evt_types.specs.Columns.{Wrote, Fits}
 use Rattle.evt_types.specs.Event.{Event}
-use Rattle.evt_types.specs.Told.{accepted, refused, short}
+use Rattle.evt_types.specs.Num.{mostBytes}
+use Rattle.evt_types.specs.Outcome.{Outcome, refuse, give, onOutcome}
 use Rattle.header.specs.Header.{hasZero}
-use Rattle.read_fill.specs.Loops.{few2, few3}
 use Rattle.read_window.specs.declared.Window.{Window}
-use Rattle.read_window.specs.Window.{selectionOf, reading2, reading3}
-use Rattle.read_select.specs.declared.SurveyTotals.{SurveyTotals}
-use Rattle.read_select.specs.declared.Filled.{Filled}
-use Rattle.read_select.specs.Pass.{Ready, Able, handedOver, surveyed, filled}
-use Rattle.read_select.specs.Uses.{able-range, numberedOver, over-few, over-by-number, over-by-time}
+use Rattle.read_select.specs.Pass.{Ready, Able}
+use Rattle.read_select.specs.Uses.{able-range, numberedOver, over-by-number, over-by-time}
 use Rattle.read_rules.specs.Read.{kept}
 use Rattle.read_capacity.specs.declared.Delivered.{Delivered}
 use Rattle.read_capacity.specs.declared.Delivered.the-variants.{Written, Needed}
@@ -48,35 +43,40 @@ use Rattle.evt_types.specs.declared.Refusal.{Refusal}
 use Rattle.slice_rules.specs.declared.Start.{Start}
 use Rattle.slice_rules.specs.declared.Start.the-variants.{At, Not}
 use Rattle.slice_rules.specs.declared.SliceAnswer.{SliceAnswer}
-use Rattle.slice_rules.specs.declared.SliceAnswer.the-variants.{Sliced, Refused}
+use Rattle.slice_rules.specs.declared.SliceAnswer.the-variants.{Refused}
 use Rattle.slice_rules.specs.declared.Asked.{Asked}
-use Rattle.slice_rules.specs.Slice.{startingAt, sizeOf, firstOf, endOf, indexEvents, isDuring, eventsUntil, timeEvents, toldSlice, byRules, sliceVerdict, sliceHanded, sliceAnswer, Slices, SlicesIndex, SlicesTime}
+use Rattle.slice_rules.specs.Slice.{startingAt, sizeOf, firstOf, endOf, indexEvents, isDuring, eventsUntil, timeEvents}
+use Rattle.slice_rules.specs.Slice.{sliceCheck, roomOutcome, sliceOutcome, toldSlice, sliceVerdict, sliceHanded, sliceAnswer, Slices, SlicesIndex, SlicesTime}
 use Rattle.slice_rules.specs.Times.{timeWindow, time-over}
-use Rattle.slice_rules.specs.From.{numberWindow, askedByNumber, askedByTime, passedFrom, answerTo, handedTo, answerOf, rulesOf, startOf, SlicesFrom, Startable}
+use Rattle.slice_rules.specs.From.{numberWindow, askedByNumber, askedByTime, passedFrom, answerOf, startOf, SlicesFrom, Startable}
 
 most-small : (c : Codec) (n : ℕ) → mostFrom c n ≤ 6 * n
 most-small (Evt2 d) n = omega arith
 most-small (Evt3 d) n = omega arith
 
--- ---- 5, or the events
+-- ---- an outcome's promises
 
-module _ {es : List Event} {d : Delivered} {xs₀ ys₀ : List ℕ} {ts₀ : List ℤ} {ps₀ xs ys : List ℕ} {ts : List ℤ} {ps : List ℕ} (h : Delivers es d xs₀ ys₀ ts₀ ps₀ xs ys ts ps) where
-  abbrev room : ℕ
-  room = shortest xs₀ ys₀ ts₀ ps₀
+-- what an answer tells is the verdict
+told-answer : (o : Outcome (List Event)) → toldSlice (sliceAnswer o) ≡ sliceVerdict o
+told-answer (refuse r) = refl
+told-answer (give es) = refl
 
-  delivered-answer : answerOf d ≡ answerTo es room
-  delivered-answer = ap answerOf (h .answer) ∙ go (leb (length es) room) refl
-    where
-      go : (b : Bool) → leb (length es) room ≡ b → answerOf (cond b (Written (length es)) (Needed (length es))) ≡ answerTo es room
-      go true p = rw (le-ltb room (length es) (leb-true (length es) room p))
-      go false p = rw (lt-ltb room (length es) (leb-false (length es) room p))
+slices : {o : Outcome (List Event)} {r : SliceAnswer} {xs₀ ys₀ : List ℕ} {ts₀ : List ℤ} {ps₀ xs ys : List ℕ} {ts : List ℤ} {ps : List ℕ} → r ≡ sliceAnswer o → Handed (sliceHanded o) xs₀ ys₀ ts₀ ps₀ xs ys ts ps
+    → Slices o r xs₀ ys₀ ts₀ ps₀ xs ys ts ps
+slices {o} e h = record { is-told = ap toldSlice e ∙ told-answer o; is-answer = e; columns = h }
 
-  delivered-columns : Handed (handedTo es room) xs₀ ys₀ ts₀ ps₀ xs ys ts ps
-  delivered-columns = rw (go (leb (length es) room) refl) (h .columns)
-    where
-      go : (b : Bool) → leb (length es) room ≡ b → handedTo es room ≡ cond b es []
-      go true p = rw (le-ltb room (length es) (leb-true (length es) room p))
-      go false p = rw (lt-ltb room (length es) (leb-false (length es) room p))
+-- 5, or the events
+delivered : {es : List Event} {d : Delivered} {xs₀ ys₀ : List ℕ} {ts₀ : List ℤ} {ps₀ xs ys : List ℕ} {ts : List ℤ} {ps : List ℕ} → Delivers es d xs₀ ys₀ ts₀ ps₀ xs ys ts ps
+    → Slices (roomOutcome es (shortest xs₀ ys₀ ts₀ ps₀)) (answerOf d) xs₀ ys₀ ts₀ ps₀ xs ys ts ps
+delivered {es} {d} {xs₀} {ys₀} {ts₀} {ps₀} {xs} {ys} {ts} {ps} h = rw (h .answer) (go (leb (length es) room) refl (h .columns))
+  where
+    room : ℕ
+    room = shortest xs₀ ys₀ ts₀ ps₀
+
+    go : (b : Bool) → leb (length es) room ≡ b → Handed (cond b es []) xs₀ ys₀ ts₀ ps₀ xs ys ts ps
+        → Slices (roomOutcome es room) (answerOf (cond b (Written (length es)) (Needed (length es)))) xs₀ ys₀ ts₀ ps₀ xs ys ts ps
+    go true p h = rw (le-ltb room (length es) (leb-true (length es) room p)) (slices {o = give es} refl h)
+    go false p h = rw (lt-ltb room (length es) (leb-false (length es) room p)) (slices {o = refuse (ColumnsTooShort (length es))} refl h)
 
 -- ---- 4, 1, 8, 10, and so on
 
@@ -98,103 +98,76 @@ ready-from recording s ok c h p q able =
     let l : length (drop (c .«byte_offset») recording) ≤ 2 ^ 30 = omega (arith, length-drop (c .«byte_offset») recording) in
     record { able = able-range (c .codec) (length (drop (c .«byte_offset») recording)) (a .0) l; long = l; low = omega (arith, a .1) }
 
-abbrev refusalOf : Start → SliceAnswer
-refusalOf (At n) = Sliced n
-refusalOf (Not why) = Refused why
+-- `sliceCheck`, by its conditions
+abbrev checked : (long zero spaced ok : Bool) → Outcome Unit
+checked long zero spaced ok =
+    cond long (refuse TooLong) (cond zero (refuse InvalidSensorSize) (cond spaced (cond ok (give tt) (refuse StateOutOfRange)) (refuse InvalidSpacing)))
 
-abbrev atOf : Start → ℕ
-atOf (At n) = n
-atOf (Not why) = 0
+abbrev startFrom : (at : ℕ) → Outcome Unit → Start
+startFrom at = onOutcome Not (λ u. At at)
 
-abbrev isAtOf : Start → Bool
-isAtOf (At n) = true
-isAtOf (Not why) = false
+abbrev outcomeFrom : List Event → (room : ℕ) → Outcome Unit → Outcome (List Event)
+outcomeFrom es room = onOutcome refuse (λ u. roomOutcome es room)
 
 pub record Starts (n : ℕ) (s : RawSliceSource) (ok : Bool) (offset at : ℕ) : Type 0 where
   pub place : at ≡ min offset n
-  pub fits : n ≤ 2 ^ 30
-  pub sized : hasZero (sizeOf s) ≡ false
+  pub fits : n ≤ mostBytes
   pub spaced : spacingOk (s .encoding) (s .spacing) ≡ true
   pub ranged : ok ≡ true
 
 pub starts : (n : ℕ) (s : RawSliceSource) (ok : Bool) (offset at : ℕ) → At at ≡ startOf n s ok offset → Starts n s ok offset at
-starts n s ok offset at e = go (ltb (2 ^ 30) n) refl (hasZero (sizeOf s)) refl (spacingOk (s .encoding) (s .spacing)) refl ok refl e
+starts n s ok offset at e = go (ltb mostBytes n) refl (hasZero (sizeOf s)) (spacingOk (s .encoding) (s .spacing)) refl ok refl e
   where
     not : {why : Refusal} → At at ≡ Not why → Starts n s ok offset at
-    not e = absurd (true≢false (ap isAtOf e))
+    not e = let no : _≡_ {A = ℕ} 0 1 = cc in absurd (omega arith)
 
-    go : (a : Bool) → ltb (2 ^ 30) n ≡ a → (b : Bool) → hasZero (sizeOf s) ≡ b → (c : Bool) → spacingOk (s .encoding) (s .spacing) ≡ c → (d : Bool) → ok ≡ d
-        → At at ≡ cond a (Not TooLong) (cond b (Not InvalidSensorSize) (cond c (cond d (At (min offset n)) (Not StateOutOfRange)) (Not InvalidSpacing))) → Starts n s ok offset at
-    go true p b q c r d t e = not e
-    go false p true q c r d t e = not e
-    go false p false q false r d t e = not e
-    go false p false q true r false t e = not e
-    go false p false q true r true t e = record { place = ap atOf e; fits = ltb-false (2 ^ 30) n p; sized = q; spaced = r; ranged = t }
+    go : (a : Bool) → ltb mostBytes n ≡ a → (b c : Bool) → spacingOk (s .encoding) (s .spacing) ≡ c → (d : Bool) → ok ≡ d
+        → At at ≡ startFrom (min offset n) (checked a b c d) → Starts n s ok offset at
+    go true p b c r d t e = not e
+    go false p true c r d t e = not e
+    go false p false false r d t e = not e
+    go false p false true r false t e = not e
+    go false p false true r true t e = record { place = cc; fits = ltb-false mostBytes n p; spaced = r; ranged = t }
 
 module _ (recording : List ℕ) (s : RawSliceSource) (ok : Bool) (es : List Event) (offset : ℕ) {xs₀ ys₀ : List ℕ} {ts₀ : List ℤ} {ps₀ : List ℕ} where
   pub from-not : (why : Refusal) → Not why ≡ startOf (length recording) s ok offset → SlicesFrom recording s ok es (Refused why) xs₀ ys₀ ts₀ ps₀ xs₀ ys₀ ts₀ ps₀
-  from-not why e =
-      let room = shortest xs₀ ys₀ ts₀ ps₀ in
-      let g = go (answerTo es room) (handedTo es room) (ltb (2 ^ 30) (length recording)) (hasZero (sizeOf s)) (spacingOk (s .encoding) (s .spacing)) ok e in
-      record { answer = g .0; columns = rw (g .1) handed-none }
+  unfolding sliceOutcome
+  from-not why = go (sliceCheck (length recording) s ok)
     where
-      go : (x : SliceAnswer) (l : List Event) (a b c d : Bool) → Not why ≡ cond a (Not TooLong) (cond b (Not InvalidSensorSize) (cond c (cond d (At (min offset (length recording))) (Not StateOutOfRange)) (Not InvalidSpacing)))
-          → (Refused why ≡ cond a (Refused TooLong) (cond b (Refused InvalidSensorSize) (cond c (cond d x (Refused StateOutOfRange)) (Refused InvalidSpacing)))) × (cond a [] (cond b [] (cond c (cond d l []) [])) ≡ [])
-      go x l true b c d e = (ap refusalOf e, refl)
-      go x l false true c d e = (ap refusalOf e, refl)
-      go x l false false false d e = (ap refusalOf e, refl)
-      go x l false false true false e = (ap refusalOf e, refl)
-      go x l false false true true e = absurd (true≢false (sym (ap isAtOf e)))
+      go : (k : Outcome Unit) → Not why ≡ startFrom (min offset (length recording)) k → Slices (outcomeFrom es (shortest xs₀ ys₀ ts₀ ps₀) k) (Refused why) xs₀ ys₀ ts₀ ps₀ xs₀ ys₀ ts₀ ps₀
+      go (refuse r) e = slices {o = refuse r} (cc) handed-none
+      go (give u) e = let no : _≡_ {A = ℕ} 0 1 = cc in absurd (omega arith)
 
-  pub from-at : (at : ℕ) → At at ≡ startOf (length recording) s ok offset → (d : Delivered) (r : SliceAnswer) {xs ys : List ℕ} {ts : List ℤ} {ps : List ℕ} → Delivers es d xs₀ ys₀ ts₀ ps₀ xs ys ts ps → r ≡ answerOf d → SlicesFrom recording s ok es r xs₀ ys₀ ts₀ ps₀ xs ys ts ps
-  from-at at e d r h f =
-      let p = starts (length recording) s ok offset at e in
-      record {
-        answer = rw (le-ltb (2 ^ 30) (length recording) (p .fits), p .sized, p .spaced, p .ranged) (f ∙ delivered-answer h);
-        columns = rw (le-ltb (2 ^ 30) (length recording) (p .fits), p .sized, p .spaced, p .ranged) (delivered-columns h);
-      }
+  pub from-at : (at : ℕ) → At at ≡ startOf (length recording) s ok offset → (d : Delivered) (r : SliceAnswer) {xs ys : List ℕ} {ts : List ℤ} {ps : List ℕ}
+      → Delivers es d xs₀ ys₀ ts₀ ps₀ xs ys ts ps → r ≡ answerOf d → SlicesFrom recording s ok es r xs₀ ys₀ ts₀ ps₀ xs ys ts ps
+  unfolding sliceOutcome
+  from-at at e d r {xs} {ys} {ts} {ps} h f = go (sliceCheck (length recording) s ok) e
+    where
+      go : (k : Outcome Unit) → At at ≡ startFrom (min offset (length recording)) k → Slices (outcomeFrom es (shortest xs₀ ys₀ ts₀ ps₀) k) r xs₀ ys₀ ts₀ ps₀ xs ys ts ps
+      go (refuse q) e = let no : _≡_ {A = ℕ} 0 1 = cc in absurd (omega arith)
+      go (give u) e = rw f (delivered h)
 
--- ---- what an answer tells is the verdict, and with the records judged all is as specs/Slice.antt has it
-
-told-answer : (recording : List ℕ) (s : RawSliceSource) (records : List Checkpoint) (es : List Event) (room : ℕ) → toldSlice (sliceAnswer recording s records es room) ≡ sliceVerdict recording s records es room
-unfolding sliceAnswer sliceVerdict
-told-answer recording s records es room = go (ltb (2 ^ 30) (length recording)) (hasZero (sizeOf s)) (spacingOk (s .encoding) (s .spacing)) (indexInRange s records) (ltb room (length es))
-  where
-    go : (a b c d e : Bool)
-        → toldSlice (cond a (Refused TooLong) (cond b (Refused InvalidSensorSize) (cond c (cond d (cond e (Refused (ColumnsTooShort (length es))) (Sliced (length es))) (Refused StateOutOfRange)) (Refused InvalidSpacing))))
-        ≡ cond a (refused 4) (cond b (refused 1) (cond c (cond d (cond e (short 5 (length es)) (accepted (length es ∷ []))) (refused 10)) (refused 8)))
-    go true b c d e = refl
-    go false true c d e = refl
-    go false false false d e = refl
-    go false false true false e = refl
-    go false false true true true = refl
-    go false false true true false = refl
+-- ---- with the records judged all is as specs/Slice.antt has it
 
 module _ (recording : List ℕ) (s : RawSliceSource) (records : List Checkpoint) (ok : Bool) (from es : List Event)
     (judged : spacingOk (s .encoding) (s .spacing) ≡ true → ok ≡ indexInRange s records)
-    (same : length recording ≤ 2 ^ 30 → indexInRange s records ≡ true → from ≡ es) where
-  same-rules : {A : Type 0} (f : List Event → A) (is4 is1 is8 is10 : A) → rulesOf recording s ok is4 is1 is8 is10 (f from) ≡ byRules recording s records is4 is1 is8 is10 (f es)
-  same-rules f is4 is1 is8 is10 = go (ltb (2 ^ 30) (length recording)) refl (hasZero (sizeOf s)) (spacingOk (s .encoding) (s .spacing)) refl (indexInRange s records) refl
+    (same : length recording ≤ mostBytes → indexInRange s records ≡ true → from ≡ es) where
+  same-outcome : (room : ℕ) → sliceOutcome recording s ok from room ≡ sliceOutcome recording s (indexInRange s records) es room
+  unfolding sliceOutcome
+  same-outcome room =
+      go (ltb mostBytes (length recording)) refl (hasZero (sizeOf s)) (spacingOk (s .encoding) (s .spacing)) refl (indexInRange s records) refl
     where
-      go : (a : Bool) → ltb (2 ^ 30) (length recording) ≡ a → (b c : Bool) → spacingOk (s .encoding) (s .spacing) ≡ c → (d : Bool) → indexInRange s records ≡ d
-          → cond a is4 (cond b is1 (cond c (cond ok (f from) is10) is8)) ≡ cond a is4 (cond b is1 (cond c (cond d (f es) is10) is8))
+      go : (a : Bool) → ltb mostBytes (length recording) ≡ a → (b c : Bool) → spacingOk (s .encoding) (s .spacing) ≡ c → (d : Bool) → indexInRange s records ≡ d
+          → outcomeFrom from room (checked a b c ok) ≡ outcomeFrom es room (checked a b c d)
       go true p b c q d r = refl
       go false p true c q d r = refl
       go false p false false q d r = refl
-      go false p false true q true r = rw (judged q ∙ r) (ap f (same (ltb-false (2 ^ 30) (length recording) p) r))
+      go false p false true q true r = rw (judged q ∙ r) (ap (λ (l : List Event). roomOutcome l room) (same (ltb-false mostBytes (length recording) p) r))
       go false p false true q false r = rw (judged q ∙ r)
 
   pub slices-from : {r : SliceAnswer} {xs₀ ys₀ : List ℕ} {ts₀ : List ℤ} {ps₀ xs ys : List ℕ} {ts : List ℤ} {ps : List ℕ} → SlicesFrom recording s ok from r xs₀ ys₀ ts₀ ps₀ xs ys ts ps
-      → Slices recording s records es r xs₀ ys₀ ts₀ ps₀ xs ys ts ps
-  unfolding sliceAnswer sliceHanded
-  slices-from {r} {xs₀} {ys₀} {ts₀} {ps₀} {xs} {ys} {ts} {ps} h =
-      let room = shortest xs₀ ys₀ ts₀ ps₀ in
-      let a : r ≡ sliceAnswer recording s records es room = h .answer ∙ same-rules (λ es. answerTo es room) (Refused TooLong) (Refused InvalidSensorSize) (Refused InvalidSpacing) (Refused StateOutOfRange) in
-      record {
-        is-told = ap toldSlice a ∙ told-answer recording s records es room;
-        is-answer = a;
-        columns = rw (same-rules (λ es. handedTo es room) [] [] [] []) at (h .columns);
-      }
+      → SlicesFrom recording s (indexInRange s records) es r xs₀ ys₀ ts₀ ps₀ xs ys ts ps
+  slices-from {r} {xs₀} {ys₀} {ts₀} {ps₀} h = rw (same-outcome (shortest xs₀ ys₀ ts₀ ps₀)) at h
 
 -- ---- the record that a slice starts at
 

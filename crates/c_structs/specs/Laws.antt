@@ -19,7 +19,7 @@ use Rattle.read_rules.specs.declared.LoadOptions.{LoadOptions}
 use Rattle.read_rules.specs.declared.ReadAnswer.{ReadAnswer}
 use Rattle.read_rules.specs.Read as Read
 use Rattle.read_rules.specs.Read.{ReadEvents}
-use Rattle.evt_types.specs.Outcome.{Outcome}
+use Rattle.evt_types.specs.Outcome.{Outcome, refuse, give}
 use Rattle.index_build.specs.declared.Checkpoint.{Checkpoint}
 use Rattle.index_records.specs.declared.Judging.{Judging}
 use Rattle.index_build.specs.declared.RawSliceSource.{RawSliceSource}
@@ -36,7 +36,7 @@ use Rattle.write_append.specs.declared.Appended.{Appended}
 use Rattle.write_rules.specs.declared.LastTime.{LastTime}
 use Rattle.write_rules.specs.declared.LastTime.the-variants.{Never, At}
 use Rattle.write_rules.specs.declared.RawEventSink.{RawEventSink}
-use Rattle.write_append.specs.Append.{toldAppend, appendVerdict, nextSink, sinkAfter, AppendOwed}
+use Rattle.write_append.specs.Append.{AppendedBytes, appendOutcome, toldAppend, appendVerdict, sinkAfter, AppendOwed}
 use Rattle.c_structs.specs.declared.opening.PropheseeSource.{PropheseeSource}
 use Rattle.c_structs.specs.declared.options.PropheseeOptions.{PropheseeOptions}
 use Rattle.c_structs.specs.declared.reading.PropheseeReading.{PropheseeReading}
@@ -153,16 +153,13 @@ pub appends : (given : PropheseeSink) (s : RawEventSink) → s ≡ sinkOf given 
     → AppendOwed s width height xs ys ts ps out₀ a out → (r : PropheseeAppended) → r ≡ appendedOf given (toldAppend (a .answer)) (a .sink) → Appends given width height xs ys ts ps out₀ r out
 appends given s is-s width height xs ys ts ps out₀ a out owed r is-r =
     let h = subst (λ (s : RawEventSink). AppendOwed s width height xs ys ts ps out₀ a out) is-s owed in
-    let answer : r ≡ appendedOf given (appendVerdict (sinkOf given) width height xs ys ts ps (length out₀)) (sinkAfter (sinkOf given) width height xs ys ts ps (length out₀)) = is-r ∙ (λ i. appendedOf given (h .is-told i) (h .is-sink i)) in
-    record {
-      is-answer = answer;
-      is-sink = ap (λ (r : PropheseeAppended). sinkOf (r .sink)) answer ∙ go (eqb (appendVerdict (sinkOf given) width height xs ys ts ps (length out₀) .number) 0);
-      is-output = h .is-output;
-    }
+    let o = appendOutcome (sinkOf given) width height xs ys ts ps (length out₀) in
+    let answer : r ≡ appendedOf given (appendVerdict o) (sinkAfter (sinkOf given) o) = is-r ∙ (λ i. appendedOf given (h .is-told i) (h .is-sink i)) in
+    record { is-answer = answer; is-sink = ap (λ (r : PropheseeAppended). sinkOf (r .sink)) answer ∙ go o; is-output = h .is-output }
   where
-    go : (b : Bool) → sinkOf (cond b (flatSink (cond b (nextSink (sinkOf given) xs ys ts ps) (sinkOf given))) given) ≡ cond b (nextSink (sinkOf given) xs ys ts ps) (sinkOf given)
-    go true = sink-back (nextSink (sinkOf given) xs ys ts ps)
-    go false = refl
+    go : (o : Outcome AppendedBytes) → sinkOf (appendedOf given (appendVerdict o) (sinkAfter (sinkOf given) o) .sink) ≡ sinkAfter (sinkOf given) o
+    go (refuse r) = ap (λ (b : Bool). sinkOf (cond b (flatSink (sinkOf given)) given)) (refused-not r)
+    go (give b) = sink-back (b .sink)
 
 -- ---- slices
 

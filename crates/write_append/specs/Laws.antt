@@ -11,7 +11,7 @@ use lib.IntN.{ℤ, pos}
 use borrow.Author.Tests.{eq-eqb, le-leb, eqb-true}
 use Rattle.laws_stream.specs.Machine.{run, and-both}
 use Rattle.evt_types.specs.Event.{Event}
-use Rattle.evt_types.specs.Told.{Told, accepted}
+use Rattle.evt_types.specs.Outcome.{give}
 use Rattle.evt_types.specs.declared.Encoding.{Encoding}
 use Rattle.evt_types.specs.declared.Encoding.the-variants.{Evt2, Evt3}
 use Rattle.evt_types.specs.declared.Sent.{Sent}
@@ -29,9 +29,8 @@ use Rattle.write_rules.specs.declared.LastTime.{LastTime}
 use Rattle.write_rules.specs.declared.LastTime.the-variants.{Never, At}
 use Rattle.write_rules.specs.declared.RawEventSink.{RawEventSink}
 use Rattle.write_rules.specs.Range.{timeInRange, every, atMost, eventsInRange, falls, fallsAfter, isNothing, belongs, sentAtMost, sentInRange, lastInRange, sinkInRange}
-use Rattle.write_append.specs.Append.{lastAfter, nextSink, sends, appendVerdict, accepts, handedOver, sinkAfter}
-use Rattle.write_rules.specs.Rules.{checkOf}
-use Rattle.write_append.specs.Ends.{accepts-checked}
+use Rattle.write_append.specs.Append.{lastAfter, nextSink, sends, appendOutcome, accepts, sinkAfter}
+use Rattle.write_append.specs.Ends.{accepts-checked, by-acceptance}
 use Rattle.write_rules.specs.Checks.{Checked, checked-of}
 
 -- ---- AN EMPTY APPEND is accepted by a writer in range, hands nothing over, and changes nothing: a header stays due
@@ -62,22 +61,10 @@ module _ (s : RawEventSink) (in-range : sinkInRange s ≡ true) (width height ro
   sends-none : sends s width height [] [] [] [] ≡ []
   sends-none = rw (and-none _, words-none (s .version) (s .state))
 
-  pub empty-verdict : appendVerdict s width height [] [] [] [] room ≡ accepted (0 ∷ [])
-  unfolding every
-  empty-verdict = rw (in-range, falls-none (s .«last_t»), sends-none, le-leb 0 room (omega arith))
-
-  pub empty-bytes : handedOver s width height [] [] [] [] room ≡ []
-  empty-bytes = go (accepts s width height [] [] [] [] room)
-    where
-      go : (b : Bool) → cond b (sends s width height [] [] [] []) [] ≡ []
-      go true = sends-none
-      go false = refl
-
-  pub empty-sink : sinkAfter s width height [] [] [] [] room ≡ s
-  unfolding lastAfter
-  empty-sink =
-      let yes : accepts s width height [] [] [] [] room ≡ true = ap (λ (t : Told). eqb (t .number) 0) empty-verdict in
-      rw (yes, or-none (s .«header_written»), add-zero (s .«n_events»), state-none (s .version) (s .state))
+  pub empty-append : appendOutcome s width height [] [] [] [] room ≡ give (record { bytes = []; sink = s })
+  unfolding appendOutcome every lastAfter
+  empty-append =
+      rw (in-range, falls-none (s .«last_t»), sends-none, le-leb 0 room (omega arith), or-none (s .«header_written»), add-zero (s .«n_events»), state-none (s .version) (s .state))
 
 -- ---- THE RANGE IS KEPT, the bound on the count aside
 
@@ -163,6 +150,8 @@ kept-as s (x ∷ xs) (y ∷ ys) (t ∷ ts) (p ∷ ps) c h =
     let r = last-fine (s .version) (s .«last_t») x y t p xs ys ts ps (omega (arith, z .same-y)) (omega (arith, z .same-t)) (omega (arith, z .same-p)) (b .0) (d .1) in
     after-some (s .version) (s .state) (s .«n_events») (s .«n_events» + length (x ∷ xs)) (s .«last_t») (event x y (natural t) p) (eventsIn xs ys ts ps) _ h (c .in-range) r
 
-pub range-kept : (s : RawEventSink) (width height : ℕ) (xs ys : List ℕ) (ts : List ℤ) (ps : List ℕ) (room : ℕ) → accepts s width height xs ys ts ps room ≡ true
-    → s .«n_events» + length xs ≤ 2 ^ 62 → sinkInRange (sinkAfter s width height xs ys ts ps room) ≡ true
-range-kept s width height xs ys ts ps room q h = rw q (kept-as s xs ys ts ps (checked-of s xs ys ts ps (accepts-checked s width height xs ys ts ps room q .0)) h)
+pub range-kept : (s : RawEventSink) (width height : ℕ) (xs ys : List ℕ) (ts : List ℤ) (ps : List ℕ) (room : ℕ) → let o = appendOutcome s width height xs ys ts ps room in
+    accepts o ≡ true → s .«n_events» + length xs ≤ 2 ^ 62 → sinkInRange (sinkAfter s o) ≡ true
+range-kept s width height xs ys ts ps room q h =
+    rw (by-acceptance s width height xs ys ts ps room .0, q)
+    (kept-as s xs ys ts ps (checked-of s xs ys ts ps (accepts-checked s width height xs ys ts ps room q .0)) h)

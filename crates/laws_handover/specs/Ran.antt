@@ -1,9 +1,7 @@
 -- Appends as they ran: by their contract alone, the bytes that they told to have written are the stream of their calls, and the last writer is that of the list.
-use mathlib.Core.Path.{_≡_, refl, sym, ap, _∙_}
-use mathlib.Core.Bool.{Bool, true, false, cond}
+use mathlib.Core.Path.{_≡_, refl, ap, _∙_}
 use mathlib.Core.List.{List, [], _∷_, _++_, map}
-use Prim.Native.Nat.{ℕ, _^_}
-use lib.Dec.{eqb, leb}
+use Prim.Native.Nat.{ℕ}
 use lib.ListN.{length, take}
 use lib.Seq.{take-at}
 use Rattle.evt_types.specs.Outcome.{Outcome, refuse, give}

@@ -16,7 +16,7 @@ use Rattle.laws_stream.specs.Slice.{sift}
 use Rattle.evt_types.specs.declared.Encoding.{Encoding}
 use Rattle.evt_types.specs.declared.Encoding.the-variants.{Evt2, Evt3}
 use Rattle.evt_types.specs.declared.Refusal.{Refusal}
-use Rattle.evt_types.specs.declared.Refusal.the-variants.{InvalidSensorSize, UnknownEncoding, TooLong, ColumnsTooShort}
+use Rattle.evt_types.specs.declared.Refusal.the-variants.{InvalidSensorSize, TooLong, ColumnsTooShort}
 use Rattle.evt_types.specs.declared.Limit.{Limit}
 use Rattle.evt_types.specs.declared.Limit.the-variants.{Unlimited, AtMost}
 use Rattle.evt_types.specs.declared.SensorSize.{SensorSize}
@@ -25,7 +25,7 @@ use Rattle.evt_codec.specs.declared.codec.Codec.{Codec}
 use Rattle.evt_codec.specs.Codec.{freshC, eventsFrom}
 use Rattle.evt_types.specs.Columns.{colX, colY}
 use Rattle.evt_types.specs.Event.{Event}
-use Rattle.evt_types.specs.Outcome.{Outcome, refuse, give, onOutcome}
+use Rattle.evt_types.specs.Outcome.{Outcome, refuse, give, onOutcome, given-unless}
 use Rattle.read_fill.specs.Decode.{insideEvents}
 use Rattle.read_rules.specs.declared.Sensor.{Sensor}
 use Rattle.read_capacity.specs.declared.Delivered.{Delivered}
@@ -62,7 +62,8 @@ sensorEvents width height e body = insideEvents width height (freshC e) body
 abbrev pub limitWindow : (width height n : ℕ) → Window
 limitWindow width height n = record { width = width; height = height; n0 = 0; n1 = n; t0 = 0; t1 = 18446744073709551615 }
 
-numbered-inside : (width height n : ℕ) (e : Encoding) (body : List ℕ) → numberedOver (limitWindow width height n) (freshC e) body ≡ sensorEvents width height e body
+numbered-inside : (width height n : ℕ) (e : Encoding) (body : List ℕ)
+    → numberedOver (limitWindow width height n) (freshC e) body ≡ sensorEvents width height e body
 numbered-inside width height n Evt2 body = refl
 numbered-inside width height n Evt3 body = refl
 
@@ -72,7 +73,8 @@ ready-fresh e n h = record { able = able-range (freshC e) n (range-fresh e) h; l
 pub handed-limit : (width height n : ℕ) (e : Encoding) (body : List ℕ) → length body ≤ 2 ^ 30
     → handedOver (limitWindow width height n) 0 (freshC e) body ≡ take n (sensorEvents width height e body)
 handed-limit width height n e body h =
-    over-limit (limitWindow width height n) (freshC e) body (ready-fresh e (length body) h .able) refl (omega arith) refl ∙ ap (take n) (numbered-inside width height n e body)
+    over-limit (limitWindow width height n) (freshC e) body (ready-fresh e (length body) h .able) refl (omega arith) refl
+    ∙ ap (take n) (numbered-inside width height n e body)
 
 -- ---- the events of a body
 
@@ -103,7 +105,8 @@ mostOf (AtMost n) = n
 abbrev pub windowOf : SensorSize → Limit → Window
 windowOf size limit = limitWindow (sensorOf size .width) (sensorOf size .height) (mostOf limit)
 
-pub window-parts : (size : SensorSize) (limit : Limit) (span : Sensor) (most : ℕ) → span ≡ sensorOf size → most ≡ mostOf limit → limitWindow (span .width) (span .height) most ≡ windowOf size limit
+pub window-parts : (size : SensorSize) (limit : Limit) (span : Sensor) (most : ℕ) → span ≡ sensorOf size → most ≡ mostOf limit
+    → limitWindow (span .width) (span .height) most ≡ windowOf size limit
 window-parts size limit span most s m = rw (s, m)
 
 body-most : (size : SensorSize) (e : Encoding) (limit : Limit) (body : List ℕ) → length body ≤ 2 ^ 30
@@ -111,7 +114,8 @@ body-most : (size : SensorSize) (e : Encoding) (limit : Limit) (body : List ℕ)
 unfolding bodyEvents
 body-most size e Unlimited body h =
     let es = sensorEvents (sensorOf size .width) (sensorOf size .height) e body in
-    kept-inside size e body h ∙ sym (take-all 18446744073709551615 es (omega (arith, inside-bytes (sensorOf size .width) (sensorOf size .height) (freshC e) body)))
+    kept-inside size e body h
+    ∙ sym (take-all 18446744073709551615 es (omega (arith, inside-bytes (sensorOf size .width) (sensorOf size .height) (freshC e) body)))
 body-most size e (AtMost n) body h = ap (take n) (kept-inside size e body h)
 
 -- ---- the size
@@ -133,6 +137,14 @@ settledOf e size (Needed n) xs ys = Refused (ColumnsTooShort n)
 abbrev pub judgedOf : (n : ℕ) → SensorSize → Judged
 judgedOf n size = onOutcome Unfit (λ u. Fit) (wordsCheck n size)
 
+judged-given : (k : Outcome Unit) → onOutcome Unfit (λ u. Fit) k ≡ Fit → k ≡ give tt
+judged-given (refuse r) e = let no : _≡_ {A = ℕ} 0 1 = cc in absurd (omega arith)
+judged-given (give u) e = refl
+
+judged-refused : (k : Outcome Unit) (r : Refusal) → onOutcome Unfit (λ u. Fit) k ≡ Unfit r → k ≡ refuse r
+judged-refused (refuse q) r e = cc
+judged-refused (give u) r e = let no : _≡_ {A = ℕ} 0 1 = cc in absurd (omega arith)
+
 module _ (n : ℕ) (size : SensorSize) where
   pub judged-long : mostBytes < n → Unfit TooLong ≡ judgedOf n size
   judged-long h = rw (lt-ltb mostBytes n h)
@@ -144,22 +156,14 @@ module _ (n : ℕ) (size : SensorSize) where
   judged-fit h z = rw (le-ltb mostBytes n h, z)
 
   pub fit-judged : judgedOf n size ≡ Fit → n ≤ mostBytes
-  fit-judged = go (ltb mostBytes n) refl
-    where
-      go : (a : Bool) → ltb mostBytes n ≡ a
-          → onOutcome {A = Unit} Unfit (λ u. Fit) (cond a (refuse TooLong) (cond (hasZero size) (refuse InvalidSensorSize) (give tt))) ≡ Fit → n ≤ mostBytes
-      go true p j = let no : _≡_ {A = ℕ} 0 1 = cc in absurd (omega arith)
-      go false p j = ltb-false mostBytes n p
-
-abbrev pub refusalOf : HeaderAnswer → ReadAnswer
-refusalOf (NoHeader r) = Refused r
-refusalOf (Header h) = Refused UnknownEncoding
+  fit-judged j = ltb-false mostBytes n (given-unless tt (ltb mostBytes n) _ _ (judged-given (wordsCheck n size) j) .0)
 
 module _ (size : SensorSize) (e : Encoding) (limit : Limit) (codec : Codec) (is-fresh : codec ≡ freshC e) where
   pub delivers-body : (body : List ℕ) (win : Window) {r : Delivered} {xs₀ ys₀ : List ℕ} {ts₀ : List ℤ} {ps₀ xs ys : List ℕ} {ts : List ℤ} {ps : List ℕ}
       → length body ≤ 2 ^ 30 → win ≡ windowOf size limit
       → Delivers (handedOver win 0 codec body) r xs₀ ys₀ ts₀ ps₀ xs ys ts ps → Delivers (bodyEvents e size limit body) r xs₀ ys₀ ts₀ ps₀ xs ys ts ps
-  delivers-body body win h w d = rw (body-most size e limit body h, ← handed-limit (sensorOf size .width) (sensorOf size .height) (mostOf limit) e body h, ← w, ← is-fresh) d
+  delivers-body body win h w d =
+      rw (body-most size e limit body h, ← handed-limit (sensorOf size .width) (sensorOf size .height) (mostOf limit) e body h, ← w, ← is-fresh) d
 
   pub ready-new : (n : ℕ) → n ≤ 2 ^ 30 → Ready codec 0 n
   ready-new n h = rw is-fresh (ready-fresh e n h)
@@ -170,14 +174,17 @@ length-handed : {E A : Type 0} (f : E → A) (es : List E) (old now : List A) �
 length-handed f es old now e = omega (arith, ap length e ∙ length-append (map f es) (drop (length es) old), length-map es f)
 
 top-handed : (f : Event → ℕ) (es : List Event) (old now : List ℕ) → now ≡ map f es ++ drop (length es) old → top (take (length es) now) ≡ greatest f es
-top-handed f es old now e = ap (λ (l : List ℕ). top (take (length es) l)) e ∙ ap top (take-at (map f es) (drop (length es) old) (length es) (length-map es f)) ∙ greatest-map (λ x. x) f es
+top-handed f es old now e =
+    ap (λ (l : List ℕ). top (take (length es) l)) e ∙ ap top (take-at (map f es) (drop (length es) old) (length es) (length-map es f))
+    ∙ greatest-map (λ x. x) f es
 
 -- what an answer tells is the verdict
 told-answer : (o : Outcome ReadEvents) → toldRead (readAnswer o) ≡ readVerdict o
 told-answer (refuse r) = refl
 told-answer (give g) = refl
 
-module _ {xs₀ ys₀ : List ℕ} {ts₀ : List ℤ} {ps₀ xs ys : List ℕ} {ts : List ℤ} {ps : List ℕ} (es : List Event) (r : Delivered) (d : Delivers es r xs₀ ys₀ ts₀ ps₀ xs ys ts ps) where
+module _ {xs₀ ys₀ : List ℕ} {ts₀ : List ℤ} {ps₀ xs ys : List ℕ} {ts : List ℤ} {ps : List ℕ} (es : List Event) (r : Delivered)
+    (d : Delivers es r xs₀ ys₀ ts₀ ps₀ xs ys ts ps) where
   abbrev room : ℕ
   room = shortest xs₀ ys₀ ts₀ ps₀
 
@@ -202,7 +209,14 @@ module _ {xs₀ ys₀ : List ℕ} {ts₀ : List ℤ} {ps₀ xs ys : List ℕ} {t
     fits-go Unknown (a ∷ es′) q h c =
         let le : ltb room (length (a ∷ es′)) ≡ false = le-ltb room (length (a ∷ es′)) (rw q at h) in
         let c′ : Handed (a ∷ es′) xs₀ ys₀ ts₀ ps₀ xs ys ts ps = rw q at c in (
-          rw (ne-eqb (length (a ∷ es′)) 0 (omega arith), le, top-handed colX (a ∷ es′) xs₀ xs (c′ .column-x), top-handed colY (a ∷ es′) ys₀ ys (c′ .column-y), add-one, add-one),
+          rw (
+            ne-eqb (length (a ∷ es′)) 0 (omega arith),
+            le,
+            top-handed colX (a ∷ es′) xs₀ xs (c′ .column-x),
+            top-handed colY (a ∷ es′) ys₀ ys (c′ .column-y),
+            add-one,
+            add-one,
+          ),
           rw le c′,
         )
 
@@ -236,21 +250,11 @@ module _ {xs₀ ys₀ : List ℕ} {ts₀ : List ℤ} {ps₀ : List ℕ} where
     pub words-read : {r : ReadAnswer} {xs ys : List ℕ} {ts : List ℤ} {ps : List ℕ} → judgedOf (length words) size ≡ Fit
         → ReadsBody e size (bodyEvents e size limit words) r xs₀ ys₀ ts₀ ps₀ xs ys ts ps → DecodesWords words e size limit r xs₀ ys₀ ts₀ ps₀ xs ys ts ps
     unfolding wordsOutcome bodyEvents
-    words-read {r} {xs} {ys} {ts} {ps} j b = go (wordsCheck (length words) size) j
-      where
-        go : (k : Outcome Unit) → onOutcome Unfit (λ u. Fit) k ≡ Fit
-            → Reads (onOutcome refuse (λ u. bodyOutcome e size limit (bodyEvents e size Unlimited words) (shortest xs₀ ys₀ ts₀ ps₀)) k) r xs₀ ys₀ ts₀ ps₀ xs ys ts ps
-        go (refuse q) j = let no : _≡_ {A = ℕ} 0 1 = cc in absurd (omega arith)
-        go (give u) j = b
+    words-read j b = rw (judged-given (wordsCheck (length words) size) j) b
 
     pub words-refused : (q : Refusal) → judgedOf (length words) size ≡ Unfit q → DecodesWords words e size limit (Refused q) xs₀ ys₀ ts₀ ps₀ xs₀ ys₀ ts₀ ps₀
     unfolding wordsOutcome
-    words-refused q = go (wordsCheck (length words) size)
-      where
-        go : (k : Outcome Unit) → onOutcome Unfit (λ u. Fit) k ≡ Unfit q
-            → Reads (onOutcome refuse (λ u. bodyOutcome e size limit (bodyEvents e size Unlimited words) (shortest xs₀ ys₀ ts₀ ps₀)) k) (Refused q) xs₀ ys₀ ts₀ ps₀ xs₀ ys₀ ts₀ ps₀
-        go (refuse r) j = let is : r ≡ q = cc in rw is (reads-refused q)
-        go (give u) j = let no : _≡_ {A = ℕ} 0 1 = cc in absurd (omega arith)
+    words-refused q j = rw (judged-refused (wordsCheck (length words) size) q j) (reads-refused q)
 
   module _ (recording : List ℕ) (o : LoadOptions) (a : HeaderAnswer) (is-header : a ≡ headerOf recording (o .«sensor_size»)) where
     pub raw-refused : (q : Refusal) → a ≡ NoHeader q → ReadsRaw recording o (Refused q) xs₀ ys₀ ts₀ ps₀ xs₀ ys₀ ts₀ ps₀
@@ -258,7 +262,8 @@ module _ {xs₀ ys₀ : List ℕ} {ts₀ : List ℤ} {ps₀ : List ℕ} where
     raw-refused q e = rw (← is-header, e) (reads-refused q)
 
     pub raw-read : (h : header.Header) → a ≡ Header h → {r : ReadAnswer} {xs ys : List ℕ} {ts : List ℤ} {ps : List ℕ}
-        → ReadsBody (h .encoding) (h .«sensor_size») (bodyEvents (h .encoding) (h .«sensor_size») (o .«max_events») (drop (h .«data_offset») recording)) r xs₀ ys₀ ts₀ ps₀ xs ys ts ps
+        → let es = bodyEvents (h .encoding) (h .«sensor_size») (o .«max_events») (drop (h .«data_offset») recording) in
+        ReadsBody (h .encoding) (h .«sensor_size») es r xs₀ ys₀ ts₀ ps₀ xs ys ts ps
         → ReadsRaw recording o r xs₀ ys₀ ts₀ ps₀ xs ys ts ps
     unfolding rawOutcome bodyEvents
     raw-read h e b = rw (← is-header, e) b

@@ -34,10 +34,15 @@ numberWindow s i0 i1 = record { width = s .width; height = s .height; n0 = first
 
 -- of an index of n records
 abbrev pub askedByNumber : RawSliceSource → (n i0 i1 : ℕ) → Asked
-askedByNumber s n i0 i1 = record { judging = firstJudging s n; choice = record { «by_time» = false; index = firstOf s i0; time = pos 0 }; window = numberWindow s i0 i1 }
+askedByNumber s n i0 i1 =
+    record { judging = firstJudging s n; choice = record { «by_time» = false; index = firstOf s i0; time = pos 0 }; window = numberWindow s i0 i1 }
 
 abbrev pub askedByTime : RawSliceSource → (n : ℕ) → (t0 t1 : ℤ) → Asked
-askedByTime s n t0 t1 = record { judging = firstJudging s n; choice = record { «by_time» = true; index = 0; time = t0 }; window = timeWindow (s .width) (s .height) 0 18446744073709551615 t0 t1 }
+askedByTime s n t0 t1 = record {
+  judging = firstJudging s n;
+  choice = record { «by_time» = true; index = 0; time = t0 };
+  window = timeWindow (s .width) (s .height) 0 18446744073709551615 t0 t1;
+}
 
 -- ---- the pass
 

@@ -1,11 +1,11 @@
 -- The ways in which an append ends.
-use mathlib.Core.Path.{_≡_, refl, sym, ap, _∙_}
+use mathlib.Core.Path.{_≡_, refl, sym, _∙_}
 use mathlib.Core.Bool.{Bool, true, false, cond, _||_, true≢false}
 use mathlib.Core.List.{List, [], _∷_, _++_}
 use Prim.Native.Nat.{ℕ, suc, _+_, _-_, _*_, _^_, _≤_, _<_}
 use native.Mathlib.Omega.{arith}
 use native.Mathlib.Nat.{zero-add}
-use lib.Dec.{eqb, ltb, leb}
+use lib.Dec.{ltb, leb}
 use borrow.Author.Tests.{le-leb, lt-leb, lt-ltb, leb-true, leb-false}
 use lib.ListN.{length, getD, length-append}
 use lib.Seq.{sets, sets-eq}
@@ -22,17 +22,16 @@ use Rattle.write_words.specs.Encode.{encodeState, passed, Fitting}
 use Rattle.evt_types.specs.declared.Encoding.{Encoding}
 use Rattle.evt_types.specs.declared.Encoding.the-variants.{Evt2, Evt3}
 use Rattle.write_header.specs.Header.{headerText, header-few}
-use Rattle.write_rules.specs.declared.Check.{Check}
 use Rattle.write_rules.specs.declared.Check.the-variants.{Passed, Failed}
 use Rattle.write_rules.specs.declared.LastTime.{LastTime}
 use Rattle.write_rules.specs.declared.LastTime.the-variants.{At}
 use Rattle.write_rules.specs.declared.RawEventSink.{RawEventSink}
-use Rattle.write_append.specs.declared.AppendAnswer.{AppendAnswer}
 use Rattle.write_append.specs.declared.AppendAnswer.the-variants.{Written, Refused}
-use Rattle.write_rules.specs.Range.{eventsInRange, fallsAfter, sameLengths, sinkInRange}
+use Rattle.write_rules.specs.Range.{eventsInRange}
 use Rattle.write_rules.specs.Rules.{checkOutcome, checkOf}
 use Rattle.write_rules.specs.Checks.{event-fine, check-given, check-refused}
-use Rattle.write_append.specs.Append.{some, headerDue, headerBytes, wordBytes, lastAfter, sends, nextSink, AppendedBytes, appendOutcome, accepts, handedOver, sinkAfter, Appends, AppendOwed}
+use Rattle.write_append.specs.Append.{some, headerDue, headerBytes, wordBytes, lastAfter, sends, nextSink, AppendedBytes, appendOutcome}
+use Rattle.write_append.specs.Append.{accepts, handedOver, sinkAfter, Appends, AppendOwed}
 
 -- ---- the last time
 
@@ -98,7 +97,8 @@ module _ (s : RawEventSink) (width height : ℕ) (xs ys : List ℕ) (ts : List �
         ended : Outcome Unit → Bool → Outcome AppendedBytes
         ended k b = onOutcome refuse (λ u. cond b (give own) (refuse (OutputTooShort (length all)))) k
 
-        go : (k : Outcome Unit) (b : Bool) → (sinkAfter s (ended k b) ≡ cond (accepts (ended k b)) (own .sink) s) × (handedOver (ended k b) ≡ cond (accepts (ended k b)) all [])
+        go : (k : Outcome Unit) (b : Bool)
+            → (sinkAfter s (ended k b) ≡ cond (accepts (ended k b)) (own .sink) s) × (handedOver (ended k b) ≡ cond (accepts (ended k b)) all [])
         go (refuse r) b = (refl, refl)
         go (give u) true = (refl, refl)
         go (give u) false = (refl, refl)
@@ -139,7 +139,8 @@ some-is (a ∷ l) = lt-ltb 0 (suc (length l)) (omega arith)
 
 -- events that rule 7 lets pass can be written
 pub fitting-of : (e : Encoding) (xs ys : List ℕ) (ts : List ℤ) (ps : List ℕ) → eventsInRange e xs ys ts ps ≡ true → Fitting e xs ys ts ps
-fitting-of Evt2 xs ys ts ps h = λ i. let f = event-fine Evt2 xs ys ts ps h i in record { fit-x = f .fine-x; fit-y = f .fine-y; fit-t = f .fine-t; fit-p = f .fine-p }
+fitting-of Evt2 xs ys ts ps h =
+    λ i. let f = event-fine Evt2 xs ys ts ps h i in record { fit-x = f .fine-x; fit-y = f .fine-y; fit-t = f .fine-t; fit-p = f .fine-p }
 fitting-of Evt3 xs ys ts ps h = tt
 
 pub due-few : (b : Bool) (e : Encoding) (w h : ℕ) → w < 2 ^ 64 → h < 2 ^ 64 → length (cond b (headerText e w h) []) ≤ 96
@@ -163,7 +164,8 @@ module _ (s : RawEventSink) (width height : ℕ) (xs ys : List ℕ) (ts : List �
       rw (← d) (q ∙ rw n, both .1)
 
   -- after the header the words have room where all has
-  pub room-words : (out o : List ℕ) {due : Bool} {at : ℕ} → due ≡ headerDue s xs → at ≡ length (cond due (headerText (s .version) width height) []) → length o ≡ length out
+  pub room-words : (out o : List ℕ) {due : Bool} {at : ℕ} → due ≡ headerDue s xs → at ≡ length (cond due (headerText (s .version) width height) [])
+      → length o ≡ length out
       → Roomy out 0 (length (sends s width height xs ys ts ps)) → Roomy o at (length (wordBytes s xs ys ts ps))
   room-words out o {due} {at} d a n r =
       let h = cond due (headerText (s .version) width height) [] in
@@ -173,7 +175,13 @@ module _ (s : RawEventSink) (width height : ℕ) (xs ys : List ℕ) (ts : List �
   sends-few z lw lh =
       let h = headerBytes s width height xs ys ts ps in
       let w = wordBytes s xs ys ts ps in
-      omega (arith, length-append h w, due-few (headerDue s xs) (s .version) width height lw lh, encode-few (s .version) (s .state) (eventsIn xs ys ts ps), events-length xs ys ts ps z 0)
+      omega (
+        arith,
+        length-append h w,
+        due-few (headerDue s xs) (s .version) width height lw lh,
+        encode-few (s .version) (s .state) (eventsIn xs ys ts ps),
+        events-length xs ys ts ps z 0,
+      )
 
 -- what is missing, or 0
 pub short-fits : (n room : ℕ) → n ≤ room → 0 ≡ cond (leb n room) 0 n

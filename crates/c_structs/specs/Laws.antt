@@ -14,10 +14,12 @@ use Rattle.evt_types.specs.declared.Refusal.{Refusal}
 use Rattle.evt_types.specs.declared.Sent.{Sent}
 use Rattle.evt_types.specs.declared.Sent.the-variants.{Nothing, Value}
 use Rattle.evt_types.specs.Event.{Event}
-use Rattle.evt_types.specs.Told.{Told, told, told-numbered, naturals}
+use Rattle.evt_types.specs.Told.{told, told-numbered, naturals}
 use Rattle.read_rules.specs.declared.LoadOptions.{LoadOptions}
 use Rattle.read_rules.specs.declared.ReadAnswer.{ReadAnswer}
 use Rattle.read_rules.specs.Read as Read
+use Rattle.read_rules.specs.Read.{ReadEvents}
+use Rattle.evt_types.specs.Outcome.{Outcome, refuse, give}
 use Rattle.index_build.specs.declared.Checkpoint.{Checkpoint}
 use Rattle.index_records.specs.declared.Judging.{Judging}
 use Rattle.index_build.specs.declared.RawSliceSource.{RawSliceSource}
@@ -28,6 +30,7 @@ use Rattle.index_records.specs.Search.{chosen}
 use Rattle.slice_rules.specs.declared.Asked.{Asked}
 use Rattle.slice_rules.specs.declared.SliceAnswer.{SliceAnswer}
 use Rattle.slice_rules.specs.Slice as Slice
+use Rattle.index_records.specs.InRange.{indexInRange}
 use Rattle.slice_rules.specs.Slice.{toldSlice}
 use Rattle.slice_rules.specs.From.{askedByNumber, askedByTime, passedFrom, SlicesFrom, Startable}
 use Rattle.slice_rules.specs.Laws.{startable, began-index, slices-index, began-time, slices-time}
@@ -35,7 +38,7 @@ use Rattle.write_append.specs.declared.Appended.{Appended}
 use Rattle.write_rules.specs.declared.LastTime.{LastTime}
 use Rattle.write_rules.specs.declared.LastTime.the-variants.{Never, At}
 use Rattle.write_rules.specs.declared.RawEventSink.{RawEventSink}
-use Rattle.write_append.specs.Append.{toldAppend, appendVerdict, nextSink, sinkAfter, AppendOwed}
+use Rattle.write_append.specs.Append.{AppendedBytes, appendOutcome, toldAppend, appendVerdict, sinkAfter, AppendOwed}
 use Rattle.c_structs.specs.declared.opening.PropheseeSource.{PropheseeSource}
 use Rattle.c_structs.specs.declared.options.PropheseeOptions.{PropheseeOptions}
 use Rattle.c_structs.specs.declared.reading.PropheseeReading.{PropheseeReading}
@@ -47,7 +50,7 @@ use Rattle.c_structs.specs.Opening.{openingOf, sourceOf}
 use Rattle.c_structs.specs.Options.{flag, optionsOf}
 use Rattle.c_structs.specs.Reading.{valueOf, countOf, readingOf, Reads, DecodesWords, ReadsRaw}
 use Rattle.c_structs.specs.Records.{roomOf, recordsIn}
-use Rattle.c_structs.specs.Slicing.{slicedOf, Slices, SlicesIndex, SlicesTime}
+use Rattle.c_structs.specs.Slicing.{slicedOf, SlicesFrom as SlicedFrom, SlicesIndex, SlicesTime}
 use Rattle.c_structs.specs.Writer.{versionOf, sentOf, lastOf, sinkOf, bit, evt3Of, hasSent, sentValue, hasLast, lastValue, flatSink, appendedOf, Appends}
 
 -- a refusal is no acceptance, and has none of its values
@@ -93,8 +96,8 @@ refused-slice r n k p q = λ i. record { refusal = p i; told = q i; count = sym 
 -- ---- reading
 
 module _ (o : PropheseeOptions) (given : LoadOptions) (is-given : given ≡ optionsOf o) (a : ReadAnswer) (r : PropheseeReading) (is-r : r ≡ readingOf (Read.toldRead a)) where
-  reads : {verdict : Told} {answer : ReadAnswer} {es : List Event} {xs₀ ys₀ : List ℕ} {ts₀ : List ℤ} {ps₀ xs ys : List ℕ} {ts : List ℤ} {ps : List ℕ}
-      → Read.Reads verdict answer es a xs₀ ys₀ ts₀ ps₀ xs ys ts ps → Reads verdict es r xs₀ ys₀ ts₀ ps₀ xs ys ts ps
+  reads : {outcome : Outcome ReadEvents} {xs₀ ys₀ : List ℕ} {ts₀ : List ℤ} {ps₀ xs ys : List ℕ} {ts : List ℤ} {ps : List ℕ}
+      → Read.Reads outcome a xs₀ ys₀ ts₀ ps₀ xs ys ts ps → Reads outcome r xs₀ ys₀ ts₀ ps₀ xs ys ts ps
   reads h = record { is-answer = is-r ∙ ap readingOf (h .is-told); columns = h .columns }
 
   pub reads-words : (words : List ℕ) (e : Encoding) {xs₀ ys₀ : List ℕ} {ts₀ : List ℤ} {ps₀ xs ys : List ℕ} {ts : List ℤ} {ps : List ℕ}
@@ -152,24 +155,22 @@ pub appends : (given : PropheseeSink) (s : RawEventSink) → s ≡ sinkOf given 
     → AppendOwed s width height xs ys ts ps out₀ a out → (r : PropheseeAppended) → r ≡ appendedOf given (toldAppend (a .answer)) (a .sink) → Appends given width height xs ys ts ps out₀ r out
 appends given s is-s width height xs ys ts ps out₀ a out owed r is-r =
     let h = subst (λ (s : RawEventSink). AppendOwed s width height xs ys ts ps out₀ a out) is-s owed in
-    let answer : r ≡ appendedOf given (appendVerdict (sinkOf given) width height xs ys ts ps (length out₀)) (sinkAfter (sinkOf given) width height xs ys ts ps (length out₀)) = is-r ∙ (λ i. appendedOf given (h .is-told i) (h .is-sink i)) in
-    record {
-      is-answer = answer;
-      is-sink = ap (λ (r : PropheseeAppended). sinkOf (r .sink)) answer ∙ go (eqb (appendVerdict (sinkOf given) width height xs ys ts ps (length out₀) .number) 0);
-      is-output = h .is-output;
-    }
+    let o = appendOutcome (sinkOf given) width height xs ys ts ps (length out₀) in
+    let answer : r ≡ appendedOf given (appendVerdict o) (sinkAfter (sinkOf given) o) = is-r ∙ (λ i. appendedOf given (h .is-told i) (h .is-sink i)) in
+    record { is-answer = answer; is-sink = ap (λ (r : PropheseeAppended). sinkOf (r .sink)) answer ∙ go o; is-output = h .is-output }
   where
-    go : (b : Bool) → sinkOf (cond b (flatSink (cond b (nextSink (sinkOf given) xs ys ts ps) (sinkOf given))) given) ≡ cond b (nextSink (sinkOf given) xs ys ts ps) (sinkOf given)
-    go true = sink-back (nextSink (sinkOf given) xs ys ts ps)
-    go false = refl
+    go : (o : Outcome AppendedBytes) → sinkOf (appendedOf given (appendVerdict o) (sinkAfter (sinkOf given) o) .sink) ≡ sinkAfter (sinkOf given) o
+    go (refuse r) = ap (λ (b : Bool). sinkOf (cond b (flatSink (sinkOf given)) given)) (refused-not r)
+    go (give b) = sink-back (b .sink)
 
 -- ---- slices
 
 module _ (e : Encoding) (recording entries : List ℕ) (given : PropheseeSource) (s : RawSliceSource) (is-s : s ≡ sourceOf e given) (a : SliceAnswer) (r : PropheseeSlice) (is-r : r ≡ slicedOf (toldSlice a)) where
   sliced : (f : RawSliceSource → List Event) {xs₀ ys₀ : List ℕ} {ts₀ : List ℤ} {ps₀ xs ys : List ℕ} {ts : List ℤ} {ps : List ℕ}
-      → Slice.Slices recording s (recordsIn e entries) (f s) a xs₀ ys₀ ts₀ ps₀ xs ys ts ps → Slices recording (sourceOf e given) (recordsIn e entries) (f (sourceOf e given)) r xs₀ ys₀ ts₀ ps₀ xs ys ts ps
+      → Slice.SlicesFrom recording s (indexInRange s (recordsIn e entries)) (f s) a xs₀ ys₀ ts₀ ps₀ xs ys ts ps
+      → SlicedFrom recording (sourceOf e given) (indexInRange (sourceOf e given) (recordsIn e entries)) (f (sourceOf e given)) r xs₀ ys₀ ts₀ ps₀ xs ys ts ps
   sliced f {xs₀} {ys₀} {ts₀} {ps₀} {xs} {ys} {ts} {ps} h =
-      subst (λ (k : RawSliceSource). Slices recording k (recordsIn e entries) (f k) r xs₀ ys₀ ts₀ ps₀ xs ys ts ps) is-s
+      subst (λ (k : RawSliceSource). SlicedFrom recording k (indexInRange k (recordsIn e entries)) (f k) r xs₀ ys₀ ts₀ ps₀ xs ys ts ps) is-s
       (record { is-answer = is-r ∙ ap slicedOf (h .is-told); columns = h .columns })
 
 -- the records are judged, and one of them is chosen to start at

@@ -7,9 +7,9 @@ use lib.Dec.{eqb}
 use lib.IntN.{ℤ}
 use lib.ListN.{getD}
 use Rattle.evt_types.specs.declared.Encoding.{Encoding}
-use Rattle.evt_types.specs.Event.{Event}
+use Rattle.evt_types.specs.Outcome.{Outcome}
 use Rattle.evt_types.specs.Told.{Told, naturals}
-use Rattle.read_rules.specs.Read.{Handed, shortest, wordsVerdict, wordsHanded, rawVerdict, rawHanded}
+use Rattle.read_rules.specs.Read.{ReadEvents, Handed, shortest, wordsOutcome, rawOutcome, readVerdict, handedEvents}
 use Rattle.c_structs.specs.declared.options.PropheseeOptions.{PropheseeOptions}
 use Rattle.c_structs.specs.declared.reading.PropheseeReading.{PropheseeReading}
 use Rattle.c_structs.specs.Options.{optionsOf}
@@ -33,19 +33,16 @@ readingOf t = record {
   count = valueOf t 3;
 }
 
--- what a reading promises: `verdict` and `es` are those of the library's own contracts
-pub record Reads (verdict : Told) (es : List Event) (r : PropheseeReading)
+-- what a reading promises: its outcome is that of the library's own contracts
+pub record Reads (outcome : Outcome ReadEvents) (r : PropheseeReading)
     (xs₀ ys₀ : List ℕ) (ts₀ : List ℤ) (ps₀ xs ys : List ℕ) (ts : List ℤ) (ps : List ℕ) : Type 0 where
-  pub is-answer : r ≡ readingOf verdict
-  pub columns : Handed es xs₀ ys₀ ts₀ ps₀ xs ys ts ps
+  pub is-answer : r ≡ readingOf (readVerdict outcome)
+  pub columns : Handed (handedEvents outcome) xs₀ ys₀ ts₀ ps₀ xs ys ts ps
 
 abbrev pub DecodesWords : List ℕ → Encoding → PropheseeOptions → PropheseeReading → (xs₀ ys₀ : List ℕ) (ts₀ : List ℤ) (ps₀ xs ys : List ℕ) (ts : List ℤ) (ps : List ℕ) → Type 0
 DecodesWords words e options r xs₀ ys₀ ts₀ ps₀ =
     let o = optionsOf options in
-    let room = shortest xs₀ ys₀ ts₀ ps₀ in
-    Reads (wordsVerdict words e (o .«sensor_size») (o .«max_events») room) (wordsHanded words e (o .«sensor_size») (o .«max_events») room) r xs₀ ys₀ ts₀ ps₀
+    Reads (wordsOutcome words e (o .«sensor_size») (o .«max_events») (shortest xs₀ ys₀ ts₀ ps₀)) r xs₀ ys₀ ts₀ ps₀
 
 abbrev pub ReadsRaw : List ℕ → PropheseeOptions → PropheseeReading → (xs₀ ys₀ : List ℕ) (ts₀ : List ℤ) (ps₀ xs ys : List ℕ) (ts : List ℤ) (ps : List ℕ) → Type 0
-ReadsRaw recording options r xs₀ ys₀ ts₀ ps₀ =
-    let room = shortest xs₀ ys₀ ts₀ ps₀ in
-    Reads (rawVerdict recording (optionsOf options) room) (rawHanded recording (optionsOf options) room) r xs₀ ys₀ ts₀ ps₀
+ReadsRaw recording options r xs₀ ys₀ ts₀ ps₀ = Reads (rawOutcome recording (optionsOf options) (shortest xs₀ ys₀ ts₀ ps₀)) r xs₀ ys₀ ts₀ ps₀

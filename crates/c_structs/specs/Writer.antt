@@ -10,12 +10,13 @@ use Rattle.evt_types.specs.declared.Encoding.{Encoding}
 use Rattle.evt_types.specs.declared.Encoding.the-variants.{Evt2, Evt3}
 use Rattle.evt_types.specs.declared.Sent.{Sent}
 use Rattle.evt_types.specs.declared.Sent.the-variants.{Nothing, Value}
+use Rattle.evt_types.specs.Outcome.{Outcome}
 use Rattle.evt_types.specs.Told.{Told}
 use Rattle.write_buffer.specs.declared.EncoderState.{EncoderState}
 use Rattle.write_rules.specs.declared.LastTime.{LastTime}
 use Rattle.write_rules.specs.declared.LastTime.the-variants.{Never, At}
 use Rattle.write_rules.specs.declared.RawEventSink.{RawEventSink}
-use Rattle.write_append.specs.Append.{appendVerdict, handedOver, sinkAfter}
+use Rattle.write_append.specs.Append.{AppendedBytes, appendOutcome, appendVerdict, handedOver, sinkAfter}
 use Rattle.c_structs.specs.declared.writer.PropheseeSink.{PropheseeSink}
 use Rattle.c_structs.specs.declared.writer.PropheseeAppended.{PropheseeAppended}
 use Rattle.c_structs.specs.Options.{flag}
@@ -100,8 +101,11 @@ appendedOf given t next = record {
   written = valueOf t 0;
 }
 
--- the verdict, the next writer and the bytes are those of the library's own contract
-pub record Appends (given : PropheseeSink) (width height : ℕ) (xs ys : List ℕ) (ts : List ℤ) (ps out₀ : List ℕ) (r : PropheseeAppended) (out : List ℕ) : Type 0 where
-  pub is-answer : r ≡ appendedOf given (appendVerdict (sinkOf given) width height xs ys ts ps (length out₀)) (sinkAfter (sinkOf given) width height xs ys ts ps (length out₀))
-  pub is-sink : sinkOf (r .sink) ≡ sinkAfter (sinkOf given) width height xs ys ts ps (length out₀)
-  pub is-output : out ≡ handedOver (sinkOf given) width height xs ys ts ps (length out₀) ++ drop (length (handedOver (sinkOf given) width height xs ys ts ps (length out₀))) out₀
+-- what an append promises: its outcome is that of the library's own contract
+pub record AppendsAs (given : PropheseeSink) (outcome : Outcome AppendedBytes) (out₀ : List ℕ) (r : PropheseeAppended) (out : List ℕ) : Type 0 where
+  pub is-answer : r ≡ appendedOf given (appendVerdict outcome) (sinkAfter (sinkOf given) outcome)
+  pub is-sink : sinkOf (r .sink) ≡ sinkAfter (sinkOf given) outcome
+  pub is-output : out ≡ handedOver outcome ++ drop (length (handedOver outcome)) out₀
+
+abbrev pub Appends : PropheseeSink → (width height : ℕ) (xs ys : List ℕ) (ts : List ℤ) (ps out₀ : List ℕ) (r : PropheseeAppended) (out : List ℕ) → Type 0
+Appends given width height xs ys ts ps out₀ = AppendsAs given (appendOutcome (sinkOf given) width height xs ys ts ps (length out₀)) out₀

@@ -1,5 +1,5 @@
 -- What the code keeps is what the lines say; and the answer, way by way.
-use Prim.Native.Nat.{ℕ, _^_, _<_, _≤_}
+use Prim.Native.Nat.{ℕ, _<_, _≤_}
 use mathlib.Core.Path.{_≡_, refl, sym, _∙_, ap}
 use mathlib.Core.List.{List, [], _∷_}
 use mathlib.Core.Bool.{Bool, true, false, cond, _||_}
@@ -14,11 +14,13 @@ use Rattle.evt_types.specs.declared.Refusal.the-variants.{InvalidSensorSize, Un
 use Rattle.header.specs.declared.Scan.{Scan}
 use Rattle.header.specs.declared.Named.the-variants.{As, Nothing}
 use Rattle.header.specs.declared.HeaderAnswer.{HeaderAnswer}
-use Rattle.header.specs.declared.HeaderAnswer.the-variants.{Header, Refused}
+use Rattle.header.specs.declared.HeaderAnswer.the-variants.{Refused}
 use Rattle.header_text.specs.Text.{notAscii, any, begins, same}
 use Rattle.header.specs.Lines.{headerLines, headerBytes, bodyStart, keyOf}
 use Rattle.header.specs.Header.{geometryName, formatName, evtName, evt2, evt3, two, three, Said, readLine, readAll, nothing, saidBy, encodingOf}
-use Rattle.header.specs.Header.{sizeThatHolds, hasZero, withEncoding, toldHeader, headerOf, Parsed}
+use Rattle.header.specs.Header.{sizeThatHolds, hasZero, withEncoding, headerOutcome, answerBy, toldHeader, headerOf, Parsed}
+use Rattle.evt_types.specs.Num.{mostBytes}
+use Rattle.evt_types.specs.Outcome.{refuse, give}
 use Rattle.header.specs.Notes.{versionOf, seenOf, noteLine, noteAll, blankNote, scanOf, nameOf}
 use Rattle.header_text.specs.Cases.{by-bool}
 use Rattle.header.specs.Laws.{header-part, body-within, verdict-of}
@@ -59,13 +61,13 @@ named said = named-by (begins evt3 (said .format)) (begins evt2 (said .format)) 
 
 module _ (s : List ℕ) (given : SensorSize) where
   pub parsed : (r : HeaderAnswer) → r ≡ headerOf s given → Parsed s given r
-  parsed r e = record { verdict = ap toldHeader e ∙ verdict-of s given; answer = e }
+  parsed r e = record { is-told = ap toldHeader e ∙ verdict-of s given; answer = e }
 
-  pub answer-long : 2 ^ 30 < length s → Refused TooLong ≡ headerOf s given
-  unfolding headerOf
-  answer-long h = rw (lt-ltb (2 ^ 30) (length s) h)
+  pub answer-long : mostBytes < length s → Refused TooLong ≡ headerOf s given
+  unfolding headerOf headerOutcome
+  answer-long h = rw (lt-ltb mostBytes (length s) h)
 
-  module _ (h : length s ≤ 2 ^ 30) (sc : Scan) (e : sc ≡ scanOf s) where
+  module _ (h : length s ≤ mostBytes) (sc : Scan) (e : sc ≡ scanOf s) where
     scan-at : sc .at ≡ bodyStart s
     unfolding scanOf
     scan-at = rw e
@@ -81,26 +83,20 @@ module _ (s : List ℕ) (given : SensorSize) where
     scan-part = rw scan-at (header-part s)
 
     pub answer-high : any notAscii (take (sc .at) s) ≡ true → Refused HeaderNotAscii ≡ headerOf s given
-    unfolding headerOf
-    answer-high q = rw (le-ltb (2 ^ 30) (length s) h, sym (ap (any notAscii) scan-part) ∙ q)
+    unfolding headerOf headerOutcome
+    answer-high q = rw (le-ltb mostBytes (length s) h, sym (ap (any notAscii) scan-part) ∙ q)
 
     module _ (q : any notAscii (take (sc .at) s) ≡ false) where
-      answer-from : withEncoding (sc .at) (sizeThatHolds given (sc .seen .size)) (nameOf (sc .seen)) ≡ headerOf s given
-      unfolding headerOf
-      answer-from = rw (le-ltb (2 ^ 30) (length s) h, sym (ap (any notAscii) scan-part) ∙ q, scan-at, scan-seen, named (saidBy s))
+      answer-from : answerBy (withEncoding (sc .at) (sizeThatHolds given (sc .seen .size)) (nameOf (sc .seen))) ≡ headerOf s given
+      unfolding headerOf headerOutcome
+      answer-from = rw (le-ltb mostBytes (length s) h, sym (ap (any notAscii) scan-part) ∙ q, scan-at, scan-seen, named (saidBy s))
 
       pub answer-none : nameOf (sc .seen) ≡ Nothing → Refused UnknownEncoding ≡ headerOf s given
       unfolding withEncoding
-      answer-none d = sym (ap (withEncoding (sc .at) (sizeThatHolds given (sc .seen .size))) d) ∙ answer-from
+      answer-none d = rw d at answer-from
 
       module _ (n : Encoding) (d : nameOf (sc .seen) ≡ As n) (size : SensorSize) (f : size ≡ sizeThatHolds given (sc .seen .size)) where
-        answer-named : withEncoding (sc .at) size (As n) ≡ headerOf s given
-        answer-named = rw (f, ← d) answer-from
-
-        pub answer-zero : hasZero size ≡ true → Refused InvalidSensorSize ≡ headerOf s given
+        pub answer-sized : (z : Bool) → hasZero size ≡ z
+            → answerBy (cond z (refuse InvalidSensorSize) (give (record { «data_offset» = sc .at; «sensor_size» = size; encoding = n }))) ≡ headerOf s given
         unfolding withEncoding
-        answer-zero z = rw z at answer-named
-
-        pub answer-header : hasZero size ≡ false → Header (record { «data_offset» = sc .at; «sensor_size» = size; encoding = n }) ≡ headerOf s given
-        unfolding withEncoding
-        answer-header z = rw z at answer-named
+        answer-sized z q = rw (← q, f) (rw d at answer-from)

@@ -7,7 +7,7 @@ use Rattle.evt_types.specs.Told.{accepted, refused}
 use Rattle.header_text.specs.Text.{isBlank, upTo, from, any, restOf, trimStart, trimEnd, trimOf, lowerOf, begins, same}
 use Rattle.header_text.specs.Size.{isDigit, allDigits, digitsValue, numberFrom, digitsOf, numberOf, both, sizeAt, geometryOf}
 use Rattle.header.specs.Lines.{joined, linesOf, startsPercent, leading, headerLines, joinedLines, headerBytes, bodyStart, bodyOf, keyOf, valueOf}
-use Rattle.header.specs.Header.{readLine, readAll, saidBy, encodingOf, sizeThatHolds, hasZero, headerVerdict}
+use Rattle.header.specs.Header.{readLine, readAll, saidBy, encodingOf, sizeThatHolds, hasZero, withEncoding, headerOutcome, headerVerdict}
 
 -- `% format EVT3`, `% geometry 64x48`, and three bytes of the body
 abbrev listing : List ℕ
@@ -25,5 +25,5 @@ pub worked :
     ≡ accepted (31 ∷ 3 ∷ 1 ∷ 64 ∷ 48 ∷ []) ∷ refused 3 ∷ refused 2 ∷ refused 1 ∷ accepted (27 ∷ 2 ∷ 1 ∷ 5 ∷ 7 ∷ []) ∷ []
 unfolding isBlank upTo from any restOf trimStart trimEnd trimOf lowerOf begins same isDigit allDigits digitsValue numberFrom digitsOf numberOf
     both sizeAt geometryOf joined linesOf startsPercent leading headerLines joinedLines headerBytes bodyStart bodyOf keyOf valueOf readLine
-    readAll saidBy encodingOf sizeThatHolds hasZero headerVerdict
+    readAll saidBy encodingOf sizeThatHolds hasZero withEncoding headerOutcome
 worked = refl

@@ -1,5 +1,5 @@
--- What the header says, and the answer for a whole recording: the verdict by the table's numbers, and the answer itself.
-use Prim.Native.Nat.{ℕ, _^_}
+-- What the header says, and what it comes to for a whole recording.
+use Prim.Native.Nat.{ℕ}
 use mathlib.Core.Path.{_≡_}
 use mathlib.Core.List.{List, [], _∷_}
 use mathlib.Core.Bool.{Bool, false, cond, _||_}
@@ -7,11 +7,12 @@ use lib.ListN.{length}
 use lib.Dec.{ltb, eqb}
 use Rattle.evt_types.specs.declared.SensorSize.{SensorSize}
 use Rattle.evt_types.specs.declared.SensorSize.the-variants.{Unknown, Known}
-use Rattle.evt_types.specs.declared.Encoding.{Encoding}
 use Rattle.evt_types.specs.declared.Encoding.the-variants.{Evt2, Evt3}
 use Rattle.evt_types.specs.declared.Refusal.the-variants.{InvalidSensorSize, UnknownEncoding, HeaderNotAscii, TooLong}
-use Rattle.evt_types.specs.Num.{encodingNumber}
-use Rattle.evt_types.specs.Told.{Told, accepted, refused, told}
+use Rattle.evt_types.specs.Num.{mostBytes, encodingNumber}
+use Rattle.evt_types.specs.Outcome.{Outcome, refuse, give, onOutcome, verdict}
+use Rattle.evt_types.specs.Told.{Told, accepted, told}
+use Rattle.header.specs.declared.Header as header
 use Rattle.header.specs.declared.Named.{Named}
 use Rattle.header.specs.declared.Named.the-variants.{As, Nothing}
 use Rattle.header.specs.declared.HeaderAnswer.{HeaderAnswer}
@@ -88,46 +89,53 @@ unfoldable pub hasZero : SensorSize → Bool
 hasZero Unknown = false
 hasZero (Known w h) = eqb w 0 || eqb h 0
 
--- ---- the verdict by the table, in numbers and values
+-- ---- what a header comes to: a refusal, or what it says
 
--- the same for what a header names: 0 where it names none
-abbrev pub namedNumber : Named → ℕ
-namedNumber Nothing = 0
-namedNumber (As e) = encodingNumber e
+-- 2 where it names no encoding, 1 for a zero in the size
+unfoldable pub withEncoding : (at : ℕ) → SensorSize → Named → Outcome header.Header
+withEncoding at size Nothing = refuse UnknownEncoding
+withEncoding at size (As e) =
+    cond (hasZero size) (refuse InvalidSensorSize) (give (record { «data_offset» = at; «sensor_size» = size; encoding = e }))
+
+-- 4 over 2^30 bytes, 3 for a header byte from 128 on, then 2 and 1, by the size that holds: the first of them that applies
+unfoldable pub headerOutcome : List ℕ → (given : SensorSize) → Outcome header.Header
+headerOutcome s given =
+    cond (ltb mostBytes (length s)) (refuse TooLong)
+    (cond (any notAscii (headerBytes s)) (refuse HeaderNotAscii)
+    (withEncoding (bodyStart s) (sizeThatHolds given (saidBy s .size)) (encodingOf (saidBy s))))
+
+-- ---- what is read off an outcome
+
+abbrev pub answerBy : Outcome header.Header → HeaderAnswer
+answerBy = onOutcome Refused Header
+
+unfoldable pub headerOf : List ℕ → (given : SensorSize) → HeaderAnswer
+headerOf s given = answerBy (headerOutcome s given)
 
 -- whether a size is known (0 or 1), its width and its height
 abbrev pub sizeValues : SensorSize → List ℕ
 sizeValues Unknown = 0 ∷ 0 ∷ 0 ∷ []
 sizeValues (Known w h) = 1 ∷ w ∷ h ∷ []
 
--- what an answer tells: an acceptance the body start, the encoding and the size
+-- body start, encoding and size
+abbrev pub headerValues : header.Header → List ℕ
+headerValues h = h .«data_offset» ∷ encodingNumber (h .encoding) ∷ sizeValues (h .«sensor_size»)
+
+abbrev pub headerVerdict : List ℕ → (given : SensorSize) → Told
+headerVerdict s given = verdict headerValues (headerOutcome s given)
+
+-- ---- promises
+
+-- what an answer tells
 abbrev pub toldHeader : HeaderAnswer → Told
-toldHeader (Header h) = accepted (h .«data_offset» ∷ encodingNumber (h .encoding) ∷ sizeValues (h .«sensor_size»))
+toldHeader (Header h) = accepted (headerValues h)
 toldHeader (Refused r) = told r
 
--- 4 over 2^30 bytes, 3 a header byte from 128, 2 no known encoding, 1 a zero in the size that holds: the first of them that applies
-unfoldable pub headerVerdict : List ℕ → SensorSize → Told
-headerVerdict s given =
-    cond (ltb (2 ^ 30) (length s)) (refused 4)
-    (cond (any notAscii (headerBytes s)) (refused 3)
-    (cond (eqb (namedNumber (encodingOf (saidBy s))) 0) (refused 2)
-    (cond (hasZero (sizeThatHolds given (saidBy s .size))) (refused 1)
-    (accepted (bodyStart s ∷ namedNumber (encodingOf (saidBy s)) ∷ sizeValues (sizeThatHolds given (saidBy s .size)))))))
-
--- ---- the answer itself, for callers
-
-unfoldable pub withEncoding : ℕ → SensorSize → Named → HeaderAnswer
-withEncoding at size Nothing = Refused UnknownEncoding
-withEncoding at size (As e) =
-    cond (hasZero size) (Refused InvalidSensorSize) (Header (record { «data_offset» = at; «sensor_size» = size; encoding = e }))
-
-unfoldable pub headerOf : List ℕ → SensorSize → HeaderAnswer
-headerOf s given =
-    cond (ltb (2 ^ 30) (length s)) (Refused TooLong)
-    (cond (any notAscii (headerBytes s)) (Refused HeaderNotAscii)
-    (withEncoding (bodyStart s) (sizeThatHolds given (saidBy s .size)) (encodingOf (saidBy s))))
+abbrev pub IsRefused : HeaderAnswer → Type 0
+IsRefused (Header h) = ⊥
+IsRefused (Refused r) = Unit
 
 -- what `parse_header` promises of its answer r
 pub record Parsed (s : List ℕ) (given : SensorSize) (r : HeaderAnswer) : Type 0 where
-  pub verdict : toldHeader r ≡ headerVerdict s given
+  pub is-told : toldHeader r ≡ headerVerdict s given
   pub answer : r ≡ headerOf s given

@@ -1,9 +1,9 @@
 -- Laws of the definitions that callers cite: the header is a part of the recording, the verdict is what the answer tells, answers are
 -- told apart, and what an acceptance says.
-use Prim.Native.Nat.{ℕ, _^_, _≤_}
+use Prim.Native.Nat.{ℕ, _≤_}
 use mathlib.Core.Path.{_≡_, refl, sym, _∙_, ap}
 use mathlib.Core.List.{List, [], _∷_, _++_, append-assoc}
-use mathlib.Core.Bool.{Bool, true, false, cond}
+use mathlib.Core.Bool.{false, cond}
 use native.Mathlib.Omega.{arith}
 use lib.ListN.{length, take, getD, length-take}
 use lib.Seq.{take-at}
@@ -13,9 +13,8 @@ use Rattle.evt_types.specs.declared.SensorSize.{SensorSize}
 use Rattle.evt_types.specs.declared.SensorSize.the-variants.{Unknown, Known}
 use Rattle.evt_types.specs.declared.Encoding.{Encoding}
 use Rattle.evt_types.specs.declared.Encoding.the-variants.{Evt2, Evt3}
-use Rattle.evt_types.specs.declared.Refusal.{Refusal}
-use Rattle.evt_types.specs.declared.Refusal.the-variants.{InvalidSensorSize, UnknownEncoding, HeaderNotAscii, TooLong}
-use Rattle.evt_types.specs.Told.{Told, accepted, refused, told, told-apart, told-numbered, naturals, accepted-naturals}
+use Rattle.evt_types.specs.declared.Refusal.the-variants.{UnknownEncoding}
+use Rattle.evt_types.specs.Told.{Told, told, told-apart, told-numbered, naturals, accepted-naturals}
 use Rattle.header.specs.declared.Named.{Named}
 use Rattle.header.specs.declared.Named.the-variants.{As, Nothing}
 use Rattle.header.specs.declared.Header as header
@@ -24,8 +23,10 @@ use Rattle.header.specs.declared.HeaderAnswer.the-variants.{Header, Refu
 use Rattle.header_text.specs.Cases.{by-bool}
 use Rattle.header_text.specs.Text.{notAscii, any}
 use Rattle.header.specs.Lines.{joined, linesOf, startsPercent, leading, headerLines, joinedLines, headerBytes, bodyStart}
-use Rattle.header.specs.Header.{saidBy, encodingOf, sizeThatHolds, hasZero, namedNumber, sizeValues, toldHeader, headerVerdict, withEncoding, headerOf}
-use Rattle.evt_types.specs.Num.{encodingNumber}
+use Rattle.header.specs.Header.{saidBy, encodingOf, sizeThatHolds, hasZero, sizeValues, headerValues, toldHeader, withEncoding, headerOutcome}
+use Rattle.header.specs.Header.{answerBy, headerOf, headerVerdict}
+use Rattle.evt_types.specs.Num.{mostBytes, encodingNumber}
+use Rattle.evt_types.specs.Outcome.{Outcome, refuse, give, verdict, never-given, given-unless}
 
 -- ---- the header is a part of the recording
 
@@ -62,21 +63,13 @@ body-within s = omega (arith, length-take (bodyStart s) s, ap length (header-par
 
 -- ---- the verdict is what the answer tells
 
-verdict-by : (long high : Bool) (at : ℕ) (size : SensorSize) (n : Named)
-    → toldHeader (cond long (Refused TooLong) (cond high (Refused HeaderNotAscii) (withEncoding at size n)))
-    ≡ cond long (refused 4) (cond high (refused 3) (cond (eqb (namedNumber n) 0) (refused 2)
-    (cond (hasZero size) (refused 1) (accepted (at ∷ namedNumber n ∷ sizeValues size)))))
-unfolding withEncoding
-verdict-by true high at size n = refl
-verdict-by false true at size n = refl
-verdict-by false false at size Nothing = refl
-verdict-by false false at size (As Evt2) = by-bool (hasZero size) (λ e. rw e) (λ e. rw e)
-verdict-by false false at size (As Evt3) = by-bool (hasZero size) (λ e. rw e) (λ e. rw e)
+told-by : (o : Outcome header.Header) → toldHeader (answerBy o) ≡ verdict headerValues o
+told-by (refuse r) = refl
+told-by (give h) = refl
 
 pub verdict-of : (s : List ℕ) (given : SensorSize) → toldHeader (headerOf s given) ≡ headerVerdict s given
-unfolding headerOf headerVerdict
-verdict-of s given =
-    verdict-by (ltb (2 ^ 30) (length s)) (any notAscii (headerBytes s)) (bodyStart s) (sizeThatHolds given (saidBy s .size)) (encodingOf (saidBy s))
+unfolding headerOf
+verdict-of s given = told-by (headerOutcome s given)
 
 -- ---- no two answers are told alike
 
@@ -96,7 +89,7 @@ meant-values at (Known w h) Evt2 = refl
 meant-values at (Known w h) Evt3 = refl
 
 meant-told : (h : header.Header) → meant (naturals (toldHeader (Header h) .values)) ≡ h
-meant-told h = ap meant (accepted-naturals (h .«data_offset» ∷ encodingNumber (h .encoding) ∷ sizeValues (h .«sensor_size»))) ∙ meant-values (h .«data_offset») (h .«sensor_size») (h .encoding)
+meant-told h = ap meant (accepted-naturals (headerValues h)) ∙ meant-values (h .«data_offset») (h .«sensor_size») (h .encoding)
 
 abbrev number : Told → ℕ
 number t = t .number
@@ -115,39 +108,38 @@ told-header-apart (Refused r) (Refused q) e = ap Refused (told-apart r q e)
 -- ---- what an acceptance says
 
 pub record Accepted (s : List ℕ) (given : SensorSize) (h : header.Header) : Type 0 where
-  pub short : length s ≤ 2 ^ 30
+  pub short : length s ≤ mostBytes
   pub start : h .«data_offset» ≡ bodyStart s
   pub within : h .«data_offset» ≤ length s
   pub size : h .«sensor_size» ≡ sizeThatHolds given (saidBy s .size)
   pub positive : hasZero (h .«sensor_size») ≡ false
 
-never : {P : Type 0} (r : Refusal) (h : header.Header) → Refused r ≡ Header h → P
-never r h e = let z : _≡_ {A = ℕ} 0 1 = cc in absurd (omega arith)
+given-by : (o : Outcome header.Header) (h : header.Header) → answerBy o ≡ Header h → o ≡ give h
+given-by (refuse r) h e = let no : _≡_ {A = ℕ} 0 1 = cc in absurd (omega arith)
+given-by (give g) h e = cc
 
-same-header : (g h : header.Header) → Header g ≡ Header h → g ≡ h
-same-header g h e = cc
-
-accepted-by : (long high : Bool) (at : ℕ) (size : SensorSize) (n : Named) (h : header.Header)
-    → cond long (Refused TooLong) (cond high (Refused HeaderNotAscii) (withEncoding at size n)) ≡ Header h
-    → (long ≡ false) × ((hasZero size ≡ false) × ((at ≡ h .«data_offset») × (size ≡ h .«sensor_size»)))
+named-by : (at : ℕ) (size : SensorSize) (n : Named) (h : header.Header) → withEncoding at size n ≡ give h
+    → (hasZero size ≡ false) × ((at ≡ h .«data_offset») × (size ≡ h .«sensor_size»))
 unfolding withEncoding
-accepted-by true high at size n h e = never TooLong h e
-accepted-by false true at size n h e = never HeaderNotAscii h e
-accepted-by false false at size Nothing h e = never UnknownEncoding h e
-accepted-by false false at size (As n) h e =
-    by-bool (hasZero size) (λ z. never InvalidSensorSize h (rw z at e))
-    (λ z.
-    let k : record { «data_offset» = at; «sensor_size» = size; encoding = n } ≡ h = same-header _ h (rw z at e) in
-    (refl, (z, (ap (λ (x : header.Header). x .«data_offset») k, ap (λ (x : header.Header). x .«sensor_size») k))))
+named-by at size Nothing h e = never-given h UnknownEncoding e
+named-by at size (As n) h e =
+    let z = given-unless h (hasZero size) _ _ e in
+    let k : record { «data_offset» = at; «sensor_size» = size; encoding = n } ≡ h = same-given _ h (z .1) in
+    (z .0, (ap (λ (x : header.Header). x .«data_offset») k, ap (λ (x : header.Header). x .«sensor_size») k))
+  where
+    same-given : (g h : header.Header) → give g ≡ give h → g ≡ h
+    same-given g h e = cc
 
 pub of-accepted : (s : List ℕ) (given : SensorSize) (h : header.Header) → headerOf s given ≡ Header h → Accepted s given h
-unfolding headerOf
+unfolding headerOf headerOutcome
 of-accepted s given h e =
-    let k = accepted-by (ltb (2 ^ 30) (length s)) (any notAscii (headerBytes s)) (bodyStart s) (sizeThatHolds given (saidBy s .size)) (encodingOf (saidBy s)) h e in
+    let a = given-unless h (ltb mostBytes (length s)) _ _ (given-by (headerOutcome s given) h e) in
+    let b = given-unless h (any notAscii (headerBytes s)) _ _ (a .1) in
+    let k = named-by (bodyStart s) (sizeThatHolds given (saidBy s .size)) (encodingOf (saidBy s)) h (b .1) in
     record {
-      short = ltb-false (2 ^ 30) (length s) (k .0);
-      start = sym (k .1 .1 .0);
-      within = omega (arith, body-within s, k .1 .1 .0);
-      size = sym (k .1 .1 .1);
-      positive = ap hasZero (sym (k .1 .1 .1)) ∙ k .1 .0;
+      short = ltb-false mostBytes (length s) (a .0);
+      start = sym (k .1 .0);
+      within = omega (arith, body-within s, k .1 .0);
+      size = sym (k .1 .1);
+      positive = ap hasZero (sym (k .1 .1)) ∙ k .0;
     }

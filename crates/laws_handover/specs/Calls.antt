@@ -26,8 +26,8 @@ use Rattle.write_rules.specs.declared.LastTime.{LastTime}
 use Rattle.write_rules.specs.declared.LastTime.the-variants.{Never, At}
 use Rattle.write_rules.specs.declared.RawEventSink.{RawEventSink}
 use Rattle.write_rules.specs.Range.{timeBound, timeInRange, every, atMost, falls, fallsAfter, lastInRange, sinkInRange}
-use Rattle.write_append.specs.Append.{lastAfter, sends, nextSink}
-use Rattle.write_append.specs.Ends.{accepts-checked}
+use Rattle.write_append.specs.Append.{lastAfter, sends, nextSink, appendOutcome}
+use Rattle.write_append.specs.Ends.{accepts-checked, by-acceptance}
 use Rattle.write_rules.specs.Checks.{Checked, checked-of, or-neither}
 use Rattle.laws_handover.specs.Handover.{Call, isAccepted, next, callBytes, callEvents, callWords, acceptedEvents, streamOf, streamWords, fresh, Typed}
 use Rattle.laws_handover.specs.EventWords.{append-typed}
@@ -41,6 +41,13 @@ module _ (s : RawEventSink) (c : Call) where
   abbrev later : RawEventSink
   later = nextSink s (c .xs) (c .ys) (c .ts) (c .ps)
 
+  abbrev bytes : List ℕ
+  bytes = sends s (c .width) (c .height) (c .xs) (c .ys) (c .ts) (c .ps)
+
+  -- the writer after it, and its bytes, by whether it is accepted
+  by-call : (next s c ≡ cond (isAccepted s c) later s) × (callBytes s c ≡ cond (isAccepted s c) bytes [])
+  by-call = by-acceptance s (c .width) (c .height) (c .xs) (c .ys) (c .ts) (c .ps) (c .room)
+
   pub record Unchanged : Type 0 where
     pub is-sink : next s c ≡ s
     pub no-bytes : callBytes s c ≡ []
@@ -49,8 +56,8 @@ module _ (s : RawEventSink) (c : Call) where
 
   pub refused-unchanged : isAccepted s c ≡ false → Unchanged
   refused-unchanged h = record {
-    is-sink = ap (λ (b : Bool). cond b later s) h;
-    no-bytes = ap (λ (b : Bool). cond b (sends s (c .width) (c .height) (c .xs) (c .ys) (c .ts) (c .ps)) []) h;
+    is-sink = by-call .0 ∙ ap (λ (b : Bool). cond b later s) h;
+    no-bytes = by-call .1 ∙ ap (λ (b : Bool). cond b bytes []) h;
     no-events = ap (λ (b : Bool). cond b columns []) h;
     no-words = ap (λ (b : Bool). cond b (encodeNotes (s .version) (s .state) columns) []) h;
   }
@@ -60,6 +67,7 @@ module _ (s : RawEventSink) (c : Call) where
 
   -- a writer out of range accepts nothing
   pub out-refused : sinkInRange s ≡ false → isAccepted s c ≡ false
+  unfolding appendOutcome
   out-refused h = rw h
 
 -- so a list to it comes to nothing
@@ -83,7 +91,7 @@ groups-go false s c cs ih = ih s
 
 pub groups-events : (s : RawEventSink) (cs : List Call) → flat (groupsOf s cs) ≡ acceptedEvents s cs
 groups-events s [] = refl
-groups-events s (c ∷ cs) = groups-go (isAccepted s c) s c cs (λ u. groups-events u cs)
+groups-events s (c ∷ cs) = rw (by-call s c .0) (groups-go (isAccepted s c) s c cs (λ u. groups-events u cs))
 
 -- their words
 words-go : (b : Bool) (s : RawEventSink) (c : Call) (cs : List Call) → ((u : RawEventSink) → streamWords u cs ≡ appendNotes (u .version) (u .state) (groupsOf u cs))
@@ -94,15 +102,15 @@ words-go false s c cs ih = ih s
 
 pub groups-words : (s : RawEventSink) (cs : List Call) → streamWords s cs ≡ appendNotes (s .version) (s .state) (groupsOf s cs)
 groups-words s [] = refl
-groups-words s (c ∷ cs) = words-go (isAccepted s c) s c cs (λ u. groups-words u cs)
+groups-words s (c ∷ cs) = rw (by-call s c .0) (words-go (isAccepted s c) s c cs (λ u. groups-words u cs))
 
 -- and bytes, where no header is due
 bytes-go : (b : Bool) (s : RawEventSink) (c : Call) (cs : List Call) → s .«header_written» ≡ true
     → ((u : RawEventSink) → u .«header_written» ≡ true → streamOf u cs ≡ appendBytes (u .version) (u .state) (groupsOf u cs))
-    → cond b (sends s (c .width) (c .height) (c .xs) (c .ys) (c .ts) (c .ps)) [] ++ streamOf (cond b (later s c) s) cs
+    → cond b (bytes s c) [] ++ streamOf (cond b (later s c) s) cs
     ≡ appendBytes (s .version) (s .state) (cond b (columns s c ∷ []) [] ++ groupsOf (cond b (later s c) s) cs)
 bytes-go true s c cs h ih =
-    let none : sends s (c .width) (c .height) (c .xs) (c .ys) (c .ts) (c .ps) ≡ encodeBytes (s .version) (s .state) (columns s c) = rw h in
+    let none : bytes s c ≡ encodeBytes (s .version) (s .state) (columns s c) = rw h in
     ap (λ (l : List ℕ). l ++ streamOf (later s c) cs) none
     ∙ ap (λ (l : List ℕ). encodeBytes (s .version) (s .state) (columns s c) ++ l) (ih (later s c) (rw h))
     ∙ sym (bytes-next (s .version) (s .state) (columns s c) (groupsOf (later s c) cs))
@@ -110,7 +118,7 @@ bytes-go false s c cs h ih = ih s h
 
 groups-bytes : (s : RawEventSink) (cs : List Call) → s .«header_written» ≡ true → streamOf s cs ≡ appendBytes (s .version) (s .state) (groupsOf s cs)
 groups-bytes s [] h = refl
-groups-bytes s (c ∷ cs) h = bytes-go (isAccepted s c) s c cs h (λ u k. groups-bytes u cs k)
+groups-bytes s (c ∷ cs) h = rw (by-call s c .0, by-call s c .1) (bytes-go (isAccepted s c) s c cs h (λ u k. groups-bytes u cs k))
 
 -- THE STREAM is its words
 pub stream-words : (s : RawEventSink) (cs : List Call) → s .«header_written» ≡ true → streamOf s cs ≡ noteBytes (s .version) (streamWords s cs)
@@ -201,7 +209,7 @@ rise-go false s c cs h ih = ih s
 -- they begin no earlier than the writer's last time
 pub accepted-rise : (s : RawEventSink) (cs : List Call) → Rises (s .version) (lastTime (s .«last_t»)) (acceptedEvents s cs)
 accepted-rise s [] = tt
-accepted-rise s (c ∷ cs) = rise-go (isAccepted s c) s c cs refl (λ u. accepted-rise u cs)
+accepted-rise s (c ∷ cs) = rw (by-call s c .0) (rise-go (isAccepted s c) s c cs refl (λ u. accepted-rise u cs))
 
 -- ---- of a fresh writer
 

@@ -11,6 +11,7 @@ use Rattle.laws_stream.specs.Machine.{Note, All, words, notes}
 use Rattle.laws_stream.specs.Slice.{sift}
 use Rattle.laws_stream.specs.Words.{stream}
 use Rattle.evt_types.specs.Event.{Event}
+use Rattle.evt_types.specs.Outcome.{Outcome}
 use Rattle.evt_types.specs.Layout.{type2, type3}
 use Rattle.evt_types.specs.declared.Encoding.{Encoding}
 use Rattle.evt_types.specs.declared.Encoding.the-variants.{Evt2, Evt3}
@@ -21,7 +22,7 @@ use Rattle.write_buffer.specs.Columns.{eventsIn}
 use Rattle.write_words.specs.Encode.{encodeNotes, encodeSize}
 use Rattle.write_rules.specs.declared.RawEventSink.{RawEventSink}
 use Rattle.write_rules.specs.Rules.{freshSink}
-use Rattle.write_append.specs.Append.{accepts, handedOver, sinkAfter}
+use Rattle.write_append.specs.Append.{AppendedBytes, appendOutcome, accepts, handedOver, sinkAfter}
 use Rattle.read_rules.specs.declared.ReadAnswer.{ReadAnswer}
 use Rattle.read_rules.specs.declared.ReadAnswer.the-variants.{Read}
 use Rattle.header.specs.Header.{hasZero}
@@ -48,17 +49,20 @@ pub record Call : Type 0 where
   pub room : ℕ
 
 module _ (s : RawEventSink) (c : Call) where
+  abbrev pub callOutcome : Outcome AppendedBytes
+  callOutcome = appendOutcome s (c .width) (c .height) (c .xs) (c .ys) (c .ts) (c .ps) (c .room)
+
   -- accepted exactly if the table gives it no number
   abbrev pub isAccepted : Bool
-  isAccepted = accepts s (c .width) (c .height) (c .xs) (c .ys) (c .ts) (c .ps) (c .room)
+  isAccepted = accepts callOutcome
 
   -- the writer that it returns: a refused one returns it as it was
   abbrev pub next : RawEventSink
-  next = sinkAfter s (c .width) (c .height) (c .xs) (c .ys) (c .ts) (c .ps) (c .room)
+  next = sinkAfter s callOutcome
 
   -- the bytes that it hands over: none if refused
   abbrev pub callBytes : List ℕ
-  callBytes = handedOver s (c .width) (c .height) (c .xs) (c .ys) (c .ts) (c .ps) (c .room)
+  callBytes = handedOver callOutcome
 
   -- the events of its columns, if accepted
   abbrev pub callEvents : List Event

@@ -20,6 +20,7 @@ use Rattle.write_words.specs.Laws.{encode-few}
 use Rattle.laws_formats.specs.Ready.{limit, sayable, Sayable, sayable-true}
 use Rattle.write_rules.specs.declared.LastTime.the-variants.{Never}
 use Rattle.write_rules.specs.Range.{timeInRange, every, atMost, eventsInRange, falls, fallsAfter, sameLengths}
+use Rattle.write_append.specs.Append.{appendOutcome}
 use Rattle.laws_handover.specs.Handover.{Call, isAccepted, acceptedEvents, streamOf, streamWords, fresh, whole, others, joined, Exact}
 use Rattle.laws_handover.specs.Calls.{bound-is}
 use Rattle.laws_handover.specs.Proof.{fresh-sent, claim}
@@ -68,6 +69,7 @@ module _ (e : Encoding) where
     lengths = rw (length-map es colX, length-map es colY, length-map es colT, length-map es colP, eq-eqb (length es) (length es) refl)
 
     once-accepted : isAccepted (fresh e) (onceFor es room) ≡ true
+    unfolding appendOutcome
     once-accepted =
         rw (lengths, length-map es colX, le-leb (length es) (2 ^ 28) few, rise-after es rise, in-range es (all-said 0 es rise), columns-are es, le-leb (length (encodeBytes e freshState es)) room bytes-few)
 

@@ -1,20 +1,16 @@
 -- Appends as they ran: by their contract alone, the bytes that they told to have written are the stream of their calls, and the last writer is that of the list.
-use mathlib.Core.Path.{_≡_, refl, sym, ap, _∙_}
-use mathlib.Core.Bool.{Bool, true, false, cond}
+use mathlib.Core.Path.{_≡_, refl, ap, _∙_}
 use mathlib.Core.List.{List, [], _∷_, _++_, map}
-use Prim.Native.Nat.{ℕ, _^_}
-use lib.Dec.{eqb, leb}
+use Prim.Native.Nat.{ℕ}
 use lib.ListN.{length, take}
 use lib.Seq.{take-at}
-use Rattle.evt_types.specs.declared.Refusal.the-variants.{TooLong, TimeOrder, EventOutOfRange, StateOutOfRange, OutputTooShort, ColumnLengths}
-use Rattle.evt_types.specs.Told.{accepted, refused, short}
+use Rattle.evt_types.specs.Outcome.{Outcome, refuse, give}
 use Rattle.write_rules.specs.declared.RawEventSink.{RawEventSink}
 use Rattle.write_append.specs.declared.AppendAnswer.{AppendAnswer}
 use Rattle.write_append.specs.declared.AppendAnswer.the-variants.{Written, Refused}
 use Rattle.write_append.specs.declared.Appended.{Appended}
-use Rattle.write_rules.specs.Range.{eventsInRange, fallsAfter, sameLengths, sinkInRange}
-use Rattle.write_append.specs.Append.{appendAnswer, sends, AppendOwed}
-use Rattle.laws_handover.specs.Handover.{Call, isAccepted, next, callBytes, streamOf}
+use Rattle.write_append.specs.Append.{AppendedBytes, appendAnswer, handedOver, Appends, AppendOwed}
+use Rattle.laws_handover.specs.Handover.{Call, callOutcome, next, callBytes, streamOf}
 
 -- the writer that a list leaves
 abbrev pub sinkOf : RawEventSink → List Call → RawEventSink
@@ -52,38 +48,22 @@ callsOf ran = map (λ a. a .call) ran
 
 -- ---- one append
 
-answer-as : (a b c d e f : Bool) (n : ℕ)
-    → bytesTold (cond a (cond b (cond c (cond d (Refused TimeOrder) (cond e (cond f (Written n) (Refused (OutputTooShort n))) (Refused EventOutOfRange))) (Refused TooLong)) (Refused ColumnLengths)) (Refused StateOutOfRange))
-    ≡ cond (eqb (cond a (cond b (cond c (cond d (refused 6) (cond e (cond f (accepted (n ∷ [])) (short 11 n)) (refused 7))) (refused 4)) (refused 12)) (refused 10) .number) 0) n 0
-answer-as true true true true e f n = refl
-answer-as true true true false true true n = refl
-answer-as true true true false true false n = refl
-answer-as true true true false false f n = refl
-answer-as true true false d e f n = refl
-answer-as true false c d e f n = refl
-answer-as false b c d e f n = refl
+told-bytes : (o : Outcome AppendedBytes) → bytesTold (appendAnswer o) ≡ length (handedOver o)
+told-bytes (refuse r) = refl
+told-bytes (give a) = refl
 
-front-is : (b : Bool) (all rest : List ℕ) → take (cond b (length all) 0) (cond b all [] ++ rest) ≡ cond b all []
-front-is true all rest = take-at all rest (length all) refl
-front-is false all rest = refl
-
-module _ (s : RawEventSink) (c : Call) (out₀ : List ℕ) (room : c .room ≡ length out₀) (r : Appended) (out : List ℕ) (owed : AppendOwed s (c .width) (c .height) (c .xs) (c .ys) (c .ts) (c .ps) out₀ r out) where
-  abbrev all : List ℕ
-  all = sends s (c .width) (c .height) (c .xs) (c .ys) (c .ts) (c .ps)
-
-  told-is : bytesTold (r .answer) ≡ cond (isAccepted s c) (length all) 0
-  told-is =
-      ap bytesTold (owed .is-answer)
-      ∙ ap (λ (n : ℕ). bytesTold (appendAnswer s (c .width) (c .height) (c .xs) (c .ys) (c .ts) (c .ps) n)) (sym room)
-      ∙ answer-as (sinkInRange s) (sameLengths (length (c .xs)) (length (c .ys)) (length (c .ts)) (length (c .ps))) (leb (length (c .xs)) (2 ^ 28))
-      (fallsAfter (s .«last_t») (c .ts)) (eventsInRange (s .version) (c .xs) (c .ys) (c .ts) (c .ps)) (leb (length all) (c .room)) (length all)
+module _ (s : RawEventSink) (c : Call) (out₀ : List ℕ) (room : c .room ≡ length out₀) (r : Appended) (out : List ℕ)
+    (owed : AppendOwed s (c .width) (c .height) (c .xs) (c .ys) (c .ts) (c .ps) out₀ r out) where
+  kept : Appends s (callOutcome s c) out₀ r out
+  kept = rw (← room) at owed
 
   one-written : take (bytesTold (r .answer)) out ≡ callBytes s c
   one-written =
-      ap (λ (n : ℕ). take n out) told-is ∙ ap (take (cond (isAccepted s c) (length all) 0)) (rw (← room) at (owed .is-output)) ∙ front-is (isAccepted s c) all _
+      ap (λ (n : ℕ). take n out) (ap bytesTold (kept .is-answer) ∙ told-bytes (callOutcome s c)) ∙ ap (take (length (callBytes s c))) (kept .is-output)
+      ∙ take-at (callBytes s c) _ (length (callBytes s c)) refl
 
   one-sink : r .sink ≡ next s c
-  one-sink = rw (← room) at (owed .is-sink)
+  one-sink = kept .is-sink
 
 -- ---- THE LIST
 

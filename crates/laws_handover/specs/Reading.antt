@@ -1,12 +1,13 @@
 -- Bytes are read, indexed and sliced as exactly their events, where none that is in time follows the stop of a slice by time.
 use mathlib.Core.Path.{_≡_, subst, _∙_}
-use mathlib.Core.Bool.{false}
+use mathlib.Core.Bool.{Bool, false}
 use mathlib.Core.List.{List}
 use Prim.Native.Nat.{ℕ, _^_, _≤_}
 use borrow.Author.Tests.{le-ltb}
 use lib.IntN.{ℤ}
-use lib.ListN.{length, take}
+use lib.ListN.{length}
 use Rattle.evt_types.specs.Event.{Event}
+use Rattle.evt_types.specs.Outcome.{give}
 use Rattle.evt_codec.specs.Codec.{freshC, eventsFrom}
 use Rattle.evt_types.specs.declared.Encoding.{Encoding}
 use Rattle.evt_types.specs.declared.Limit.the-variants.{Unlimited}
@@ -14,38 +15,27 @@ use Rattle.evt_types.specs.declared.SensorSize.{SensorSize}
 use Rattle.header.specs.Header.{hasZero}
 use Rattle.read_window.specs.declared.Window.{Window}
 use Rattle.read_select.specs.Uses.{PastOver}
-use Rattle.read_rules.specs.declared.ReadAnswer.the-variants.{Read}
-use Rattle.read_rules.specs.Read.{wordsAnswer, wordsHanded, bodyEvents, shortest, sizeless, widthOf, heightOf}
-use Rattle.index_build.specs.declared.Checkpoint.{Checkpoint}
+use Rattle.read_rules.specs.Read.{wordsOutcome, bodyEvents, shortest, sizeless, widthOf, heightOf}
 use Rattle.index_build.specs.declared.Opening.{Opening}
 use Rattle.index_build.specs.declared.OpenAnswer.the-variants.{Opened}
 use Rattle.index_build.specs.declared.RawSliceSource.{RawSliceSource}
 use Rattle.index_build.specs.declared.WordsOptions.{WordsOptions}
 use Rattle.index_build.specs.Index.{keptEvents, recordCount}
 use Rattle.slice_rules.specs.declared.SliceAnswer.{SliceAnswer}
-use Rattle.slice_rules.specs.declared.SliceAnswer.the-variants.{Sliced}
-use Rattle.slice_rules.specs.Slice.{Slices, byRules, sliceAnswer, sliceHanded}
+use Rattle.slice_rules.specs.Slice.{sliceCheck, sliceOutcome}
+use Rattle.slice_rules.specs.From.{SlicesFrom}
 use Rattle.slice.specs.Own.{ownSource}
 use Rattle.slice.specs.Opened.{OpenedAs, opened-words, words-opened, opened-rules, opened-number, opened-time}
 use Rattle.laws_handover.specs.Handover.{Gives, Decodes, Indexes, Reads, Exact}
 
 -- a slice that no rule but 5 can refuse
-module _ (bytes : List ℕ) (source : RawSliceSource) (records : List Checkpoint) (passes : (A : Type 0) (is4 is1 is8 is10 passed : A) → byRules bytes source records is4 is1 is8 is10 passed ≡ passed)
-    (asked part : List Event) (are : asked ≡ part) where
-  module _ (room : ℕ) (fits : length part ≤ room) where
-    slice-answer : sliceAnswer bytes source records asked room ≡ Sliced (length part)
-    unfolding sliceAnswer
-    slice-answer = passes _ _ _ _ _ _ ∙ rw (are, le-ltb room (length part) fits)
-
-    slice-handed : sliceHanded bytes source records asked room ≡ part
-    unfolding sliceHanded
-    slice-handed = passes _ _ _ _ _ _ ∙ rw (are, le-ltb room (length part) fits)
-
-  slice-gives : (r : SliceAnswer) (xs₀ ys₀ : List ℕ) (ts₀ : List ℤ) (ps₀ xs ys : List ℕ) (ts : List ℤ) (ps : List ℕ)
-      → Slices bytes source records asked r xs₀ ys₀ ts₀ ps₀ xs ys ts ps → length part ≤ shortest xs₀ ys₀ ts₀ ps₀ → Gives part r xs₀ ys₀ ts₀ ps₀ xs ys ts ps
-  slice-gives r xs₀ ys₀ ts₀ ps₀ xs ys ts ps s fits =
-      let room = shortest xs₀ ys₀ ts₀ ps₀ in
-      record { count = s .is-answer ∙ slice-answer room fits; columns = rw (slice-handed room fits) at (s .columns) }
+slice-gives : (bytes : List ℕ) (source : RawSliceSource) (ok : Bool) (passes : sliceCheck (length bytes) source ok ≡ give tt) (asked part : List Event) (are : asked ≡ part)
+    (r : SliceAnswer) (xs₀ ys₀ : List ℕ) (ts₀ : List ℤ) (ps₀ xs ys : List ℕ) (ts : List ℤ) (ps : List ℕ)
+    → SlicesFrom bytes source ok asked r xs₀ ys₀ ts₀ ps₀ xs ys ts ps → length part ≤ shortest xs₀ ys₀ ts₀ ps₀ → Gives part r xs₀ ys₀ ts₀ ps₀ xs ys ts ps
+unfolding sliceOutcome
+slice-gives bytes source ok passes asked part are r xs₀ ys₀ ts₀ ps₀ xs ys ts ps s fits =
+    let s′ = rw (passes, are, le-ltb (shortest xs₀ ys₀ ts₀ ps₀) (length part) fits) at s in
+    record { count = s′ .is-answer; columns = s′ .columns }
 
 module _ (e : Encoding) (size : SensorSize) (bytes : List ℕ) (few : length bytes ≤ 2 ^ 30) (no-zero : hasZero size ≡ false) where
   abbrev own : List Event
@@ -53,18 +43,15 @@ module _ (e : Encoding) (size : SensorSize) (bytes : List ℕ) (few : length byt
 
   module _ (is-sized : sizeless size own ≡ false) where
     module _ (room : ℕ) (fits : length own ≤ room) where
-      read-answer : wordsAnswer bytes e size Unlimited room ≡ Read (record { encoding = e; width = widthOf size own; height = heightOf size own; count = length own })
-      unfolding wordsAnswer bodyEvents
-      read-answer = rw (le-ltb (2 ^ 30) (length bytes) few, no-zero, is-sized, le-ltb room (length own) fits)
-
-      read-handed : wordsHanded bytes e size Unlimited room ≡ own
-      unfolding wordsHanded bodyEvents
-      read-handed = rw (le-ltb (2 ^ 30) (length bytes) few, no-zero, is-sized, le-ltb room (length own) fits)
+      read-outcome : wordsOutcome bytes e size Unlimited room
+          ≡ give (record { reading = record { encoding = e; width = widthOf size own; height = heightOf size own; count = length own }; events = own })
+      unfolding wordsOutcome bodyEvents
+      read-outcome = rw (le-ltb (2 ^ 30) (length bytes) few, no-zero, is-sized, le-ltb room (length own) fits)
 
     decodes : Decodes e size bytes own
     decodes r xs₀ ys₀ ts₀ ps₀ xs ys ts ps d fits =
-        let room = shortest xs₀ ys₀ ts₀ ps₀ in
-        (d .is-answer ∙ read-answer room fits, rw (read-handed room fits) at (d .columns))
+        let d′ = rw (read-outcome (shortest xs₀ ys₀ ts₀ ps₀) fits) at d in
+        (d′ .is-answer, d′ .columns)
 
     module _ (past : (win : Window) → PastOver win (freshC e) bytes) where
       indexes : Indexes e size bytes own
@@ -73,12 +60,10 @@ module _ (e : Encoding) (size : SensorSize) (bytes : List ℕ) (few : length byt
           let opening : Opening = record { source = ownSource size e 0 spacing bytes; records = recordCount (length bytes) spacing } in
           let opened : r ≡ Opened opening = o .is-answer ∙ words-opened bytes options (length records₀) few no-zero allowed fits is-sized in
           let is : OpenedAs bytes 0 e size spacing opening records = opened-words opening r records₀ records opened bytes options o in
-          let passes : (A : Type 0) (is4 is1 is8 is10 passed : A) → byRules bytes (opening .source) (take (opening .records) records) is4 is1 is8 is10 passed ≡ passed = λ A. opened-rules bytes 0 e size spacing opening records is in
-          let source = opening .source in
-          let lent = take (opening .records) records in (
+          let passes = opened-rules bytes 0 e size spacing opening records is in (
             opened,
-            (λ i0 i1. slice-gives bytes source lent passes _ _ (opened-number bytes 0 e size spacing opening records is i0 i1)),
-            (λ t0 t1. slice-gives bytes source lent passes _ _ (opened-time bytes 0 e size spacing opening records is t0 t1 (past _))),
+            (λ i0 i1. slice-gives bytes (opening .source) _ passes _ _ (opened-number bytes 0 e size spacing opening records is i0 i1)),
+            (λ t0 t1. slice-gives bytes (opening .source) _ passes _ _ (opened-time bytes 0 e size spacing opening records is t0 t1 (past _))),
           )
 
 pub exact : (e : Encoding) (bytes : List ℕ) (es : List Event) → eventsFrom (freshC e) bytes ≡ es → ((win : Window) → PastOver win (freshC e) bytes) → Exact e bytes es

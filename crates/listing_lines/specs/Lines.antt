@@ -22,7 +22,8 @@ headLine (Refused r) = refusedLine r
 
 -- ---- a line is stored if its fields are
 
-pub stored-field : {out₀ : List ℕ} {at : ℕ} (n b : ℕ) {r : ℕ} {o₁ o₂ : List ℕ} → Stored 20 out₀ at (decimal n) r o₁ → o₂ ≡ set o₁ r b → Stored 21 out₀ at (field n b) (r + 1) o₂
+pub stored-field : {out₀ : List ℕ} {at : ℕ} (n b : ℕ) {r : ℕ} {o₁ o₂ : List ℕ} → Stored 20 out₀ at (decimal n) r o₁ → o₂ ≡ set o₁ r b
+    → Stored 21 out₀ at (field n b) (r + 1) o₂
 unfolding field
 stored-field n b s e = stored-then s (stored-byte b e)
 
@@ -32,13 +33,15 @@ module _ {out₀ : List ℕ} {at : ℕ} {o₁ o₂ o₃ o₄ : List ℕ} {r₁ r
   unfolding eventLine
   stored-event t x y p a b c d = stored-then (stored-then (stored-then a b) c) d
 
-  pub stored-reading : {o₀ : List ℕ} {r₀ : ℕ} (r : Reading) (n : ℕ) → n ≡ encodingNumber (r .encoding) → Stored 3 out₀ at (ascii "EVT") r₀ o₀ → Stored 21 o₀ r₀ (field n space) r₁ o₁
+  pub stored-reading : {o₀ : List ℕ} {r₀ : ℕ} (r : Reading) (n : ℕ) → n ≡ encodingNumber (r .encoding) → Stored 3 out₀ at (ascii "EVT") r₀ o₀
+      → Stored 21 o₀ r₀ (field n space) r₁ o₁
       → Stored 21 o₁ r₁ (field (r .width) space) r₂ o₂ → Stored 21 o₂ r₂ (field (r .height) space) r₃ o₃ → Stored 21 o₃ r₃ (field (r .count) newline) r₄ o₄
       → Stored 96 out₀ at (readLine r) r₄ o₄
   unfolding readLine
   stored-reading r n is e a b c d = stored-weaken (omega arith) (stored-then (stored-then (stored-then (stored-then e (rw is at a)) b) c) d)
 
-pub stored-refused : {out₀ : List ℕ} {at : ℕ} {o₁ o₂ : List ℕ} {r₁ r₂ : ℕ} (r : Refusal) (n : ℕ) → n ≡ told r .number → Stored 8 out₀ at (ascii "refused ") r₁ o₁ → Stored 21 o₁ r₁ (field n newline) r₂ o₂
+pub stored-refused : {out₀ : List ℕ} {at : ℕ} {o₁ o₂ : List ℕ} {r₁ r₂ : ℕ} (r : Refusal) (n : ℕ) → n ≡ told r .number
+    → Stored 8 out₀ at (ascii "refused ") r₁ o₁ → Stored 21 o₁ r₁ (field n newline) r₂ o₂
     → Stored 96 out₀ at (refusedLine r) r₂ o₂
 unfolding refusedLine
 stored-refused r n is e a = stored-weaken (omega arith) (stored-then e (rw is at a))

@@ -8,13 +8,12 @@ use Rattle.evt_types.specs.declared.Limit.the-variants.{Unlimited}
 use Rattle.evt_types.specs.declared.SensorSize.the-variants.{Unknown}
 use Rattle.evt_types.specs.declared.Refusal.{Refusal}
 use Rattle.evt_types.specs.Event.{Event}
+use Rattle.evt_types.specs.Outcome.{Outcome, onOutcome}
 use Rattle.evt_types.specs.Told.{told}
 use Rattle.evt_types.specs.Num.{encodingNumber}
 use Rattle.read_rules.specs.declared.LoadOptions.{LoadOptions}
 use Rattle.read_rules.specs.declared.Reading.{Reading}
-use Rattle.read_rules.specs.declared.ReadAnswer.{ReadAnswer}
-use Rattle.read_rules.specs.declared.ReadAnswer.the-variants.{Read, Refused}
-use Rattle.read_rules.specs.Read.{rawAnswer, rawHanded}
+use Rattle.read_rules.specs.Read.{ReadEvents, rawOutcome}
 use Rattle.write_text.specs.Text.{ascii, decimal}
 
 -- ---- lines
@@ -61,10 +60,9 @@ listOptions = record { «sensor_size» = Unknown; «max_events» = Unlimited }
 abbrev pub listRoom : ℕ
 listRoom = mostBytes / 2 * 12
 
-abbrev pub answerText : ReadAnswer → List Event → List ℕ
-answerText (Refused r) es = refusedLine r
-answerText (Read r) es = readLine r ++ eventLines es
+abbrev pub outcomeText : Outcome ReadEvents → List ℕ
+outcomeText = onOutcome refusedLine (λ g. readLine (g .reading) ++ eventLines (g .events))
 
 unfoldable pub listingOf : List ℕ → List ℕ
 listingOf recording =
-    cond (ltb mostBytes (length recording)) tooLong (answerText (rawAnswer recording listOptions listRoom) (rawHanded recording listOptions listRoom))
+    cond (ltb mostBytes (length recording)) tooLong (outcomeText (rawOutcome recording listOptions listRoom))

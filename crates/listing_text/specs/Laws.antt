@@ -7,38 +7,43 @@ use native.Mathlib.Omega.{arith}
 use native.Mathlib.Nat.{add-zero, zero-add, add-suc, suc-add}
 use native.Mathlib.Numerals.{add-one}
 use borrow.Author.Tests.{lt-ltb, le-ltb}
-use lib.Dec.{ltb, eqb}
+use lib.Dec.{ltb}
 use lib.IntN.{ℤ}
 use lib.ListN.{length, drop, length-append, length-drop}
 use Rattle.evt_types.specs.declared.Encoding.{Encoding}
 use Rattle.evt_types.specs.declared.Encoding.the-variants.{Evt2, Evt3}
 use Rattle.evt_types.specs.declared.Limit.the-variants.{Unlimited}
 use Rattle.evt_types.specs.declared.Refusal.{Refusal}
-use Rattle.evt_types.specs.declared.Refusal.the-variants.{InvalidSensorSize}
+use Rattle.evt_types.specs.declared.Refusal.the-variants.{InvalidSensorSize, HeaderNotAscii, TooLong}
 use Rattle.evt_types.specs.declared.SensorSize.{SensorSize}
 use Rattle.evt_types.specs.declared.SensorSize.the-variants.{Unknown}
 use Rattle.evt_types.specs.Event.{Event}
 use Rattle.evt_types.specs.Columns.{colX, colY, colT, colP}
-use Rattle.evt_types.specs.Told.{told, accepted, refused}
+use Rattle.evt_types.specs.Outcome.{Outcome, refuse, give}
+use Rattle.evt_types.specs.Num as Num
+use Rattle.evt_types.specs.Told.{told}
 use Rattle.laws_stream.specs.Columns.{sets-append}
 use lib.Seq.{sets, length-sets}
 use Rattle.header.specs.declared.HeaderAnswer.{HeaderAnswer}
 use Rattle.header.specs.declared.HeaderAnswer.the-variants.{Header, Refused as NoHeader}
-use Rattle.header.specs.Header.{headerOf, headerVerdict, toldHeader, namedNumber, encodingOf, saidBy, hasZero, sizeThatHolds, sizeValues}
-use Rattle.header.specs.Laws.{verdict-of}
+use Rattle.header.specs.declared.Named.{Named}
+use Rattle.header.specs.declared.Named.the-variants.{As, Nothing}
+use Rattle.header.specs.Header.{withEncoding, headerOutcome, answerBy, headerOf, toldHeader, encodingOf, saidBy, hasZero, sizeThatHolds}
+use Rattle.header_text.specs.Cases.{by-bool}
 use Rattle.header_text.specs.Text.{any, notAscii}
 use Rattle.header.specs.Lines.{headerBytes, bodyStart}
 use Rattle.read_rules.specs.declared.Reading.{Reading}
 use Rattle.read_rules.specs.declared.ReadAnswer.{ReadAnswer}
 use Rattle.read_rules.specs.declared.ReadAnswer.the-variants.{Read, Refused}
-use Rattle.read_rules.specs.Read.{toldRead, bodyEvents, sizeless, widthOf, heightOf, answerOf, handedOf, answerAfter, handedAfter, rawAnswer, rawHanded, shortest, Handed, ReadsRaw}
+use Rattle.read_rules.specs.Read.{ReadEvents, toldRead, bodyEvents, sizeless, widthOf, heightOf, bodyOutcome, outcomeAfter, rawOutcome, readAnswer}
+use Rattle.read_rules.specs.Read.{handedEvents, shortest, Handed, Reads, ReadsRaw}
 use Rattle.evt_codec.specs.Codec.{freshC}
 use Rattle.read_capacity.specs.Deliver.{mostFrom}
 use Rattle.read_capacity.specs.Laws.{few-inside}
 use Rattle.read_rules.specs.Laws.{sensorOf, body-all}
 use Rattle.write_buffer.specs.Columns.{eventOf}
 use Rattle.listing_text.specs.declared.Begun.{Begun}
-use Rattle.listing_lines.specs.Listing.{tooLong, refusedLine, eventLine, eventLines, mostBytes, listOptions, listRoom, answerText, listingOf}
+use Rattle.listing_lines.specs.Listing.{tooLong, refusedLine, eventLine, eventLines, mostBytes, listOptions, listRoom, outcomeText, listingOf}
 use Rattle.write_text.specs.Stored.{Stored}
 use Rattle.listing_lines.specs.Lines.{headLine}
 
@@ -57,20 +62,26 @@ pub record Rows (xs ys : List ℕ) (ts : List ℤ) (ps : List ℕ) (i n : ℕ) :
   pub reach-t : i + n ≤ length ts
   pub reach-p : i + n ≤ length ps
 
-rows-tail : (x y : ℕ) (t : ℤ) (p : ℕ) (xs ys : List ℕ) (ts : List ℤ) (ps : List ℕ) (i n : ℕ) → rowsFrom (x ∷ xs) (y ∷ ys) (t ∷ ts) (p ∷ ps) (suc i) n ≡ rowsFrom xs ys ts ps i n
+rows-tail : (x y : ℕ) (t : ℤ) (p : ℕ) (xs ys : List ℕ) (ts : List ℤ) (ps : List ℕ) (i n : ℕ)
+    → rowsFrom (x ∷ xs) (y ∷ ys) (t ∷ ts) (p ∷ ps) (suc i) n ≡ rowsFrom xs ys ts ps i n
 unfolding rowsFrom
 rows-tail x y t p xs ys ts ps i zero = refl
 rows-tail x y t p xs ys ts ps i (suc n) = ap (λ (l : List Event). eventOf xs ys ts ps i ∷ l) (rows-tail x y t p xs ys ts ps (suc i) n)
 
 -- the rows of columns that events were handed over in
-rows-events : (es : List Event) (a b : List ℕ) (c : List ℤ) (d : List ℕ) → rowsFrom (map colX es ++ a) (map colY es ++ b) (map colT es ++ c) (map colP es ++ d) 0 (length es) ≡ es
+rows-events : (es : List Event) (a b : List ℕ) (c : List ℤ) (d : List ℕ)
+    → rowsFrom (map colX es ++ a) (map colY es ++ b) (map colT es ++ c) (map colP es ++ d) 0 (length es) ≡ es
 unfolding rowsFrom
 rows-events [] a b c d = refl
-rows-events (e ∷ es) a b c d = ap (λ (l : List Event). e ∷ l) (rows-tail _ _ _ _ (map colX es ++ a) (map colY es ++ b) (map colT es ++ c) (map colP es ++ d) 0 (length es) ∙ rows-events es a b c d)
+rows-events (e ∷ es) a b c d =
+    ap (λ (l : List Event). e ∷ l) (rows-tail _ _ _ _ (map colX es ++ a) (map colY es ++ b) (map colT es ++ c) (map colP es ++ d) 0 (length es)
+    ∙ rows-events es a b c d)
 
-pub rows-handed : {es : List Event} {xs₀ ys₀ : List ℕ} {ts₀ : List ℤ} {ps₀ xs ys : List ℕ} {ts : List ℤ} {ps : List ℕ} → Handed es xs₀ ys₀ ts₀ ps₀ xs ys ts ps → rowsFrom xs ys ts ps 0 (length es) ≡ es
+pub rows-handed : {es : List Event} {xs₀ ys₀ : List ℕ} {ts₀ : List ℤ} {ps₀ xs ys : List ℕ} {ts : List ℤ} {ps : List ℕ}
+    → Handed es xs₀ ys₀ ts₀ ps₀ xs ys ts ps → rowsFrom xs ys ts ps 0 (length es) ≡ es
 rows-handed {es} {xs₀} {ys₀} {ts₀} {ps₀} h =
-    rw (h .column-x, h .column-y, h .column-t, h .column-p) (rows-events es (drop (length es) xs₀) (drop (length es) ys₀) (drop (length es) ts₀) (drop (length es) ps₀))
+    rw (h .column-x, h .column-y, h .column-t, h .column-p)
+    (rows-events es (drop (length es) xs₀) (drop (length es) ys₀) (drop (length es) ts₀) (drop (length es) ps₀))
 
 -- rows that are listed one part after another
 module _ (xs ys : List ℕ) (ts : List ℤ) (ps : List ℕ) where
@@ -79,11 +90,13 @@ module _ (xs ys : List ℕ) (ts : List ℤ) (ps : List ℕ) where
   rows-first i zero h = absurd (omega arith)
   rows-first i (suc n) h = let e : suc n - 1 ≡ n = omega arith in rw (add-one, e)
 
-  lines-first : (i left : ℕ) → 0 < left → eventLines (rowsFrom xs ys ts ps i left) ≡ eventLine (eventOf xs ys ts ps i) ++ eventLines (rowsFrom xs ys ts ps (i + 1) (left - 1))
+  lines-first : (i left : ℕ) → 0 < left
+      → eventLines (rowsFrom xs ys ts ps i left) ≡ eventLine (eventOf xs ys ts ps i) ++ eventLines (rowsFrom xs ys ts ps (i + 1) (left - 1))
   unfolding eventLines
   lines-first i left h = ap eventLines (rows-first i left h)
 
-  pub rows-parts : (i n m : ℕ) → eventLines (rowsFrom xs ys ts ps i (n + m)) ≡ eventLines (rowsFrom xs ys ts ps i n) ++ eventLines (rowsFrom xs ys ts ps (i + n) m)
+  pub rows-parts : (i n m : ℕ)
+      → eventLines (rowsFrom xs ys ts ps i (n + m)) ≡ eventLines (rowsFrom xs ys ts ps i n) ++ eventLines (rowsFrom xs ys ts ps (i + n) m)
   unfolding rowsFrom eventLines
   rows-parts i zero m = rw (zero-add, add-zero)
   rows-parts i (suc n) m =
@@ -97,7 +110,7 @@ countOf (Read r) = r .count
 countOf (Refused r) = 0
 
 unfoldable pub headOf : List ℕ → List ℕ
-headOf recording = cond (ltb mostBytes (length recording)) tooLong (headLine (rawAnswer recording listOptions listRoom))
+headOf recording = cond (ltb mostBytes (length recording)) tooLong (headLine (readAnswer (rawOutcome recording listOptions listRoom)))
 
 -- at most 12 events for each word
 body-few : (size : SensorSize) (e : Encoding) (body : List ℕ) → length body ≤ mostBytes → length (bodyEvents e size Unlimited body) ≤ listRoom
@@ -107,32 +120,31 @@ body-few size e body h = rw (body-all size e body (omega arith)) (go e (few-insi
     go Evt2 k = omega arith
     go Evt3 k = omega arith
 
--- an answer in such room, and the events that it hands over
-pub record Lists (a : ReadAnswer) (es : List Event) : Type 0 where
-  pub counts : countOf a ≡ length es
-  pub small : length es ≤ listRoom
-  pub never-5 : toldRead a .number ≡ 5 → ⊥
-  pub parts : answerText a es ≡ headLine a ++ eventLines es
+-- an outcome in such room
+pub record Lists (o : Outcome ReadEvents) : Type 0 where
+  pub counts : countOf (readAnswer o) ≡ length (handedEvents o)
+  pub small : length (handedEvents o) ≤ listRoom
+  pub never-5 : toldRead (readAnswer o) .number ≡ 5 → ⊥
+  pub parts : outcomeText o ≡ headLine (readAnswer o) ++ eventLines (handedEvents o)
 
-lists-refused : (r : Refusal) → told r .number ≤ 4 → Lists (Refused r) []
+lists-refused : (r : Refusal) → told r .number ≤ 4 → Lists (refuse r)
 unfolding eventLines
 lists-refused r h = record { counts = refl; small = omega arith; never-5 = λ e. omega (arith, e); parts = sym (append-nil (refusedLine r)) }
 
-lists-read : (r : Reading) (es : List Event) → r .count ≡ length es → length es ≤ listRoom → Lists (Read r) es
-lists-read r es e h = record { counts = e; small = h; never-5 = λ q. omega (arith, q); parts = refl }
+lists-read : (g : ReadEvents) → g .reading .count ≡ length (g .events) → length (g .events) ≤ listRoom → Lists (give g)
+lists-read g e h = record { counts = e; small = h; never-5 = λ q. omega (arith, q); parts = refl }
 
-lists-body : (e : Encoding) (size : SensorSize) (es : List Event) → length es ≤ listRoom → Lists (answerOf e size Unlimited es listRoom) (handedOf size Unlimited es listRoom)
-lists-body e size es h = rw (le-ltb listRoom (length es) h) (go (sizeless size es))
+lists-body : (e : Encoding) (size : SensorSize) (es : List Event) → length es ≤ listRoom → Lists (bodyOutcome e size Unlimited es listRoom)
+lists-body e size es h =
+    rw (le-ltb listRoom (length es) h)
+    (go (sizeless size es) (record { encoding = e; width = widthOf size es; height = heightOf size es; count = length es }) refl)
   where
-    reading : Reading
-    reading = record { encoding = e; width = widthOf size es; height = heightOf size es; count = length es }
-
-    go : (b : Bool) → Lists (cond b (Refused InvalidSensorSize) (Read reading)) (cond b [] es)
-    go true = lists-refused InvalidSensorSize (omega arith)
-    go false = lists-read reading es refl h
+    go : (b : Bool) (r : Reading) → r .count ≡ length es → Lists (cond b (refuse InvalidSensorSize) (give (record { reading = r; events = es })))
+    go true r e = lists-refused InvalidSensorSize (omega arith)
+    go false r e = lists-read (record { reading = r; events = es }) e h
 
 lists-after : (a : HeaderAnswer) (recording : List ℕ) → toldHeader a .number ≤ 4 → length recording ≤ mostBytes
-    → Lists (answerAfter a recording Unlimited listRoom) (handedAfter a recording Unlimited listRoom)
+    → Lists (outcomeAfter a recording Unlimited listRoom)
 lists-after (NoHeader r) recording h k = lists-refused r h
 lists-after (Header g) recording h k =
     lists-body (g .encoding) (g .«sensor_size») (bodyEvents (g .encoding) (g .«sensor_size») Unlimited (drop (g .«data_offset») recording))
@@ -140,18 +152,19 @@ lists-after (Header g) recording h k =
 
 -- a header is refused by 1 to 4
 header-four : (s : List ℕ) (given : SensorSize) → toldHeader (headerOf s given) .number ≤ 4
-unfolding headerVerdict
-header-four s given = rw (verdict-of s given) (go (ltb (2 ^ 30) (length s)) (any notAscii (headerBytes s)) (eqb (namedNumber (encodingOf (saidBy s))) 0) (hasZero (sizeThatHolds given (saidBy s .size))) (bodyStart s ∷ namedNumber (encodingOf (saidBy s)) ∷ sizeValues (sizeThatHolds given (saidBy s .size))))
+unfolding headerOf headerOutcome withEncoding
+header-four s given =
+    go (ltb Num.mostBytes (length s)) (any notAscii (headerBytes s)) (bodyStart s) (sizeThatHolds given (saidBy s .size)) (encodingOf (saidBy s))
   where
-    go : (a b c d : Bool) (vs : List ℕ) → cond a (refused 4) (cond b (refused 3) (cond c (refused 2) (cond d (refused 1) (accepted vs)))) .number ≤ 4
-    go true b c d vs = omega arith
-    go false true c d vs = omega arith
-    go false false true d vs = omega arith
-    go false false false true vs = omega arith
-    go false false false false vs = omega arith
+    go : (long high : Bool) (at : ℕ) (size : SensorSize) (n : Named)
+        → toldHeader (answerBy (cond long (refuse TooLong) (cond high (refuse HeaderNotAscii) (withEncoding at size n)))) .number ≤ 4
+    go true high at size n = omega arith
+    go false true at size n = omega arith
+    go false false at size Nothing = omega arith
+    go false false at size (As e) = by-bool (hasZero size) (λ z. rw z (omega arith)) (λ z. rw z (omega arith))
 
-pub lists-raw : (recording : List ℕ) → length recording ≤ mostBytes → Lists (rawAnswer recording listOptions listRoom) (rawHanded recording listOptions listRoom)
-unfolding rawAnswer rawHanded
+pub lists-raw : (recording : List ℕ) → length recording ≤ mostBytes → Lists (rawOutcome recording listOptions listRoom)
+unfolding rawOutcome
 lists-raw recording h = lists-after (headerOf recording Unknown) recording (header-four recording Unknown) h
 
 -- ---- the listing, in pieces
@@ -175,27 +188,34 @@ module _ (recording : List ℕ) {out₀ out : List ℕ} (n : ℕ) where
   unfolding headOf listingOf rowsFrom eventLines
   begins-long h s =
       let lt : ltb mostBytes (length recording) ≡ true = lt-ltb mostBytes (length recording) h in
-      record { head = rw lt (record { ends = s .ends; few = omega (arith, s .few); stores = s .stores }); small = omega arith; listing = rw lt (sym (append-nil tooLong)) }
-
-  begins-go : {xs ys : List ℕ} {ts : List ℤ} {ps : List ℕ} (a : ReadAnswer) (es : List Event) → length recording ≤ mostBytes → a ≡ rawAnswer recording listOptions listRoom → es ≡ rawHanded recording listOptions listRoom
-      → Lists a es → rowsFrom xs ys ts ps 0 (length es) ≡ es → Stored 96 out₀ 0 (headLine a) n out → Begins recording (record { written = n; count = countOf a }) out₀ out xs ys ts ps
-  unfolding headOf listingOf
-  begins-go a es h p q l rows s =
-      let le : ltb mostBytes (length recording) ≡ false = le-ltb mostBytes (length recording) h in
       record {
-        head = rw (le, ← p) s;
-        small = omega (arith, l .counts, l .small);
-        listing = rw (le, ← p, ← q, l .counts, rows) (l .parts);
+        head =
+            rw lt (record { ends = s .ends; few = omega (arith, s .few); stores = s .stores });
+        small = omega arith;
+        listing = rw lt (sym (append-nil tooLong));
       }
 
-  pub begins-read : {xs₀ ys₀ : List ℕ} {ts₀ : List ℤ} {ps₀ xs ys : List ℕ} {ts : List ℤ} {ps : List ℕ} (a : ReadAnswer) → length recording ≤ mostBytes → Wide xs₀ ys₀ ts₀ ps₀
+  begins-go : {xs ys : List ℕ} {ts : List ℤ} {ps : List ℕ} (a : ReadAnswer) (o : Outcome ReadEvents) → length recording ≤ mostBytes
+      → o ≡ rawOutcome recording listOptions listRoom → a ≡ readAnswer o → Lists o → rowsFrom xs ys ts ps 0 (length (handedEvents o)) ≡ handedEvents o
+      → Stored 96 out₀ 0 (headLine a) n out → Begins recording (record { written = n; count = countOf a }) out₀ out xs ys ts ps
+  unfolding headOf listingOf
+  begins-go a o h p q l rows s =
+      let le : ltb mostBytes (length recording) ≡ false = le-ltb mostBytes (length recording) h in
+      record {
+        head = rw (le, ← p, ← q) s;
+        small = rw q (omega (arith, l .counts, l .small));
+        listing = rw (le, ← p, q, l .counts, rows) (l .parts);
+      }
+
+  pub begins-read : {xs₀ ys₀ : List ℕ} {ts₀ : List ℤ} {ps₀ xs ys : List ℕ} {ts : List ℤ} {ps : List ℕ} (a : ReadAnswer) → length recording ≤ mostBytes
+      → Wide xs₀ ys₀ ts₀ ps₀
       → ReadsRaw recording listOptions a xs₀ ys₀ ts₀ ps₀ xs ys ts ps → Stored 96 out₀ 0 (headLine a) n out → (k : ℕ) → k ≡ countOf a
       → Begins recording (record { written = n; count = k }) out₀ out xs ys ts ps
   begins-read {xs₀} {ys₀} {ts₀} {ps₀} a h w r s k is =
       let room : shortest xs₀ ys₀ ts₀ ps₀ ≡ listRoom = omega (arith, w .wide-x, w .wide-y, w .wide-t, w .wide-p) in
-      let p : a ≡ rawAnswer recording listOptions listRoom = r .is-answer ∙ ap (rawAnswer recording listOptions) room in
-      let hands : Handed (rawHanded recording listOptions listRoom) _ _ _ _ _ _ _ _ = rw room at (r .columns) in
-      rw is (begins-go a (rawHanded recording listOptions listRoom) h p refl (rw p (lists-raw recording h)) (rows-handed hands) s)
+      let o = rawOutcome recording listOptions listRoom in
+      let r′ : Reads o a xs₀ ys₀ ts₀ ps₀ _ _ _ _ = rw room at r in
+      rw is (begins-go a o h refl (r′ .is-answer) (lists-raw recording h) (rows-handed (r′ .columns)) s)
 
 -- ---- lines stored row by row: `left` rows from i on are to come
 

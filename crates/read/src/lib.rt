@@ -93,7 +93,7 @@ pub fn read_raw(
     let limit = options.max_events;
     let answer = header::parse_header(recording, size);
     let HeaderAnswer::Header(h) = answer else {
-        return read_rules::refusal_of(answer);
+        return ReadAnswer::Refused(header::refusal_of(answer));
     };
     let at = h.data_offset;
     let encoding = h.encoding;

@@ -9,14 +9,14 @@ use lib.IntN.{ℤ}
 use lib.ListN.{length, take, drop, length-map, length-append}
 use lib.Seq.{take-at, take-all}
 use native.Mathlib.Numerals.{add-one}
-use borrow.Author.Tests.{le-ltb, lt-ltb, leb-true, leb-false, ltb-true, ltb-false, ne-eqb}
+use borrow.Author.Tests.{le-ltb, lt-ltb, leb-true, leb-false, ltb-false, ne-eqb}
 use Rattle.laws_stream.specs.Mask.{top}
 use Rattle.laws_stream.specs.Order.{greatest, greatest-map}
 use Rattle.laws_stream.specs.Slice.{sift}
 use Rattle.evt_types.specs.declared.Encoding.{Encoding}
 use Rattle.evt_types.specs.declared.Encoding.the-variants.{Evt2, Evt3}
 use Rattle.evt_types.specs.declared.Refusal.{Refusal}
-use Rattle.evt_types.specs.declared.Refusal.the-variants.{InvalidSensorSize, UnknownEncoding, TooLong, ColumnsTooShort}
+use Rattle.evt_types.specs.declared.Refusal.the-variants.{InvalidSensorSize, TooLong, ColumnsTooShort}
 use Rattle.evt_types.specs.declared.Limit.{Limit}
 use Rattle.evt_types.specs.declared.Limit.the-variants.{Unlimited, AtMost}
 use Rattle.evt_types.specs.declared.SensorSize.{SensorSize}
@@ -25,13 +25,13 @@ use Rattle.evt_codec.specs.declared.codec.Codec.{Codec}
 use Rattle.evt_codec.specs.Codec.{freshC, eventsFrom}
 use Rattle.evt_types.specs.Columns.{colX, colY}
 use Rattle.evt_types.specs.Event.{Event}
-use Rattle.evt_types.specs.Told.{accepted, refused, short}
+use Rattle.evt_types.specs.Outcome.{Outcome, refuse, give, onOutcome, given-unless}
 use Rattle.read_fill.specs.Decode.{insideEvents}
 use Rattle.read_rules.specs.declared.Sensor.{Sensor}
 use Rattle.read_capacity.specs.declared.Delivered.{Delivered}
 use Rattle.read_capacity.specs.declared.Delivered.the-variants.{Written, Needed}
 use Rattle.read_capacity.specs.Deliver.{Delivers}
-pub use Rattle.read_capacity.specs.Laws.{handed-none, handed-wrote, fits-room}
+use Rattle.read_capacity.specs.Laws.{handed-none}
 use Rattle.read_rules.specs.declared.Judged.{Judged}
 use Rattle.read_rules.specs.declared.Judged.the-variants.{Fit, Unfit}
 use Rattle.read_rules.specs.declared.ReadAnswer.{ReadAnswer}
@@ -45,9 +45,10 @@ use Rattle.read_select.specs.Pass.{Ready, handedOver}
 use Rattle.read_select.specs.Uses.{able-range, numberedOver, over-limit}
 use Rattle.header.specs.declared.Header as header
 use Rattle.header.specs.Header.{hasZero, headerOf}
-use Rattle.evt_types.specs.Num.{encodingNumber}
+use Rattle.evt_types.specs.Num.{mostBytes}
 use Rattle.read_rules.specs.declared.LoadOptions.{LoadOptions}
-use Rattle.read_rules.specs.Read.{kept, bodyEvents, widthOf, heightOf, sizeless, shortest, Handed, toldRead, verdictOf, answerOf, handedOf, Reads, ReadsBody, DecodesWords, ReadsRaw, wordsVerdict, wordsAnswer, wordsHanded, verdictAfter, answerAfter, handedAfter, rawVerdict, rawAnswer, rawHanded}
+use Rattle.read_rules.specs.Read.{kept, bodyEvents, shortest, Handed, toldRead, ReadEvents, bodyOutcome, wordsCheck, wordsOutcome, rawOutcome}
+use Rattle.read_rules.specs.Read.{readAnswer, readVerdict, handedEvents, Reads, ReadsBody, DecodesWords, ReadsRaw}
 
 abbrev pub sensorOf : SensorSize → Sensor
 sensorOf Unknown = record { width = 65536; height = 65536 }
@@ -61,7 +62,8 @@ sensorEvents width height e body = insideEvents width height (freshC e) body
 abbrev pub limitWindow : (width height n : ℕ) → Window
 limitWindow width height n = record { width = width; height = height; n0 = 0; n1 = n; t0 = 0; t1 = 18446744073709551615 }
 
-numbered-inside : (width height n : ℕ) (e : Encoding) (body : List ℕ) → numberedOver (limitWindow width height n) (freshC e) body ≡ sensorEvents width height e body
+numbered-inside : (width height n : ℕ) (e : Encoding) (body : List ℕ)
+    → numberedOver (limitWindow width height n) (freshC e) body ≡ sensorEvents width height e body
 numbered-inside width height n Evt2 body = refl
 numbered-inside width height n Evt3 body = refl
 
@@ -71,7 +73,8 @@ ready-fresh e n h = record { able = able-range (freshC e) n (range-fresh e) h; l
 pub handed-limit : (width height n : ℕ) (e : Encoding) (body : List ℕ) → length body ≤ 2 ^ 30
     → handedOver (limitWindow width height n) 0 (freshC e) body ≡ take n (sensorEvents width height e body)
 handed-limit width height n e body h =
-    over-limit (limitWindow width height n) (freshC e) body (ready-fresh e (length body) h .able) refl (omega arith) refl ∙ ap (take n) (numbered-inside width height n e body)
+    over-limit (limitWindow width height n) (freshC e) body (ready-fresh e (length body) h .able) refl (omega arith) refl
+    ∙ ap (take n) (numbered-inside width height n e body)
 
 -- ---- the events of a body
 
@@ -102,7 +105,8 @@ mostOf (AtMost n) = n
 abbrev pub windowOf : SensorSize → Limit → Window
 windowOf size limit = limitWindow (sensorOf size .width) (sensorOf size .height) (mostOf limit)
 
-pub window-parts : (size : SensorSize) (limit : Limit) (span : Sensor) (most : ℕ) → span ≡ sensorOf size → most ≡ mostOf limit → limitWindow (span .width) (span .height) most ≡ windowOf size limit
+pub window-parts : (size : SensorSize) (limit : Limit) (span : Sensor) (most : ℕ) → span ≡ sensorOf size → most ≡ mostOf limit
+    → limitWindow (span .width) (span .height) most ≡ windowOf size limit
 window-parts size limit span most s m = rw (s, m)
 
 body-most : (size : SensorSize) (e : Encoding) (limit : Limit) (body : List ℕ) → length body ≤ 2 ^ 30
@@ -110,7 +114,8 @@ body-most : (size : SensorSize) (e : Encoding) (limit : Limit) (body : List ℕ)
 unfolding bodyEvents
 body-most size e Unlimited body h =
     let es = sensorEvents (sensorOf size .width) (sensorOf size .height) e body in
-    kept-inside size e body h ∙ sym (take-all 18446744073709551615 es (omega (arith, inside-bytes (sensorOf size .width) (sensorOf size .height) (freshC e) body)))
+    kept-inside size e body h
+    ∙ sym (take-all 18446744073709551615 es (omega (arith, inside-bytes (sensorOf size .width) (sensorOf size .height) (freshC e) body)))
 body-most size e (AtMost n) body h = ap (take n) (kept-inside size e body h)
 
 -- ---- the size
@@ -129,37 +134,36 @@ abbrev pub settledOf : Encoding → SensorSize → Delivered → List ℕ → Li
 settledOf e size (Written n) xs ys = sizedOf e size n xs ys
 settledOf e size (Needed n) xs ys = Refused (ColumnsTooShort n)
 
--- 4, then 1 for a zero size
 abbrev pub judgedOf : (n : ℕ) → SensorSize → Judged
-judgedOf n size = cond (ltb (2 ^ 30) n) (Unfit TooLong) (cond (hasZero size) (Unfit InvalidSensorSize) Fit)
+judgedOf n size = onOutcome Unfit (λ u. Fit) (wordsCheck n size)
+
+judged-given : (k : Outcome Unit) → onOutcome Unfit (λ u. Fit) k ≡ Fit → k ≡ give tt
+judged-given (refuse r) e = let no : _≡_ {A = ℕ} 0 1 = cc in absurd (omega arith)
+judged-given (give u) e = refl
+
+judged-refused : (k : Outcome Unit) (r : Refusal) → onOutcome Unfit (λ u. Fit) k ≡ Unfit r → k ≡ refuse r
+judged-refused (refuse q) r e = cc
+judged-refused (give u) r e = let no : _≡_ {A = ℕ} 0 1 = cc in absurd (omega arith)
 
 module _ (n : ℕ) (size : SensorSize) where
-  pub judged-long : 2 ^ 30 < n → Unfit TooLong ≡ judgedOf n size
-  judged-long h = rw (lt-ltb (2 ^ 30) n h)
+  pub judged-long : mostBytes < n → Unfit TooLong ≡ judgedOf n size
+  judged-long h = rw (lt-ltb mostBytes n h)
 
-  pub judged-zero : n ≤ 2 ^ 30 → hasZero size ≡ true → Unfit InvalidSensorSize ≡ judgedOf n size
-  judged-zero h z = rw (le-ltb (2 ^ 30) n h, z)
+  pub judged-zero : n ≤ mostBytes → hasZero size ≡ true → Unfit InvalidSensorSize ≡ judgedOf n size
+  judged-zero h z = rw (le-ltb mostBytes n h, z)
 
-  pub judged-fit : n ≤ 2 ^ 30 → hasZero size ≡ false → Fit ≡ judgedOf n size
-  judged-fit h z = rw (le-ltb (2 ^ 30) n h, z)
+  pub judged-fit : n ≤ mostBytes → hasZero size ≡ false → Fit ≡ judgedOf n size
+  judged-fit h z = rw (le-ltb mostBytes n h, z)
 
-  pub fit-judged : judgedOf n size ≡ Fit → (n ≤ 2 ^ 30) × (hasZero size ≡ false)
-  fit-judged = go (ltb (2 ^ 30) n) refl (hasZero size) refl
-    where
-      go : (a : Bool) → ltb (2 ^ 30) n ≡ a → (b : Bool) → hasZero size ≡ b → cond a (Unfit TooLong) (cond b (Unfit InvalidSensorSize) Fit) ≡ Fit → (n ≤ 2 ^ 30) × (hasZero size ≡ false)
-      go true p b z j = let no : _≡_ {A = ℕ} 0 1 = cc in absurd (omega arith)
-      go false p true z j = let no : _≡_ {A = ℕ} 0 1 = cc in absurd (omega arith)
-      go false p false z j = (ltb-false (2 ^ 30) n p, z)
-
-abbrev pub refusalOf : HeaderAnswer → ReadAnswer
-refusalOf (NoHeader r) = Refused r
-refusalOf (Header h) = Refused UnknownEncoding
+  pub fit-judged : judgedOf n size ≡ Fit → n ≤ mostBytes
+  fit-judged j = ltb-false mostBytes n (given-unless tt (ltb mostBytes n) _ _ (judged-given (wordsCheck n size) j) .0)
 
 module _ (size : SensorSize) (e : Encoding) (limit : Limit) (codec : Codec) (is-fresh : codec ≡ freshC e) where
   pub delivers-body : (body : List ℕ) (win : Window) {r : Delivered} {xs₀ ys₀ : List ℕ} {ts₀ : List ℤ} {ps₀ xs ys : List ℕ} {ts : List ℤ} {ps : List ℕ}
       → length body ≤ 2 ^ 30 → win ≡ windowOf size limit
       → Delivers (handedOver win 0 codec body) r xs₀ ys₀ ts₀ ps₀ xs ys ts ps → Delivers (bodyEvents e size limit body) r xs₀ ys₀ ts₀ ps₀ xs ys ts ps
-  delivers-body body win h w d = rw (body-most size e limit body h, ← handed-limit (sensorOf size .width) (sensorOf size .height) (mostOf limit) e body h, ← w, ← is-fresh) d
+  delivers-body body win h w d =
+      rw (body-most size e limit body h, ← handed-limit (sensorOf size .width) (sensorOf size .height) (mostOf limit) e body h, ← w, ← is-fresh) d
 
   pub ready-new : (n : ℕ) → n ≤ 2 ^ 30 → Ready codec 0 n
   ready-new n h = rw is-fresh (ready-fresh e n h)
@@ -170,19 +174,17 @@ length-handed : {E A : Type 0} (f : E → A) (es : List E) (old now : List A) �
 length-handed f es old now e = omega (arith, ap length e ∙ length-append (map f es) (drop (length es) old), length-map es f)
 
 top-handed : (f : Event → ℕ) (es : List Event) (old now : List ℕ) → now ≡ map f es ++ drop (length es) old → top (take (length es) now) ≡ greatest f es
-top-handed f es old now e = ap (λ (l : List ℕ). top (take (length es) l)) e ∙ ap top (take-at (map f es) (drop (length es) old) (length es) (length-map es f)) ∙ greatest-map (λ x. x) f es
+top-handed f es old now e =
+    ap (λ (l : List ℕ). top (take (length es) l)) e ∙ ap top (take-at (map f es) (drop (length es) old) (length es) (length-map es f))
+    ∙ greatest-map (λ x. x) f es
 
 -- what an answer tells is the verdict
-told-answer : (e : Encoding) (size : SensorSize) (es : List Event) (room : ℕ) → toldRead (answerOf e size Unlimited es room) ≡ verdictOf e size Unlimited es room
-told-answer e size es room = go (sizeless size es) (ltb room (length es))
-  where
-    go : (a b : Bool) → toldRead (cond a (Refused InvalidSensorSize) (cond b (Refused (ColumnsTooShort (length es))) (Read (record { encoding = e; width = widthOf size es; height = heightOf size es; count = length es }))))
-        ≡ cond a (refused 1) (cond b (short 5 (length es)) (accepted (encodingNumber e ∷ widthOf size es ∷ heightOf size es ∷ length es ∷ [])))
-    go true b = refl
-    go false true = refl
-    go false false = refl
+told-answer : (o : Outcome ReadEvents) → toldRead (readAnswer o) ≡ readVerdict o
+told-answer (refuse r) = refl
+told-answer (give g) = refl
 
-module _ {xs₀ ys₀ : List ℕ} {ts₀ : List ℤ} {ps₀ xs ys : List ℕ} {ts : List ℤ} {ps : List ℕ} (es : List Event) (r : Delivered) (d : Delivers es r xs₀ ys₀ ts₀ ps₀ xs ys ts ps) where
+module _ {xs₀ ys₀ : List ℕ} {ts₀ : List ℤ} {ps₀ xs ys : List ℕ} {ts : List ℤ} {ps : List ℕ} (es : List Event) (r : Delivered)
+    (d : Delivers es r xs₀ ys₀ ts₀ ps₀ xs ys ts ps) where
   abbrev room : ℕ
   room = shortest xs₀ ys₀ ts₀ ps₀
 
@@ -194,75 +196,74 @@ module _ {xs₀ ys₀ : List ℕ} {ts₀ : List ℤ} {ps₀ xs ys : List ℕ} {t
       go false h = tt
 
   module _ (e : Encoding) where
+    -- the answer to what was delivered, and the events in the columns
+    abbrev Settles : SensorSize → List Event → ReadAnswer → Type 0
+    Settles size es′ a =
+        let o = bodyOutcome e size Unlimited es′ room in
+        (a ≡ readAnswer o) × Handed (handedEvents o) xs₀ ys₀ ts₀ ps₀ xs ys ts ps
+
     fits-go : (size : SensorSize) (es′ : List Event) → es ≡ es′ → length es ≤ room → Handed es xs₀ ys₀ ts₀ ps₀ xs ys ts ps
-        → (sizedOf e size (length es′) xs ys ≡ answerOf e size Unlimited es′ room) × Handed (handedOf size Unlimited es′ room) xs₀ ys₀ ts₀ ps₀ xs ys ts ps
+        → Settles size es′ (sizedOf e size (length es′) xs ys)
     fits-go (Known w k) es′ q h c = let le : ltb room (length es′) ≡ false = le-ltb room (length es′) (rw (← q) h) in (rw le, rw (le, ← q) c)
     fits-go Unknown [] q h c = (refl, rw q at c)
     fits-go Unknown (a ∷ es′) q h c =
         let le : ltb room (length (a ∷ es′)) ≡ false = le-ltb room (length (a ∷ es′)) (rw q at h) in
         let c′ : Handed (a ∷ es′) xs₀ ys₀ ts₀ ps₀ xs ys ts ps = rw q at c in (
-          rw (ne-eqb (length (a ∷ es′)) 0 (omega arith), le, top-handed colX (a ∷ es′) xs₀ xs (c′ .column-x), top-handed colY (a ∷ es′) ys₀ ys (c′ .column-y), add-one, add-one),
+          rw (
+            ne-eqb (length (a ∷ es′)) 0 (omega arith),
+            le,
+            top-handed colX (a ∷ es′) xs₀ xs (c′ .column-x),
+            top-handed colY (a ∷ es′) ys₀ ys (c′ .column-y),
+            add-one,
+            add-one,
+          ),
           rw le c′,
         )
 
     short-go : (size : SensorSize) (es′ : List Event) → room < length es′ → Handed [] xs₀ ys₀ ts₀ ps₀ xs ys ts ps
-        → (Refused (ColumnsTooShort (length es′)) ≡ answerOf e size Unlimited es′ room) × Handed (handedOf size Unlimited es′ room) xs₀ ys₀ ts₀ ps₀ xs ys ts ps
+        → Settles size es′ (Refused (ColumnsTooShort (length es′)))
     short-go (Known w k) es′ h c = let lt : ltb room (length es′) ≡ true = lt-ltb room (length es′) h in (rw lt, rw lt c)
     short-go Unknown [] h c = absurd (omega arith)
     short-go Unknown (a ∷ es′) h c = let lt : ltb room (length (a ∷ es′)) ≡ true = lt-ltb room (length (a ∷ es′)) h in (rw lt, rw lt c)
 
-    settles : (size : SensorSize) → (settledOf e size r xs ys ≡ answerOf e size Unlimited es room) × Handed (handedOf size Unlimited es room) xs₀ ys₀ ts₀ ps₀ xs ys ts ps
+    settles : (size : SensorSize) → Settles size es (settledOf e size r xs ys)
     settles size = rw (d .answer) (go (leb (length es) room) refl (d .columns))
       where
         go : (b : Bool) → leb (length es) room ≡ b → Handed (cond b es []) xs₀ ys₀ ts₀ ps₀ xs ys ts ps
-            → (settledOf e size (cond b (Written (length es)) (Needed (length es))) xs ys ≡ answerOf e size Unlimited es room) × Handed (handedOf size Unlimited es room) xs₀ ys₀ ts₀ ps₀ xs ys ts ps
+            → Settles size es (settledOf e size (cond b (Written (length es)) (Needed (length es))) xs ys)
         go true q h = fits-go size es refl (leb-true (length es) room q) h
         go false q h = short-go size es (leb-false (length es) room q) h
 
     pub reads-body : (size : SensorSize) (a : ReadAnswer) → a ≡ settledOf e size r xs ys → ReadsBody e size es a xs₀ ys₀ ts₀ ps₀ xs ys ts ps
     reads-body size a is =
         let s = settles size in
-        let is′ : a ≡ answerOf e size Unlimited es room = is ∙ s .0 in
-        record { is-told = ap toldRead is′ ∙ told-answer e size es room; is-answer = is′; columns = s .1 }
+        let o = bodyOutcome e size Unlimited es room in
+        record { is-told = ap toldRead (is ∙ s .0) ∙ told-answer o; is-answer = is ∙ s .0; columns = s .1 }
 
 -- ---- the two entries
 
 module _ {xs₀ ys₀ : List ℕ} {ts₀ : List ℤ} {ps₀ : List ℕ} where
+  reads-refused : (q : Refusal) → Reads (refuse q) (Refused q) xs₀ ys₀ ts₀ ps₀ xs₀ ys₀ ts₀ ps₀
+  reads-refused q = record { is-told = refl; is-answer = refl; columns = handed-none }
+
   module _ (words : List ℕ) (e : Encoding) (size : SensorSize) (limit : Limit) where
-    words-long : 2 ^ 30 < length words → DecodesWords words e size limit (Refused TooLong) xs₀ ys₀ ts₀ ps₀ xs₀ ys₀ ts₀ ps₀
-    unfolding wordsVerdict wordsAnswer wordsHanded
-    words-long h = rw (lt-ltb (2 ^ 30) (length words) h) (record { is-told = refl; is-answer = refl; columns = handed-none })
-
-    words-zero : length words ≤ 2 ^ 30 → hasZero size ≡ true → DecodesWords words e size limit (Refused InvalidSensorSize) xs₀ ys₀ ts₀ ps₀ xs₀ ys₀ ts₀ ps₀
-    unfolding wordsVerdict wordsAnswer wordsHanded
-    words-zero h z = rw (le-ltb (2 ^ 30) (length words) h, z) (record { is-told = refl; is-answer = refl; columns = handed-none })
-
-    pub words-read : {r : ReadAnswer} {xs ys : List ℕ} {ts : List ℤ} {ps : List ℕ} → length words ≤ 2 ^ 30 → hasZero size ≡ false
+    pub words-read : {r : ReadAnswer} {xs ys : List ℕ} {ts : List ℤ} {ps : List ℕ} → judgedOf (length words) size ≡ Fit
         → ReadsBody e size (bodyEvents e size limit words) r xs₀ ys₀ ts₀ ps₀ xs ys ts ps → DecodesWords words e size limit r xs₀ ys₀ ts₀ ps₀ xs ys ts ps
-    unfolding wordsVerdict wordsAnswer wordsHanded bodyEvents
-    words-read h z b = rw (le-ltb (2 ^ 30) (length words) h, z) b
+    unfolding wordsOutcome bodyEvents
+    words-read j b = rw (judged-given (wordsCheck (length words) size) j) b
 
     pub words-refused : (q : Refusal) → judgedOf (length words) size ≡ Unfit q → DecodesWords words e size limit (Refused q) xs₀ ys₀ ts₀ ps₀ xs₀ ys₀ ts₀ ps₀
-    words-refused q = go (ltb (2 ^ 30) (length words)) refl (hasZero size) refl
-      where
-        go : (a : Bool) → ltb (2 ^ 30) (length words) ≡ a → (b : Bool) → hasZero size ≡ b → cond a (Unfit TooLong) (cond b (Unfit InvalidSensorSize) Fit) ≡ Unfit q
-            → DecodesWords words e size limit (Refused q) xs₀ ys₀ ts₀ ps₀ xs₀ ys₀ ts₀ ps₀
-        go true p b z j = let is : TooLong ≡ q = cc in rw (← is) (words-long (ltb-true (2 ^ 30) (length words) p))
-        go false p true z j = let is : InvalidSensorSize ≡ q = cc in rw (← is) (words-zero (ltb-false (2 ^ 30) (length words) p) z)
-        go false p false z j = let no : _≡_ {A = ℕ} 0 1 = cc in absurd (omega arith)
+    unfolding wordsOutcome
+    words-refused q j = rw (judged-refused (wordsCheck (length words) size) q j) (reads-refused q)
 
   module _ (recording : List ℕ) (o : LoadOptions) (a : HeaderAnswer) (is-header : a ≡ headerOf recording (o .«sensor_size»)) where
-    raw-from : {r : ReadAnswer} {xs ys : List ℕ} {ts : List ℤ} {ps : List ℕ}
-        → Reads (verdictAfter a recording (o .«max_events») (shortest xs₀ ys₀ ts₀ ps₀)) (answerAfter a recording (o .«max_events») (shortest xs₀ ys₀ ts₀ ps₀)) (handedAfter a recording (o .«max_events») (shortest xs₀ ys₀ ts₀ ps₀)) r xs₀ ys₀ ts₀ ps₀ xs ys ts ps
-        → ReadsRaw recording o r xs₀ ys₀ ts₀ ps₀ xs ys ts ps
-    unfolding rawVerdict rawAnswer rawHanded
-    raw-from b = rw (← is-header) b
-
     pub raw-refused : (q : Refusal) → a ≡ NoHeader q → ReadsRaw recording o (Refused q) xs₀ ys₀ ts₀ ps₀ xs₀ ys₀ ts₀ ps₀
-    raw-refused q e = raw-from (rw e (record { is-told = refl; is-answer = refl; columns = handed-none }))
+    unfolding rawOutcome
+    raw-refused q e = rw (← is-header, e) (reads-refused q)
 
     pub raw-read : (h : header.Header) → a ≡ Header h → {r : ReadAnswer} {xs ys : List ℕ} {ts : List ℤ} {ps : List ℕ}
-        → ReadsBody (h .encoding) (h .«sensor_size») (bodyEvents (h .encoding) (h .«sensor_size») (o .«max_events») (drop (h .«data_offset») recording)) r xs₀ ys₀ ts₀ ps₀ xs ys ts ps
+        → let es = bodyEvents (h .encoding) (h .«sensor_size») (o .«max_events») (drop (h .«data_offset») recording) in
+        ReadsBody (h .encoding) (h .«sensor_size») es r xs₀ ys₀ ts₀ ps₀ xs ys ts ps
         → ReadsRaw recording o r xs₀ ys₀ ts₀ ps₀ xs ys ts ps
-    unfolding bodyEvents
-    raw-read h e b = raw-from (rw e b)
+    unfolding rawOutcome bodyEvents
+    raw-read h e b = rw (← is-header, e) b

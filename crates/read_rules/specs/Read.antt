@@ -2,7 +2,7 @@
 use mathlib.Core.Path.{_≡_}
 use mathlib.Core.Bool.{Bool, true, false, cond}
 use mathlib.Core.List.{List, [], _∷_}
-use Prim.Native.Nat.{ℕ, suc, _^_}
+use Prim.Native.Nat.{ℕ, suc}
 use lib.Dec.{ltb}
 use lib.IntN.{ℤ}
 use lib.ListN.{length, take, drop}
@@ -17,14 +17,16 @@ use Rattle.evt_types.specs.declared.SensorSize.the-variants.{Unknown, Known}
 use Rattle.evt_codec.specs.Codec.{freshC, eventsFrom}
 use Rattle.evt_types.specs.Columns.{colX, colY}
 use Rattle.evt_types.specs.Event.{Event}
-use Rattle.evt_types.specs.Told.{Told, told, accepted, refused, short}
+use Rattle.evt_types.specs.Outcome.{Outcome, refuse, give, onOutcome, verdict, handedBy}
+use Rattle.evt_types.specs.Told.{Told, told, accepted}
 use Rattle.read_columns.specs.Inside.{inside}
 pub use Rattle.read_capacity.specs.Deliver.{shortest, Handed}
 use Rattle.header.specs.declared.HeaderAnswer.{HeaderAnswer}
 use Rattle.header.specs.declared.HeaderAnswer.the-variants.{Header, Refused as NoHeader}
 use Rattle.header.specs.Header.{hasZero, headerOf}
-use Rattle.evt_types.specs.Num.{encodingNumber}
+use Rattle.evt_types.specs.Num.{mostBytes, encodingNumber}
 use Rattle.read_rules.specs.declared.LoadOptions.{LoadOptions}
+use Rattle.read_rules.specs.declared.Reading.{Reading}
 use Rattle.read_rules.specs.declared.ReadAnswer.{ReadAnswer}
 use Rattle.read_rules.specs.declared.ReadAnswer.the-variants.{Read, Refused}
 
@@ -58,99 +60,80 @@ sizeless Unknown [] = true
 sizeless Unknown (e ∷ es) = false
 sizeless (Known w h) es = false
 
--- ---- the verdict by the table, in numbers and values
+-- ---- what reading comes to: a refusal, or the reading and its events
 
--- an acceptance tells encoding, width, height and count
-abbrev pub toldRead : ReadAnswer → Told
-toldRead (Read r) = accepted (encodingNumber (r .encoding) ∷ r .width ∷ r .height ∷ r .count ∷ [])
-toldRead (Refused r) = told r
+pub record ReadEvents : Type 0 where
+  pub reading : Reading
+  pub events : List Event
 
--- 1 for no event, then 5: `all` are the events kept, and `room` is the length of the shortest column; the size comes from those that the limit leaves
-abbrev pub verdictOf : Encoding → SensorSize → Limit → (all : List Event) → (room : ℕ) → Told
-verdictOf e size limit all room =
+-- 1 where there is no size and no event; 5 where the shortest column, of `room` places, is too short. `all` are the events kept, and the size comes
+-- from those that the limit leaves
+abbrev pub bodyOutcome : Encoding → SensorSize → Limit → (all : List Event) → (room : ℕ) → Outcome ReadEvents
+bodyOutcome e size limit all room =
     let es = limited limit all in
-    cond (sizeless size es) (refused 1)
-    (cond (ltb room (length es)) (short 5 (length es))
-    (accepted (encodingNumber e ∷ widthOf size es ∷ heightOf size es ∷ length es ∷ [])))
+    cond (sizeless size es) (refuse InvalidSensorSize)
+    (cond (ltb room (length es)) (refuse (ColumnsTooShort (length es)))
+    (give (record { reading = record { encoding = e; width = widthOf size es; height = heightOf size es; count = length es }; events = es })))
 
--- headerless words: 4, 1 for a zero size, and so on
-unfoldable pub wordsVerdict : List ℕ → Encoding → SensorSize → Limit → (room : ℕ) → Told
-wordsVerdict words e size limit room =
-    cond (ltb (2 ^ 30) (length words)) (refused 4)
-    (cond (hasZero size) (refused 1) (verdictOf e size limit (bodyEvents e size Unlimited words) room))
+-- whether n bytes of headerless words are read with this size: 4, 1 for a zero size
+abbrev pub wordsCheck : (n : ℕ) → SensorSize → Outcome Unit
+wordsCheck n size = cond (ltb mostBytes n) (refuse TooLong) (cond (hasZero size) (refuse InvalidSensorSize) (give tt))
 
--- a recording: what the header is refused for (4, 3, 2, 1 for a zero size), and so on
-abbrev pub verdictAfter : HeaderAnswer → List ℕ → Limit → (room : ℕ) → Told
-verdictAfter (NoHeader r) recording limit room = told r
-verdictAfter (Header h) recording limit room =
-    verdictOf (h .encoding) (h .«sensor_size») limit (bodyEvents (h .encoding) (h .«sensor_size») Unlimited (drop (h .«data_offset») recording)) room
+-- headerless words: that check, then their events as a body's
+unfoldable pub wordsOutcome : List ℕ → Encoding → SensorSize → Limit → (room : ℕ) → Outcome ReadEvents
+wordsOutcome words e size limit room =
+    onOutcome refuse (λ u. bodyOutcome e size limit (bodyEvents e size Unlimited words) room) (wordsCheck (length words) size)
 
-unfoldable pub rawVerdict : List ℕ → LoadOptions → (room : ℕ) → Told
-rawVerdict recording o room = verdictAfter (headerOf recording (o .«sensor_size»)) recording (o .«max_events») room
+-- a recording: what its header is refused for (4, 3, 2, 1 for a zero size), or its body by what the header says
+abbrev pub outcomeAfter : HeaderAnswer → List ℕ → Limit → (room : ℕ) → Outcome ReadEvents
+outcomeAfter (NoHeader r) recording limit room = refuse r
+outcomeAfter (Header h) recording limit room =
+    let body = drop (h .«data_offset») recording in
+    bodyOutcome (h .encoding) (h .«sensor_size») limit (bodyEvents (h .encoding) (h .«sensor_size») Unlimited body) room
 
--- ---- what is handed over: nothing on a refusal
+unfoldable pub rawOutcome : List ℕ → LoadOptions → (room : ℕ) → Outcome ReadEvents
+rawOutcome recording o room = outcomeAfter (headerOf recording (o .«sensor_size»)) recording (o .«max_events») room
 
-abbrev pub handedOf : SensorSize → Limit → (all : List Event) → (room : ℕ) → List Event
-handedOf size limit all room =
-    let es = limited limit all in
-    cond (sizeless size es) [] (cond (ltb room (length es)) [] es)
+-- ---- what is read off an outcome
 
-unfoldable pub wordsHanded : List ℕ → Encoding → SensorSize → Limit → (room : ℕ) → List Event
-wordsHanded words e size limit room =
-    cond (ltb (2 ^ 30) (length words)) []
-    (cond (hasZero size) [] (handedOf size limit (bodyEvents e size Unlimited words) room))
+abbrev pub readAnswer : Outcome ReadEvents → ReadAnswer
+readAnswer = onOutcome Refused (λ g. Read (g .reading))
 
-abbrev pub handedAfter : HeaderAnswer → List ℕ → Limit → (room : ℕ) → List Event
-handedAfter (NoHeader r) recording limit room = []
-handedAfter (Header h) recording limit room =
-    handedOf (h .«sensor_size») limit (bodyEvents (h .encoding) (h .«sensor_size») Unlimited (drop (h .«data_offset») recording)) room
+-- encoding, width, height and count
+abbrev pub readingValues : Reading → List ℕ
+readingValues r = encodingNumber (r .encoding) ∷ r .width ∷ r .height ∷ r .count ∷ []
 
-unfoldable pub rawHanded : List ℕ → LoadOptions → (room : ℕ) → List Event
-rawHanded recording o room = handedAfter (headerOf recording (o .«sensor_size»)) recording (o .«max_events») room
+abbrev pub readVerdict : Outcome ReadEvents → Told
+readVerdict = verdict (λ g. readingValues (g .reading))
 
--- ---- the answer itself, for callers
-
-abbrev pub answerOf : Encoding → SensorSize → Limit → (all : List Event) → (room : ℕ) → ReadAnswer
-answerOf e size limit all room =
-    let es = limited limit all in
-    cond (sizeless size es) (Refused InvalidSensorSize)
-    (cond (ltb room (length es)) (Refused (ColumnsTooShort (length es)))
-    (Read (record { encoding = e; width = widthOf size es; height = heightOf size es; count = length es })))
-
-unfoldable pub wordsAnswer : List ℕ → Encoding → SensorSize → Limit → (room : ℕ) → ReadAnswer
-wordsAnswer words e size limit room =
-    cond (ltb (2 ^ 30) (length words)) (Refused TooLong)
-    (cond (hasZero size) (Refused InvalidSensorSize) (answerOf e size limit (bodyEvents e size Unlimited words) room))
-
-abbrev pub answerAfter : HeaderAnswer → List ℕ → Limit → (room : ℕ) → ReadAnswer
-answerAfter (NoHeader r) recording limit room = Refused r
-answerAfter (Header h) recording limit room =
-    answerOf (h .encoding) (h .«sensor_size») limit (bodyEvents (h .encoding) (h .«sensor_size») Unlimited (drop (h .«data_offset») recording)) room
-
-unfoldable pub rawAnswer : List ℕ → LoadOptions → (room : ℕ) → ReadAnswer
-rawAnswer recording o room = answerAfter (headerOf recording (o .«sensor_size»)) recording (o .«max_events») room
+-- the events handed over: none on a refusal
+abbrev pub handedEvents : Outcome ReadEvents → List Event
+handedEvents = handedBy (λ g. g .events)
 
 -- ---- promises
 
--- what a reading promises: `verdict`, `answer` and `es` by the definitions above
-pub record Reads (verdict : Told) (answer : ReadAnswer) (es : List Event) (r : ReadAnswer)
+-- what an answer tells
+abbrev pub toldRead : ReadAnswer → Told
+toldRead (Read r) = accepted (readingValues r)
+toldRead (Refused r) = told r
+
+-- what a reading with this outcome promises
+pub record Reads (outcome : Outcome ReadEvents) (r : ReadAnswer)
     (xs₀ ys₀ : List ℕ) (ts₀ : List ℤ) (ps₀ xs ys : List ℕ) (ts : List ℤ) (ps : List ℕ) : Type 0 where
-  pub is-told : toldRead r ≡ verdict
-  pub is-answer : r ≡ answer
-  pub columns : Handed es xs₀ ys₀ ts₀ ps₀ xs ys ts ps
+  pub is-told : toldRead r ≡ readVerdict outcome
+  pub is-answer : r ≡ readAnswer outcome
+  pub columns : Handed (handedEvents outcome) xs₀ ys₀ ts₀ ps₀ xs ys ts ps
 
 -- of a body whose events, the limit applied, are es
-abbrev pub ReadsBody : Encoding → SensorSize → List Event → ReadAnswer → (xs₀ ys₀ : List ℕ) (ts₀ : List ℤ) (ps₀ xs ys : List ℕ) (ts : List ℤ) (ps : List ℕ) → Type 0
+abbrev pub ReadsBody : Encoding → SensorSize → List Event → ReadAnswer
+    → (xs₀ ys₀ : List ℕ) (ts₀ : List ℤ) (ps₀ xs ys : List ℕ) (ts : List ℤ) (ps : List ℕ) → Type 0
 ReadsBody e size es r xs₀ ys₀ ts₀ ps₀ =
-    let room = shortest xs₀ ys₀ ts₀ ps₀ in
-    Reads (verdictOf e size Unlimited es room) (answerOf e size Unlimited es room) (handedOf size Unlimited es room) r xs₀ ys₀ ts₀ ps₀
+    Reads (bodyOutcome e size Unlimited es (shortest xs₀ ys₀ ts₀ ps₀)) r xs₀ ys₀ ts₀ ps₀
 
-abbrev pub DecodesWords : List ℕ → Encoding → SensorSize → Limit → ReadAnswer → (xs₀ ys₀ : List ℕ) (ts₀ : List ℤ) (ps₀ xs ys : List ℕ) (ts : List ℤ) (ps : List ℕ) → Type 0
+abbrev pub DecodesWords : List ℕ → Encoding → SensorSize → Limit → ReadAnswer
+    → (xs₀ ys₀ : List ℕ) (ts₀ : List ℤ) (ps₀ xs ys : List ℕ) (ts : List ℤ) (ps : List ℕ) → Type 0
 DecodesWords words e size limit r xs₀ ys₀ ts₀ ps₀ =
-    let room = shortest xs₀ ys₀ ts₀ ps₀ in
-    Reads (wordsVerdict words e size limit room) (wordsAnswer words e size limit room) (wordsHanded words e size limit room) r xs₀ ys₀ ts₀ ps₀
+    Reads (wordsOutcome words e size limit (shortest xs₀ ys₀ ts₀ ps₀)) r xs₀ ys₀ ts₀ ps₀
 
 abbrev pub ReadsRaw : List ℕ → LoadOptions → ReadAnswer → (xs₀ ys₀ : List ℕ) (ts₀ : List ℤ) (ps₀ xs ys : List ℕ) (ts : List ℤ) (ps : List ℕ) → Type 0
-ReadsRaw recording o r xs₀ ys₀ ts₀ ps₀ =
-    let room = shortest xs₀ ys₀ ts₀ ps₀ in
-    Reads (rawVerdict recording o room) (rawAnswer recording o room) (rawHanded recording o room) r xs₀ ys₀ ts₀ ps₀
+ReadsRaw recording o r xs₀ ys₀ ts₀ ps₀ = Reads (rawOutcome recording o (shortest xs₀ ys₀ ts₀ ps₀)) r xs₀ ys₀ ts₀ ps₀

@@ -1,16 +1,15 @@
 // What reading answers, and all that it settles without touching a column: whether words are read at
-// all, the window of a size and a limit, the refusal of a header, and the answer to what was written.
+// all, the window of a size and a limit, and the answer to what was written.
 // specs/Read.antt has the answers by document 01's table, specs/Laws.antt that the parts come to them.
 ghost use mathlib.Core.Path.{_≡_};
 ghost use Prim.Native.Nat.{_≤_};
 ghost use lib.ListN.{length};
-ghost use Rattle.read_rules.specs.Laws.{sensorOf, mostOf, windowOf, Holds, sizedOf, settledOf, refusalOf, judgedOf};
+ghost use Rattle.read_rules.specs.Laws.{sensorOf, mostOf, windowOf, Holds, sizedOf, settledOf, judgedOf};
 use evt_types::Encoding;
 use evt_types::Limit;
 use evt_types::MOST_BYTES;
 use evt_types::Refusal;
 use evt_types::SensorSize;
-use header::HeaderAnswer;
 use read_capacity::Delivered;
 use read_select::Window;
 
@@ -49,16 +48,6 @@ pub fn judge(n: usize, size: SensorSize) -> Judged
         return Judged::Unfit(Refusal::InvalidSensorSize);
     }
     Judged::Fit
-}
-
-// The refusal of a header that was not accepted.
-pub fn refusal_of(answer: HeaderAnswer) -> ReadAnswer
-    ensures { λ r. ⌜ r ≡ refusalOf answer ⌝ }
-{
-    match answer {
-        HeaderAnswer::Refused(r) => ReadAnswer::Refused(r),
-        HeaderAnswer::Header(_) => ReadAnswer::Refused(Refusal::UnknownEncoding),
-    }
 }
 
 // A sensor's sides; 65,536 each, which holds every event, where the size is unknown.

@@ -18,6 +18,7 @@ use Rattle.evt_types.specs.declared.SensorSize.{SensorSize}
 use Rattle.evt_types.specs.declared.SensorSize.the-variants.{Unknown, Known}
 use Rattle.evt_types.specs.Columns.{colX, colY}
 use Rattle.evt_types.specs.Event.{Event}
+use Rattle.evt_types.specs.Outcome.{give}
 use Rattle.header.specs.declared.Header as header
 use Rattle.header.specs.declared.HeaderAnswer.{HeaderAnswer}
 use Rattle.header.specs.declared.HeaderAnswer.the-variants.{Header, Refused as NoHeader}
@@ -34,7 +35,7 @@ use Rattle.index_build.specs.Index.{keptEvents, recordCount, recordsOf, spacing
 use Rattle.index_build.specs.Index.{wordsAnswer, wordsMade, OpensRaw, OpensWords}
 use Rattle.index_records.specs.InRange.{indexInRange}
 use Rattle.index_build.specs.Laws.{length-firsts}
-use Rattle.slice_rules.specs.Slice.{sizeOf, firstOf, endOf, indexEvents, isDuring, timeEvents, byRules}
+use Rattle.slice_rules.specs.Slice.{sizeOf, firstOf, endOf, indexEvents, isDuring, timeEvents, sliceCheck}
 use Rattle.slice.specs.Own.{ownEvents, ownSource, ownRecords, OwnPast, own-in-range, own-number, own-time, own-rules}
 
 -- ---- what an acceptance says
@@ -166,10 +167,10 @@ module _ (l : List ℕ) (start : ℕ) (e : Encoding) (size : SensorSize) (spacin
   opened-in-range = (λ i. indexInRange (w .is-source i) (w .is-records i)) ∙ own-in-range size e start spacing l (w .within) (w .long) (w .allowed)
 
   -- nor 4, 1, 8
-  pub opened-rules : {A : Type 0} (is4 is1 is8 is10 passed : A) → byRules l (o .source) lent is4 is1 is8 is10 passed ≡ passed
-  opened-rules is4 is1 is8 is10 passed =
-      (λ i. byRules l (w .is-source i) (w .is-records i) is4 is1 is8 is10 passed)
-      ∙ own-rules size e start spacing l (w .within) (w .long) (w .allowed) (w .positive) is4 is1 is8 is10 passed
+  pub opened-rules : sliceCheck (length l) (o .source) (indexInRange (o .source) lent) ≡ give tt
+  opened-rules =
+      (λ i. sliceCheck (length l) (w .is-source i) (indexInRange (w .is-source i) (w .is-records i)))
+      ∙ own-rules size e start spacing l (w .within) (w .long) (w .allowed) (w .positive)
 
   pub opened-number : (i0 i1 : ℕ)
       → indexEvents l (o .source) lent i0 i1

@@ -22,6 +22,7 @@ use Rattle.evt_types.specs.declared.SensorSize.the-variants.{Unknown, Known}
 use Rattle.evt_codec.specs.Codec.{freshC, inRangeC, eventsFrom, codecAfter}
 use Rattle.evt_types.specs.Columns.{colX, colY}
 use Rattle.evt_types.specs.Event.{Event}
+use Rattle.evt_types.specs.Outcome.{give}
 use Rattle.read_columns.specs.Inside.{inside, clock}
 use Rattle.read_fill.specs.Laws.{events-append, events-nil, fresh-range, inside-bytes}
 use Rattle.header.specs.Header.{hasZero}
@@ -36,7 +37,7 @@ use Rattle.index_records.specs.InRange.{recordInRange, recordsInRange, indexInR
 use Rattle.index_records.specs.Judge.{isOther}
 use Rattle.index_build.specs.Open.{spaced, count-within, kept-inside}
 use Rattle.index_records.specs.JudgeLaws.{last-passes}
-use Rattle.slice_rules.specs.Slice.{startingAt, sizeOf, firstOf, endOf, indexEvents, isDuring, eventsUntil, timeEvents, byRules}
+use Rattle.slice_rules.specs.Slice.{startingAt, sizeOf, firstOf, endOf, indexEvents, isDuring, eventsUntil, timeEvents, sliceCheck}
 use Rattle.slice_rules.specs.Times.{natural, before-natural, during-natural, timeWindow, time-over}
 
 -- ---- lists of records
@@ -325,9 +326,8 @@ module _ (size : SensorSize) (e : Encoding) (start spacing : ℕ) (l : List ℕ)
 
   -- ---- no refusal but 5
 
-  pub own-rules : hasZero (sizeOf source) ≡ false → {A : Type 0} (is4 is1 is8 is10 passed : A)
-      → byRules l source (ownRecords size e start spacing l) is4 is1 is8 is10 passed ≡ passed
-  own-rules sized is4 is1 is8 is10 passed = rw (le-ltb (2 ^ 30) (length l) long, sized, allowed, own-in-range)
+  pub own-rules : hasZero (sizeOf source) ≡ false → sliceCheck (length l) source (indexInRange source (ownRecords size e start spacing l)) ≡ give tt
+  own-rules sized = rw (le-ltb (2 ^ 30) (length l) long, sized, allowed, own-in-range)
 
 -- ---- slices don't depend on the spacing: by time, where nothing in time follows the stop
 

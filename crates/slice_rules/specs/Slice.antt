@@ -2,7 +2,7 @@
 use mathlib.Core.Path.{_≡_}
 use mathlib.Core.Bool.{Bool, cond, _&&_}
 use mathlib.Core.List.{List, [], _∷_}
-use Prim.Native.Nat.{ℕ, _^_, min, max}
+use Prim.Native.Nat.{ℕ, min, max}
 use lib.Dec.{leb, ltb}
 use lib.IntN.{ℤ, pos}
 use lib.ListN.{length, drop}
@@ -21,7 +21,9 @@ use Rattle.evt_codec.specs.Codec.{eventsFrom}
 use Rattle.evt_types.specs.Event.{Event}
 use Rattle.evt2_decoder.specs.Evt2.{reader2}
 use Rattle.evt3_decoder.specs.Evt3.{reader3}
-use Rattle.evt_types.specs.Told.{Told, told, accepted, refused, short}
+use Rattle.evt_types.specs.Num.{mostBytes}
+use Rattle.evt_types.specs.Outcome.{Outcome, refuse, give, onOutcome, verdict, handedBy}
+use Rattle.evt_types.specs.Told.{Told, told, accepted}
 use Rattle.header.specs.Header.{hasZero}
 use Rattle.read_rules.specs.Read.{kept, shortest, Handed}
 use Rattle.index_build.specs.declared.Checkpoint.{Checkpoint}
@@ -79,48 +81,61 @@ timeEvents recording s records t0 t1 =
     (λ c. sift (isDuring t0 t1) (kept (sizeOf s) (eventsUntil t1 (c .codec) (drop (c .«byte_offset») recording))))
     records
 
--- ---- the verdict by the table: 4, 1, 8, 10, 5
+-- ---- what a slice comes to: a refusal, or the events asked for
+
+-- whether n bytes are sliced: 4, 1 for a zero size, 8, 10 where the index isn't in range
+abbrev pub sliceCheck : (n : ℕ) → RawSliceSource → (ok : Bool) → Outcome Unit
+sliceCheck n s ok =
+    cond (ltb mostBytes n) (refuse TooLong)
+    (cond (hasZero (sizeOf s)) (refuse InvalidSensorSize)
+    (cond (spacingOk (s .encoding) (s .spacing))
+    (cond ok (give tt) (refuse StateOutOfRange))
+    (refuse InvalidSpacing)))
+
+-- 5 where the shortest column, of `room` places, is too short
+abbrev pub roomOutcome : List Event → (room : ℕ) → Outcome (List Event)
+roomOutcome es room = cond (ltb room (length es)) (refuse (ColumnsTooShort (length es))) (give es)
+
+-- that check, then 5
+unfoldable pub sliceOutcome : List ℕ → RawSliceSource → (ok : Bool) → List Event → (room : ℕ) → Outcome (List Event)
+sliceOutcome recording s ok es room = onOutcome refuse (λ u. roomOutcome es room) (sliceCheck (length recording) s ok)
+
+-- ---- what is read off an outcome
+
+abbrev pub sliceAnswer : Outcome (List Event) → SliceAnswer
+sliceAnswer = onOutcome Refused (λ es. Sliced (length es))
 
 -- an acceptance tells the count
+abbrev pub sliceVerdict : Outcome (List Event) → Told
+sliceVerdict = verdict (λ es. length es ∷ [])
+
+-- nothing on a refusal
+abbrev pub sliceHanded : Outcome (List Event) → List Event
+sliceHanded = handedBy (λ es. es)
+
+-- ---- promises
+
+-- what an answer tells
 abbrev pub toldSlice : SliceAnswer → Told
 toldSlice (Sliced n) = accepted (n ∷ [])
 toldSlice (Refused r) = told r
 
--- the first of the rules 4, 1, 8 and 10 that applies, or none
-abbrev pub byRules : List ℕ → RawSliceSource → List Checkpoint → {A : Type 0} → (is4 is1 is8 is10 passed : A) → A
-byRules recording s records is4 is1 is8 is10 passed =
-    cond (ltb (2 ^ 30) (length recording)) is4
-    (cond (hasZero (sizeOf s)) is1
-    (cond (spacingOk (s .encoding) (s .spacing))
-    (cond (indexInRange s records) passed is10)
-    is8))
-
--- es: the events asked for; `room` is the length of the shortest column
-unfoldable pub sliceVerdict : List ℕ → RawSliceSource → List Checkpoint → List Event → (room : ℕ) → Told
-sliceVerdict recording s records es room =
-    byRules recording s records (refused 4) (refused 1) (refused 8) (refused 10)
-    (cond (ltb room (length es)) (short 5 (length es)) (accepted (length es ∷ [])))
-
--- nothing on a refusal
-unfoldable pub sliceHanded : List ℕ → RawSliceSource → List Checkpoint → List Event → (room : ℕ) → List Event
-sliceHanded recording s records es room = byRules recording s records [] [] [] [] (cond (ltb room (length es)) [] es)
-
--- the answer itself, for callers
-unfoldable pub sliceAnswer : List ℕ → RawSliceSource → List Checkpoint → List Event → (room : ℕ) → SliceAnswer
-sliceAnswer recording s records es room =
-    byRules recording s records (Refused TooLong) (Refused InvalidSensorSize) (Refused InvalidSpacing) (Refused StateOutOfRange)
-    (cond (ltb room (length es)) (Refused (ColumnsTooShort (length es))) (Sliced (length es)))
-
--- ---- what a slice promises
-
-pub record Slices (recording : List ℕ) (s : RawSliceSource) (records : List Checkpoint) (es : List Event) (r : SliceAnswer)
+-- what a slice with this outcome promises
+pub record Slices (outcome : Outcome (List Event)) (r : SliceAnswer)
     (xs₀ ys₀ : List ℕ) (ts₀ : List ℤ) (ps₀ xs ys : List ℕ) (ts : List ℤ) (ps : List ℕ) : Type 0 where
-  pub is-told : toldSlice r ≡ sliceVerdict recording s records es (shortest xs₀ ys₀ ts₀ ps₀)
-  pub is-answer : r ≡ sliceAnswer recording s records es (shortest xs₀ ys₀ ts₀ ps₀)
-  pub columns : Handed (sliceHanded recording s records es (shortest xs₀ ys₀ ts₀ ps₀)) xs₀ ys₀ ts₀ ps₀ xs ys ts ps
+  pub is-told : toldSlice r ≡ sliceVerdict outcome
+  pub is-answer : r ≡ sliceAnswer outcome
+  pub columns : Handed (sliceHanded outcome) xs₀ ys₀ ts₀ ps₀ xs ys ts ps
 
-abbrev pub SlicesIndex : List ℕ → RawSliceSource → List Checkpoint → (i0 i1 : ℕ) → SliceAnswer → (xs₀ ys₀ : List ℕ) (ts₀ : List ℤ) (ps₀ xs ys : List ℕ) (ts : List ℤ) (ps : List ℕ) → Type 0
-SlicesIndex recording s records i0 i1 = Slices recording s records (indexEvents recording s records i0 i1)
+-- of the events asked for; `ok`: whether the index is in range
+abbrev pub SlicesFrom : List ℕ → RawSliceSource → (ok : Bool) → (asked : List Event) → SliceAnswer
+    → (xs₀ ys₀ : List ℕ) (ts₀ : List ℤ) (ps₀ xs ys : List ℕ) (ts : List ℤ) (ps : List ℕ) → Type 0
+SlicesFrom recording s ok asked r xs₀ ys₀ ts₀ ps₀ = Slices (sliceOutcome recording s ok asked (shortest xs₀ ys₀ ts₀ ps₀)) r xs₀ ys₀ ts₀ ps₀
 
-abbrev pub SlicesTime : List ℕ → RawSliceSource → List Checkpoint → (t0 t1 : ℤ) → SliceAnswer → (xs₀ ys₀ : List ℕ) (ts₀ : List ℤ) (ps₀ xs ys : List ℕ) (ts : List ℤ) (ps : List ℕ) → Type 0
-SlicesTime recording s records t0 t1 = Slices recording s records (timeEvents recording s records t0 t1)
+abbrev pub SlicesIndex : List ℕ → RawSliceSource → List Checkpoint → (i0 i1 : ℕ) → SliceAnswer
+    → (xs₀ ys₀ : List ℕ) (ts₀ : List ℤ) (ps₀ xs ys : List ℕ) (ts : List ℤ) (ps : List ℕ) → Type 0
+SlicesIndex recording s records i0 i1 = SlicesFrom recording s (indexInRange s records) (indexEvents recording s records i0 i1)
+
+abbrev pub SlicesTime : List ℕ → RawSliceSource → List Checkpoint → (t0 t1 : ℤ) → SliceAnswer
+    → (xs₀ ys₀ : List ℕ) (ts₀ : List ℤ) (ps₀ xs ys : List ℕ) (ts : List ℤ) (ps : List ℕ) → Type 0
+SlicesTime recording s records t0 t1 = SlicesFrom recording s (indexInRange s records) (timeEvents recording s records t0 t1)

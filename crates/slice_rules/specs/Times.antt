@@ -43,6 +43,9 @@ module _ (w h n0 n1 : ℕ) (t0 t1 : ℤ) where
   abbrev pub timeWindow : Window
   timeWindow = record { width = w; height = h; n0 = n0; n1 = n1; t0 = natural t0; t1 = natural t1 }
 
-  pub time-over : (c : Codec) (l : List ℕ) → sift (isDuring t0 t1) (kept (Known w h) (eventsUntil t1 c l)) ≡ sift (isTimely timeWindow) (untilOver timeWindow c l)
-  time-over (Evt2 d) l = λ i. sift (during-natural t0 t1 i) (sift (inside w h) (emits reader2 d (until reader2 (λ d. at-natural t1 i (d .initialised) (d .time)) d (wordsOf wordSize2 l))))
-  time-over (Evt3 d) l = λ i. sift (during-natural t0 t1 i) (sift (inside w h) (emits reader3 d (until reader3 (λ d. at-natural t1 i (d .initialised) (d .time)) d (wordsOf wordSize3 l))))
+  pub time-over : (c : Codec) (l : List ℕ)
+      → sift (isDuring t0 t1) (kept (Known w h) (eventsUntil t1 c l)) ≡ sift (isTimely timeWindow) (untilOver timeWindow c l)
+  time-over (Evt2 d) l = λ i. sift (during-natural t0 t1 i)
+      (sift (inside w h) (emits reader2 d (until reader2 (λ d. at-natural t1 i (d .initialised) (d .time)) d (wordsOf wordSize2 l))))
+  time-over (Evt3 d) l = λ i. sift (during-natural t0 t1 i)
+      (sift (inside w h) (emits reader3 d (until reader3 (λ d. at-natural t1 i (d .initialised) (d .time)) d (wordsOf wordSize3 l))))

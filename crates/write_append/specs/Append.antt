@@ -1,13 +1,14 @@
--- What an append answers, by the table's numbers, and what it leaves.
+-- What an append answers, hands over and leaves.
 use mathlib.Core.Path.{_≡_}
 use mathlib.Core.Bool.{Bool, true, false, cond, not, _&&_, _||_}
 use mathlib.Core.List.{List, [], _∷_, _++_}
 use Prim.Native.Nat.{ℕ, _+_}
-use lib.Dec.{eqb, leb}
+use lib.Dec.{leb}
 use lib.ListN.{length, drop}
 use lib.IntN.{ℤ}
-use Rattle.evt_types.specs.Told.{Told, told, accepted, refused, short}
-use Rattle.evt_types.specs.declared.Refusal.the-variants.{TooLong, TimeOrder, EventOutOfRange, StateOutOfRange, OutputTooShort, ColumnLengths}
+use Rattle.evt_types.specs.Outcome.{Outcome, refuse, give, onOutcome, verdict, handedBy}
+use Rattle.evt_types.specs.Told.{Told, told, accepted}
+use Rattle.evt_types.specs.declared.Refusal.the-variants.{OutputTooShort}
 use Rattle.write_buffer.specs.Columns.{eventsIn}
 use Rattle.write_words.specs.Encode.{encodeState, encodeBytes}
 use Rattle.write_rules.specs.declared.LastTime.{LastTime}
@@ -17,12 +18,7 @@ use Rattle.write_append.specs.declared.AppendAnswer.{AppendAnswer}
 use Rattle.write_append.specs.declared.AppendAnswer.the-variants.{Written, Refused}
 use Rattle.write_append.specs.declared.Appended.{Appended}
 use Rattle.write_header.specs.Header.{headerText}
-use Rattle.write_rules.specs.Rules.{byRules}
-
--- an acceptance tells the bytes that are written
-abbrev pub toldAppend : AppendAnswer → Told
-toldAppend (Written n) = accepted (n ∷ [])
-toldAppend (Refused r) = told r
+use Rattle.write_rules.specs.Rules.{checkOutcome}
 
 abbrev pub some : {A : Type 0} → List A → Bool
 some [] = false
@@ -58,30 +54,52 @@ module _ (s : RawEventSink) (width height : ℕ) (xs ys : List ℕ) (ts : List �
   abbrev pub sends : List ℕ
   sends = headerBytes ++ wordBytes s xs ys ts ps
 
-  module _ (room : ℕ) where
-    abbrev pub appendVerdict : Told
-    appendVerdict =
-        byRules s xs ys ts ps (refused 10) (refused 12) (refused 4) (refused 6) (refused 7)
-        (cond (leb (length sends) room) (accepted (length sends ∷ [])) (short 11 (length sends)))
+-- ---- what an append comes to: a refusal, or the bytes that it hands over and the writer after it
 
-    abbrev pub appendAnswer : AppendAnswer
-    appendAnswer =
-        byRules s xs ys ts ps (Refused StateOutOfRange) (Refused ColumnLengths) (Refused TooLong) (Refused TimeOrder) (Refused EventOutOfRange)
-        (cond (leb (length sends) room) (Written (length sends)) (Refused (OutputTooShort (length sends))))
+pub record AppendedBytes : Type 0 where
+  pub bytes : List ℕ
+  pub sink : RawEventSink
 
-    -- accepted exactly if the table gives it no number
-    abbrev pub accepts : Bool
-    accepts = eqb (appendVerdict .number) 0
+-- what the writer and the columns are refused for (10, 12, 4, 6, 7), then 11 where the output, of `room` bytes, is too short
+unfoldable pub appendOutcome : RawEventSink → (width height : ℕ) (xs ys : List ℕ) (ts : List ℤ) (ps : List ℕ) (room : ℕ) → Outcome AppendedBytes
+appendOutcome s width height xs ys ts ps room =
+    let all = sends s width height xs ys ts ps in
+    onOutcome refuse (λ u. cond (leb (length all) room) (give (record { bytes = all; sink = nextSink s xs ys ts ps })) (refuse (OutputTooShort (length all))))
+    (checkOutcome s xs ys ts ps)
 
-    abbrev pub handedOver : List ℕ
-    handedOver = cond accepts sends []
+-- ---- what is read off an outcome
 
-    abbrev pub sinkAfter : RawEventSink
-    sinkAfter = cond accepts (nextSink s xs ys ts ps) s
+abbrev pub accepts : Outcome AppendedBytes → Bool
+accepts = onOutcome (λ r. false) (λ a. true)
 
-  -- what an append owes: r is what it returns, and `out` the output that was out₀
-  pub record AppendOwed (out₀ : List ℕ) (r : Appended) (out : List ℕ) : Type 0 where
-    pub is-told : toldAppend (r .answer) ≡ appendVerdict (length out₀)
-    pub is-answer : r .answer ≡ appendAnswer (length out₀)
-    pub is-sink : r .sink ≡ sinkAfter (length out₀)
-    pub is-output : out ≡ handedOver (length out₀) ++ drop (length (handedOver (length out₀))) out₀
+abbrev pub appendAnswer : Outcome AppendedBytes → AppendAnswer
+appendAnswer = onOutcome Refused (λ a. Written (length (a .bytes)))
+
+-- an acceptance tells how many bytes are written
+abbrev pub appendVerdict : Outcome AppendedBytes → Told
+appendVerdict = verdict (λ a. length (a .bytes) ∷ [])
+
+-- nothing on a refusal
+abbrev pub handedOver : Outcome AppendedBytes → List ℕ
+handedOver = handedBy (λ a. a .bytes)
+
+-- as it was on a refusal
+abbrev pub sinkAfter : RawEventSink → Outcome AppendedBytes → RawEventSink
+sinkAfter s = onOutcome (λ r. s) (λ a. a .sink)
+
+-- ---- promises
+
+-- what an answer tells
+abbrev pub toldAppend : AppendAnswer → Told
+toldAppend (Written n) = accepted (n ∷ [])
+toldAppend (Refused r) = told r
+
+-- what an append with this outcome promises: r is what it returns, and `out` the output that was out₀
+pub record Appends (s : RawEventSink) (outcome : Outcome AppendedBytes) (out₀ : List ℕ) (r : Appended) (out : List ℕ) : Type 0 where
+  pub is-told : toldAppend (r .answer) ≡ appendVerdict outcome
+  pub is-answer : r .answer ≡ appendAnswer outcome
+  pub is-sink : r .sink ≡ sinkAfter s outcome
+  pub is-output : out ≡ handedOver outcome ++ drop (length (handedOver outcome)) out₀
+
+abbrev pub AppendOwed : RawEventSink → (width height : ℕ) (xs ys : List ℕ) (ts : List ℤ) (ps out₀ : List ℕ) (r : Appended) (out : List ℕ) → Type 0
+AppendOwed s width height xs ys ts ps out₀ = Appends s (appendOutcome s width height xs ys ts ps (length out₀)) out₀

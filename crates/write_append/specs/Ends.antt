@@ -1,18 +1,19 @@
 -- The ways in which an append ends.
-use mathlib.Core.Path.{_≡_, refl, sym, ap, _∙_}
-use mathlib.Core.Bool.{Bool, true, false, cond, true≢false}
+use mathlib.Core.Path.{_≡_, refl, sym, _∙_}
+use mathlib.Core.Bool.{Bool, true, false, cond, _||_, true≢false}
 use mathlib.Core.List.{List, [], _∷_, _++_}
 use Prim.Native.Nat.{ℕ, suc, _+_, _-_, _*_, _^_, _≤_, _<_}
 use native.Mathlib.Omega.{arith}
 use native.Mathlib.Nat.{zero-add}
-use lib.Dec.{eqb, ltb, leb}
+use lib.Dec.{ltb, leb}
 use borrow.Author.Tests.{le-leb, lt-leb, lt-ltb, leb-true, leb-false}
 use lib.ListN.{length, getD, length-append}
 use lib.Seq.{sets, sets-eq}
 use lib.IntN.{ℤ, pos}
-use Rattle.evt_types.specs.Told.{Told, told, accepted, refused, short}
+use Rattle.evt_types.specs.Outcome.{Outcome, refuse, give, onOutcome, given-if, given-then}
 use Rattle.evt_types.specs.declared.Refusal.{Refusal}
-use Rattle.evt_types.specs.declared.Refusal.the-variants.{InvalidSensorSize, UnknownEncoding, HeaderNotAscii, TooLong, ColumnsTooShort, TimeOrder, EventOutOfRange, InvalidSpacing, TooFewRecords, StateOutOfRange, OutputTooShort, ColumnLengths}
+use Rattle.evt_types.specs.declared.Refusal.the-variants.{OutputTooShort}
+use Rattle.write_buffer.specs.declared.EncoderState.{EncoderState}
 use Rattle.write_buffer.specs.declared.Put.{Put}
 use Rattle.write_buffer.specs.Columns.{eventsIn, Sized, events-length}
 use Rattle.write_words.specs.Laws.{encode-few}
@@ -21,17 +22,16 @@ use Rattle.write_words.specs.Encode.{encodeState, passed, Fitting}
 use Rattle.evt_types.specs.declared.Encoding.{Encoding}
 use Rattle.evt_types.specs.declared.Encoding.the-variants.{Evt2, Evt3}
 use Rattle.write_header.specs.Header.{headerText, header-few}
-use Rattle.write_rules.specs.declared.Check.{Check}
 use Rattle.write_rules.specs.declared.Check.the-variants.{Passed, Failed}
 use Rattle.write_rules.specs.declared.LastTime.{LastTime}
 use Rattle.write_rules.specs.declared.LastTime.the-variants.{At}
 use Rattle.write_rules.specs.declared.RawEventSink.{RawEventSink}
-use Rattle.write_append.specs.declared.AppendAnswer.{AppendAnswer}
 use Rattle.write_append.specs.declared.AppendAnswer.the-variants.{Written, Refused}
-use Rattle.write_rules.specs.Range.{eventsInRange, fallsAfter, sameLengths, sinkInRange}
-use Rattle.write_rules.specs.Rules.{byRules, checkOf}
-use Rattle.write_rules.specs.Checks.{event-fine}
-use Rattle.write_append.specs.Append.{toldAppend, some, headerDue, headerBytes, wordBytes, lastAfter, sends, appendVerdict, appendAnswer, accepts, nextSink, AppendOwed}
+use Rattle.write_rules.specs.Range.{eventsInRange}
+use Rattle.write_rules.specs.Rules.{checkOutcome, checkOf}
+use Rattle.write_rules.specs.Checks.{event-fine, check-given, check-refused}
+use Rattle.write_append.specs.Append.{some, headerDue, headerBytes, wordBytes, lastAfter, sends, nextSink, AppendedBytes, appendOutcome}
+use Rattle.write_append.specs.Append.{accepts, handedOver, sinkAfter, Appends, AppendOwed}
 
 -- ---- the last time
 
@@ -49,108 +49,89 @@ pub last-some : (l : LastTime) (ts : List ℤ) → 0 < length ts → lastAfter l
 last-some l [] h = absurd (omega arith)
 last-some l (t ∷ ts) h = let n : suc (length ts) - 1 ≡ length ts = omega arith in last-is l t ts ∙ rw n
 
--- ---- the rules, by what a check says
-
-chain-map : {A B : Type 0} (f : A → B) (a b c d e : Bool) (is10 is12 is4 is6 is7 fine : A)
-    → f (cond a (cond b (cond c (cond d is6 (cond e fine is7)) is4) is12) is10) ≡ cond a (cond b (cond c (cond d (f is6) (cond e (f fine) (f is7))) (f is4)) (f is12)) (f is10)
-chain-map f true true true true e is10 is12 is4 is6 is7 fine = refl
-chain-map f true true true false true is10 is12 is4 is6 is7 fine = refl
-chain-map f true true true false false is10 is12 is4 is6 is7 fine = refl
-chain-map f true true false d e is10 is12 is4 is6 is7 fine = refl
-chain-map f true false c d e is10 is12 is4 is6 is7 fine = refl
-chain-map f false b c d e is10 is12 is4 is6 is7 fine = refl
-
--- no refusal has the number 0
-refusal-no : (r : Refusal) → eqb (told r .number) 0 ≡ false
-refusal-no InvalidSensorSize = refl
-refusal-no UnknownEncoding = refl
-refusal-no HeaderNotAscii = refl
-refusal-no TooLong = refl
-refusal-no (ColumnsTooShort n) = refl
-refusal-no TimeOrder = refl
-refusal-no EventOutOfRange = refl
-refusal-no InvalidSpacing = refl
-refusal-no (TooFewRecords n) = refl
-refusal-no StateOutOfRange = refl
-refusal-no (OutputTooShort n) = refl
-refusal-no ColumnLengths = refl
-
-told-cond : (b : Bool) (n : ℕ) → toldAppend (cond b (Written n) (Refused (OutputTooShort n))) ≡ cond b (accepted (n ∷ [])) (short 11 n)
-told-cond true n = refl
-told-cond false n = refl
-
-module _ (s : RawEventSink) (xs ys : List ℕ) (ts : List ℤ) (ps : List ℕ) where
-  rules-map : {A B : Type 0} (f : A → B) (is10 is12 is4 is6 is7 fine : A)
-      → f (byRules s xs ys ts ps is10 is12 is4 is6 is7 fine) ≡ byRules s xs ys ts ps (f is10) (f is12) (f is4) (f is6) (f is7) (f fine)
-  rules-map f =
-      chain-map f (sinkInRange s) (sameLengths (length xs) (length ys) (length ts) (length ps)) (leb (length xs) (2 ^ 28)) (fallsAfter (s .«last_t») ts) (eventsInRange (s .version) xs ys ts ps)
+-- ---- the outcome, by what the check says and the room
 
 module _ (s : RawEventSink) (width height : ℕ) (xs ys : List ℕ) (ts : List ℤ) (ps : List ℕ) where
-  abbrev ended : (room : ℕ) → Check → AppendAnswer
-  ended room (Failed r) = Refused r
-  ended room Passed =
-      let n = length (sends s width height xs ys ts ps) in
-      cond (leb n room) (Written n) (Refused (OutputTooShort n))
+  abbrev all : List ℕ
+  all = sends s width height xs ys ts ps
+
+  abbrev own : AppendedBytes
+  own = record { bytes = all; sink = nextSink s xs ys ts ps }
+
+  abbrev judged : Outcome Unit
+  judged = checkOutcome s xs ys ts ps
 
   module _ (room : ℕ) where
-    pub answer-is : ended room (checkOf s xs ys ts ps) ≡ appendAnswer s width height xs ys ts ps room
-    answer-is = rules-map s xs ys ts ps (ended room) (Failed StateOutOfRange) (Failed ColumnLengths) (Failed TooLong) (Failed TimeOrder) (Failed EventOutOfRange) Passed
+    abbrev outcome : Outcome AppendedBytes
+    outcome = appendOutcome s width height xs ys ts ps room
 
-    -- the answer tells the verdict
-    pub answer-told : toldAppend (appendAnswer s width height xs ys ts ps room) ≡ appendVerdict s width height xs ys ts ps room
-    answer-told =
-        let n = length (sends s width height xs ys ts ps) in
-        rules-map s xs ys ts ps toldAppend (Refused StateOutOfRange) (Refused ColumnLengths) (Refused TooLong) (Refused TimeOrder) (Refused EventOutOfRange) (cond (leb n room) (Written n) (Refused (OutputTooShort n)))
-        ∙ ap (byRules s xs ys ts ps (refused 10) (refused 12) (refused 4) (refused 6) (refused 7)) (told-cond (leb n room) n)
+    outcome-failed : (r : Refusal) → judged ≡ refuse r → outcome ≡ refuse r
+    unfolding appendOutcome
+    outcome-failed r e = rw e
 
-    pub accepts-is : accepts s width height xs ys ts ps room ≡ eqb (toldAppend (ended room (checkOf s xs ys ts ps)) .number) 0
-    accepts-is = ap (λ (t : Told). eqb (t .number) 0) (sym (ap toldAppend answer-is ∙ answer-told))
+    outcome-short : judged ≡ give tt → room < length all → outcome ≡ refuse (OutputTooShort (length all))
+    unfolding appendOutcome
+    outcome-short e h = rw (e, lt-leb (length all) room h)
 
-    accepts-as : (k : Check) → eqb (toldAppend (ended room k) .number) 0 ≡ true → (k ≡ Passed) × (length (sends s width height xs ys ts ps) ≤ room)
-    accepts-as (Failed r) h = absurd (true≢false (sym (sym (refusal-no r) ∙ h)))
-    accepts-as Passed h = let n = length (sends s width height xs ys ts ps) in (refl, go n (leb n room) refl h)
-      where
-        go : (n : ℕ) (b : Bool) → leb n room ≡ b → eqb (toldAppend (cond b (Written n) (Refused (OutputTooShort n))) .number) 0 ≡ true → n ≤ room
-        go n true q h = leb-true n room q
-        go n false q h = absurd (true≢false (sym h))
+    outcome-given : judged ≡ give tt → length all ≤ room → outcome ≡ give own
+    unfolding appendOutcome
+    outcome-given e h = rw (e, le-leb (length all) room h)
 
     -- what is accepted has passed the check, and has room
-    pub accepts-checked : accepts s width height xs ys ts ps room ≡ true → (checkOf s xs ys ts ps ≡ Passed) × (length (sends s width height xs ys ts ps) ≤ room)
-    accepts-checked h = accepts-as (checkOf s xs ys ts ps) (sym accepts-is ∙ h)
+    pub accepts-checked : accepts outcome ≡ true → (judged ≡ give tt) × (length all ≤ room)
+    unfolding appendOutcome
+    accepts-checked h =
+        let g = given outcome h in
+        let k = given-then (g .0) judged _ (g .1) .1 in
+        (k .0, leb-true (length all) room (given-if (g .0) (leb (length all) room) _ _ (k .1) .0))
+      where
+        given : (o : Outcome AppendedBytes) → accepts o ≡ true → (a : AppendedBytes) × (o ≡ give a)
+        given (refuse r) e = absurd (true≢false (sym e))
+        given (give a) e = (a, refl)
+
+    -- the writer after it, and its bytes, by whether it is accepted
+    pub by-acceptance : (sinkAfter s outcome ≡ cond (accepts outcome) (own .sink) s) × (handedOver outcome ≡ cond (accepts outcome) all [])
+    unfolding appendOutcome
+    by-acceptance = go judged (leb (length all) room)
+      where
+        ended : Outcome Unit → Bool → Outcome AppendedBytes
+        ended k b = onOutcome refuse (λ u. cond b (give own) (refuse (OutputTooShort (length all)))) k
+
+        go : (k : Outcome Unit) (b : Bool)
+            → (sinkAfter s (ended k b) ≡ cond (accepts (ended k b)) (own .sink) s) × (handedOver (ended k b) ≡ cond (accepts (ended k b)) all [])
+        go (refuse r) b = (refl, refl)
+        go (give u) true = (refl, refl)
+        go (give u) false = (refl, refl)
 
   module _ (out : List ℕ) where
-    ends-no : (a : AppendAnswer) → a ≡ appendAnswer s width height xs ys ts ps (length out) → eqb (toldAppend a .number) 0 ≡ false
-        → AppendOwed s width height xs ys ts ps out (record { sink = s; answer = a }) out
-    ends-no a e n =
-        let no : accepts s width height xs ys ts ps (length out) ≡ false = ap (λ (t : Told). eqb (t .number) 0) (sym (ap toldAppend e ∙ answer-told (length out))) ∙ n in
-        record { is-told = ap toldAppend e ∙ answer-told (length out); is-answer = e; is-sink = rw no; is-output = rw no }
+    owes-refusal : (r : Refusal) → Appends s (refuse r) out (record { sink = s; answer = Refused r }) out
+    owes-refusal r = record { is-told = refl; is-answer = refl; is-sink = refl; is-output = refl }
 
-    pub ends-failed : (r : Refusal) → checkOf s xs ys ts ps ≡ Failed r → AppendOwed s width height xs ys ts ps out (record { sink = s; answer = Refused r }) out
-    ends-failed r e = ends-no (Refused r) (sym (ap (ended (length out)) e) ∙ answer-is (length out)) (refusal-no r)
+    pub ends-failed : (r : Refusal) → checkOf judged ≡ Failed r → AppendOwed s width height xs ys ts ps out (record { sink = s; answer = Refused r }) out
+    ends-failed r e = rw (outcome-failed (length out) r (check-refused judged r e)) (owes-refusal r)
 
-    pub ends-short : (need : ℕ) → checkOf s xs ys ts ps ≡ Passed → need ≡ length (sends s width height xs ys ts ps) → length out < need
+    pub ends-short : (need : ℕ) → checkOf judged ≡ Passed → need ≡ length all → length out < need
         → AppendOwed s width height xs ys ts ps out (record { sink = s; answer = Refused (OutputTooShort need) }) out
-    ends-short need e n h =
-        let no : leb (length (sends s width height xs ys ts ps)) (length out) ≡ false = lt-leb (length (sends s width height xs ys ts ps)) (length out) (omega arith) in
-        ends-no (Refused (OutputTooShort need)) (sym (sym (answer-is (length out)) ∙ ap (ended (length out)) e ∙ rw (no, ← n))) refl
+    ends-short need e n h = rw (n, outcome-short (length out) (check-given judged e) (omega arith)) (owes-refusal (OutputTooShort (length all)))
 
-    pub ends-written : (next : RawEventSink) (out′ : List ℕ) → checkOf s xs ys ts ps ≡ Passed → length (sends s width height xs ys ts ps) ≤ length out
-        → next ≡ nextSink s xs ys ts ps → out′ ≡ sets out 0 (sends s width height xs ys ts ps)
-        → (n : ℕ) → n ≡ length (sends s width height xs ys ts ps)
+    pub ends-written : (next : RawEventSink) (out′ : List ℕ) → checkOf judged ≡ Passed → length all ≤ length out
+        → next ≡ nextSink s xs ys ts ps → out′ ≡ sets out 0 all → (n : ℕ) → n ≡ length all
         → AppendOwed s width height xs ys ts ps out (record { sink = next; answer = Written n }) out′
     ends-written next out′ e h q o n m =
-        let all = sends s width height xs ys ts ps in
-        let fits : leb (length all) (length out) ≡ true = le-leb (length all) (length out) h in
-        let a : Written n ≡ appendAnswer s width height xs ys ts ps (length out) = sym (sym (answer-is (length out)) ∙ ap (ended (length out)) e ∙ rw (fits, ← m)) in
-        let yes : accepts s width height xs ys ts ps (length out) ≡ true = ap (λ (t : Told). eqb (t .number) 0) (sym (ap toldAppend a ∙ answer-told (length out))) in
-        record {
-          is-told = ap toldAppend a ∙ answer-told (length out);
-          is-answer = a;
-          is-sink = q ∙ rw yes;
-          is-output = o ∙ sets-eq all out 0 (omega arith) ∙ rw (yes, zero-add);
-        }
+        rw (outcome-given (length out) (check-given judged e) h, m)
+        (record { is-told = refl; is-answer = refl; is-sink = q; is-output = o ∙ sets-eq all out 0 (omega arith) ∙ rw zero-add })
 
 -- ---- the functions on the way
+
+-- the writer after events that leave the encoder in `state`
+abbrev pub sinkWith : RawEventSink → EncoderState → List ℕ → List ℤ → RawEventSink
+sinkWith s state xs ts = record {
+  version = s .version;
+  «header_written» = s .«header_written» || some xs;
+  «n_events» = s .«n_events» + length xs;
+  «last_t» = lastAfter (s .«last_t») ts;
+  state = state;
+}
 
 pub some-is : {A : Type 0} (l : List A) → ltb 0 (length l) ≡ some l
 some-is [] = refl
@@ -158,7 +139,8 @@ some-is (a ∷ l) = lt-ltb 0 (suc (length l)) (omega arith)
 
 -- events that rule 7 lets pass can be written
 pub fitting-of : (e : Encoding) (xs ys : List ℕ) (ts : List ℤ) (ps : List ℕ) → eventsInRange e xs ys ts ps ≡ true → Fitting e xs ys ts ps
-fitting-of Evt2 xs ys ts ps h = λ i. let f = event-fine Evt2 xs ys ts ps h i in record { fit-x = f .fine-x; fit-y = f .fine-y; fit-t = f .fine-t; fit-p = f .fine-p }
+fitting-of Evt2 xs ys ts ps h =
+    λ i. let f = event-fine Evt2 xs ys ts ps h i in record { fit-x = f .fine-x; fit-y = f .fine-y; fit-t = f .fine-t; fit-p = f .fine-p }
 fitting-of Evt3 xs ys ts ps h = tt
 
 pub due-few : (b : Bool) (e : Encoding) (w h : ℕ) → w < 2 ^ 64 → h < 2 ^ 64 → length (cond b (headerText e w h) []) ≤ 96
@@ -182,7 +164,8 @@ module _ (s : RawEventSink) (width height : ℕ) (xs ys : List ℕ) (ts : List �
       rw (← d) (q ∙ rw n, both .1)
 
   -- after the header the words have room where all has
-  pub room-words : (out o : List ℕ) {due : Bool} {at : ℕ} → due ≡ headerDue s xs → at ≡ length (cond due (headerText (s .version) width height) []) → length o ≡ length out
+  pub room-words : (out o : List ℕ) {due : Bool} {at : ℕ} → due ≡ headerDue s xs → at ≡ length (cond due (headerText (s .version) width height) [])
+      → length o ≡ length out
       → Roomy out 0 (length (sends s width height xs ys ts ps)) → Roomy o at (length (wordBytes s xs ys ts ps))
   room-words out o {due} {at} d a n r =
       let h = cond due (headerText (s .version) width height) [] in
@@ -192,7 +175,13 @@ module _ (s : RawEventSink) (width height : ℕ) (xs ys : List ℕ) (ts : List �
   sends-few z lw lh =
       let h = headerBytes s width height xs ys ts ps in
       let w = wordBytes s xs ys ts ps in
-      omega (arith, length-append h w, due-few (headerDue s xs) (s .version) width height lw lh, encode-few (s .version) (s .state) (eventsIn xs ys ts ps), events-length xs ys ts ps z 0)
+      omega (
+        arith,
+        length-append h w,
+        due-few (headerDue s xs) (s .version) width height lw lh,
+        encode-few (s .version) (s .state) (eventsIn xs ys ts ps),
+        events-length xs ys ts ps z 0,
+      )
 
 -- what is missing, or 0
 pub short-fits : (n room : ℕ) → n ≤ room → 0 ≡ cond (leb n room) 0 n

@@ -1,37 +1,33 @@
 -- What holds of appends: the empty one, and that the writer stays in range.
 use mathlib.Core.Path.{_≡_, refl, sym, ap, _∙_}
-use mathlib.Core.Bool.{Bool, true, false, cond, _&&_, _||_, true≢false}
+use mathlib.Core.Bool.{Bool, true, false, cond, _&&_, _||_}
 use mathlib.Core.List.{List, [], _∷_}
-use Prim.Native.Nat.{ℕ, _+_, _/_, _%_, _^_, _≤_, _<_}
+use Prim.Native.Nat.{ℕ, _+_, _/_, _%_, _^_, _≤_}
 use native.Mathlib.Omega.{arith}
 use native.Mathlib.Nat.{add-zero}
-use lib.Dec.{eqb, ltb, leb}
+use lib.Dec.{leb}
 use lib.ListN.{length, drop}
-use lib.IntN.{ℤ, pos}
-use borrow.Author.Tests.{eq-eqb, le-leb, eqb-true}
+use lib.IntN.{ℤ}
+use borrow.Author.Tests.{eq-eqb, le-leb}
 use Rattle.laws_stream.specs.Machine.{run, and-both}
 use Rattle.evt_types.specs.Event.{Event}
-use Rattle.evt_types.specs.Told.{Told, accepted}
+use Rattle.evt_types.specs.Outcome.{give}
 use Rattle.evt_types.specs.declared.Encoding.{Encoding}
 use Rattle.evt_types.specs.declared.Encoding.the-variants.{Evt2, Evt3}
-use Rattle.evt_types.specs.declared.Sent.{Sent}
-use Rattle.evt_types.specs.declared.Sent.the-variants.{Nothing, Value}
+use Rattle.evt_types.specs.declared.Sent.the-variants.{Value}
 use Rattle.write_buffer.specs.declared.EncoderState.{EncoderState}
-use Rattle.write_buffer.specs.Columns.{event, eventsIn, Sized}
+use Rattle.write_buffer.specs.Columns.{event, eventsIn}
 use Rattle.evt_types.specs.Num.{natural}
 use Rattle.write_words.specs.Encode.{encodeState, encodeBytes}
 use Rattle.evt2_encoder.specs.Evt2.{writer2}
 use Rattle.evt3_run_rules.specs.Runs.{Run, goes, goes-true, firstOf, single, prepend, glue, runs, runAt, runs-at, follow}
 use Rattle.evt3_lead_words.specs.Evt3.{writer3}
-use Rattle.write_rules.specs.declared.Check.{Check}
-use Rattle.write_rules.specs.declared.Check.the-variants.{Passed, Failed}
 use Rattle.write_rules.specs.declared.LastTime.{LastTime}
 use Rattle.write_rules.specs.declared.LastTime.the-variants.{Never, At}
 use Rattle.write_rules.specs.declared.RawEventSink.{RawEventSink}
-use Rattle.write_rules.specs.Range.{timeInRange, every, atMost, eventsInRange, falls, fallsAfter, isNothing, belongs, sentAtMost, sentInRange, lastInRange, sinkInRange}
-use Rattle.write_append.specs.Append.{lastAfter, nextSink, sends, appendVerdict, accepts, handedOver, sinkAfter}
-use Rattle.write_rules.specs.Rules.{checkOf}
-use Rattle.write_append.specs.Ends.{accepts-checked}
+use Rattle.write_rules.specs.Range.{timeInRange, every, atMost, falls, fallsAfter, isNothing, belongs, lastInRange, sinkInRange}
+use Rattle.write_append.specs.Append.{lastAfter, nextSink, sends, appendOutcome, accepts, sinkAfter}
+use Rattle.write_append.specs.Ends.{accepts-checked, by-acceptance}
 use Rattle.write_rules.specs.Checks.{Checked, checked-of}
 
 -- ---- AN EMPTY APPEND is accepted by a writer in range, hands nothing over, and changes nothing: a header stays due
@@ -62,22 +58,18 @@ module _ (s : RawEventSink) (in-range : sinkInRange s ≡ true) (width height ro
   sends-none : sends s width height [] [] [] [] ≡ []
   sends-none = rw (and-none _, words-none (s .version) (s .state))
 
-  pub empty-verdict : appendVerdict s width height [] [] [] [] room ≡ accepted (0 ∷ [])
-  unfolding every
-  empty-verdict = rw (in-range, falls-none (s .«last_t»), sends-none, le-leb 0 room (omega arith))
-
-  pub empty-bytes : handedOver s width height [] [] [] [] room ≡ []
-  empty-bytes = go (accepts s width height [] [] [] [] room)
-    where
-      go : (b : Bool) → cond b (sends s width height [] [] [] []) [] ≡ []
-      go true = sends-none
-      go false = refl
-
-  pub empty-sink : sinkAfter s width height [] [] [] [] room ≡ s
-  unfolding lastAfter
-  empty-sink =
-      let yes : accepts s width height [] [] [] [] room ≡ true = ap (λ (t : Told). eqb (t .number) 0) empty-verdict in
-      rw (yes, or-none (s .«header_written»), add-zero (s .«n_events»), state-none (s .version) (s .state))
+  pub empty-append : appendOutcome s width height [] [] [] [] room ≡ give (record { bytes = []; sink = s })
+  unfolding appendOutcome every lastAfter
+  empty-append =
+      rw (
+        in-range,
+        falls-none (s .«last_t»),
+        sends-none,
+        le-leb 0 room (omega arith),
+        or-none (s .«header_written»),
+        add-zero (s .«n_events»),
+        state-none (s .version) (s .state),
+      )
 
 -- ---- THE RANGE IS KEPT, the bound on the count aside
 
@@ -104,7 +96,8 @@ run-last3 v e (f ∷ es) =
     ∙ glue-go (goes (e .t) (e .y) (e .p) (e .x) (firstOf r)) v v e r rs refl
     ∙ ap (run writer3 v) (sym (runs-at f es)) ∙ run-last3 v f es
 
-run-last2 : (v : EncoderState) (e : Event) (es : List Event) → run writer2 v (e ∷ es) ≡ record { «time_high» = Value (lastEvent e es .t / 64); «time_low» = v .«time_low»; y = v .y }
+run-last2 : (v : EncoderState) (e : Event) (es : List Event)
+    → run writer2 v (e ∷ es) ≡ record { «time_high» = Value (lastEvent e es .t / 64); «time_low» = v .«time_low»; y = v .y }
 run-last2 v e [] = refl
 run-last2 v e (f ∷ es) = run-last2 (record { «time_high» = Value (e .t / 64); «time_low» = v .«time_low»; y = v .y }) f es
 
@@ -116,11 +109,13 @@ pub record LastFine (e : Encoding) (l : Event) (last : LastTime) : Type 0 where
   pub same : natural time ≡ l .t
   pub row : leb (l .y) 2047 ≡ true
 
-last-fine : (e : Encoding) (k : LastTime) (x y : ℕ) (t : ℤ) (p : ℕ) (xs ys : List ℕ) (ts : List ℤ) (ps : List ℕ) → length ys ≡ length xs → length ts ≡ length xs → length ps ≡ length xs
+last-fine : (e : Encoding) (k : LastTime) (x y : ℕ) (t : ℤ) (p : ℕ) (xs ys : List ℕ) (ts : List ℤ) (ps : List ℕ) → length ys ≡ length xs
+    → length ts ≡ length xs → length ps ≡ length xs
     → every (atMost 2047) (y ∷ ys) ≡ true → every (timeInRange e) (t ∷ ts) ≡ true
     → LastFine e (lastEvent (event x y (natural t) p) (eventsIn xs ys ts ps)) (lastAfter k (t ∷ ts))
 unfolding every lastAfter
-last-fine e k x y t p [] ys [] ps ey et ep hy ht = record { time = t; is-last = refl; fine = and-both (timeInRange e t) _ ht .0; same = refl; row = and-both (atMost 2047 y) _ hy .0 }
+last-fine e k x y t p [] ys [] ps ey et ep hy ht =
+    record { time = t; is-last = refl; fine = and-both (timeInRange e t) _ ht .0; same = refl; row = and-both (atMost 2047 y) _ hy .0 }
 last-fine e k x y t p [] ys (t₂ ∷ ts) ps ey et ep hy ht = absurd (omega arith)
 last-fine e k x y t p (x₂ ∷ xs) [] ts ps ey et ep hy ht = absurd (omega arith)
 last-fine e k x y t p (x₂ ∷ xs) (y₂ ∷ ys) [] ps ey et ep hy ht = absurd (omega arith)
@@ -140,15 +135,26 @@ only-high v n (At t) h =
     let c = and-both (belongs (v .«time_high») (natural t / 64)) _ (b .1) in
     and-both (isNothing (v .«time_low»)) (isNothing (v .y)) (c .1)
 
-after-some : (e : Encoding) (v : EncoderState) (n m : ℕ) (k : LastTime) (f : Event) (es : List Event) (l : LastTime) → m ≤ 2 ^ 62 → lastInRange e v n k ≡ true → LastFine e (lastEvent f es) l
+after-some : (e : Encoding) (v : EncoderState) (n m : ℕ) (k : LastTime) (f : Event) (es : List Event) (l : LastTime) → m ≤ 2 ^ 62
+    → lastInRange e v n k ≡ true → LastFine e (lastEvent f es) l
     → lastInRange e (encodeState e v (f ∷ es)) m l ≡ true
 after-some Evt2 v n m k f es l h q r =
     let o = only-high v n k q in
     rw (r .is-last, run-last2 v f es, ← r .same, r .fine, le-leb m (2 ^ 62) h, eq-eqb (natural (r .time) / 64) (natural (r .time) / 64) refl, o .0, o .1)
 after-some Evt3 v n m k f es l h q r =
-    rw (r .is-last, run-last3 v f es, ← r .same, r .fine, le-leb m (2 ^ 62) h, eq-eqb (natural (r .time) / 4096) (natural (r .time) / 4096) refl, eq-eqb (natural (r .time) % 4096) (natural (r .time) % 4096) refl, r .row)
+    rw (
+      r .is-last,
+      run-last3 v f es,
+      ← r .same,
+      r .fine,
+      le-leb m (2 ^ 62) h,
+      eq-eqb (natural (r .time) / 4096) (natural (r .time) / 4096) refl,
+      eq-eqb (natural (r .time) % 4096) (natural (r .time) % 4096) refl,
+      r .row,
+    )
 
-kept-as : (s : RawEventSink) (xs ys : List ℕ) (ts : List ℤ) (ps : List ℕ) → Checked s xs ys ts ps → s .«n_events» + length xs ≤ 2 ^ 62 → sinkInRange (nextSink s xs ys ts ps) ≡ true
+kept-as : (s : RawEventSink) (xs ys : List ℕ) (ts : List ℤ) (ps : List ℕ) → Checked s xs ys ts ps → s .«n_events» + length xs ≤ 2 ^ 62
+    → sinkInRange (nextSink s xs ys ts ps) ≡ true
 unfolding lastAfter
 kept-as s [] ys [] ps c h = rw (state-none (s .version) (s .state), add-zero (s .«n_events»)) (c .in-range)
 kept-as s [] ys (t ∷ ts) ps c h = absurd (omega (arith, c .sized .same-t))
@@ -160,9 +166,14 @@ kept-as s (x ∷ xs) (y ∷ ys) (t ∷ ts) (p ∷ ps) c h =
     let a = and-both (every (atMost 2047) (x ∷ xs)) _ (c .events) in
     let b = and-both (every (atMost 2047) (y ∷ ys)) _ (a .1) in
     let d = and-both (every (atMost 1) (p ∷ ps)) (every (timeInRange (s .version)) (t ∷ ts)) (b .1) in
-    let r = last-fine (s .version) (s .«last_t») x y t p xs ys ts ps (omega (arith, z .same-y)) (omega (arith, z .same-t)) (omega (arith, z .same-p)) (b .0) (d .1) in
-    after-some (s .version) (s .state) (s .«n_events») (s .«n_events» + length (x ∷ xs)) (s .«last_t») (event x y (natural t) p) (eventsIn xs ys ts ps) _ h (c .in-range) r
+    let r = last-fine (s .version) (s .«last_t») x y t p xs ys ts ps
+    (omega (arith, z .same-y)) (omega (arith, z .same-t)) (omega (arith, z .same-p)) (b .0) (d .1) in
+    after-some (s .version) (s .state) (s .«n_events») (s .«n_events» + length (x ∷ xs)) (s .«last_t»)
+    (event x y (natural t) p) (eventsIn xs ys ts ps) _ h (c .in-range) r
 
-pub range-kept : (s : RawEventSink) (width height : ℕ) (xs ys : List ℕ) (ts : List ℤ) (ps : List ℕ) (room : ℕ) → accepts s width height xs ys ts ps room ≡ true
-    → s .«n_events» + length xs ≤ 2 ^ 62 → sinkInRange (sinkAfter s width height xs ys ts ps room) ≡ true
-range-kept s width height xs ys ts ps room q h = rw q (kept-as s xs ys ts ps (checked-of s xs ys ts ps (accepts-checked s width height xs ys ts ps room q .0)) h)
+pub range-kept : (s : RawEventSink) (width height : ℕ) (xs ys : List ℕ) (ts : List ℤ) (ps : List ℕ) (room : ℕ)
+    → let o = appendOutcome s width height xs ys ts ps room in
+    accepts o ≡ true → s .«n_events» + length xs ≤ 2 ^ 62 → sinkInRange (sinkAfter s o) ≡ true
+range-kept s width height xs ys ts ps room q h =
+    rw (by-acceptance s width height xs ys ts ps room .0, q)
+    (kept-as s xs ys ts ps (checked-of s xs ys ts ps (accepts-checked s width height xs ys ts ps room q .0)) h)

@@ -3,6 +3,7 @@
 // is judged by stands in `write_rules`, the header in `write_header`, the words in `write_words`.
 ghost use mathlib.Core.Path.{_≡_};
 ghost use mathlib.Core.Bool.{cond, _||_};
+ghost use Prim.Native.Nat.{_+_, _^_, _<_};
 ghost use lib.Dec.{leb};
 ghost use lib.ListN.{length};
 ghost use lib.Seq.{sets};
@@ -10,8 +11,9 @@ ghost use Rattle.write_buffer.specs.Columns.{Sized, Whole};
 ghost use Rattle.write_buffer.specs.Storing.{Roomy};
 ghost use Rattle.write_words.specs.Encode.{Fitting};
 ghost use Rattle.write_append.specs.Append.{headerDue, some, lastAfter, sends, AppendOwed};
-ghost use Rattle.write_append.specs.Ends.{wrote};
+ghost use Rattle.write_append.specs.Ends.{sinkWith, wrote};
 use evt_types::Refusal;
+use write_buffer::EncoderState;
 use write_buffer::Put;
 use write_rules::Check;
 pub use write_rules::LastTime;
@@ -54,6 +56,25 @@ fn last_after(last: LastTime, ts: &[i64]) -> LastTime
 {
     let n = ts.len();
     if 0 < n { LastTime::At(ts[n - 1]) } else { last }
+}
+
+// The sink after events are written, which leave the encoder in `state`.
+fn next_sink(sink: RawEventSink, state: EncoderState, xs: &[u16], ts: &[i64]) -> RawEventSink
+    requires { ⌜ sink .«n_events» + length (now xs) < 2 ^ 64 ⌝ }
+    ensures { λ r. ⌜ r ≡ sinkWith sink state (now (xs .entry)) (now (ts .entry)) ⌝ }
+{
+    let version = sink.version;
+    let header_written = header_after(sink, xs);
+    let n_events = sink.n_events + xs.len();
+    let last = sink.last_t;
+    let last_t = last_after(last, ts);
+    RawEventSink {
+        version,
+        header_written,
+        n_events,
+        last_t,
+        state,
+    }
 }
 
 // The header, where it is due, and the words, from the front of `out`, where all has room or there
@@ -132,19 +153,8 @@ pub fn append(
             let need = shortfall(sink, width, height, xs, ys, ts, ps, output.len());
             if need == 0 {
                 let put = write(sink, width, height, xs, ys, ts, ps, &mut *output);
-                let version = sink.version;
-                let header_written = header_after(sink, xs);
-                let n_events = sink.n_events + xs.len();
-                let last = sink.last_t;
-                let kept = last_after(last, ts);
                 let state = put.state;
-                let next = RawEventSink {
-                    version,
-                    header_written,
-                    n_events,
-                    last_t: kept,
-                    state,
-                };
+                let next = next_sink(sink, state, xs, ts);
                 Appended {
                     sink: next,
                     answer: AppendAnswer::Written(put.at),

@@ -1,6 +1,6 @@
 -- What the loops of a check keep, and what a check that is passed says.
 use mathlib.Core.Path.{_≡_, refl, sym, ap, _∙_}
-use mathlib.Core.Bool.{Bool, true, false, cond, _&&_, _||_, true≢false}
+use mathlib.Core.Bool.{Bool, true, false, _&&_, _||_, true≢false, and-true, and-assoc}
 use mathlib.Core.List.{List, [], _∷_}
 use Prim.Native.Nat.{ℕ, zero, suc, _+_, _-_, _^_, _≤_, _<_}
 use native.Mathlib.Omega.{arith}
@@ -17,7 +17,7 @@ use Rattle.laws_stream.specs.Machine.{and-both}
 use Rattle.evt_types.specs.declared.Encoding.{Encoding}
 use Rattle.evt_types.specs.declared.Encoding.the-variants.{Evt2, Evt3}
 use Rattle.evt_types.specs.declared.Refusal.{Refusal}
-use Rattle.evt_types.specs.declared.Refusal.the-variants.{TooLong, TimeOrder, EventOutOfRange, StateOutOfRange, ColumnLengths}
+use Rattle.evt_types.specs.Outcome.{Outcome, refuse, give, given-if, given-unless, given-then}
 use Rattle.write_buffer.specs.declared.EncoderState.{EncoderState}
 use Rattle.write_buffer.specs.Columns.{Sized, Whole}
 use Rattle.write_buffer.specs.Every.{everyFrom, Gathered, gathered-iteration, gathered-end}
@@ -28,7 +28,7 @@ use Rattle.write_rules.specs.declared.LastTime.{LastTime}
 use Rattle.write_rules.specs.declared.LastTime.the-variants.{Never, At}
 use Rattle.write_rules.specs.declared.RawEventSink.{RawEventSink}
 use Rattle.write_rules.specs.Range.{timeBound, timeInRange, every, atMost, eventsInRange, falls, fallsAfter, sameLengths, isNothing, sentInRange, lastInRange, sinkInRange}
-use Rattle.write_rules.specs.Rules.{lengthsOf, checkOf}
+use Rattle.write_rules.specs.Rules.{lengthsOutcome, checkOutcome, checkOf}
 
 pub or-neither : (a b : Bool) → (a || b) ≡ false → (a ≡ false) × (b ≡ false)
 or-neither true b h = absurd (true≢false h)
@@ -173,28 +173,30 @@ event-fine e xs ys ts ps h i =
       fine-t = ltb-true (natural t) (timeBound e) (d .1);
     }
 
+-- ---- what a check says of its outcome
+
+pub check-given : (o : Outcome Unit) → checkOf o ≡ Passed → o ≡ give tt
+check-given (refuse r) e = let no : _≡_ {A = ℕ} 0 1 = cc in absurd (omega arith)
+check-given (give u) e = refl
+
+pub check-refused : (o : Outcome Unit) (r : Refusal) → checkOf o ≡ Failed r → o ≡ refuse r
+check-refused (refuse q) r e = cc
+check-refused (give u) r e = let no : _≡_ {A = ℕ} 0 1 = cc in absurd (omega arith)
+
 -- ---- what the check of the lengths says
 
-module _ (xs ys : List ℕ) (ts : List ℤ) (ps : List ℕ) (c : Check) (is : c ≡ lengthsOf (length xs) (length ys) (length ts) (length ps)) where
+abbrev lengths : (xs ys : List ℕ) (ts : List ℤ) (ps : List ℕ) → Outcome Unit
+lengths xs ys ts ps = lengthsOutcome (length xs) (length ys) (length ts) (length ps)
+
+module _ (xs ys : List ℕ) (ts : List ℤ) (ps : List ℕ) (c : Check) (is : c ≡ checkOf (lengths xs ys ts ps)) where
   pub lengths-passed : c ≡ Passed → (sameLengths (length xs) (length ys) (length ts) (length ps) ≡ true) × (leb (length xs) (2 ^ 28) ≡ true)
-  lengths-passed h = go (sameLengths (length xs) (length ys) (length ts) (length ps)) (leb (length xs) (2 ^ 28)) (sym is ∙ h)
-    where
-      go : (a b : Bool) → cond a (cond b Passed (Failed TooLong)) (Failed ColumnLengths) ≡ Passed → (a ≡ true) × (b ≡ true)
-      go true true e = (refl, refl)
-      go true false e = absurd (let z : _≡_ {A = ℕ} 0 1 = cc in omega arith)
-      go false b e = absurd (let z : _≡_ {A = ℕ} 0 1 = cc in omega arith)
+  lengths-passed h =
+      let a = given-if tt (sameLengths (length xs) (length ys) (length ts) (length ps)) _ _ (check-given (lengths xs ys ts ps) (sym is ∙ h)) in
+      (a .0, given-if tt (leb (length xs) (2 ^ 28)) _ _ (a .1) .0)
 
   -- what they refuse is refused
-  pub lengths-failed : (s : RawEventSink) → sinkInRange s ≡ true → (why : Refusal) → c ≡ Failed why → c ≡ checkOf s xs ys ts ps
-  lengths-failed s r why h = rw r (go (sameLengths (length xs) (length ys) (length ts) (length ps)) (leb (length xs) (2 ^ 28)) is)
-    where
-      more : Check
-      more = cond (fallsAfter (s .«last_t») ts) (Failed TimeOrder) (cond (eventsInRange (s .version) xs ys ts ps) Passed (Failed EventOutOfRange))
-
-      go : (a b : Bool) → c ≡ cond a (cond b Passed (Failed TooLong)) (Failed ColumnLengths) → c ≡ cond a (cond b more (Failed TooLong)) (Failed ColumnLengths)
-      go true true e = absurd (let z : _≡_ {A = ℕ} 0 1 = cc in omega arith)
-      go true false e = e
-      go false b e = e
+  pub lengths-failed : (s : RawEventSink) → sinkInRange s ≡ true → (why : Refusal) → c ≡ Failed why → c ≡ checkOf (checkOutcome s xs ys ts ps)
+  lengths-failed s r why h = h ∙ rw (r, check-refused (lengths xs ys ts ps) why (sym is ∙ h))
 
 -- ---- what a check that is passed says
 
@@ -224,26 +226,22 @@ pub record Checked (s : RawEventSink) (xs ys : List ℕ) (ts : List ℤ) (ps : L
   pub rising : fallsAfter (s .«last_t») ts ≡ false
   pub events : eventsInRange (s .version) xs ys ts ps ≡ true
 
-checked-as : (a b c d e : Bool) (s : RawEventSink) (xs ys : List ℕ) (ts : List ℤ) (ps : List ℕ)
-    → sinkInRange s ≡ a → sameLengths (length xs) (length ys) (length ts) (length ps) ≡ b → leb (length xs) (2 ^ 28) ≡ c → fallsAfter (s .«last_t») ts ≡ d → eventsInRange (s .version) xs ys ts ps ≡ e
-    → cond a (cond b (cond c (cond d (Failed TimeOrder) (cond e Passed (Failed EventOutOfRange))) (Failed TooLong)) (Failed ColumnLengths)) (Failed StateOutOfRange) ≡ Passed → Checked s xs ys ts ps
-checked-as true true true false true s xs ys ts ps ha hb hc hd he q = record {
-  in-range = ha;
-  count = count-as (s .version) (s .state) (s .«n_events») (s .«last_t») ha;
-  sized = sized-of xs ys ts ps hb (leb-true (length xs) (2 ^ 28) hc);
-  whole = λ i. event-fine (s .version) xs ys ts ps he i .whole;
-  rising = hd;
-  events = he;
-}
-checked-as true true true false false s xs ys ts ps ha hb hc hd he q = absurd (let z : _≡_ {A = ℕ} 0 1 = cc in omega arith)
-checked-as true true true true e s xs ys ts ps ha hb hc hd he q = absurd (let z : _≡_ {A = ℕ} 0 1 = cc in omega arith)
-checked-as true true false d e s xs ys ts ps ha hb hc hd he q = absurd (let z : _≡_ {A = ℕ} 0 1 = cc in omega arith)
-checked-as true false c d e s xs ys ts ps ha hb hc hd he q = absurd (let z : _≡_ {A = ℕ} 0 1 = cc in omega arith)
-checked-as false b c d e s xs ys ts ps ha hb hc hd he q = absurd (let z : _≡_ {A = ℕ} 0 1 = cc in omega arith)
-
-pub checked-of : (s : RawEventSink) (xs ys : List ℕ) (ts : List ℤ) (ps : List ℕ) → checkOf s xs ys ts ps ≡ Passed → Checked s xs ys ts ps
-checked-of s xs ys ts ps =
-    checked-as (sinkInRange s) (sameLengths (length xs) (length ys) (length ts) (length ps)) (leb (length xs) (2 ^ 28)) (fallsAfter (s .«last_t») ts) (eventsInRange (s .version) xs ys ts ps) s xs ys ts ps refl refl refl refl refl
+pub checked-of : (s : RawEventSink) (xs ys : List ℕ) (ts : List ℤ) (ps : List ℕ) → checkOutcome s xs ys ts ps ≡ give tt → Checked s xs ys ts ps
+checked-of s xs ys ts ps h =
+    let a = given-if tt (sinkInRange s) _ _ h in
+    let b = given-then tt (lengths xs ys ts ps) _ (a .1) .1 in
+    let l = given-if tt (sameLengths (length xs) (length ys) (length ts) (length ps)) _ _ (b .0) in
+    let f = given-if tt (leb (length xs) (2 ^ 28)) _ _ (l .1) in
+    let c = given-unless tt (fallsAfter (s .«last_t») ts) _ _ (b .1) in
+    let e = given-if tt (eventsInRange (s .version) xs ys ts ps) _ _ (c .1) in
+    record {
+      in-range = a .0;
+      count = count-as (s .version) (s .state) (s .«n_events») (s .«last_t») (a .0);
+      sized = sized-of xs ys ts ps (l .0) (leb-true (length xs) (2 ^ 28) (f .0));
+      whole = λ i. event-fine (s .version) xs ys ts ps (e .0) i .whole;
+      rising = c .0;
+      events = e .0;
+    }
 
 -- ---- a time, by its sign
 

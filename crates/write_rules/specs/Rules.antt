@@ -7,6 +7,7 @@ use lib.ListN.{length}
 use lib.IntN.{ℤ}
 use Rattle.evt_types.specs.declared.Encoding.{Encoding}
 use Rattle.evt_types.specs.declared.Refusal.the-variants.{TooLong, TimeOrder, EventOutOfRange, StateOutOfRange, ColumnLengths}
+use Rattle.evt_types.specs.Outcome.{Outcome, refuse, give, onOutcome}
 use Rattle.write_buffer.specs.Sent.{freshState}
 use Rattle.write_rules.specs.declared.Check.{Check}
 use Rattle.write_rules.specs.declared.Check.the-variants.{Passed, Failed}
@@ -17,23 +18,20 @@ use Rattle.write_rules.specs.Range.{eventsInRange, fallsAfter, sameLengt
 abbrev pub freshSink : Encoding → (header : Bool) → RawEventSink
 freshSink e header = record { version = e; «header_written» = not header; «n_events» = 0; «last_t» = Never; state = freshState }
 
--- of columns of these lengths: the first of the rules 12 and 4 that applies, or none
-abbrev pub byLengths : (x y t p : ℕ) → {A : Type 0} → (is12 is4 passed : A) → A
-byLengths x y t p is12 is4 passed = cond (sameLengths x y t p) (cond (leb x (2 ^ 28)) passed is4) is12
+-- columns of these lengths: 12 where they differ, 4 over 2 ^ 28 events
+abbrev pub lengthsOutcome : (x y t p : ℕ) → Outcome Unit
+lengthsOutcome x y t p = cond (sameLengths x y t p) (cond (leb x (2 ^ 28)) (give tt) (refuse TooLong)) (refuse ColumnLengths)
 
-abbrev pub lengthsOf : (x y t p : ℕ) → Check
-lengthsOf x y t p = byLengths x y t p (Failed ColumnLengths) (Failed TooLong) Passed
+-- what the writer and the columns ask for, the output aside: 10, 12, 4, 6, 7
+abbrev pub checkOutcome : RawEventSink → (xs ys : List ℕ) (ts : List ℤ) (ps : List ℕ) → Outcome Unit
+checkOutcome s xs ys ts ps =
+    cond (sinkInRange s)
+    (onOutcome refuse (λ u.
+    cond (fallsAfter (s .«last_t») ts) (refuse TimeOrder)
+    (cond (eventsInRange (s .version) xs ys ts ps) (give tt) (refuse EventOutOfRange)))
+    (lengthsOutcome (length xs) (length ys) (length ts) (length ps)))
+    (refuse StateOutOfRange)
 
-module _ (s : RawEventSink) (xs ys : List ℕ) (ts : List ℤ) (ps : List ℕ) where
-  -- the first of the rules 10, 12, 4, 6 and 7 that applies, or none
-  abbrev pub byRules : {A : Type 0} → (is10 is12 is4 is6 is7 passed : A) → A
-  byRules is10 is12 is4 is6 is7 passed =
-      cond (sinkInRange s)
-      (byLengths (length xs) (length ys) (length ts) (length ps) is12 is4
-      (cond (fallsAfter (s .«last_t») ts) is6
-      (cond (eventsInRange (s .version) xs ys ts ps) passed is7)))
-      is10
-
-module _ (s : RawEventSink) (xs ys : List ℕ) (ts : List ℤ) (ps : List ℕ) where
-  abbrev pub checkOf : Check
-  checkOf = byRules s xs ys ts ps (Failed StateOutOfRange) (Failed ColumnLengths) (Failed TooLong) (Failed TimeOrder) (Failed EventOutOfRange) Passed
+-- as the code has it
+abbrev pub checkOf : Outcome Unit → Check
+checkOf = onOutcome Failed (λ u. Passed)

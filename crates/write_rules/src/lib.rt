@@ -3,7 +3,7 @@
 // first rule that applies. specs/Range.antt says what each asks for, specs/Rules.antt their order.
 ghost use mathlib.Core.Path.{_≡_};
 ghost use Rattle.write_rules.specs.Range.{sinkInRange};
-ghost use Rattle.write_rules.specs.Rules.{freshSink, lengthsOf, checkOf};
+ghost use Rattle.write_rules.specs.Rules.{freshSink, lengthsOutcome, checkOutcome, checkOf};
 use evt_types::Encoding;
 use evt_types::Refusal;
 use evt_types::Sent;
@@ -62,7 +62,7 @@ fn in_range(sink: RawEventSink) -> bool
 
 // Rules 12 and 4, by the columns' lengths.
 pub fn check_lengths(x: usize, y: usize, t: usize, p: usize) -> Check
-    ensures { λ r. ⌜ r ≡ lengthsOf x y t p ⌝ }
+    ensures { λ r. ⌜ r ≡ checkOf (lengthsOutcome x y t p) ⌝ }
 {
     if columns::same_lengths(x, y, t, p) {} else {
         return Check::Failed(Refusal::ColumnLengths);
@@ -76,7 +76,7 @@ pub fn check_lengths(x: usize, y: usize, t: usize, p: usize) -> Check
 
 // Rules 10, 12, 4, 6 and 7.
 pub fn check_append(sink: RawEventSink, xs: &[u16], ys: &[u16], ts: &[i64], ps: &[u8]) -> Check
-    ensures { λ r. ⌜ r ≡ checkOf sink (now (xs .entry)) (now (ys .entry)) (now (ts .entry)) (now (ps .entry)) ⌝ }
+    ensures { λ r. ⌜ r ≡ checkOf (checkOutcome sink (now (xs .entry)) (now (ys .entry)) (now (ts .entry)) (now (ps .entry))) ⌝ }
 {
     if in_range(sink) {} else {
         return Check::Failed(Refusal::StateOutOfRange);

@@ -1,4 +1,3 @@
--- `header::line_body` meets its contract.
 use mathlib.Core.Path.{_∙_, ap}
 use borrow.Author.Needs.{needs}
 use Rattle.header_text.specs.Text.{notPercent, from, trimOf}
@@ -6,13 +5,10 @@ use Rattle.header.specs.Lines.{bodyOf}
 use Rattle.header.proofs.line_body.Statement.{statement}
 use Rattle.header.proofs.line_body.Tie as tie
 
-returns : tie.Need-returns
-unfolding bodyOf
-returns c = c .trim2 .ensures ∙ ap trimOf (c .before .tail-from .ensures ∙ ap (from notPercent) (c .before .before .trim .ensures))
-
 pub line-body-spec : {M : Type 1} → statement M
+unfolding bodyOf
 line-body-spec =
     tie.close
     (tie.spec
     (λ c κs. search needs) (λ c κs. search needs) (λ c κs. search needs)
-    returns)
+    (λ c. c .trim2 .ensures ∙ ap trimOf (c .before .tail-from .ensures ∙ ap (from notPercent) (c .before .before .trim .ensures))))

@@ -1,5 +1,5 @@
--- `header::parse_header` meets its contract.
 use mathlib.Core.Path.{sym, _∙_}
+use mathlib.Core.Bool.{true, false}
 use borrow.Author.Needs.{needs}
 use lib.Seq.{length-take-le}
 use Rattle.evt_types.specs.declared.SensorSize.{SensorSize}
@@ -20,28 +20,28 @@ returns-2 c =
 
 returns-3 : tie.Need-returns-3
 returns-3 c =
-    laws.parsed _ _ _ (laws.answer-none _ _ (c .before .before .before .before .before .before .before .before .if1 .left) _
-    (c .before .before .before .before .before .before .before .scan-lines .ensures)
-    (sym (c .before .before .before .before .before .has .ensures) ∙ c .before .before .before .before .if2 .left)
+    let b = c .before .before .before .before in
+    let t = b .before .before .before in
+    laws.parsed _ _ _ (laws.answer-none _ _ (t .before .if1 .left) _ (t .scan-lines .ensures) (sym (b .before .has .ensures) ∙ b .if2 .left)
     (sym (c .before .before .name-encoding .ensures) ∙ c .enum-told .given .1))
 
 returns-4 : tie.Need-returns-4
 returns-4 c =
-    let b = c .before .before .before .before .before .before in
-    laws.parsed _ _ _ (laws.answer-zero _ _ (b .before .before .before .before .before .before .if1 .left) _
-    (b .before .before .before .before .before .scan-lines .ensures)
-    (sym (b .before .before .before .has .ensures) ∙ b .before .before .if2 .left) _
-    (sym (b .name-encoding .ensures) ∙ c .before .before .before .before .encoding .given .1) _
-    (c .before .before .size-that-holds .ensures) (sym (c .before .has-zero .ensures) ∙ c .if3 .taken))
+    let n = c .before .before .before .before in
+    let b = n .before .before in
+    let t = b .before .before .before .before .before in
+    laws.parsed _ _ _ (laws.answer-sized _ _ (t .before .if1 .left) _ (t .scan-lines .ensures)
+    (sym (b .before .before .before .has .ensures) ∙ b .before .before .if2 .left) _ (sym (b .name-encoding .ensures) ∙ n .encoding .given .1) _
+    (c .before .before .size-that-holds .ensures) true (sym (c .before .has-zero .ensures) ∙ c .if3 .taken))
 
 returns-5 : tie.Need-returns-5
 returns-5 c =
-    let b = c .before .before .before .before .before .before in
-    laws.parsed _ _ _ (laws.answer-header _ _ (b .before .before .before .before .before .before .if1 .left) _
-    (b .before .before .before .before .before .scan-lines .ensures)
-    (sym (b .before .before .before .has .ensures) ∙ b .before .before .if2 .left) _
-    (sym (b .name-encoding .ensures) ∙ c .before .before .before .before .encoding .given .1) _
-    (c .before .before .size-that-holds .ensures) (sym (c .before .has-zero .ensures) ∙ c .if3 .left))
+    let n = c .before .before .before .before in
+    let b = n .before .before in
+    let t = b .before .before .before .before .before in
+    laws.parsed _ _ _ (laws.answer-sized _ _ (t .before .if1 .left) _ (t .scan-lines .ensures)
+    (sym (b .before .before .before .has .ensures) ∙ b .before .before .if2 .left) _ (sym (b .name-encoding .ensures) ∙ n .encoding .given .1) _
+    (c .before .before .size-that-holds .ensures) false (sym (c .before .has-zero .ensures) ∙ c .if3 .left))
 
 pub parse-header-spec : {M : Type 1} → statement M
 parse-header-spec =

@@ -1,4 +1,3 @@
--- `header::scan_lines` meets its contract.
 use Prim.Native.Nat.{_-_, _≤_}
 use mathlib.Core.Path.{_≡_, sym}
 use native.Mathlib.Omega.{arith}
@@ -22,39 +21,32 @@ returns c = laws.scan-stop _ _ _ (c .before .before .before .loop .inv .1) (c .b
 
 slice-aggregate-read-line : tie.Need-slice-aggregate-read-line Inv-loop μ-loop
 slice-aggregate-read-line c =
-    sym (length-take-le _ _ (laws.line-at (c .before .before .before .before .before .before .before .before .args .s .now) _
-    (c .before .before .before .before .before .loop-test .taken) _
-    (tail-part _ _ (c .before .before .before .before .before .before .loop .inv .0)) _ (c .before .line-length .ensures) .within))
+    let t = c .before .before .before .before .before in
+    sym (length-take-le _ _ (laws.line-at (t .before .before .before .args .s .now) _ (t .loop-test .taken) _ (tail-part _ _ (t .before .loop .inv .0)) _
+    (c .before .line-length .ensures) .within))
 
 add-at : tie.Need-add-at Inv-loop μ-loop
 add-at c =
-    omega (
-      arith,
-      laws.line-at (c .before .before .before .before .before .before .before .before .before .args .s .now) _
-          (c .before .before .before .before .before .before .loop-test .taken) _
-          (tail-part _ _ (c .before .before .before .before .before .before .before .loop .inv .0)) _ (c .before .before .line-length .ensures),
-    )
+    let t = c .before .before .before .before .before .before in
+    let l = laws.line-at (t .before .before .before .args .s .now) _ (t .loop-test .taken) _ (tail-part _ _ (t .before .loop .inv .0)) _
+    (c .before .before .line-length .ensures) in
+    omega (arith, l)
 
 loop-less : tie.Need-loop-less Inv-loop μ-loop
 loop-less c =
-    omega (
-      arith,
-      laws.line-at (c .before .before .before .before .before .before .before .before .before .args .s .now) _
-          (c .before .before .before .before .before .before .loop-test .taken) _
-          (tail-part _ _ (c .before .before .before .before .before .before .before .loop .inv .0)) _ (c .before .before .line-length .ensures),
-    )
+    let t = c .before .before .before .before .before .before in
+    let l = laws.line-at (t .before .before .before .args .s .now) _ (t .loop-test .taken) _ (tail-part _ _ (t .before .loop .inv .0)) _
+    (c .before .before .line-length .ensures) in
+    omega (arith, l)
 
 loop-again : tie.Need-loop-again Inv-loop μ-loop
 loop-again c =
-    let inv = c .before .before .before .before .before .before .before .loop .inv in
-    let t = c .before .before .before .before .before .before .loop-test .taken in (
-      omega (
-        arith,
-        laws.line-at (c .before .before .before .before .before .before .before .before .before .args .s .now) _ t _
-            (tail-part _ _ (inv .0)) _ (c .before .before .line-length .ensures),
-      ),
-      laws.scan-next _ _ _ (inv .1) t _ (tail-part _ _ (inv .0)) _ (c .before .before .line-length .ensures) _
-          (c .before .before .before .before .if1 .left) (c .read-line .ensures),
+    let t = c .before .before .before .before .before .before in
+    let inv = t .before .loop .inv in
+    let rest = tail-part _ _ (inv .0) in
+    let line = c .before .before .line-length .ensures in (
+      omega (arith, laws.line-at (t .before .before .before .args .s .now) _ (t .loop-test .taken) _ rest _ line),
+      laws.scan-next _ _ _ (inv .1) (t .loop-test .taken) _ rest _ line _ (c .before .before .before .before .if1 .left) (c .read-line .ensures),
     )
 
 returns-2 : tie.Need-returns-2 Inv-loop μ-loop

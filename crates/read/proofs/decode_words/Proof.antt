@@ -12,16 +12,15 @@ returns c =
 
 read-body-requires : tie.Need-read-body-requires
 read-body-requires c κs =
-    let a = c .before .before .before .before .before .before .before .before .before .before .before .args in
-    fit-judged (length (a .words .now)) (a .size)
-    (sym (c .before .before .before .before .before .before .judge .ensures) ∙ c .before .before .before .before .enum-told .given .1) .0
+    let b = c .before .before .before .before in
+    let a = b .before .before .before .before .before .before .before .args in
+    fit-judged (length (a .words .now)) (a .size) (sym (b .before .before .judge .ensures) ∙ b .enum-told .given .1)
 
 returns-2 : tie.Need-returns-2
 returns-2 c =
     let b = c .before .before .before .before .before .before .before .before .before .before .before .before in
     let a = b .before .before .before .before .before .before .before .args in
-    let fit = fit-judged (length (a .words .now)) (a .size) (sym (b .before .before .judge .ensures) ∙ b .enum-told .given .1) in
-    words-read (a .words .now) (a .encoding) (a .size) (a .limit) (fit .0) (fit .1)
+    words-read (a .words .now) (a .encoding) (a .size) (a .limit) (sym (b .before .before .judge .ensures) ∙ b .enum-told .given .1)
     (c .before .before .before .before .before .before .before .read-body .ensures)
 
 pub decode-words-spec : {M : Type 1} → statement M

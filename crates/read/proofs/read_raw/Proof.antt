@@ -8,12 +8,14 @@ use borrow.Author.Needs.{needs}
 use Rattle.read.proofs.read_raw.Statement.{statement}
 use Rattle.read.proofs.read_raw.Tie as tie
 
+refusal-of-requires : tie.Need-refusal-of-requires
+refusal-of-requires c κs = rw (c .enum-told .given .1) tt
+
 returns : tie.Need-returns
 returns c =
     let a = c .before .before .before .before .before .before .before .before .args in
-    rw (c .refusal-of .ensures, c .before .enum-told .given .1) (raw-refused (a .recording .now) (a .options)
-    (c .before .before .before .parse-header .result) (c .before .before .before .parse-header .ensures .answer) _
-    (c .before .enum-told .given .1))
+    raw-refused (a .recording .now) (a .options) (c .before .before .before .parse-header .result)
+    (c .before .before .before .parse-header .ensures .answer) (c .refusal-of .result) (c .refusal-of .ensures)
 
 sub-body : tie.Need-sub-body
 sub-body c = omega (arith, (of-accepted _ _ _ (sym (c .before .before .before .parse-header .ensures .answer) ∙ c .before .answer .given .1)) .within)
@@ -42,7 +44,8 @@ pub read-raw-spec : {M : Type 1} → statement M
 read-raw-spec =
     tie.close
     (tie.spec
-    (λ c κs. search needs) (λ c. search needs) (λ c. search needs) (λ c κs. search needs)
+    (λ c κs. search needs) (λ c. search needs) (λ c. search needs)
+    refusal-of-requires
     returns
     sub-body
     part-body-start

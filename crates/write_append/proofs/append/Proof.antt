@@ -4,8 +4,8 @@ use denote.Ref.{now}
 use lib.ListN.{length}
 use Rattle.write_buffer.specs.declared.Put.{Put}
 use Rattle.write_append.specs.Append.{sends}
-use Rattle.write_append.specs.Ends.{ends-failed, ends-short, ends-written, short-cases, fitting-of}
-use Rattle.write_rules.specs.Checks.{checked-of}
+use Rattle.write_append.specs.Ends.{ends-failed, ends-short, ends-written, sinkWith, short-cases, fitting-of}
+use Rattle.write_rules.specs.Checks.{check-given, checked-of}
 use borrow.Author.Needs.{needs}
 use Rattle.write_append.proofs.append.Statement.{statement}
 use Rattle.write_append.proofs.append.Tie as tie
@@ -14,25 +14,25 @@ shortfall-requires : tie.Need-shortfall-requires
 shortfall-requires c κs =
     let a = c .before .before .before .before .before .before .before .args in
     let r = checked-of (a .sink) (now (a .xs)) (now (a .ys)) (now (a .ts)) (now (a .ps))
-    (sym (c .before .before .check-append .ensures) ∙ c .enum-told .given .1) in
+    (check-given _ (sym (c .before .before .check-append .ensures) ∙ c .enum-told .given .1)) in
     (r .sized, r .whole, fitting-of (a .sink .version) (now (a .xs)) (now (a .ys)) (now (a .ts)) (now (a .ps)) (r .events))
 
 write-requires : tie.Need-write-requires
 write-requires c κs =
     let a = c .before .before .before .before .before .before .before .before .before .before .args in
     let r = checked-of (a .sink) (now (a .xs)) (now (a .ys)) (now (a .ts)) (now (a .ps))
-    (sym (c .before .before .before .before .before .check-append .ensures) ∙ c .before .before .before .enum-told .given .1) in
+    (check-given _ (sym (c .before .before .before .before .before .check-append .ensures) ∙ c .before .before .before .enum-told .given .1)) in
     let all = sends (a .sink) (a .width) (a .height) (now (a .xs)) (now (a .ys)) (now (a .ts)) (now (a .ps)) in
     let fits = short-cases (length all) (length (now (a .output))) (c .before .before .shortfall .result)
     (c .before .before .shortfall .ensures) .0 (c .before .if1 .taken) in
     (r .sized, r .whole, (λ h. omega arith), fitting-of (a .sink .version) (now (a .xs)) (now (a .ys)) (now (a .ts)) (now (a .ps)) (r .events))
 
-add-n-events : tie.Need-add-n-events
-add-n-events c =
-    let a = c .before .before .before .before .before .before .before .before .before .before .before .before .before .before .before .args in
+next-sink-requires : tie.Need-next-sink-requires
+next-sink-requires c κs =
+    let b = c .before .before .before .before .before .before .before in
+    let a = b .before .before .before .before .before .before .before .args in
     let r = checked-of (a .sink) (now (a .xs)) (now (a .ys)) (now (a .ts)) (now (a .ps))
-    (sym (c .before .before .before .before .before .before .before .before .before .before .check-append .ensures)
-    ∙ c .before .before .before .before .before .before .before .before .enum-told .given .1) in
+    (check-given _ (sym (b .before .before .check-append .ensures) ∙ b .enum-told .given .1)) in
     omega arith
 
 returns : tie.Need-returns
@@ -43,7 +43,7 @@ returns c =
 
 returns-2 : tie.Need-returns-2
 returns-2 c =
-    let b = c .before .before .before .before .before .before in
+    let b = c .before .before .before .before in
     let a = b .before .before .before .before .before .before .before .before .before .before .before .args in
     let all = sends (a .sink) (a .width) (a .height) (now (a .xs)) (now (a .ys)) (now (a .ts)) (now (a .ps)) in
     let put = b .write .result in
@@ -52,8 +52,7 @@ returns-2 c =
     ends-written (a .sink) (a .width) (a .height) (now (a .xs)) (now (a .ys)) (now (a .ts)) (now (a .ps)) (now (a .output)) _ _
     (sym (b .before .before .before .before .before .before .check-append .ensures) ∙ b .before .before .before .before .enum-told .given .1)
     fits
-    (rw
-    (c .before .before .before .header-after .ensures, c .before .last-after .ensures, ap (λ (p : Put). p .state) (b .write .ensures .0)))
+    (c .next-sink .ensures ∙ ap (λ (p : Put). sinkWith (a .sink) (p .state) (now (a .xs)) (now (a .ts))) (b .write .ensures .0))
     (b .write .ensures .1) (put .at) (ap (λ (p : Put). p .at) (b .write .ensures .0))
 
 returns-3 : tie.Need-returns-3
@@ -72,9 +71,7 @@ append-spec =
     (λ c κs. search needs) (λ c. search needs) (λ c. search needs)
     shortfall-requires
     write-requires
-    (λ c κs. search needs)
-    add-n-events
-    (λ c κs. search needs)
+    next-sink-requires
     returns
     (λ c. search needs)
     returns-2

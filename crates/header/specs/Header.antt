@@ -105,6 +105,10 @@ abbrev pub toldHeader : HeaderAnswer → Told
 toldHeader (Header h) = accepted (h .«data_offset» ∷ encodingNumber (h .encoding) ∷ sizeValues (h .«sensor_size»))
 toldHeader (Refused r) = told r
 
+abbrev pub IsRefused : HeaderAnswer → Type 0
+IsRefused (Header h) = ⊥
+IsRefused (Refused r) = Unit
+
 -- 4 over 2^30 bytes, 3 a header byte from 128, 2 no known encoding, 1 a zero in the size that holds: the first of them that applies
 unfoldable pub headerVerdict : List ℕ → SensorSize → Told
 headerVerdict s given =

@@ -5,7 +5,7 @@
 // in here keep.
 ghost use mathlib.Core.Path.{_≡_};
 ghost use Rattle.header.specs.Lines.{bodyOf};
-ghost use Rattle.header.specs.Header.{sizeThatHolds, hasZero, Parsed};
+ghost use Rattle.header.specs.Header.{sizeThatHolds, hasZero, IsRefused, Parsed};
 ghost use Rattle.header.specs.Notes.{lineLength, versionOf, noteLine, scanOf, nameOf};
 use evt_types::Encoding;
 use evt_types::MOST_BYTES;
@@ -179,6 +179,17 @@ pub fn has_zero(size: SensorSize) -> bool
         return true;
     }
     h == 0
+}
+
+// The refusal of an answer that is one.
+pub fn refusal_of(answer: HeaderAnswer) -> Refusal
+    requires { ⌜ IsRefused answer ⌝ }
+    ensures { λ r. ⌜ answer ≡ HeaderAnswer.Refused r ⌝ }
+{
+    let HeaderAnswer::Refused(r) = answer else {
+        loop {}
+    };
+    r
 }
 
 // Reads the header of a recording; `size` is the caller's.

@@ -3,9 +3,8 @@ use mathlib.Core.Path.{refl}
 use contract.Running.{givenOf, tables, tablesOf}
 use denote.Triple.Spec.{tripleOf}
 use denote.Triple.Table.{entered, cited}
-use Rattle.index_build.specs.Build.{rawJob}
-use Rattle.index_build.specs.Index.{OpensRaw}
-use Rattle.index_build.specs.Stage.{allowed-raw, opens-raw}
+use Rattle.index_build.specs.Index.{rawOutcome}
+use Rattle.index_build.specs.Open.{accepted-raw}
 use Rattle.index_build.proofs.OpenOptions as P
 use Rattle.index_build.proofs.OpenOptions.Laws as P′
 use Rattle.index_build.proofs.prepare.Symbol as prepare-def
@@ -28,10 +27,8 @@ entry = record {
   last = λ s. tt;
   silent = λ s w. refl;
   prepare = #index_build·prepare;
-  job = rawJob;
-  allowed = allowed-raw;
-  Opens = OpensRaw;
-  opens = opens-raw;
+  outcome = rawOutcome;
+  accepted = accepted-raw;
 }
 
 pub open-spec : {M : Type 1} → stated.statement M

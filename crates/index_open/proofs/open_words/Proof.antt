@@ -3,9 +3,8 @@ use mathlib.Core.Path.{refl}
 use contract.Running.{givenOf, tables, tablesOf}
 use denote.Triple.Spec.{tripleOf}
 use denote.Triple.Table.{entered, cited}
-use Rattle.index_build.specs.Build.{wordsJob}
-use Rattle.index_build.specs.Index.{OpensWords}
-use Rattle.index_build.specs.Stage.{allowed-words, opens-words}
+use Rattle.index_build.specs.Index.{wordsOutcome}
+use Rattle.index_build.specs.Open.{accepted-words}
 use Rattle.index_build.proofs.WordsOptions as P
 use Rattle.index_build.proofs.WordsOptions.Laws as P′
 use Rattle.index_build.proofs.prepare_words.Symbol as prepare-def
@@ -28,10 +27,8 @@ entry = record {
   last = λ s. tt;
   silent = λ s w. refl;
   prepare = #index_build·prepare_words;
-  job = wordsJob;
-  allowed = allowed-words;
-  Opens = OpensWords;
-  opens = opens-words;
+  outcome = wordsOutcome;
+  accepted = accepted-words;
 }
 
 pub open-words-spec : {M : Type 1} → stated.statement M

@@ -74,7 +74,7 @@ module _ (l : List ℕ) (t : Builder) where
   stored n es₀ es vs is ten fits =
       let front : length (entriesTo l t n) ≡ n * 10 = length-to n in
       let long : length es ≡ n * 10 + (length es₀ - n * 10) =
-          ap length is ∙ length-append (entriesTo l t n) (drop (n * 10) es₀) ∙ (λ i. front i + length-drop (n * 10) es₀ i) in
+      ap length is ∙ length-append (entriesTo l t n) (drop (n * 10) es₀) ∙ (λ i. front i + length-drop (n * 10) es₀ i) in
       sets-eq vs es (n * 10) (omega (arith, long))
       ∙ (λ i. (take (n * 10) (is i) ++ vs) ++ drop (n * 10 + ten i) (is i))
       ∙ ap (λ (k : List ℕ). (k ++ vs) ++ drop (n * 10 + 10) (entriesTo l t n ++ drop (n * 10) es₀))

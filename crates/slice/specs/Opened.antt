@@ -132,9 +132,12 @@ module _ (o : Opening) (r : OpenAnswer) (records₀ records : List Checkpoint) (
           × OpenedAs recording (h .«data_offset») (h .encoding) (h .«sensor_size») (options .spacing) o records
       go (NoHeader q) p u = never o records₀ records q u
       go (Header k) p u =
-          let a = of-accepted recording (options .«sensor_size») k p in
-          (k, p, opened-body recording (k .«data_offset») (k .encoding) (k .«sensor_size») (options .spacing) o records₀ records (length records₀)
-          (a .within) (a .short) (a .positive) u)
+          let a = of-accepted recording (options .«sensor_size») k p in (
+            k,
+            p,
+            opened-body recording (k .«data_offset») (k .encoding) (k .«sensor_size») (options .spacing) o records₀ records (length records₀)
+                (a .within) (a .short) (a .positive) u,
+          )
 
 -- the other way: where no rule of the table applies, opening accepts
 pub words-opened : (words : List ℕ) (options : WordsOptions) (room : ℕ) → length words ≤ mostBytes → hasZero (options .«sensor_size») ≡ false

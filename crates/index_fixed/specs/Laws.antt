@@ -10,10 +10,10 @@ use lib.ListN.{length, take, drop, take-append-drop, length-append, replicate}
 use lib.Dec.{ltb}
 use lib.Seq.{length-take-le, take-all}
 use borrow.Author.Tests.{ltb-true, ltb-false}
-use Rattle.evt_types.specs.Told.{Told}
+use Rattle.evt_types.specs.Outcome.{Outcome}
 use Rattle.index_build.specs.declared.Checkpoint.{Checkpoint}
 use Rattle.index_build.specs.declared.OpenAnswer.{OpenAnswer}
-use Rattle.index_build.specs.Index.{Opens}
+use Rattle.index_build.specs.Index.{Body, Opens, openRecords}
 use Rattle.index_build.specs.declared.RawSliceSource.{RawSliceSource}
 use Rattle.slice_rules.specs.declared.SliceAnswer.{SliceAnswer}
 use Rattle.slice_rules.specs.Slice.{SlicesIndex, SlicesTime}
@@ -32,20 +32,21 @@ module _ {X : Type 0} where
   in-front : (made zs xs : List X) (k : ℕ) → length zs ≡ k → zs ≡ made ++ drop (length made) (take k xs) → zs ++ drop k xs ≡ made ++ drop (length made) xs
   in-front made zs xs k l e =
       ap (λ (ys : List X). ys ++ drop k xs) e ∙ append-assoc made (drop (length made) (take k xs)) (drop k xs)
-      ∙ ap (λ (ys : List X). made ++ ys) (drop-take (length made) k xs (fewer (length made) (length (drop (length made) (take k xs))) (length zs) k (ap length e ∙ length-append made (drop (length made) (take k xs))) l))
+      ∙ ap (λ (ys : List X). made ++ ys) (drop-take (length made) k xs
+      (fewer (length made) (length (drop (length made) (take k xs))) (length zs) k (ap length e ∙ length-append made (drop (length made) (take k xs))) l))
 
--- `verdict`, `answer` and `made` are told how many records there is room for
-pub opens-whole : (verdict : ℕ → Told) (answer : ℕ → OpenAnswer) (made : ℕ → List Checkpoint) (r : OpenAnswer) (xs zs : List Checkpoint) (k : ℕ) → k ≤ length xs → length zs ≡ k
-    → Opens (verdict (length (take k xs))) (answer (length (take k xs))) (made (length (take k xs))) r (take k xs) zs → Opens (verdict k) (answer k) (made k) r xs (zs ++ drop k xs)
-opens-whole verdict answer made r xs zs k le l o =
-    let o′ : Opens (verdict k) (answer k) (made k) r (take k xs) zs = subst (λ (m : ℕ). Opens (verdict m) (answer m) (made m) r (take k xs) zs) (length-take-le k xs le) o in
-    record { is-told = o′ .is-told; is-answer = o′ .is-answer; is-records = in-front (made k) zs xs k l (o′ .is-records) }
+-- `outcome` is told how many records there is room for
+pub opens-whole : (outcome : ℕ → Outcome Body) (r : OpenAnswer) (xs zs : List Checkpoint) (k : ℕ) → k ≤ length xs → length zs ≡ k
+    → Opens (outcome (length (take k xs))) r (take k xs) zs → Opens (outcome k) r xs (zs ++ drop k xs)
+opens-whole outcome r xs zs k le l o =
+    let o′ : Opens (outcome k) r (take k xs) zs = subst (λ (m : ℕ). Opens (outcome m) r (take k xs) zs) (length-take-le k xs le) o in
+    record { is-told = o′ .is-told; is-answer = o′ .is-answer; is-records = in-front (openRecords (outcome k)) zs xs k l (o′ .is-records) }
 
 -- the same opening, at an equal room and equal blank records
-pub opens-at : (verdict : ℕ → Told) (answer : ℕ → OpenAnswer) (made : ℕ → List Checkpoint) (r : OpenAnswer) (n : ℕ) (xs : List Checkpoint) (k k′ : ℕ) (b b′ : Checkpoint) → k ≡ k′ → b ≡ b′
-    → Opens (verdict k) (answer k) (made k) r (replicate n b) xs → Opens (verdict k′) (answer k′) (made k′) r (replicate n b′) xs
-opens-at verdict answer made r n xs k k′ b b′ e e′ o =
-    subst (λ (m : ℕ). Opens (verdict m) (answer m) (made m) r (replicate n b′) xs) e (subst (λ (c : Checkpoint). Opens (verdict k) (answer k) (made k) r (replicate n c) xs) e′ o)
+pub opens-at : (outcome : ℕ → Outcome Body) (r : OpenAnswer) (n : ℕ) (xs : List Checkpoint) {k k′ : ℕ} {b b′ : Checkpoint} → k ≡ k′ → b ≡ b′
+    → Opens (outcome k) r (replicate n b) xs → Opens (outcome k′) r (replicate n b′) xs
+opens-at outcome r n xs {k} {k′} {b} {b′} e e′ o =
+    subst (λ (m : ℕ). Opens (outcome m) r (replicate n b′) xs) e (subst (λ (c : Checkpoint). Opens (outcome k) r (replicate n c) xs) e′ o)
 
 -- as many as there are, at most, are taken
 pub take-clamped : {X : Type 0} (m n k : ℕ) (xs : List X) → length xs ≡ m → k ≡ min n m → take k xs ≡ take n xs

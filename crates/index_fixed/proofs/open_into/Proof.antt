@@ -45,7 +45,7 @@ use denote.Exit.{yes}
 use Rattle.index_build.specs.declared.Checkpoint.{Checkpoint}
 use Rattle.index_build.specs.declared.OpenAnswer.{OpenAnswer}
 use Rattle.index_build.specs.declared.OpenOptions.{OpenOptions}
-use Rattle.index_build.specs.Index.{Opens, OpensRaw, rawVerdict, rawAnswer, rawMade}
+use Rattle.index_build.specs.Index.{Opens, OpensRaw, rawOutcome}
 use Rattle.index_build.proofs.Checkpoint as T
 use Rattle.index_build.proofs.Checkpoint.Laws as T′
 use Rattle.index_build.proofs.OpenOptions as P
@@ -84,8 +84,8 @@ abbrev Says : List ℕ → OpenOptions → List Checkpoint → ℕ → OpenAnswe
 Says bs o xs k r zs = OpensRaw bs o r (take k xs) zs
 
 said : (bs : List ℕ) (o : OpenOptions) (xs : List Checkpoint) (k : ℕ) (r : OpenAnswer) (zs : List Checkpoint) → length xs ≡ 64 → k ≤ 64
-    → length zs ≡ k → Says bs o xs k r zs → Opens (rawVerdict bs o k) (rawAnswer bs o k) (rawMade bs o k) r xs (zs ++ rest k xs)
-said bs o xs k r zs len le l e = opens-whole (rawVerdict bs o) (rawAnswer bs o) (rawMade bs o) r xs zs k (subst (λ (m : ℕ). k ≤ m) (sym len) le) l e
+    → length zs ≡ k → Says bs o xs k r zs → Opens (rawOutcome bs o k) r xs (zs ++ rest k xs)
+said bs o xs k r zs len le l e = opens-whole (rawOutcome bs o) r xs zs k (subst (λ (m : ℕ). k ≤ m) (sym len) le) l e
 
 module _ {M : Type 1} (𝓤 : URA M) (H : Heap 𝓤) (A : Atoms 𝓤) (at-mem : Memory → SProp 𝓤) (run : Routine → Fun 𝓤) where
   abbrev Callee : Contract 𝓤

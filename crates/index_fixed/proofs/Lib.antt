@@ -1,3 +1,4 @@
 pub mod Front
 pub mod Held
 pub mod Opened
+pub mod OpenInto

@@ -53,9 +53,9 @@ use Rattle.index_build.specs.declared.OpenAnswer.{OpenAnswer}
 use Rattle.index_build.specs.declared.OpenAnswer.the-variants.{Refused}
 use Rattle.index_build.specs.declared.Prepared.{Prepared}
 use Rattle.index_build.specs.declared.Prepared.the-variants.{Refused as NotReady, Ready}
-use Rattle.index_build.specs.Index.{Body as OpenBody, Opens}
+use Rattle.index_build.specs.Index.{Body as OpenBody, Opens, rawOutcome, wordsOutcome}
 use Rattle.index_build.specs.Build.{Begun, preparedBy}
-use Rattle.index_build.specs.Open.{Accepted, IfGiven, Builds, builds, opens-refused, opens-built}
+use Rattle.index_build.specs.Open.{Accepted, accepted-raw, accepted-words, IfGiven, Builds, builds, opens-refused, opens-built}
 use Rattle.index_open.specs.Made.{Made}
 use Rattle.evt_types.proofs.Refusal as Q
 use Rattle.evt_types.proofs.Refusal.Laws as Q′
@@ -67,6 +67,12 @@ use Rattle.index_build.proofs.Prepared as R
 use Rattle.index_build.proofs.Prepared.Laws as R′
 use Rattle.index_build.proofs.OpenAnswer as E
 use Rattle.index_build.proofs.OpenAnswer.Laws as E′
+use Rattle.index_build.proofs.OpenOptions as P
+use Rattle.index_build.proofs.OpenOptions.Laws as P′
+use Rattle.index_build.proofs.WordsOptions as N
+use Rattle.index_build.proofs.WordsOptions.Laws as N′
+use Rattle.index_build.proofs.prepare.Symbol.{name as #index_build·prepare}
+use Rattle.index_build.proofs.prepare_words.Symbol.{name as #index_build·prepare_words}
 use Rattle.index_open.proofs.make as make
 use Rattle.index_open.proofs.make.Symbol.{name as #index_open·make}
 
@@ -82,6 +88,30 @@ pub record Entry : Type 2 where
   pub prepare : Name
   pub outcome : List ℕ → options .D → ℕ → Outcome OpenBody
   pub accepted : (l : List ℕ) (s : options .D) (room : ℕ) → IfGiven (Accepted l room) (outcome l s room)
+
+abbrev pub rawEntry : Entry
+rawEntry = record {
+  options = P.the-type;
+  laws = P′.the-laws;
+  plains = P′.the-plain;
+  last = λ s. tt;
+  silent = λ s w. refl;
+  prepare = #index_build·prepare;
+  outcome = rawOutcome;
+  accepted = accepted-raw;
+}
+
+abbrev pub wordsEntry : Entry
+wordsEntry = record {
+  options = N.the-type;
+  laws = N′.the-laws;
+  plains = N′.the-plain;
+  last = λ s. tt;
+  silent = λ s w. refl;
+  prepare = #index_build·prepare_words;
+  outcome = wordsOutcome;
+  accepted = accepted-words;
+}
 
 -- ---- the types of the locals, and machine values: those of `make` too
 abbrev pub word : Ty
@@ -112,14 +142,14 @@ module _ (𝓔 : Entry) where
   abbrev Options : Type 0
   Options = 𝓔 .options .D
 
-  abbrev machP : Options → Val
-  machP d = LL.val (𝓔 .options) (𝓔 .laws) d
+  abbrev machO : Options → Val
+  machO d = LL.val (𝓔 .options) (𝓔 .laws) d
 
-  abbrev mirP : Ty
-  mirP = lone (row (𝓔 .options) .mir)
+  abbrev mirO : Ty
+  mirO = lone (row (𝓔 .options) .mir)
 
-  abbrev IsP : Options → Type 0
-  IsP s = Is (row (𝓔 .options)) s (machP s ∷ [])
+  abbrev IsO : Options → Type 0
+  IsO s = Is (row (𝓔 .options)) s (machO s ∷ [])
 
   -- ---- the code
   abbrev refuses : Body
@@ -145,7 +175,7 @@ module _ (𝓔 : Entry) where
     lifetimes = 2;
     outlives = [];
     params = 3;
-    locals = local E′.mir valueLocal ∷ local bslice valueLocal ∷ local rslice valueLocal ∷ local mirP valueLocal ∷ local Q′.mir valueLocal
+    locals = local E′.mir valueLocal ∷ local bslice valueLocal ∷ local rslice valueLocal ∷ local mirO valueLocal ∷ local Q′.mir valueLocal
         ∷ local S′.mir valueLocal ∷ local R′.mir valueLocal ∷ local word valueLocal ∷ local E′.mir valueLocal ∷ local pointer valueLocal
         ∷ local (sliceTy pointer) valueLocal ∷ [];
     body =
@@ -225,7 +255,7 @@ module _ (𝓔 : Entry) where
     rval = sliceVal (xr .ptr) n
 
     abbrev bound : walkOf 𝓤 H A ended stayed (clauses 𝓤 H A) .Ghost
-    bound = (((κ, (κ′, tt)), (q, (q′, tt)), tt, (xb, (xr, (s, tt))), (bval ∷ [], (rval ∷ [], (machP s ∷ [], tt)))), tt)
+    bound = (((κ, (κ′, tt)), (q, (q′, tt)), tt, (xb, (xr, (s, tt))), (bval ∷ [], (rval ∷ [], (machO s ∷ [], tt)))), tt)
 
     abbrev Post : Val → SProp 𝓤
     Post = walkOf 𝓤 H A ended stayed (clauses 𝓤 H A) .post bound
@@ -256,9 +286,9 @@ module _ (𝓔 : Entry) where
         use1 W (‵ (finally T.the-row (xr .name) ys)) (res-finally 𝓤 H A W (named 1) κ′ T.the-row (xr .name) ys) $ keep ! (0 ∷ []) $ done !
 
     abbrev to-prep : Prepare 𝓤 H A .Ghost
-    to-prep = (((κ, tt), (q, tt), tt, (xb, (s, (n, tt))), (bval ∷ [], (machP s ∷ [], (vint w64 n ∷ [], tt)))), tt)
+    to-prep = (((κ, tt), (q, tt), tt, (xb, (s, (n, tt))), (bval ∷ [], (machO s ∷ [], (vint w64 n ∷ [], tt)))), tt)
 
-    goes-prep : IsP s → n < 2 ^ 64 → ent 𝓤 (sep 𝓤 (A .lft κ q) (sem 𝓤 H A OwnB)) (Prepare 𝓤 H A .pre to-prep)
+    goes-prep : IsO s → n < 2 ^ 64 → ent 𝓤 (sep 𝓤 (A .lft κ q) (sem 𝓤 H A OwnB)) (Prepare 𝓤 H A .pre to-prep)
     goes-prep gs fits = qed W (‵ (flft κ q) ∷ ‵ OwnB ∷ []) ∵ nothing ! $ move ! (1 ∷ 0 ∷ []) $ join ! $ move ! (1 ∷ 0 ∷ []) $
         nothing ! $ owned ! u64 (Is u64) (uint-makes 𝓤 H A W w64) n _ (refl, fits) $ fjoin ! $
         owned ! (row (𝓔 .options)) (Is (row (𝓔 .options))) (LL.makes (𝓔 .options) (𝓔 .plains) 𝓤 H A) s _ gs $ fjoin ! $
@@ -279,22 +309,22 @@ module _ (𝓔 : Entry) where
     module _ (𝓣 : Tables 𝓤 H) (known-make : Triple 𝓤 (𝓣 .C #index_open·make) (Make 𝓤 H A at-mem run)) (g : Room T.the-row n)
         (l₀ l₁ l₂ l₃ l₄ l₅ l₆ l₇ l₈ l₉ l₁₀ : ℕ) where
       abbrev En : Env 𝓤 H
-      En = (E′.mir, l₀) ∷ (bslice, l₁) ∷ (rslice, l₂) ∷ (mirP, l₃) ∷ (Q′.mir, l₄) ∷ (S′.mir, l₅) ∷ (R′.mir, l₆) ∷ (word, l₇) ∷ (E′.mir, l₈)
+      En = (E′.mir, l₀) ∷ (bslice, l₁) ∷ (rslice, l₂) ∷ (mirO, l₃) ∷ (Q′.mir, l₄) ∷ (S′.mir, l₅) ∷ (R′.mir, l₆) ∷ (word, l₇) ∷ (E′.mir, l₈)
           ∷ (pointer, l₉) ∷ (sliceTy pointer, l₁₀) ∷ []
 
       abbrev Dies : List (Item 𝓤)
-      Dies = ‵ (fdies E′.mir l₀) ∷ ‵ (fdies bslice l₁) ∷ ‵ (fdies rslice l₂) ∷ ‵ (fdies mirP l₃) ∷ ‵ (fdies Q′.mir l₄) ∷ ‵ (fdies S′.mir l₅)
+      Dies = ‵ (fdies E′.mir l₀) ∷ ‵ (fdies bslice l₁) ∷ ‵ (fdies rslice l₂) ∷ ‵ (fdies mirO l₃) ∷ ‵ (fdies Q′.mir l₄) ∷ ‵ (fdies S′.mir l₅)
           ∷ ‵ (fdies R′.mir l₆) ∷ ‵ (fdies word l₇) ∷ ‵ (fdies E′.mir l₈) ∷ ‵ (fdies pointer l₉) ∷ ‵ (fdies (sliceTy pointer) l₁₀) ∷ []
 
       -- before it
       abbrev Before : Prepared → List (Item 𝓤)
-      Before p = ‵ (froom E′.mir l₀ 0) ∷ ‵ (fat fullShare bslice l₁ 0 bval) ∷ ‵ (fat fullShare rslice l₂ 0 rval) ∷ ‵ (fat fullShare mirP l₃ 0 (machP s))
+      Before p = ‵ (froom E′.mir l₀ 0) ∷ ‵ (fat fullShare bslice l₁ 0 bval) ∷ ‵ (fat fullShare rslice l₂ 0 rval) ∷ ‵ (fat fullShare mirO l₃ 0 (machO s))
           ∷ ‵ (froom Q′.mir l₄ 0) ∷ ‵ (froom S′.mir l₅ 0) ∷ ‵ (fat fullShare R′.mir l₆ 0 (machR p)) ∷ ‵ (fat fullShare word l₇ 0 (vint w64 n))
           ∷ ‵ (froom E′.mir l₈ 0) ∷ ‵ (froom pointer l₉ 0) ∷ ‵ (froom (sliceTy pointer) l₁₀ 0) ∷ ‵ OwnB ∷ ‵ OwnR ∷ ‵ (flft κ q) ∷ ‵ (flft κ′ q′) ∷ Dies
 
       -- after it: the answer stands in its local, and the records hold zs
       abbrev After : OpenAnswer → List Checkpoint → List (Item 𝓤)
-      After r zs = ‵ (froom E′.mir l₀ 0) ∷ ‵ (froom bslice l₁ 0) ∷ ‵ (froom rslice l₂ 0) ∷ ‵ (froom mirP l₃ 0) ∷ ‵ (froom Q′.mir l₄ 0)
+      After r zs = ‵ (froom E′.mir l₀ 0) ∷ ‵ (froom bslice l₁ 0) ∷ ‵ (froom rslice l₂ 0) ∷ ‵ (froom mirO l₃ 0) ∷ ‵ (froom Q′.mir l₄ 0)
           ∷ ‵ (froom S′.mir l₅ 0) ∷ ‵ (froom R′.mir l₆ 0) ∷ ‵ (froom word l₇ 0) ∷ ‵ (fat fullShare E′.mir l₈ 0 (machE r)) ∷ ‵ (froom pointer l₉ 0)
           ∷ ‵ (froom (sliceTy pointer) l₁₀ 0) ∷ ‵ (finally T.the-row (xr .name) zs) ∷ ‵ (flft κ q) ∷ ‵ (flft κ′ q′) ∷ Dies
 
@@ -369,14 +399,14 @@ module _ (𝓔 : Entry) where
           built = builds bs n outcome (𝓔 .accepted bs s n) t is
 
     walk : (𝓣 : Tables 𝓤 H) → Triple 𝓤 (𝓣 .C (𝓔 .prepare)) (Prepare 𝓤 H A) → Triple 𝓤 (𝓣 .C #index_open·make) (Make 𝓤 H A at-mem run)
-        → Room u8 (length bs) → Room T.the-row n → IsP s
-        → ent 𝓤 (onEntry 𝓤 H A signature (κ, (κ′, tt)) (q, (q′, tt)) (xb, (xr, (s, tt))) (bval ∷ [], (rval ∷ [], (machP s ∷ [], tt))))
-        (WpFn 𝓤 H (𝓣 .C) (𝓣 .Λ) function (bval ∷ rval ∷ machP s ∷ []) Post)
+        → Room u8 (length bs) → Room T.the-row n → IsO s
+        → ent 𝓤 (onEntry 𝓤 H A signature (κ, (κ′, tt)) (q, (q′, tt)) (xb, (xr, (s, tt))) (bval ∷ [], (rval ∷ [], (machO s ∷ [], tt))))
+        (WpFn 𝓤 H (𝓣 .C) (𝓣 .Λ) function (bval ∷ rval ∷ machO s ∷ []) Post)
     walk 𝓣 known-prep known-make gb g gs =
         qed W ((‵ (flft κ q) ⊛ (‵ (flft κ′ q′) ⊛ ‵ ftrue))
         ∷ ‵ (owns (ShrSlice (named 0) κ u8 ∷ MutSlice (named 1) κ′ T.the-row ∷ row (𝓔 .options) ∷ []) (xb, (xr, (s, tt)))
-        (bval ∷ [], (rval ∷ [], (machP s ∷ [], tt)))) ∷ []) ∵
-        enter ! (𝓣 .C) (𝓣 .Λ) function (bval ∷ rval ∷ machP s ∷ []) _ $
+        (bval ∷ [], (rval ∷ [], (machO s ∷ [], tt)))) ∷ []) ∵
+        enter ! (𝓣 .C) (𝓣 .Λ) function (bval ∷ rval ∷ machO s ∷ []) _ $
         alloc1 ! (λ l₀. alloc1 ! (λ l₁. alloc1 ! (λ l₂. alloc1 ! (λ l₃. alloc1 ! (λ l₄. alloc1 ! (λ l₅. alloc1 ! (λ l₆. alloc1 ! (λ l₇.
         alloc1 ! (λ l₈. alloc1 ! (λ l₉. alloc1 ! (λ l₁₀. alloc0 ! $ params1 ! $
         pass1 ! (init ! 18 refl (tt, (tt, (record { fits = gb .0 }, tt)))) $

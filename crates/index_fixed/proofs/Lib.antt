@@ -2,3 +2,4 @@ pub mod Front
 pub mod Held
 pub mod Opened
 pub mod OpenInto
+pub mod SliceIn

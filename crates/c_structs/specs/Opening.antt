@@ -30,7 +30,14 @@ openingOf t = record {
   encoding = valueOf t 0;
   told = countOf t;
   records = valueOf t 7;
-  source = record { spacing = valueOf t 1; «data_offset» = valueOf t 2; len = valueOf t 3; width = valueOf t 4; height = valueOf t 5; «n_events» = valueOf t 6 };
+  source = record {
+    spacing = valueOf t 1;
+    «data_offset» = valueOf t 2;
+    len = valueOf t 3;
+    width = valueOf t 4;
+    height = valueOf t 5;
+    «n_events» = valueOf t 6;
+  };
 }
 
 -- the same numbers as an index of an encoding

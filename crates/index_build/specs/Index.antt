@@ -35,7 +35,7 @@ use Rattle.index_build.specs.declared.OpenAnswer.the-variants.{Opened, R
 abbrev pub keptEvents : SensorSize → Encoding → List ℕ → List Event
 keptEvents size e l = kept size (eventsFrom (freshC e) l)
 
--- record j stands at body start + j × spacing, and holds the decoder, the events counted before it and their greatest time (0 if none)
+-- record j stands at body start + j × spacing, and holds the decoder, the events counted before it and their maximum time (0 if none)
 unfoldable pub recordAt : SensorSize → Encoding → (start spacing : ℕ) → (body : List ℕ) → ℕ → Checkpoint
 recordAt size e start spacing body j = record {
   «byte_offset» = start + j * spacing;

@@ -10,6 +10,7 @@ use lib.Dec.{ltb}
 use lib.IntN.{ℤ, pos}
 use lib.ListN.{length, take, drop, set, length-take, length-drop, length-append}
 use lib.Seq.{take-add, drop-drop, take-suc-set, drop-set-lt, length-take-le, take-all}
+use borrow.Author.Tests.{ltb-true, ltb-false}
 use Rattle.laws_stream.specs.Order.{greatest}
 use Rattle.laws_stream.specs.Slice.{sift}
 use Rattle.evt_types.specs.Event.{Event}
@@ -42,15 +43,17 @@ module _ (l : List ℕ) (t : Builder) (f : Fit l t) where
   chunk-early = latest-small (t .codec) (chunkOf l t) chunk-bounded (t .width) (t .height)
 
 -- the part of the recording that the code takes
-pub part-chunk : (l : List ℕ) (start spacing end : ℕ) → start ≤ length l → end ≡ min (start + spacing) (length l) → take (end - start) (drop start l) ≡ take spacing (drop start l)
+pub part-chunk : (l : List ℕ) (start spacing end : ℕ) → start ≤ length l → end ≡ min (start + spacing) (length l)
+    → take (end - start) (drop start l) ≡ take spacing (drop start l)
 part-chunk l start spacing end h e = go (ltb (length l - start) spacing) refl
   where
     go : (b : Bool) → ltb (length l - start) spacing ≡ b → take (end - start) (drop start l) ≡ take spacing (drop start l)
     go true q =
-        take-all (end - start) (drop start l) (omega (arith, length-drop start l, borrow.Author.Tests.ltb-true (length l - start) spacing q))
-        ∙ sym (take-all spacing (drop start l) (omega (arith, length-drop start l, borrow.Author.Tests.ltb-true (length l - start) spacing q)))
+        let short = ltb-true (length l - start) spacing q in
+        take-all (end - start) (drop start l) (omega (arith, length-drop start l, short))
+        ∙ sym (take-all spacing (drop start l) (omega (arith, length-drop start l, short)))
     go false q =
-        let n : end - start ≡ spacing = omega (arith, borrow.Author.Tests.ltb-false (length l - start) spacing q) in
+        let n : end - start ≡ spacing = omega (arith, ltb-false (length l - start) spacing q) in
         ap (λ (k : ℕ). take k (drop start l)) n
 
 module _ (l : List ℕ) (t : Builder) (f : Fit l t) (end : ℕ) (is-end : end ≡ min (t .offset + t .spacing) (length l)) where
@@ -156,10 +159,12 @@ pub record Laid (f : ℕ → Checkpoint) (j : ℕ) (ys zs : List Checkpoint) : T
 pub laid-start : (f : ℕ → Checkpoint) (ys : List Checkpoint) → Laid f 0 ys ys
 laid-start f ys = record { long = refl; front = refl; rest = refl }
 
-pub laid-next : (f : ℕ → Checkpoint) (j : ℕ) (ys zs : List Checkpoint) (c : Checkpoint) → j < length ys → c ≡ f j → Laid f j ys zs → Laid f (suc j) ys (set zs j c)
+pub laid-next : (f : ℕ → Checkpoint) (j : ℕ) (ys zs : List Checkpoint) (c : Checkpoint) → j < length ys → c ≡ f j → Laid f j ys zs
+    → Laid f (suc j) ys (set zs j c)
 laid-next f j ys zs c lt is u = record {
   long = lib.ListN.length-set zs j c ∙ u .long;
-  front = take-suc-set zs j c (omega (arith, u .long)) ∙ ap (λ (a : List Checkpoint). a ++ (c ∷ [])) (u .front) ∙ ap (λ (d : Checkpoint). firsts f j ++ (d ∷ [])) is;
+  front =
+      take-suc-set zs j c (omega (arith, u .long)) ∙ ap (λ (a : List Checkpoint). a ++ (c ∷ [])) (u .front) ∙ ap (λ (d : Checkpoint). firsts f j ++ (d ∷ [])) is;
   rest = drop-set-lt (suc j) zs j c (omega arith) ∙ sym (drop-drop′ zs) ∙ ap (drop 1) (u .rest) ∙ drop-drop′ ys;
 }
   where

@@ -63,7 +63,8 @@ pub spaced : (e : Encoding) (spacing : ℕ) → spacingOk e spacing ≡ true →
 unfolding spacingOk
 spaced e spacing h = go (ltb spacing 4) refl (ltb 4194304 spacing) refl e h
   where
-    go : (a : Bool) → ltb spacing 4 ≡ a → (b : Bool) → ltb 4194304 spacing ≡ b → (e : Encoding) → cond a false (cond b false (eqb (spacing % alignment e) 0)) ≡ true → Spaced spacing
+    go : (a : Bool) → ltb spacing 4 ≡ a → (b : Bool) → ltb 4194304 spacing ≡ b → (e : Encoding)
+        → cond a false (cond b false (eqb (spacing % alignment e) 0)) ≡ true → Spaced spacing
     go true p b q e h = let z : _≡_ {A = Bool} false true = h in absurd (no z)
       where
         no : _≡_ {A = Bool} false true → ⊥
@@ -92,8 +93,10 @@ module _ (n spacing : ℕ) (s : Spaced spacing) where
       let m : d * spacing ≤ recordCount n spacing * spacing = native.Mathlib.Nat.mul-le-mul-right {m = d} {n = recordCount n spacing} spacing (omega arith) in
       omega (arith, e, l, m, s .low)
 
-  pub count-few : n ≤ 2 ^ 30 → recordCount n spacing < 2 ^ 63
-  count-few h = let d : (n + (spacing - 1)) / spacing ≤ n + (spacing - 1) = native.Mathlib.Nat.div-le-self (n + (spacing - 1)) spacing in omega (arith, d, s .high)
+  pub count-few : n ≤ mostBytes → recordCount n spacing < 2 ^ 63
+  count-few h =
+      let d : (n + (spacing - 1)) / spacing ≤ n + (spacing - 1) = native.Mathlib.Nat.div-le-self (n + (spacing - 1)) spacing in
+      omega (arith, d, s .high)
 
 -- ---- events that count
 
@@ -197,8 +200,14 @@ module _ (m : List ℕ) (b : Body) (room : ℕ) (ok : Accepted m room b) where
   record-is j =
       let n = j * b .spacing in
       let front = take n body in
-      let k : insides front ≡ keptEvents (b .size) (b .encoding) front = kept-inside (b .size) (b .encoding) front (omega (arith, length-take n body, body-long)) in
-      λ i. record { «byte_offset» = b .start + n; «event_index» = length (k i); time = pos (greatest clock (k i)); codec = codecAfter (freshC (b .encoding)) front }
+      let k : insides front ≡ keptEvents (b .size) (b .encoding) front =
+      kept-inside (b .size) (b .encoding) front (omega (arith, length-take n body, body-long)) in
+      λ i. record {
+        «byte_offset» = b .start + n;
+        «event_index» = length (k i);
+        time = pos (greatest clock (k i));
+        codec = codecAfter (freshC (b .encoding)) front;
+      }
 
   firsts-is : (n : ℕ) → firsts (madeAt l t) n ≡ firsts (recordAt (b .size) (b .encoding) (b .start) (b .spacing) body) n
   firsts-is zero = refl
@@ -292,7 +301,8 @@ module _ (e : Encoding) (body : List ℕ) (long : length body ≤ mostBytes) whe
 
   pub handed-all : handedOver wholeWindow 0 (freshC e) body ≡ eventsFrom (freshC e) body
   handed-all =
-      let n : length (numberedOver wholeWindow (freshC e) body) ≤ 6 * length body = rw (numbered-all, ← kept-inside Unknown e body long) (inside-bytes 65536 65536 (freshC e) body) in
+      let n : length (numberedOver wholeWindow (freshC e) body) ≤ 6 * length body =
+      rw (numbered-all, ← kept-inside Unknown e body long) (inside-bytes 65536 65536 (freshC e) body) in
       over-all wholeWindow (freshC e) body (ready-fresh e (length body) long .able) refl (omega arith) 0 (omega arith) (omega (arith, n)) ∙ numbered-all
 
   module _ (t : SurveyTotals) (is : t ≡ surveyed wholeWindow 0 (freshC e) body) where
@@ -309,8 +319,10 @@ module _ (e : Encoding) (body : List ℕ) (long : length body ≤ mostBytes) whe
     pub survey-some : (t .count ≡ 0 → ⊥) → (sizeless Unknown (eventsFrom (freshC e) body) ≡ false)
         × ((t .width ≡ widthOf Unknown (eventsFrom (freshC e) body)) × (t .height ≡ heightOf Unknown (eventsFrom (freshC e) body)))
     survey-some nz =
-        let w : t .width ≡ greatest (λ e. e .x + 1) (eventsFrom (freshC e) body) = ap (λ (u : SurveyTotals). u .width) is ∙ ap (greatest (λ e. e .x + 1)) handed-all in
-        let h : t .height ≡ greatest (λ e. e .y + 1) (eventsFrom (freshC e) body) = ap (λ (u : SurveyTotals). u .height) is ∙ ap (greatest (λ e. e .y + 1)) handed-all in
+        let w : t .width ≡ greatest (λ e. e .x + 1) (eventsFrom (freshC e) body) =
+        ap (λ (u : SurveyTotals). u .width) is ∙ ap (greatest (λ e. e .x + 1)) handed-all in
+        let h : t .height ≡ greatest (λ e. e .y + 1) (eventsFrom (freshC e) body) =
+        ap (λ (u : SurveyTotals). u .height) is ∙ ap (greatest (λ e. e .y + 1)) handed-all in
         go (eventsFrom (freshC e) body) survey-count w h
       where
         go : (es : List Event) → t .count ≡ length es → t .width ≡ greatest (λ e. e .x + 1) es → t .height ≡ greatest (λ e. e .y + 1) es

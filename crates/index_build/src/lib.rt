@@ -5,8 +5,9 @@
 // judges records and finds the one that a slice starts at.
 ghost use mathlib.Core.Path.{_≡_};
 ghost use mathlib.Core.Bool.{true};
-ghost use Prim.Native.Nat.{_≤_, _<_, _^_};
+ghost use Prim.Native.Nat.{_≤_};
 ghost use lib.ListN.{length};
+ghost use Rattle.evt_types.specs.Num.{mostBytes};
 ghost use Rattle.index_build.specs.Index.{spacingOk, recordCount, bodyAt, bodyOutcome, rawOutcome, wordsOutcome};
 ghost use Rattle.index_build.specs.Build.{Fit, Advanced, firstFor, preparedBy, wholeWindow, concluded};
 use evt_codec::Codec;
@@ -19,7 +20,7 @@ use evt_types::num::min_usize;
 use header::HeaderAnswer;
 use read_select::Window;
 
-// What is kept after the first `byte_offset` bytes: the events counted before, their greatest time
+// What is kept after the first `byte_offset` bytes: the events counted before, their maximum time
 // (0 if none), and the decoder.
 pub struct Checkpoint {
     pub byte_offset: usize,
@@ -150,7 +151,7 @@ pub fn spacing_ok(encoding: Encoding, spacing: usize) -> bool
 
 // One record for every `spacing` bytes begun, and one for no bytes.
 fn record_count(n: usize, spacing: usize) -> usize
-    requires { ⌜ (n ≤ 2 ^ 30) × ((4 ≤ spacing) × (spacing ≤ 4194304)) ⌝ }
+    requires { ⌜ (n ≤ mostBytes) × ((4 ≤ spacing) × (spacing ≤ 4194304)) ⌝ }
     ensures { λ r. ⌜ r ≡ recordCount n spacing ⌝ }
 {
     let begun = (n + (spacing - 1)) / spacing;
@@ -166,7 +167,15 @@ fn uncounted(
     width: usize,
     height: usize,
 ) -> RawSliceSource
-    ensures { λ r. ⌜ r ≡ record { encoding = encoding; spacing = spacing; «data_offset» = «data_offset»; len = len; width = width; height = height; «n_events» = 0 } ⌝ }
+    ensures { λ r. ⌜ r ≡ record {
+      encoding = encoding;
+      spacing = spacing;
+      «data_offset» = «data_offset»;
+      len = len;
+      width = width;
+      height = height;
+      «n_events» = 0;
+    } ⌝ }
 {
     RawSliceSource {
         encoding,
@@ -222,7 +231,7 @@ fn spaced_builder(
     spacing: usize,
     room: usize,
 ) -> Prepared
-    requires { ⌜ (length (now recording) ≤ 2 ^ 30) × ((start ≤ length (now recording)) × (spacingOk encoding spacing ≡ true)) ⌝ }
+    requires { ⌜ (length (now recording) ≤ mostBytes) × ((start ≤ length (now recording)) × (spacingOk encoding spacing ≡ true)) ⌝ }
     ensures { λ r. ⌜ r ≡ preparedBy (bodyOutcome (bodyAt (now (recording .entry)) start encoding size spacing) room) ⌝ }
 {
     let len = recording.len();
@@ -258,7 +267,7 @@ fn body_builder(
     spacing: usize,
     room: usize,
 ) -> Prepared
-    requires { ⌜ (length (now recording) ≤ 2 ^ 30) × (start ≤ length (now recording)) ⌝ }
+    requires { ⌜ (length (now recording) ≤ mostBytes) × (start ≤ length (now recording)) ⌝ }
     ensures { λ r. ⌜ r ≡ preparedBy (bodyOutcome (bodyAt (now (recording .entry)) start encoding size spacing) room) ⌝ }
 {
     if spacing_ok(encoding, spacing) {

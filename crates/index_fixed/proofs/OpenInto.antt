@@ -239,7 +239,8 @@ module _ (𝓔 : Entry) (#callee : Name) where
           move ! (20 ∷ 21 ∷ []) $ free1 ! $ move ! (18 ∷ 19 ∷ []) $ free1 ! $ move ! (16 ∷ 17 ∷ []) $ free1 ! $ move ! (14 ∷ 15 ∷ []) $
           free1 ! $ move ! (12 ∷ 13 ∷ []) $ free1 ! $ move ! (2 ∷ 3 ∷ []) $ free1 ! $
           move ! (8 ∷ 9 ∷ []) $ free1 ! $ move ! (6 ∷ 7 ∷ []) $ free1 ! $ move ! (4 ∷ 5 ∷ []) $ free1 ! $ move ! (2 ∷ 3 ∷ []) $ free1 ! $ free0 ! $
-          keep ! (0 ∷ []) $ by ! (exits r (zs .1 .0) e (g .0) len le (subst (Is E.the-row r) (EL.tells E.the-type E′.the-laws r _ is) is) (g .1))))))))))))))))))))
+          keep ! (0 ∷ []) $ by ! (exits r (zs .1 .0) e (g .0) len le
+          (subst (Is E.the-row r) (EL.tells E.the-type E′.the-laws r _ is) is) (g .1))))))))))))))))))))
 
   module _ {M : Type 1} (𝓤 : URA M) (H : Heap 𝓤) (A : Atoms 𝓤) (W : Given 𝓤 H A) (𝓣 : Tables 𝓤 H) (known : Triple 𝓤 (𝓣 .C #callee) (Callee 𝓤 H A)) where
     walks : Walks 𝓤 H A ended stayed (WpFn 𝓤 H (𝓣 .C) (𝓣 .Λ) function) (clauses 𝓤 H A)

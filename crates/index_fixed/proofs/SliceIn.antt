@@ -185,8 +185,15 @@ module _ (𝓑 : Bound) where
     ),
   )
 
+  -- the columns
+  abbrev Cols : Type 0
+  Cols = RefT (List ℕ) × (RefT (List ℕ) × (RefT (List ℤ) × (RefT (List ℕ) × Unit {0})))
+
   abbrev Arg : Type 0
-  Arg = RefT (List ℕ) × (RawSliceSource × (List Checkpoint × (ℕ × (B × (B × (RefT (List ℕ) × (RefT (List ℕ) × (RefT (List ℤ) × (RefT (List ℕ) × Unit {0})))))))))
+  Arg = RefT (List ℕ) × (RawSliceSource × (List Checkpoint × (ℕ × (B × (B × Cols)))))
+
+  abbrev ColVals : Type 0
+  ColVals = List Val × (List Val × (List Val × (List Val × Unit {0})))
 
   module _ {M : Type 1} (𝓤 : URA M) (H : Heap 𝓤) (A : Atoms 𝓤) where
     abbrev pub clauses : Clauses 𝓤 ended
@@ -222,12 +229,17 @@ module _ (𝓑 : Bound) where
     abbrev bval : Val
     bval = cval xb
 
-    abbrev x : Arg
-    x = (xb, (s, (xs, (k, (b₀, (b₁, (x₁, (x₂, (x₃, (x₄, tt))))))))))
+    abbrev cols : Cols
+    cols = (x₁, (x₂, (x₃, (x₄, tt))))
 
-    abbrev at : List Val × (List Val × (List Val × (List Val × (List Val × (List Val × (List Val × (List Val × (List Val × (List Val × Unit {0})))))))))
-    at =
-        (bval ∷ [], (machP s ∷ [], (machA xs ∷ [], (vint w64 k ∷ [], (𝓑 .mach b₀ ∷ [], (𝓑 .mach b₁ ∷ [], (cval x₁ ∷ [], (cval x₂ ∷ [], (cval x₃ ∷ [], (cval x₄ ∷ [], tt))))))))))
+    abbrev x : Arg
+    x = (xb, (s, (xs, (k, (b₀, (b₁, cols))))))
+
+    abbrev colVals : ColVals
+    colVals = (cval x₁ ∷ [], (cval x₂ ∷ [], (cval x₃ ∷ [], (cval x₄ ∷ [], tt))))
+
+    abbrev at : List Val × (List Val × (List Val × (List Val × (List Val × (List Val × ColVals)))))
+    at = (bval ∷ [], (machP s ∷ [], (machA xs ∷ [], (vint w64 k ∷ [], (𝓑 .mach b₀ ∷ [], (𝓑 .mach b₁ ∷ [], colVals))))))
 
     abbrev Post : Val → SProp 𝓤
     Post = walkOf 𝓤 H A ended stayed (clauses 𝓤 H A) .post (((κ, (κ₁, (κ₂, (κ₃, (κ₄, tt))))), (q, (q₁, (q₂, (q₃, (q₄, tt))))), tt, x, at), tt)
@@ -263,11 +275,18 @@ module _ (𝓑 : Bound) where
     abbrev OwnS : ℕ → ℕ → GName → Fml
     OwnS b ν γ = ShrSlice (named 1) (ν ∷ []) R .own (ref b γ) (sliceVal (b, 0) k ∷ [])
 
+    abbrev colLfts : Lft × (Lft × (Lft × (Lft × Unit {0})))
+    colLfts = (κ₁, (κ₂, (κ₃, (κ₄, tt))))
+
+    -- what the callee is passed
+    abbrev y : ℕ → GName → RefT (List ℕ) × (RawSliceSource × (RefT (List Checkpoint) × (B × (B × Cols))))
+    y b γ = (xb, (s, (ref b γ, (b₀, (b₁, cols)))))
+
     abbrev to-callee : ℕ → ℕ → GName → Callee 𝓤 H A .Ghost
-    to-callee b ν γ = (
-      ((κ, (ν ∷ [], (κ₁, (κ₂, (κ₃, (κ₄, tt)))))), (q, (fullShare, (q₁, (q₂, (q₃, (q₄, tt)))))), tt, (xb, (s, (ref b γ, (b₀, (b₁, (x₁, (x₂, (x₃, (x₄, tt))))))))), (bval ∷ [], (machP s ∷ [], (sliceVal (b, 0) k ∷ [], (𝓑 .mach b₀ ∷ [], (𝓑 .mach b₁ ∷ [], (cval x₁ ∷ [], (cval x₂ ∷ [], (cval x₃ ∷ [], (cval x₄ ∷ [], tt)))))))))),
-      tt,
-    )
+    to-callee b ν γ =
+        let vs : List Val × (List Val × (List Val × (List Val × (List Val × ColVals)))) =
+        (bval ∷ [], (machP s ∷ [], (sliceVal (b, 0) k ∷ [], (𝓑 .mach b₀ ∷ [], (𝓑 .mach b₁ ∷ [], colVals))))) in
+        (((κ, (ν ∷ [], colLfts)), (q, (fullShare, (q₁, (q₂, (q₃, (q₄, tt)))))), tt, y b γ, vs), tt)
 
     abbrev Owned : ℕ → ℕ → GName → SProp 𝓤
     Owned b ν γ =
@@ -361,11 +380,11 @@ module _ (𝓑 : Bound) where
           use1 W (later (some (λ (r : SliceAnswer). ((‵ (flft κ q)
           ⊛ (‵ (flft (ν ∷ []) fullShare) ⊛ (‵ (flft κ₁ q₁) ⊛ (‵ (flft κ₂ q₂) ⊛ (‵ (flft κ₃ q₃) ⊛ (‵ (flft κ₄ q₄) ⊛ ‵ ftrue))))))
           ⊛ ‵ (E.the-row .own r (v ∷ []))) ⊛ raw (ensured 𝓤 H A called (calledClauses 𝓤 H A)
-          (κ, (ν ∷ [], (κ₁, (κ₂, (κ₃, (κ₄, tt)))))) (xb, (s, (ref l₁₁ γ, (b₀, (b₁, (x₁, (x₂, (x₃, (x₄, tt))))))))) tt r)))) (id⊢ 𝓤 _) $
+          (κ, (ν ∷ [], colLfts)) (y l₁₁ γ) tt r)))) (id⊢ 𝓤 _) $
           await ! tt $ pick ! (λ r. split ! $ move ! (1 ∷ []) $
           use1 W (some
-          (λ (zs : Lasts called (κ, (ν ∷ [], (κ₁, (κ₂, (κ₃, (κ₄, tt)))))) (xb, (s, (ref l₁₁ γ, (b₀, (b₁, (x₁, (x₂, (x₃, (x₄, tt)))))))))).
-          ‵ (lasts called (κ, (ν ∷ [], (κ₁, (κ₂, (κ₃, (κ₄, tt)))))) (xb, (s, (ref l₁₁ γ, (b₀, (b₁, (x₁, (x₂, (x₃, (x₄, tt))))))))) zs)
+          (λ (zs : Lasts called (κ, (ν ∷ [], colLfts)) (y l₁₁ γ)).
+          ‵ (lasts called (κ, (ν ∷ [], colLfts)) (y l₁₁ γ) zs)
           ⊛ raw (fact 𝓤 (Says r (zs .1 .1 .1 .1 .1 .0) (zs .1 .1 .1 .1 .1 .1 .0) (zs .1 .1 .1 .1 .1 .1 .1 .0) (zs .1 .1 .1 .1 .1 .1 .1 .1 .0)))))
           (id⊢ 𝓤 _) $ pick ! (λ zs. split ! $ move ! (1 ∷ []) $
           heard ! (Says r (zs .1 .1 .1 .1 .1 .0) (zs .1 .1 .1 .1 .1 .1 .0) (zs .1 .1 .1 .1 .1 .1 .1 .0) (zs .1 .1 .1 .1 .1 .1 .1 .1 .0))
@@ -396,7 +415,8 @@ module _ (𝓑 : Bound) where
           move ! (10 ∷ 11 ∷ []) $ free1 ! $ move ! (10 ∷ 11 ∷ []) $ free1 ! $ move ! (10 ∷ 11 ∷ []) $ free1 ! $ move ! (10 ∷ 11 ∷ []) $
           free1 ! $ move ! (10 ∷ 11 ∷ []) $ free1 ! $ move ! (10 ∷ 11 ∷ []) $ free1 ! $ move ! (10 ∷ 11 ∷ []) $ free1 ! $
           move ! (10 ∷ 11 ∷ []) $ free1 ! $ free0 ! $
-          keep ! (0 ∷ 1 ∷ 2 ∷ 3 ∷ 4 ∷ 6 ∷ 7 ∷ 8 ∷ 9 ∷ []) $ by ! (exits r (zs .1 .1 .1 .1 .1 .0) (zs .1 .1 .1 .1 .1 .1 .0) (zs .1 .1 .1 .1 .1 .1 .1 .0) (zs .1 .1 .1 .1 .1 .1 .1 .1 .0) said e₁
+          keep ! (0 ∷ 1 ∷ 2 ∷ 3 ∷ 4 ∷ 6 ∷ 7 ∷ 8 ∷ 9 ∷ []) $ by ! (exits r
+          (zs .1 .1 .1 .1 .1 .0) (zs .1 .1 .1 .1 .1 .1 .0) (zs .1 .1 .1 .1 .1 .1 .1 .0) (zs .1 .1 .1 .1 .1 .1 .1 .1 .0) said e₁
           e₂ e₃ e₄ (subst (Is E.the-row r) (EL.tells E.the-type E′.the-laws r _ is) is)))))))))))))))))))))))))))))))))))
 
   module _ {M : Type 1} (𝓤 : URA M) (H : Heap 𝓤) (A : Atoms 𝓤) (W : Given 𝓤 H A) (𝓣 : Tables 𝓤 H) (known : Triple 𝓤 (𝓣 .C (𝓑 .callee)) (Callee 𝓤 H A)) where

@@ -58,13 +58,16 @@ take-clamped {X} m n k xs len e = go (ltb n m) refl
 
 -- ---- a slice over the first min n 64 of 64 records is one over the first n
 
-pub index-over : (recording : List ℕ) (s : RawSliceSource) (records : List Checkpoint) (n k i0 i1 : ℕ) → length records ≡ 64 → k ≡ min n 64 → {r : SliceAnswer} {x₀ y₀ : List ℕ} {t₀ : List ℤ} {p₀ x y : List ℕ} {t : List ℤ} {p : List ℕ}
+pub index-over : (recording : List ℕ) (s : RawSliceSource) (records : List Checkpoint) (n k i0 i1 : ℕ) → length records ≡ 64 → k ≡ min n 64
+    → {r : SliceAnswer} {x₀ y₀ : List ℕ} {t₀ : List ℤ} {p₀ x y : List ℕ} {t : List ℤ} {p : List ℕ}
     → SlicesIndex recording s (take k records) i0 i1 r x₀ y₀ t₀ p₀ x y t p → SlicesIndex recording s (take n records) i0 i1 r x₀ y₀ t₀ p₀ x y t p
 index-over recording s records n k i0 i1 len e {r} {x₀} {y₀} {t₀} {p₀} {x} {y} {t} {p} h =
     subst (λ (cs : List Checkpoint). SlicesIndex recording s cs i0 i1 r x₀ y₀ t₀ p₀ x y t p) (take-clamped 64 n k records len e) h
 
-pub time-over : (recording : List ℕ) (s : RawSliceSource) (records : List Checkpoint) (n k : ℕ) (t0 t1 a0 a1 : ℤ) → length records ≡ 64 → k ≡ min n 64 → a0 ≡ t0 → a1 ≡ t1 → {r : SliceAnswer} {x₀ y₀ : List ℕ} {t₀ : List ℤ} {p₀ x y : List ℕ} {t : List ℤ} {p : List ℕ}
+pub time-over : (recording : List ℕ) (s : RawSliceSource) (records : List Checkpoint) (n k : ℕ) (t0 t1 a0 a1 : ℤ) → length records ≡ 64 → k ≡ min n 64
+    → a0 ≡ t0 → a1 ≡ t1 → {r : SliceAnswer} {x₀ y₀ : List ℕ} {t₀ : List ℤ} {p₀ x y : List ℕ} {t : List ℤ} {p : List ℕ}
     → SlicesTime recording s (take k records) a0 a1 r x₀ y₀ t₀ p₀ x y t p → SlicesTime recording s (take n records) t0 t1 r x₀ y₀ t₀ p₀ x y t p
 time-over recording s records n k t0 t1 a0 a1 len e e₀ e₁ {r} {x₀} {y₀} {t₀} {p₀} {x} {y} {t} {p} h =
-    subst (λ (b : ℤ). SlicesTime recording s (take n records) t0 b r x₀ y₀ t₀ p₀ x y t p) e₁ (subst (λ (b : ℤ). SlicesTime recording s (take n records) b a1 r x₀ y₀ t₀ p₀ x y t p) e₀
+    subst (λ (b : ℤ). SlicesTime recording s (take n records) t0 b r x₀ y₀ t₀ p₀ x y t p) e₁
+    (subst (λ (b : ℤ). SlicesTime recording s (take n records) b a1 r x₀ y₀ t₀ p₀ x y t p) e₀
     (subst (λ (cs : List Checkpoint). SlicesTime recording s cs a0 a1 r x₀ y₀ t₀ p₀ x y t p) (take-clamped 64 n k records len e) h))

@@ -31,7 +31,8 @@ use denote.Memory.{lone, pointee}
 use denote.Exit.{yes, Last, left}
 use denote.Ref.{RefT}
 use denote.Builtin.{u8, u64}
-use denote.Slice.{sliceTy, sliceVal, ShrSlice, MutSlice, Room, finally, codedHoleys, heres, res-finally, slice-vals, shr-slice-tells, mut-slice-tells, shr-slice-copy}
+use denote.Slice.{sliceTy, sliceVal, ShrSlice, MutSlice, Room, finally, codedHoleys, heres, res-finally, slice-vals}
+use denote.Slice.{shr-slice-tells, mut-slice-tells, shr-slice-copy}
 use denote.Signature.{Signature, plain, shrSliceOf, mutSliceOf}
 use denote.Steps.{owned, peeks, heard, nothing, only}
 use denote.Plain.{uint-makes}
@@ -218,7 +219,8 @@ module _ (𝓔 : Entry) where
   module _ {M : Type 1} (𝓤 : URA M) (H : Heap 𝓤) (A : Atoms 𝓤) where
     abbrev pub clauses : Clauses 𝓤 ended
     clauses κs a =
-        record { ghost = Unit {0}; requires = λ _. emp 𝓤; ensures = λ _ r e. fact 𝓤 (Opens (𝓔 .outcome (a .0 .now) (a .1 .1 .0) (length (a .1 .0 .now))) r (a .1 .0 .now) (e .1 .0 .now)) }
+        let outcome = 𝓔 .outcome (a .0 .now) (a .1 .1 .0) (length (a .1 .0 .now)) in
+        record { ghost = Unit {0}; requires = λ _. emp 𝓤; ensures = λ _ r e. fact 𝓤 (Opens outcome r (a .1 .0 .now) (e .1 .0 .now)) }
 
     abbrev Starts : List ℕ → Options → ℕ → Prepared → Type 0
     Starts l s n r = r ≡ preparedBy (𝓔 .outcome l s n)

@@ -13,7 +13,8 @@ returns c =
 returns-2 : tie.Need-returns-2
 returns-2 c =
     let a = c .before .before .before .before .args in
-    sym (ap preparedBy (outcome-zero (a .words .now) (a .options) (a .room) (c .before .before .if1 .left) (sym (c .before .has-zero .ensures) ∙ c .if2 .taken)))
+    sym (ap preparedBy (outcome-zero (a .words .now) (a .options) (a .room) (c .before .before .if1 .left)
+    (sym (c .before .has-zero .ensures) ∙ c .if2 .taken)))
 
 returns-3 : tie.Need-returns-3
 returns-3 c =

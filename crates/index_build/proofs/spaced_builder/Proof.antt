@@ -28,35 +28,40 @@ survey-requires c κs =
 
 returns-2 : tie.Need-returns-2
 returns-2 c =
-    let surveyed = c .before .before in
-    let counted = c .before .before .before .before .before .before .before .before .before in
+    let tally = c .before .before .survey in
+    let window = c .before .before .before .whole-window in
+    let fresh = c .before .before .before .before .before .new in
+    let need = c .before .before .before .before .before .before .before .before .before .record-count in
     let s = c .before .before .before .before .before .before .before .before .before .before .before in
     let a = s .args in
     ready-none (a .recording .now) (a .start) (a .encoding) (a .size) (a .spacing) (a .room) (s .pre .0) (s .pre .1 .1)
-    (counted .record-count .result) (counted .record-count .ensures) (c .before .before .before .before .before .before .before .before .if1 .left) (c .before .before .before .before .before .before .enum-told .given .1)
-    (c .before .before .before .before .before .new .result) (c .before .before .before .before .before .new .ensures) (c .before .before .before .whole-window .result) (c .before .before .before .whole-window .ensures)
-    (surveyed .survey .result) (surveyed .survey .ensures) (c .if2 .taken)
+    (need .result) (need .ensures) (c .before .before .before .before .before .before .before .before .if1 .left) (c .before .before .before .before .before .before .enum-told .given .1) (fresh .result) (fresh .ensures)
+    (window .result) (window .ensures) (tally .result) (tally .ensures) (c .if2 .taken)
 
 returns-3 : tie.Need-returns-3
 returns-3 c =
-    let counted = c .before .before .before .before .before .before in
+    let source = c .before .uncounted in
+    let need = c .before .before .before .before .before .before .record-count in
     let s = c .before .before .before .before .before .before .before .before in
     let a = s .args in
     ready-known (a .recording .now) (a .start) (a .encoding) (a .size) (a .spacing) (a .room) (s .pre .0) (s .pre .1 .1)
-    (counted .record-count .result) (counted .record-count .ensures) (c .before .before .before .before .before .if1 .left) _ _ (c .before .before .before .size .given .1)
-    (c .before .uncounted .result) (c .before .uncounted .ensures) (c .first-builder .result) (c .first-builder .ensures)
+    (need .result) (need .ensures) (c .before .before .before .before .before .if1 .left) _ _ (c .before .before .before .size .given .1)
+    (source .result) (source .ensures) (c .first-builder .result) (c .first-builder .ensures)
 
 returns-4 : tie.Need-returns-4
 returns-4 c =
-    let surveyed = c .before .before .before .before in
-    let counted = c .before .before .before .before .before .before .before .before .before .before .before in
+    let source = c .before .uncounted2 in
+    let tally = c .before .before .before .before .survey in
+    let window = c .before .before .before .before .before .whole-window in
+    let fresh = c .before .before .before .before .before .before .before .new in
+    let size = c .before .before .before .before .before .before .before .before .enum-told in
+    let enough = c .before .before .before .before .before .before .before .before .before .before .if1 in
+    let need = c .before .before .before .before .before .before .before .before .before .before .before .record-count in
     let s = c .before .before .before .before .before .before .before .before .before .before .before .before .before in
     let a = s .args in
     ready-surveyed (a .recording .now) (a .start) (a .encoding) (a .size) (a .spacing) (a .room) (s .pre .0) (s .pre .1 .1)
-    (counted .record-count .result) (counted .record-count .ensures) (c .before .before .before .before .before .before .before .before .before .before .if1 .left) (c .before .before .before .before .before .before .before .before .enum-told .given .1)
-    (c .before .before .before .before .before .before .before .new .result) (c .before .before .before .before .before .before .before .new .ensures) (c .before .before .before .before .before .whole-window .result) (c .before .before .before .before .before .whole-window .ensures)
-    (surveyed .survey .result) (surveyed .survey .ensures) (c .before .before .if2 .left)
-    (c .before .uncounted2 .result) (c .before .uncounted2 .ensures) (c .first-builder2 .result) (c .first-builder2 .ensures)
+    (need .result) (need .ensures) (enough .left) (size .given .1) (fresh .result) (fresh .ensures) (window .result) (window .ensures)
+    (tally .result) (tally .ensures) (c .before .before .if2 .left) (source .result) (source .ensures) (c .first-builder2 .result) (c .first-builder2 .ensures)
 
 pub spaced-builder-spec : {M : Type 1} → statement M
 spaced-builder-spec =

@@ -104,7 +104,8 @@ module _ {M : Type 1} (𝓤 : URA M) (H : Heap 𝓤) (A : Atoms 𝓤) (at-mem : 
   abbrev Conclude : Contract 𝓤
   Conclude = tripleOf 𝓤 H A conclude.signature (conclude.spec 𝓤 H A at-mem run)
 
-  conc-of : (t : Builder) (r : OpenAnswer) → ent 𝓤 (ensured 𝓤 H A conclude.ended (conclude.clauses 𝓤 H A at-mem run) tt (t, tt) tt r) (fact 𝓤 (r ≡ Opened (concluded t)))
+  conc-of : (t : Builder) (r : OpenAnswer)
+      → ent 𝓤 (ensured 𝓤 H A conclude.ended (conclude.clauses 𝓤 H A at-mem run) tt (t, tt) tt r) (fact 𝓤 (r ≡ Opened (concluded t)))
   conc-of t r = exE 𝓤 _ (λ ws. snd∗ 𝓤 (sem 𝓤 H A (lasts conclude.ended tt (t, tt) ws)) (fact 𝓤 (r ≡ Opened (concluded t))))
 
 module _ {M : Type 1} (𝓤 : URA M) (H : Heap 𝓤) (A : Atoms 𝓤) (W : Given 𝓤 H A) (at-mem : Memory → SProp 𝓤) (run : Routine → Fun 𝓤)
@@ -270,7 +271,8 @@ module _ {M : Type 1} (𝓤 : URA M) (H : Heap 𝓤) (A : Atoms 𝓤) (W : Given
         use1 W (later (some (λ (r : OpenAnswer). (‵ ftrue ⊛ ‵ (E.the-row .own r (v ∷ [])))
         ⊛ raw (ensured 𝓤 H A conclude.ended (conclude.clauses 𝓤 H A at-mem run) tt (t, tt) tt r)))) (id⊢ 𝓤 _) $ await ! tt $
         pick ! (λ r.
-        split ! $ move ! (1 ∷ []) $ use1 W (raw (fact 𝓤 (r ≡ Opened (concluded t)))) (conc-of 𝓤 H A at-mem run t r) $ heard ! (r ≡ Opened (concluded t)) (λ e. split ! $ drop ! $
+        split ! $ move ! (1 ∷ []) $ use1 W (raw (fact 𝓤 (r ≡ Opened (concluded t)))) (conc-of 𝓤 H A at-mem run t r) $
+        heard ! (r ≡ Opened (concluded t)) (λ e. split ! $ drop ! $
         peeks ! E.the-row (Is E.the-row) (shows 𝓤 H A E.the-row) r (v ∷ []) (λ is.
         land ! (from ! (stop !)) (init ! 10 refl (EL.lawful E.the-type E′.the-laws 𝓤 H A W tt .typed r _ is .0)) $
         rewrite ! 10 (λ (u : Val). ‵ (fat fullShare E′.mir l₀ 0 u)) (ap only (EL.tells E.the-type E′.the-laws r _ is)) refl $ drop ! $
@@ -280,7 +282,8 @@ module _ {M : Type 1} (𝓤 : URA M) (H : Heap 𝓤) (A : Atoms 𝓤) (W : Given
         free1 ! $ move ! (3 ∷ 12 ∷ []) $ free1 ! $
         move ! (3 ∷ 11 ∷ []) $ free1 ! $ move ! (3 ∷ 10 ∷ []) $ free1 ! $ move ! (3 ∷ 9 ∷ []) $ free1 ! $ move ! (3 ∷ 8 ∷ []) $ free1 ! $
         move ! (3 ∷ 7 ∷ []) $ free1 ! $ free0 ! $
-        keep ! (0 ∷ 1 ∷ 2 ∷ 4 ∷ []) $ by ! (exits zs r g len (record { is-answer = e ∙ ap (λ (u : Builder). Opened (concluded u)) (end .is-builder); laid = end .laid })
+        keep ! (0 ∷ 1 ∷ 2 ∷ 4 ∷ []) $ by ! (exits zs r g len
+        (record { is-answer = e ∙ ap (λ (u : Builder). Opened (concluded u)) (end .is-builder); laid = end .laid })
         (subst (λ (u : Val). Is E.the-row r (u ∷ [])) (ap only (EL.tells E.the-type E′.the-laws r _ is)) is))))))
 
     step-at : (m : ℕ) (t : Builder) (zs : List Checkpoint) (v : Bool) → t .more ≡ v → Facts m t zs

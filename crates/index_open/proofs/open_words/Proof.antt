@@ -22,4 +22,5 @@ open-words-spec 𝓤 H 𝓜 𝓖 𝓡 =
     (meets wordsEntry 𝓤 H (𝓖 .A) (givenOf 𝓤 H 𝓜 𝓖) (𝓜 .mem) (𝓡 .run) (tablesOf 𝓤 H 𝓜 (tables 𝓤 H 𝓜 𝓡 code.env))
     (cited 𝓤 H (Prepare wordsEntry 𝓤 H (𝓖 .A)) 𝓜 𝓡 code.env #index_build·prepare_words prepare-def.routine code.calls-index-build·prepare-words
     (prepare-thm.met 𝓤 H 𝓜 𝓖 𝓡))
-    (cited 𝓤 H (Make wordsEntry 𝓤 H (𝓖 .A) (𝓜 .mem) (𝓡 .run)) 𝓜 𝓡 code.env #index_open·make make-def.routine code.calls-index-open·make (make-thm.met 𝓤 H 𝓜 𝓖 𝓡)))
+    (cited 𝓤 H (Make wordsEntry 𝓤 H (𝓖 .A) (𝓜 .mem) (𝓡 .run)) 𝓜 𝓡 code.env #index_open·make make-def.routine code.calls-index-open·make
+    (make-thm.met 𝓤 H 𝓜 𝓖 𝓡)))

@@ -19,8 +19,10 @@ returns c =
 returns-2 : tie.Need-returns-2
 returns-2 c =
     let a = c .before .before .before .before .before .before .before .before .before .before .before .args in
-    answers-made (a .recording .now) (a .records .now) (a .prepared) _ (c .before .before .before .before .before .before .before .prepared2 .given .1) _ _ (c .before .before .before .before .make-records .ensures) _
-    (c .before .conclude .ensures) _ (c .opening-of .ensures)
+    let ready = c .before .before .before .before .before .before .before .prepared2 in
+    let made = c .before .before .before .before .make-records in
+    answers-made (a .recording .now) (a .records .now) (a .prepared) _ (ready .given .1) _ _ (made .ensures) _ (c .before .conclude .ensures) _
+    (c .opening-of .ensures)
 
 pub open-entries-spec : {M : Type 1} → statement M
 open-entries-spec =

@@ -254,14 +254,9 @@ module _ (𝓔 : Entry) (#callee : Name) where
 
     pub meets : Meets 𝓤 H A signature (WpFn 𝓤 H (𝓣 .C) (𝓣 .Λ) function) (closing 𝓤 H A ended (clauses 𝓤 H A))
     meets =
-        walk-meets 𝓤 H A ended stayed W (
-          goes-dropped 𝓤 H A W 1 (shrSliceOf (0 ∷ []) tt (plain (λ _. u8))) yes (λ κs x f. refl),
-          (
-            goes-dropped 𝓤 H A W 1 (plain (λ _. O)) yes (λ κs x f. 𝓔 .silent x f),
-            (
-              goes-dropped 𝓤 H A W 1 (ArrayOf (plain (λ _. T.the-row)) (λ _. tt) 64) yes (λ κs x f. refl),
-              (goes-dropped 𝓤 H A W 1 (plain (λ _. usize)) yes (λ κs x f. refl), tt),
-            ),
-          ),
-        )
+        let bytes = goes-dropped 𝓤 H A W 1 (shrSliceOf (0 ∷ []) tt (plain (λ _. u8))) yes (λ κs x f. refl) in
+        let options = goes-dropped 𝓤 H A W 1 (plain (λ _. O)) yes (λ κs x f. 𝓔 .silent x f) in
+        let records = goes-dropped 𝓤 H A W 1 (ArrayOf (plain (λ _. T.the-row)) (λ _. tt) 64) yes (λ κs x f. refl) in
+        let count = goes-dropped 𝓤 H A W 1 (plain (λ _. usize)) yes (λ κs x f. refl) in
+        walk-meets 𝓤 H A ended stayed W (bytes, (options, (records, (count, tt))))
         (clauses 𝓤 H A) (WpFn 𝓤 H (𝓣 .C) (𝓣 .Λ) function) (WpFn-mono 𝓤 H (W .laws) 𝓣 function) walks

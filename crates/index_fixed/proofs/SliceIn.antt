@@ -422,50 +422,19 @@ module _ (𝓑 : Bound) where
   module _ {M : Type 1} (𝓤 : URA M) (H : Heap 𝓤) (A : Atoms 𝓤) (W : Given 𝓤 H A) (𝓣 : Tables 𝓤 H) (known : Triple 𝓤 (𝓣 .C (𝓑 .callee)) (Callee 𝓤 H A)) where
     walks : Walks 𝓤 H A ended stayed (WpFn 𝓤 H (𝓣 .C) (𝓣 .Λ) function) (clauses 𝓤 H A)
     walks = walked 𝓤 H A ended stayed (clauses 𝓤 H A) (WpFn 𝓤 H (𝓣 .C) (𝓣 .Λ) function)
-        (λ κs. (
-          slice-vals,
-          (
-            LL.vals P.the-type P′.the-laws,
-            (
-              array-vals valsT,
-              (
-                uint-vals w64,
-                (
-                  (λ d. 𝓑 .mach d ∷ []),
-                  (
-                    (λ d. 𝓑 .mach d ∷ []),
-                    (slice-vals, (slice-vals, (slice-vals, (slice-vals, tt)))),
-                  ),
-                ),
-              ),
-            ),
-          ),
-        ))
-        (λ κs. (
-          shr-slice-tells (named 0) (κs .0) u8,
-          (
-            LL.tells P.the-type P′.the-laws,
-            (
-              array-tells R valsT tellsT 64,
-              (
-                uint-tells w64,
-                (
-                  𝓑 .tells,
-                  (
-                    𝓑 .tells,
-                    (
-                      mut-slice-tells (named 1) (κs .1 .0) u16,
-                      (
-                        mut-slice-tells (named 2) (κs .1 .1 .0) u16,
-                        (mut-slice-tells (named 3) (κs .1 .1 .1 .0) i64, (mut-slice-tells (named 4) (κs .1 .1 .1 .1 .0) u8, tt)),
-                      ),
-                    ),
-                  ),
-                ),
-              ),
-            ),
-          ),
-        ))
+        (λ κs.
+        let source = LL.vals P.the-type P′.the-laws in
+        let bound : B → List Val = λ d. 𝓑 .mach d ∷ [] in
+        (slice-vals, (source, (array-vals valsT, (uint-vals w64, (bound, (bound, (slice-vals, (slice-vals, (slice-vals, (slice-vals, tt)))))))))))
+        (λ κs.
+        let bytes = shr-slice-tells (named 0) (κs .0) u8 in
+        let source = LL.tells P.the-type P′.the-laws in
+        let records = array-tells R valsT tellsT 64 in
+        let c₁ = mut-slice-tells (named 1) (κs .1 .0) u16 in
+        let c₂ = mut-slice-tells (named 2) (κs .1 .1 .0) u16 in
+        let c₃ = mut-slice-tells (named 3) (κs .1 .1 .1 .0) i64 in
+        let c₄ = mut-slice-tells (named 4) (κs .1 .1 .1 .1 .0) u8 in
+        (bytes, (source, (records, (uint-tells w64, (𝓑 .tells, (𝓑 .tells, (c₁, (c₂, (c₃, (c₄, tt)))))))))))
         (λ κs qs bounds a _ are. needs 𝓤 (a .1 .1 .1 .0 ≤ 64) _
         (walk 𝓤 H A W (κs .0) (κs .1 .0) (κs .1 .1 .0) (κs .1 .1 .1 .0) (κs .1 .1 .1 .1 .0) (qs .0) (qs .1 .0) (qs .1 .1 .0)
         (qs .1 .1 .1 .0) (qs .1 .1 .1 .1 .0)
@@ -477,30 +446,14 @@ module _ (𝓑 : Bound) where
 
     pub meets : Meets 𝓤 H A signature (WpFn 𝓤 H (𝓣 .C) (𝓣 .Λ) function) (closing 𝓤 H A ended (clauses 𝓤 H A))
     meets =
+        let bytes = goes-dropped 𝓤 H A W 5 (shrSliceOf (0 ∷ []) tt (plain (λ _. u8))) yes (λ κs x f. refl) in
+        let source = goes-dropped 𝓤 H A W 5 (plain (λ _. P.the-row)) yes (λ κs x f. refl) in
+        let records = goes-dropped 𝓤 H A W 5 (ArrayOf (plain (λ _. T.the-row)) (λ _. tt) 64) yes (λ κs x f. refl) in
+        let count = goes-dropped 𝓤 H A W 5 (plain (λ _. usize)) yes (λ κs x f. refl) in
         let bound = goes-dropped 𝓤 H A W 5 (plain (λ _. 𝓑 .N)) yes (λ κs x f. 𝓑 .silent x f) in
-        walk-meets 𝓤 H A ended stayed W (
-          goes-dropped 𝓤 H A W 5 (shrSliceOf (0 ∷ []) tt (plain (λ _. u8))) yes (λ κs x f. refl),
-          (
-            goes-dropped 𝓤 H A W 5 (plain (λ _. P.the-row)) yes (λ κs x f. refl),
-            (
-              goes-dropped 𝓤 H A W 5 (ArrayOf (plain (λ _. T.the-row)) (λ _. tt) 64) yes (λ κs x f. refl),
-              (
-                goes-dropped 𝓤 H A W 5 (plain (λ _. usize)) yes (λ κs x f. refl),
-                (
-                  bound,
-                  (
-                    bound,
-                    (
-                      goes-gave-slice 𝓤 H A W 5 1 tt (plain (λ _. u16)),
-                      (
-                        goes-gave-slice 𝓤 H A W 5 2 tt (plain (λ _. u16)),
-                        (goes-gave-slice 𝓤 H A W 5 3 tt (plain (λ _. i64)), (goes-gave-slice 𝓤 H A W 5 4 tt (plain (λ _. u8)), tt)),
-                      ),
-                    ),
-                  ),
-                ),
-              ),
-            ),
-          ),
-        )
+        let c₁ = goes-gave-slice 𝓤 H A W 5 1 tt (plain (λ _. u16)) in
+        let c₂ = goes-gave-slice 𝓤 H A W 5 2 tt (plain (λ _. u16)) in
+        let c₃ = goes-gave-slice 𝓤 H A W 5 3 tt (plain (λ _. i64)) in
+        let c₄ = goes-gave-slice 𝓤 H A W 5 4 tt (plain (λ _. u8)) in
+        walk-meets 𝓤 H A ended stayed W (bytes, (source, (records, (count, (bound, (bound, (c₁, (c₂, (c₃, (c₄, tt))))))))))
         (clauses 𝓤 H A) (WpFn 𝓤 H (𝓣 .C) (𝓣 .Λ) function) (WpFn-mono 𝓤 H (W .laws) 𝓣 function) walks

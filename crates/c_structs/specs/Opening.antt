@@ -4,12 +4,12 @@ use mathlib.Core.List.{List, _++_}
 use Prim.Native.Nat.{ℕ}
 use lib.ListN.{length, drop}
 use Rattle.evt_types.specs.declared.Encoding.{Encoding}
+use Rattle.evt_types.specs.Outcome.{Outcome}
 use Rattle.evt_types.specs.Told.{Told}
-use Rattle.index_build.specs.declared.Checkpoint.{Checkpoint}
 use Rattle.index_build.specs.declared.OpenOptions.{OpenOptions}
 use Rattle.index_build.specs.declared.RawSliceSource.{RawSliceSource}
 use Rattle.index_build.specs.declared.WordsOptions.{WordsOptions}
-use Rattle.index_build.specs.Index.{rawVerdict, rawMade, wordsVerdict, wordsMade}
+use Rattle.index_build.specs.Index.{Body, rawOutcome, wordsOutcome, openVerdict, openRecords}
 use Rattle.c_structs.specs.declared.opening.PropheseeOpenOptions.{PropheseeOpenOptions}
 use Rattle.c_structs.specs.declared.opening.PropheseeOpening.{PropheseeOpening}
 use Rattle.c_structs.specs.declared.opening.PropheseeSource.{PropheseeSource}
@@ -30,7 +30,14 @@ openingOf t = record {
   encoding = valueOf t 0;
   told = countOf t;
   records = valueOf t 7;
-  source = record { spacing = valueOf t 1; «data_offset» = valueOf t 2; len = valueOf t 3; width = valueOf t 4; height = valueOf t 5; «n_events» = valueOf t 6 };
+  source = record {
+    spacing = valueOf t 1;
+    «data_offset» = valueOf t 2;
+    len = valueOf t 3;
+    width = valueOf t 4;
+    height = valueOf t 5;
+    «n_events» = valueOf t 6;
+  };
 }
 
 -- the same numbers as an index of an encoding
@@ -45,14 +52,13 @@ sourceOf e s = record {
   «n_events» = s .«n_events»;
 }
 
--- the records made stand in front, and behind them all is as it was
-pub record Opens (verdict : Told) (made : List Checkpoint) (r : PropheseeOpening) (records₀ records : List ℕ) : Type 0 where
-  pub is-answer : r ≡ openingOf verdict
-  pub is-records : records ≡ entriesAll made ++ drop (length (entriesAll made)) records₀
+-- the records made stand in front, and behind them all is as it was; the outcome is that of the library's own contracts
+pub record Opens (outcome : Outcome Body) (r : PropheseeOpening) (records₀ records : List ℕ) : Type 0 where
+  pub is-answer : r ≡ openingOf (openVerdict outcome)
+  pub is-records : records ≡ entriesAll (openRecords outcome) ++ drop (length (entriesAll (openRecords outcome))) records₀
 
--- `verdict` and `made` are those of the library's own contracts
 abbrev pub OpensRaw : List ℕ → PropheseeOpenOptions → PropheseeOpening → (records₀ records : List ℕ) → Type 0
-OpensRaw recording o r records₀ = Opens (rawVerdict recording (optionsOf o) (roomOf records₀)) (rawMade recording (optionsOf o) (roomOf records₀)) r records₀
+OpensRaw recording o r records₀ = Opens (rawOutcome recording (optionsOf o) (roomOf records₀)) r records₀
 
 abbrev pub OpensWords : List ℕ → Encoding → PropheseeOpenOptions → PropheseeOpening → (records₀ records : List ℕ) → Type 0
-OpensWords words e o r records₀ = Opens (wordsVerdict words (wordsOptionsOf e o) (roomOf records₀)) (wordsMade words (wordsOptionsOf e o) (roomOf records₀)) r records₀
+OpensWords words e o r records₀ = Opens (wordsOutcome words (wordsOptionsOf e o) (roomOf records₀)) r records₀

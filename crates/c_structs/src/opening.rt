@@ -1,8 +1,8 @@
 // Opening in numbers: options and answers, and records made into lent entries.
 ghost use mathlib.Core.Path.{_≡_};
-ghost use Rattle.index_build.specs.Begun.{Begun};
+ghost use Rattle.index_build.specs.Build.{Begun};
 ghost use Rattle.index_build.specs.Index.{toldOpen};
-ghost use Rattle.c_structs.specs.Making.{Makes};
+ghost use Rattle.c_structs.specs.Making.{Begins, Makes, Answers};
 ghost use Rattle.c_structs.specs.Records.{roomOf};
 ghost use Rattle.c_structs.specs.Opening.{optionsOf, wordsOptionsOf, openingOf};
 use crate::options::size_of;
@@ -12,10 +12,11 @@ use evt_types::Encoding;
 use evt_types::Refusal;
 use evt_types::encoding_number;
 use evt_types::refusal_number;
+use index_build::Builder;
 use index_build::OpenAnswer;
 use index_build::OpenOptions;
 use index_build::Opening;
-use index_build::Run;
+use index_build::Prepared;
 use index_build::WordsOptions;
 
 // `sized` 0: the size is unknown; else it is `width` by `height`.
@@ -112,7 +113,7 @@ fn refused_numbers(r: Refusal) -> PropheseeOpening
     }
 }
 
-pub fn opening_of(answer: OpenAnswer) -> PropheseeOpening
+fn opening_of(answer: OpenAnswer) -> PropheseeOpening
     ensures { λ n. ⌜ n ≡ openingOf (toldOpen answer) ⌝ }
 {
     match answer {
@@ -121,12 +122,12 @@ pub fn opening_of(answer: OpenAnswer) -> PropheseeOpening
     }
 }
 
-// Makes the records of a run that was prepared for that many. `requires`: such a run.
-pub fn make_records(recording: &[u8], records: &mut [u64], run: Run) -> Run
-    requires { ⌜ Begun (now recording) (roomOf (now records)) run ⌝ }
-    ensures { λ r. ⌜ Makes (now (recording .entry)) run (now (records .entry)) r (now (records .exit)) ⌝ }
+// Makes the records of a builder that was prepared for that many. `requires`: such a builder.
+fn make_records(recording: &[u8], records: &mut [u64], first: Builder) -> Builder
+    requires { ⌜ Begun (now recording) (roomOf (now records)) first ⌝ }
+    ensures { λ r. ⌜ Makes (now (recording .entry)) first (now (records .entry)) r (now (records .exit)) ⌝ }
 {
-    let mut t = run;
+    let mut t = first;
     while t.more {
         let i = t.at;
         let m = index_build::advance(recording, t);
@@ -135,4 +136,18 @@ pub fn make_records(recording: &[u8], records: &mut [u64], run: Run) -> Run
         t = m.next;
     }
     t
+}
+
+// Makes the index that was prepared. `requires`: prepared for that many records.
+pub fn open_entries(recording: &[u8], records: &mut [u64], prepared: Prepared) -> PropheseeOpening
+    requires { ⌜ Begins (now recording) (roomOf (now records)) prepared ⌝ }
+    ensures { λ n. ⌜ Answers (now (recording .entry)) prepared (now (records .entry)) n (now (records .exit)) ⌝ }
+{
+    match prepared {
+        Prepared::Refused(r) => refused_numbers(r),
+        Prepared::Ready(first) => {
+            let last = make_records(recording, &mut *records, first);
+            opening_of(index_build::conclude(last))
+        }
+    }
 }

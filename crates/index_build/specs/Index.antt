@@ -1,8 +1,8 @@
 -- What an index holds, and what opening answers, by document 01's table.
-use mathlib.Core.Path.{_≡_}
+use mathlib.Core.Path.{_≡_, refl, ap, _∙_}
 use mathlib.Core.Bool.{Bool, false, cond}
 use mathlib.Core.List.{List, [], _∷_, _++_}
-use Prim.Native.Nat.{ℕ, zero, suc, _+_, _-_, _*_, _/_, _%_, _^_, max}
+use Prim.Native.Nat.{ℕ, zero, suc, _+_, _-_, _*_, _/_, _%_, max}
 use lib.Dec.{ltb, eqb}
 use lib.IntN.{pos}
 use lib.ListN.{length, take, drop}
@@ -13,14 +13,16 @@ use Rattle.evt_types.specs.declared.Refusal.the-variants.{InvalidSensorSize, To
 use Rattle.evt_types.specs.declared.SensorSize.{SensorSize}
 use Rattle.evt_codec.specs.Codec.{freshC, eventsFrom, codecAfter}
 use Rattle.evt_types.specs.Event.{Event}
-use Rattle.evt_types.specs.Told.{Told, told, accepted, refused, short}
+use Rattle.evt_types.specs.Num.{encodingNumber, mostBytes}
+use Rattle.evt_types.specs.Outcome.{Outcome, refuse, give, onOutcome, verdict, handedBy}
+use Rattle.evt_types.specs.Told.{Told, told, accepted}
 use Rattle.read_columns.specs.Inside.{clock}
 use Rattle.header.specs.declared.HeaderAnswer.{HeaderAnswer}
 use Rattle.header.specs.declared.HeaderAnswer.the-variants.{Header, Refused as NoHeader}
 use Rattle.header.specs.Header.{hasZero, headerOf}
-use Rattle.evt_types.specs.Num.{encodingNumber}
 use Rattle.read_rules.specs.Read.{kept, widthOf, heightOf, sizeless}
 use Rattle.index_build.specs.declared.Checkpoint.{Checkpoint}
+use Rattle.index_build.specs.declared.Opening.{Opening}
 use Rattle.index_build.specs.declared.RawSliceSource.{RawSliceSource}
 use Rattle.index_build.specs.declared.OpenOptions.{OpenOptions}
 use Rattle.index_build.specs.declared.WordsOptions.{WordsOptions}
@@ -33,7 +35,7 @@ use Rattle.index_build.specs.declared.OpenAnswer.the-variants.{Opened, R
 abbrev pub keptEvents : SensorSize → Encoding → List ℕ → List Event
 keptEvents size e l = kept size (eventsFrom (freshC e) l)
 
--- record j stands at body start + j × spacing, and holds the decoder, the events counted before it and their greatest time (0 if none)
+-- record j stands at body start + j × spacing, and holds the decoder, the events counted before it and their maximum time (0 if none)
 unfoldable pub recordAt : SensorSize → Encoding → (start spacing : ℕ) → (body : List ℕ) → ℕ → Checkpoint
 recordAt size e start spacing body j = record {
   «byte_offset» = start + j * spacing;
@@ -63,66 +65,27 @@ alignment Evt3 = 4
 unfoldable pub spacingOk : Encoding → ℕ → Bool
 spacingOk e spacing = cond (ltb spacing 4) false (cond (ltb 4194304 spacing) false (eqb (spacing % alignment e) 0))
 
--- ---- the verdict by the table, in numbers and values
+-- ---- what is handed over
 
--- an acceptance tells the encoding, the spacing, the body start, the length, the size, how many events there are, and how many records
-abbrev pub toldOpen : OpenAnswer → Told
-toldOpen (Opened o) =
-    let s = o .source in
-    accepted (encodingNumber (s .encoding) ∷ s .spacing ∷ s .«data_offset» ∷ s .len ∷ s .width ∷ s .height ∷ s .«n_events» ∷ o .records ∷ [])
-toldOpen (Refused r) = told r
+-- a body that an index is built over, and what decides its records
+pub record Body : Type 0 where
+  pub recording : List ℕ
+  pub start : ℕ
+  pub encoding : Encoding
+  pub size : SensorSize
+  pub spacing : ℕ
 
--- 8, 9, 1 for no event
-unfoldable pub bodyVerdict : (len start : ℕ) → Encoding → SensorSize → (spacing : ℕ) → (body : List ℕ) → (room : ℕ) → Told
-bodyVerdict len start e size spacing body room =
-    let es = keptEvents size e body in
-    let need = recordCount (length body) spacing in
-    cond (spacingOk e spacing)
-    (cond (ltb room need) (short 9 need)
-    (cond (sizeless size es) (refused 1)
-    (accepted (encodingNumber e ∷ spacing ∷ start ∷ len ∷ widthOf size es ∷ heightOf size es ∷ length es ∷ need ∷ []))))
-    (refused 8)
+abbrev pub bodyAt : (recording : List ℕ) → (start : ℕ) → Encoding → SensorSize → (spacing : ℕ) → Body
+bodyAt recording start e size spacing = record { recording = recording; start = start; encoding = e; size = size; spacing = spacing }
 
--- a recording: what the header is refused for (4, 3, 2, 1 for a zero size), and so on
-abbrev pub verdictAfter : HeaderAnswer → List ℕ → (spacing room : ℕ) → Told
-verdictAfter (NoHeader r) recording spacing room = told r
-verdictAfter (Header h) recording spacing room =
-    bodyVerdict (length recording) (h .«data_offset») (h .encoding) (h .«sensor_size») spacing (drop (h .«data_offset») recording) room
+abbrev pub bytesOf : Body → List ℕ
+bytesOf b = drop (b .start) (b .recording)
 
-unfoldable pub rawVerdict : List ℕ → OpenOptions → (room : ℕ) → Told
-rawVerdict recording o room = verdictAfter (headerOf recording (o .«sensor_size»)) recording (o .spacing) room
+abbrev pub eventsOf : Body → List Event
+eventsOf b = keptEvents (b .size) (b .encoding) (bytesOf b)
 
--- headerless words: 4, 1 for a zero size, and so on
-unfoldable pub wordsVerdict : List ℕ → WordsOptions → (room : ℕ) → Told
-wordsVerdict words o room =
-    cond (ltb (2 ^ 30) (length words)) (refused 4)
-    (cond (hasZero (o .«sensor_size»)) (refused 1)
-    (bodyVerdict (length words) 0 (o .encoding) (o .«sensor_size») (o .spacing) words room))
-
--- ---- the records made: none on a refusal
-
-unfoldable pub bodyMade : (start : ℕ) → Encoding → SensorSize → (spacing : ℕ) → (body : List ℕ) → (room : ℕ) → List Checkpoint
-bodyMade start e size spacing body room =
-    cond (spacingOk e spacing)
-    (cond (ltb room (recordCount (length body) spacing)) []
-    (cond (sizeless size (keptEvents size e body)) [] (recordsOf size e start spacing body)))
-    []
-
-abbrev pub madeAfter : HeaderAnswer → List ℕ → (spacing room : ℕ) → List Checkpoint
-madeAfter (NoHeader r) recording spacing room = []
-madeAfter (Header h) recording spacing room =
-    bodyMade (h .«data_offset») (h .encoding) (h .«sensor_size») spacing (drop (h .«data_offset») recording) room
-
-unfoldable pub rawMade : List ℕ → OpenOptions → (room : ℕ) → List Checkpoint
-rawMade recording o room = madeAfter (headerOf recording (o .«sensor_size»)) recording (o .spacing) room
-
-unfoldable pub wordsMade : List ℕ → WordsOptions → (room : ℕ) → List Checkpoint
-wordsMade words o room =
-    cond (ltb (2 ^ 30) (length words)) []
-    (cond (hasZero (o .«sensor_size»)) []
-    (bodyMade 0 (o .encoding) (o .«sensor_size») (o .spacing) words room))
-
--- ---- the answer itself, for callers
+abbrev pub needOf : Body → ℕ
+needOf b = recordCount (length (bytesOf b)) (b .spacing)
 
 abbrev pub sourceOf : (len start : ℕ) → Encoding → SensorSize → (spacing : ℕ) → List Event → RawSliceSource
 sourceOf len start e size spacing es = record {
@@ -135,44 +98,81 @@ sourceOf len start e size spacing es = record {
   «n_events» = length es;
 }
 
-unfoldable pub bodyAnswer : (len start : ℕ) → Encoding → SensorSize → (spacing : ℕ) → (body : List ℕ) → (room : ℕ) → OpenAnswer
-bodyAnswer len start e size spacing body room =
-    let es = keptEvents size e body in
-    let need = recordCount (length body) spacing in
-    cond (spacingOk e spacing)
-    (cond (ltb room need) (Refused (TooFewRecords need))
-    (cond (sizeless size es) (Refused InvalidSensorSize)
-    (Opened (record { source = sourceOf len start e size spacing es; records = need }))))
-    (Refused InvalidSpacing)
+abbrev pub openingOf : Body → Opening
+openingOf b = record {
+  source = sourceOf (length (b .recording)) (b .start) (b .encoding) (b .size) (b .spacing) (eventsOf b);
+  records = needOf b;
+}
 
-abbrev pub answerAfter : HeaderAnswer → List ℕ → (spacing room : ℕ) → OpenAnswer
-answerAfter (NoHeader r) recording spacing room = Refused r
-answerAfter (Header h) recording spacing room =
-    bodyAnswer (length recording) (h .«data_offset») (h .encoding) (h .«sensor_size») spacing (drop (h .«data_offset») recording) room
+abbrev pub recordsBy : Body → List Checkpoint
+recordsBy b = recordsOf (b .size) (b .encoding) (b .start) (b .spacing) (bytesOf b)
 
-unfoldable pub rawAnswer : List ℕ → OpenOptions → (room : ℕ) → OpenAnswer
-rawAnswer recording o room = answerAfter (headerOf recording (o .«sensor_size»)) recording (o .spacing) room
+-- ---- which body is accepted, and what is refused, by the table
 
-unfoldable pub wordsAnswer : List ℕ → WordsOptions → (room : ℕ) → OpenAnswer
-wordsAnswer words o room =
-    cond (ltb (2 ^ 30) (length words)) (Refused TooLong)
-    (cond (hasZero (o .«sensor_size»)) (Refused InvalidSensorSize)
-    (bodyAnswer (length words) 0 (o .encoding) (o .«sensor_size») (o .spacing) words room))
+-- 8, 9, 1 for no event
+unfoldable pub bodyOutcome : Body → (room : ℕ) → Outcome Body
+bodyOutcome b room =
+    cond (spacingOk (b .encoding) (b .spacing))
+    (cond (ltb room (needOf b)) (refuse (TooFewRecords (needOf b)))
+    (cond (sizeless (b .size) (eventsOf b)) (refuse InvalidSensorSize)
+    (give b)))
+    (refuse InvalidSpacing)
+
+-- a recording: what the header is refused for (4, 3, 2, 1 for a zero size), and so on
+abbrev pub outcomeAfter : HeaderAnswer → List ℕ → (spacing room : ℕ) → Outcome Body
+outcomeAfter (NoHeader r) recording spacing room = refuse r
+outcomeAfter (Header h) recording spacing room =
+    bodyOutcome (bodyAt recording (h .«data_offset») (h .encoding) (h .«sensor_size») spacing) room
+
+unfoldable pub rawOutcome : List ℕ → OpenOptions → (room : ℕ) → Outcome Body
+rawOutcome recording o room = outcomeAfter (headerOf recording (o .«sensor_size»)) recording (o .spacing) room
+
+-- headerless words: 4, 1 for a zero size, and so on
+abbrev pub wordsBody : List ℕ → WordsOptions → Body
+wordsBody words o = bodyAt words 0 (o .encoding) (o .«sensor_size») (o .spacing)
+
+unfoldable pub wordsOutcome : List ℕ → WordsOptions → (room : ℕ) → Outcome Body
+wordsOutcome words o room =
+    cond (ltb mostBytes (length words)) (refuse TooLong)
+    (cond (hasZero (o .«sensor_size»)) (refuse InvalidSensorSize)
+    (bodyOutcome (wordsBody words o) room))
+
+-- ---- what is read off an outcome
+
+abbrev pub openAnswer : Outcome Body → OpenAnswer
+openAnswer = onOutcome Refused (λ b. Opened (openingOf b))
+
+-- an acceptance tells the encoding, the spacing, the body start, the length, the size, how many events there are, and how many records
+abbrev pub openValues : Opening → List ℕ
+openValues o =
+    let s = o .source in
+    encodingNumber (s .encoding) ∷ s .spacing ∷ s .«data_offset» ∷ s .len ∷ s .width ∷ s .height ∷ s .«n_events» ∷ o .records ∷ []
+
+abbrev pub openVerdict : Outcome Body → Told
+openVerdict = verdict (λ b. openValues (openingOf b))
+
+-- the records made: none on a refusal
+abbrev pub openRecords : Outcome Body → List Checkpoint
+openRecords = handedBy recordsBy
+
+abbrev pub toldOpen : OpenAnswer → Told
+toldOpen (Opened o) = accepted (openValues o)
+toldOpen (Refused r) = told r
 
 -- ---- what opening promises
 
 -- the records made stand in front, and behind them all is as it was
-pub record Opens (verdict : Told) (answer : OpenAnswer) (made : List Checkpoint) (r : OpenAnswer) (records₀ records : List Checkpoint) : Type 0 where
-  pub is-told : toldOpen r ≡ verdict
-  pub is-answer : r ≡ answer
-  pub is-records : records ≡ made ++ drop (length made) records₀
+pub record Opens (outcome : Outcome Body) (r : OpenAnswer) (records₀ records : List Checkpoint) : Type 0 where
+  pub is-told : toldOpen r ≡ openVerdict outcome
+  pub is-answer : r ≡ openAnswer outcome
+  pub is-records : records ≡ openRecords outcome ++ drop (length (openRecords outcome)) records₀
 
 abbrev pub OpensRaw : List ℕ → OpenOptions → OpenAnswer → (records₀ records : List Checkpoint) → Type 0
-OpensRaw recording o r records₀ =
-    let room = length records₀ in
-    Opens (rawVerdict recording o room) (rawAnswer recording o room) (rawMade recording o room) r records₀
+OpensRaw recording o r records₀ = Opens (rawOutcome recording o (length records₀)) r records₀
 
 abbrev pub OpensWords : List ℕ → WordsOptions → OpenAnswer → (records₀ records : List Checkpoint) → Type 0
-OpensWords words o r records₀ =
-    let room = length records₀ in
-    Opens (wordsVerdict words o room) (wordsAnswer words o room) (wordsMade words o room) r records₀
+OpensWords words o r records₀ = Opens (wordsOutcome words o (length records₀)) r records₀
+
+pub told-answer : (outcome : Outcome Body) → toldOpen (openAnswer outcome) ≡ openVerdict outcome
+told-answer (refuse r) = refl
+told-answer (give b) = refl

@@ -4,5 +4,4 @@ pub mod Nth
 pub mod Build
 pub mod Laws
 pub mod Open
-pub mod Begun
 pub mod Stage

@@ -1,5 +1,5 @@
--- What opening comes to: the job of a call is one that its recording allows, and what it yields is what specs/Index.antt defines.
-use mathlib.Core.Path.{_≡_, refl, sym, ap, _∙_}
+-- What opening comes to: a body that is accepted, and that what its builder yields is what specs/Index.antt defines.
+use mathlib.Core.Path.{_≡_, refl, sym, ap, subst, _∙_}
 use mathlib.Core.Bool.{Bool, true, false, cond}
 use mathlib.Core.List.{List, [], _∷_, _++_}
 use Prim.Native.Nat.{ℕ, zero, suc, _+_, _-_, _*_, _/_, _%_, _≤_, _<_, _^_}
@@ -18,9 +18,11 @@ use Rattle.evt_types.specs.declared.Refusal.{Refusal}
 use Rattle.evt_types.specs.declared.Refusal.the-variants.{InvalidSensorSize, TooLong, InvalidSpacing, TooFewRecords}
 use Rattle.evt_types.specs.declared.SensorSize.{SensorSize}
 use Rattle.evt_types.specs.declared.SensorSize.the-variants.{Unknown, Known}
-use Rattle.evt_codec.specs.Codec.{freshC, eventsFrom, codecAfter}
 use Rattle.evt_types.specs.Event.{Event}
-use Rattle.evt_types.specs.Told.{accepted, refused, short}
+use Rattle.evt_types.specs.Num.{mostBytes}
+use Rattle.evt_types.specs.Outcome.{Outcome, refuse, give}
+use Rattle.evt_codec.specs.declared.codec.Codec.{Codec}
+use Rattle.evt_codec.specs.Codec.{freshC, eventsFrom, codecAfter}
 use Rattle.read_columns.specs.Inside.{clock}
 use Rattle.read_fill.specs.Decode.{insideEvents}
 use Rattle.read_fill.specs.Laws.{bounded-fresh, all-inside, inside-bytes}
@@ -28,25 +30,27 @@ use Rattle.header.specs.declared.Header as header
 use Rattle.header.specs.declared.HeaderAnswer.{HeaderAnswer}
 use Rattle.header.specs.declared.HeaderAnswer.the-variants.{Header, Refused as NoHeader}
 use Rattle.header.specs.Header.{hasZero, headerOf}
-use Rattle.evt_types.specs.Num.{encodingNumber}
 use Rattle.header.specs.Laws.{of-accepted}
 use Rattle.read_select.specs.declared.SurveyTotals.{SurveyTotals}
-use Rattle.read_select.specs.Pass.{Ready, handedOver, surveyed}
+use Rattle.read_select.specs.Pass.{Ready as ReadyFor, handedOver, surveyed}
 use Rattle.read_select.specs.Uses.{numberedOver, over-all}
 use Rattle.read_window.specs.declared.Window.{Window}
-use Rattle.evt_codec.specs.declared.codec.Codec.{Codec}
-use Rattle.index_build.specs.declared.Plan.the-variants.{Build}
 use Rattle.read_rules.specs.Laws.{ready-fresh}
 use Rattle.read_rules.specs.Read.{widthOf, heightOf, sizeless}
+use Rattle.index_build.specs.declared.Builder.{Builder}
 use Rattle.index_build.specs.declared.Checkpoint.{Checkpoint}
 use Rattle.index_build.specs.declared.OpenAnswer.{OpenAnswer}
 use Rattle.index_build.specs.declared.OpenAnswer.the-variants.{Opened, Refused}
 use Rattle.index_build.specs.declared.OpenOptions.{OpenOptions}
+use Rattle.index_build.specs.declared.Prepared.{Prepared}
+use Rattle.index_build.specs.declared.Prepared.the-variants.{Ready, Refused as NotReady}
+use Rattle.index_build.specs.declared.RawSliceSource.{RawSliceSource}
 use Rattle.index_build.specs.declared.WordsOptions.{WordsOptions}
-use Rattle.index_build.specs.declared.Run.{Run}
-use Rattle.index_build.specs.Index.{keptEvents, recordAt, firsts, recordCount, recordsOf, alignment, spacingOk, toldOpen, bodyVerdict, bodyMade, bodyAnswer, sourceOf, Opens}
-use Rattle.index_build.specs.Build.{recordOf, Job, idle, spanWidth, spanHeight, wholeWindow, buildJob, bodyJob, jobAfter, rawJob, wordsJob, runAt, concluded, firstOf}
-use Rattle.index_build.specs.Laws.{Sound, Laid, laid-end}
+use Rattle.index_build.specs.Index.{keptEvents, recordAt, firsts, recordCount, recordsOf, alignment, spacingOk, Body, bodyAt, bytesOf, eventsOf, needOf}
+use Rattle.index_build.specs.Index.{openingOf, recordsBy, bodyOutcome, outcomeAfter, rawOutcome, wordsBody, wordsOutcome, openAnswer, openRecords}
+use Rattle.index_build.specs.Index.{Opens, toldOpen, told-answer}
+use Rattle.index_build.specs.Build.{Begun, builderAt, madeAt, spanWidth, spanHeight, wholeWindow, firstFor, uncounted, firstOf, preparedBy, concluded}
+use Rattle.index_build.specs.Laws.{builder-start, Laid, laid-end}
 
 -- ---- spacing and counts
 
@@ -59,7 +63,8 @@ pub spaced : (e : Encoding) (spacing : ℕ) → spacingOk e spacing ≡ true →
 unfolding spacingOk
 spaced e spacing h = go (ltb spacing 4) refl (ltb 4194304 spacing) refl e h
   where
-    go : (a : Bool) → ltb spacing 4 ≡ a → (b : Bool) → ltb 4194304 spacing ≡ b → (e : Encoding) → cond a false (cond b false (eqb (spacing % alignment e) 0)) ≡ true → Spaced spacing
+    go : (a : Bool) → ltb spacing 4 ≡ a → (b : Bool) → ltb 4194304 spacing ≡ b → (e : Encoding)
+        → cond a false (cond b false (eqb (spacing % alignment e) 0)) ≡ true → Spaced spacing
     go true p b q e h = let z : _≡_ {A = Bool} false true = h in absurd (no z)
       where
         no : _≡_ {A = Bool} false true → ⊥
@@ -88,131 +93,197 @@ module _ (n spacing : ℕ) (s : Spaced spacing) where
       let m : d * spacing ≤ recordCount n spacing * spacing = native.Mathlib.Nat.mul-le-mul-right {m = d} {n = recordCount n spacing} spacing (omega arith) in
       omega (arith, e, l, m, s .low)
 
-  pub count-few : n ≤ 2 ^ 30 → recordCount n spacing < 2 ^ 63
-  count-few h = let d : (n + (spacing - 1)) / spacing ≤ n + (spacing - 1) = native.Mathlib.Nat.div-le-self (n + (spacing - 1)) spacing in omega (arith, d, s .high)
+  pub count-few : n ≤ mostBytes → recordCount n spacing < 2 ^ 63
+  count-few h =
+      let d : (n + (spacing - 1)) / spacing ≤ n + (spacing - 1) = native.Mathlib.Nat.div-le-self (n + (spacing - 1)) spacing in
+      omega (arith, d, s .high)
 
 -- ---- events that count
 
-pub kept-inside : (size : SensorSize) (e : Encoding) (l : List ℕ) → length l ≤ 2 ^ 30 → insideEvents (spanWidth size) (spanHeight size) (freshC e) l ≡ keptEvents size e l
+pub kept-inside : (size : SensorSize) (e : Encoding) (l : List ℕ) → length l ≤ mostBytes
+    → insideEvents (spanWidth size) (spanHeight size) (freshC e) l ≡ keptEvents size e l
 kept-inside Unknown e l h = all-inside (freshC e) l (bounded-fresh e (length l) h)
 kept-inside (Known w k) e l h = refl
 
--- ---- the job of a call
+-- ---- a body that is accepted
 
-pub record Allowed (job : Job) (l : List ℕ) (room : ℕ) : Type 0 where
-  pub fits : job .cap ≤ room
-  pub sound : 0 < job .cap → Sound job l
+pub record Accepted (l : List ℕ) (room : ℕ) (b : Body) : Type 0 where
+  pub is-recording : b .recording ≡ l
+  pub long : length (b .recording) ≤ mostBytes
+  pub within : b .start ≤ length (b .recording)
+  pub positive : hasZero (b .size) ≡ false
+  pub allowed : spacingOk (b .encoding) (b .spacing) ≡ true
+  pub fits : needOf b ≤ room
 
-pub allowed-idle : (r : Refusal) (l : List ℕ) (room : ℕ) → Allowed (idle r) l room
-allowed-idle r l room = record { fits = omega arith; sound = λ h. absurd (omega arith) }
+-- P holds of what is given
+abbrev pub IfGiven : (Body → Type 0) → Outcome Body → Type 0
+IfGiven P (refuse r) = Unit
+IfGiven P (give b) = P b
 
-module _ (l : List ℕ) (start : ℕ) (e : Encoding) (size : SensorSize) (spacing room : ℕ) (long : length l ≤ 2 ^ 30) (within : start ≤ length l) where
+accepted-body : (b : Body) (room : ℕ) → length (b .recording) ≤ mostBytes → b .start ≤ length (b .recording) → hasZero (b .size) ≡ false
+    → IfGiven (Accepted (b .recording) room) (bodyOutcome b room)
+unfolding bodyOutcome
+accepted-body b room long within positive = go (spacingOk (b .encoding) (b .spacing)) refl (ltb room (needOf b)) refl (sizeless (b .size) (eventsOf b))
+  where
+    go : (x : Bool) → spacingOk (b .encoding) (b .spacing) ≡ x → (y : Bool) → ltb room (needOf b) ≡ y → (z : Bool)
+        → IfGiven (Accepted (b .recording) room)
+        (cond x (cond y (refuse (TooFewRecords (needOf b))) (cond z (refuse InvalidSensorSize) (give b))) (refuse InvalidSpacing))
+    go false p y q z = tt
+    go true p true q z = tt
+    go true p false q true = tt
+    go true p false q false =
+        record { is-recording = refl; long = long; within = within; positive = positive; allowed = p; fits = ltb-false room (needOf b) q }
+
+pub accepted-raw : (l : List ℕ) (o : OpenOptions) (room : ℕ) → IfGiven (Accepted l room) (rawOutcome l o room)
+unfolding rawOutcome
+accepted-raw l o room = go (headerOf l (o .«sensor_size»)) refl
+  where
+    go : (a : HeaderAnswer) → headerOf l (o .«sensor_size») ≡ a → IfGiven (Accepted l room) (outcomeAfter a l (o .spacing) room)
+    go (NoHeader r) p = tt
+    go (Header h) p =
+        let k = of-accepted l (o .«sensor_size») h p in
+        accepted-body (bodyAt l (h .«data_offset») (h .encoding) (h .«sensor_size») (o .spacing)) room (k .short) (k .within) (k .positive)
+
+pub accepted-words : (l : List ℕ) (o : WordsOptions) (room : ℕ) → IfGiven (Accepted l room) (wordsOutcome l o room)
+unfolding wordsOutcome
+accepted-words l o room = go (ltb mostBytes (length l)) refl (hasZero (o .«sensor_size»)) refl
+  where
+    go : (x : Bool) → ltb mostBytes (length l) ≡ x → (y : Bool) → hasZero (o .«sensor_size») ≡ y
+        → IfGiven (Accepted l room) (cond x (refuse TooLong) (cond y (refuse InvalidSensorSize) (bodyOutcome (wordsBody l o) room)))
+    go true p y q = tt
+    go false p true q = tt
+    go false p false q = accepted-body (wordsBody l o) room (ltb-false mostBytes (length l) p) (omega arith) q
+
+-- ---- what its builder comes to
+
+-- what a builder that was prepared makes is what the outcome says
+pub record Builds (l : List ℕ) (room : ℕ) (outcome : Outcome Body) (t : Builder) : Type 0 where
+  pub begun : Begun l room t
+  pub is-answer : Opened (concluded (builderAt l t (t .cap))) ≡ openAnswer outcome
+  pub is-records : firsts (madeAt l t) (t .cap) ≡ openRecords outcome
+
+module _ (m : List ℕ) (b : Body) (room : ℕ) (ok : Accepted m room b) where
+  abbrev l : List ℕ
+  l = b .recording
+
   abbrev body : List ℕ
-  body = drop start l
+  body = bytesOf b
 
-  abbrev es : List Event
-  es = keptEvents size e body
+  abbrev t : Builder
+  t = firstOf b
 
-  abbrev need : ℕ
-  need = recordCount (length body) spacing
+  abbrev insides : List ℕ → List Event
+  insides = insideEvents (spanWidth (b .size)) (spanHeight (b .size)) (freshC (b .encoding))
 
-  abbrev made : Job
-  made = buildJob (length l) start e size spacing need es
+  is-spaced : Spaced (b .spacing)
+  is-spaced = spaced (b .encoding) (b .spacing) (ok .allowed)
 
-  body-long : length body ≤ 2 ^ 30
-  body-long = omega (arith, length-drop start l)
+  body-long : length body ≤ mostBytes
+  body-long = omega (arith, length-drop (b .start) l, ok .long)
 
-  abbrev chosen : (a b c : Bool) → Job
-  chosen a b c = cond a (cond b (idle (TooFewRecords need)) (cond c (idle InvalidSensorSize) made)) (idle InvalidSpacing)
-
-  sound-made : Spaced spacing → Sound made l
-  sound-made s = record {
-    start = within;
-    long = long;
-    quarter = spacing / 4;
-    aligned = s .fours;
-    small = s .high;
-    within = λ j lt. omega (arith, count-within (length body) spacing s j lt, length-drop start l);
-    room = count-few (length body) spacing s body-long;
+  begun-body : Begun l room t
+  begun-body = record {
+    is-first = builder-start l t;
+    start = ok .within;
+    long = ok .long;
+    takes = bounded-fresh (b .encoding) mostBytes (omega arith);
+    quarter = b .spacing / 4;
+    aligned = is-spaced .fours;
+    small = is-spaced .high;
+    within = λ j lt. omega (arith, count-within (length body) (b .spacing) is-spaced j lt, length-drop (b .start) l);
+    fits = ok .fits;
+    few = count-few (length body) (b .spacing) is-spaced body-long;
   }
 
-  pub allowed-body : Allowed (bodyJob l start e size spacing room) l room
-  unfolding bodyJob
-  allowed-body = go (spacingOk e spacing) refl (ltb room need) refl (sizeless size es)
-    where
-      go : (a : Bool) → spacingOk e spacing ≡ a → (b : Bool) → ltb room need ≡ b → (c : Bool) → Allowed (chosen a b c) l room
-      go false p b q c = allowed-idle InvalidSpacing l room
-      go true p true q c = allowed-idle (TooFewRecords need) l room
-      go true p false q true = allowed-idle InvalidSensorSize l room
-      go true p false q false = record { fits = ltb-false room need q; sound = λ _. sound-made (spaced e spacing p) }
-
-  -- ---- the records
-
-  record-is : (j : ℕ) → recordOf (runAt made l j) ≡ recordAt size e start spacing body j
+  record-is : (j : ℕ) → madeAt l t j ≡ recordAt (b .size) (b .encoding) (b .start) (b .spacing) body j
   unfolding recordAt
   record-is j =
-      let front = take (j * spacing) body in
-      let k : insideEvents (spanWidth size) (spanHeight size) (freshC e) front ≡ keptEvents size e front = kept-inside size e front (omega (arith, length-take (j * spacing) body, body-long)) in
-      λ i. record { «byte_offset» = start + j * spacing; «event_index» = length (k i); time = pos (greatest clock (k i)); codec = codecAfter (freshC e) front }
+      let n = j * b .spacing in
+      let front = take n body in
+      let k : insides front ≡ keptEvents (b .size) (b .encoding) front =
+      kept-inside (b .size) (b .encoding) front (omega (arith, length-take n body, body-long)) in
+      λ i. record {
+        «byte_offset» = b .start + n;
+        «event_index» = length (k i);
+        time = pos (greatest clock (k i));
+        codec = codecAfter (freshC (b .encoding)) front;
+      }
 
-  firsts-is : (n : ℕ) → firsts (λ j. recordOf (runAt made l j)) n ≡ firsts (recordAt size e start spacing body) n
+  firsts-is : (n : ℕ) → firsts (madeAt l t) n ≡ firsts (recordAt (b .size) (b .encoding) (b .start) (b .spacing) body) n
   firsts-is zero = refl
   firsts-is (suc n) = λ i. firsts-is n i ++ (record-is n i ∷ [])
 
-  answer-is : Spaced spacing → concluded (runAt made l need) ≡ Opened (record { source = sourceOf (length l) start e size spacing es; records = need })
-  answer-is s =
-      let all : take (need * spacing) body ≡ body = take-all (need * spacing) body (count-covers (length body) spacing s) in
-      let k : insideEvents (spanWidth size) (spanHeight size) (freshC e) (take (need * spacing) body) ≡ es = ap (insideEvents (spanWidth size) (spanHeight size) (freshC e)) all ∙ kept-inside size e body body-long in
-      λ i. Opened (record { source = record { encoding = e; spacing = spacing; «data_offset» = start; len = length l; width = widthOf size es; height = heightOf size es; «n_events» = length (k i) }; records = need })
+  records-is : firsts (madeAt l t) (needOf b) ≡ recordsBy b
+  unfolding recordsOf
+  records-is = firsts-is (needOf b)
 
-  none-laid : (f : ℕ → Checkpoint) (ys zs : List Checkpoint) → Laid f 0 ys zs → zs ≡ [] ++ drop 0 ys
-  none-laid f ys zs u = u .rest
+  opening-is : concluded (builderAt l t (needOf b)) ≡ openingOf b
+  opening-is =
+      let all : take (needOf b * b .spacing) body ≡ body = take-all (needOf b * b .spacing) body (count-covers (length body) (b .spacing) is-spaced) in
+      let k : insides (take (needOf b * b .spacing) body) ≡ eventsOf b = ap insides all ∙ kept-inside (b .size) (b .encoding) body body-long in
+      λ i. record {
+        source = record {
+          encoding = b .encoding;
+          spacing = b .spacing;
+          «data_offset» = b .start;
+          len = length l;
+          width = widthOf (b .size) (eventsOf b);
+          height = heightOf (b .size) (eventsOf b);
+          «n_events» = length (k i);
+        };
+        records = needOf b;
+      }
 
-  -- ---- the answer and the records
+  builds-body : Builds l room (give b) t
+  builds-body = record { begun = begun-body; is-answer = ap Opened opening-is; is-records = records-is }
 
-  pub opens-body : (r : OpenAnswer) (ys zs : List Checkpoint) → room ≡ length ys
-      → r ≡ concluded (runAt (bodyJob l start e size spacing room) l (bodyJob l start e size spacing room .cap))
-      → Laid (λ j. recordOf (runAt (bodyJob l start e size spacing room) l j)) (bodyJob l start e size spacing room .cap) ys zs
-      → Opens (bodyVerdict (length l) start e size spacing body room) (bodyAnswer (length l) start e size spacing body room) (bodyMade start e size spacing body room) r ys zs
-  unfolding bodyJob bodyVerdict bodyAnswer bodyMade recordsOf
-  opens-body r ys zs is-room = go (spacingOk e spacing) refl (ltb room need) (sizeless size es)
-    where
-      go : (a : Bool) → spacingOk e spacing ≡ a → (b c : Bool) → r ≡ concluded (runAt (chosen a b c) l (chosen a b c .cap)) → Laid (λ j. recordOf (runAt (chosen a b c) l j)) (chosen a b c .cap) ys zs
-          → Opens
-          (cond a (cond b (short 9 need) (cond c (refused 1) (accepted (encodingNumber e ∷ spacing ∷ start ∷ length l ∷ widthOf size es ∷ heightOf size es ∷ length es ∷ need ∷ [])))) (refused 8))
-          (cond a (cond b (Refused (TooFewRecords need)) (cond c (Refused InvalidSensorSize) (Opened (record { source = sourceOf (length l) start e size spacing es; records = need })))) (Refused InvalidSpacing))
-          (cond a (cond b [] (cond c [] (recordsOf size e start spacing body))) []) r ys zs
-      go false p b c q u = record { is-told = ap toldOpen q; is-answer = q; is-records = none-laid _ ys zs u }
-      go true p true c q u = record { is-told = ap toldOpen q; is-answer = q; is-records = none-laid _ ys zs u }
-      go true p false true q u = record { is-told = ap toldOpen q; is-answer = q; is-records = none-laid _ ys zs u }
-      go true p false false q u =
-          let a : r ≡ Opened (record { source = sourceOf (length l) start e size spacing es; records = need }) = q ∙ answer-is (spaced e spacing p) in
-          record {
-            is-told = ap toldOpen a;
-            is-answer = a;
-            is-records = laid-end (λ j. recordOf (runAt made l j)) need ys zs u ∙ ap (λ (m : List Checkpoint). m ++ drop (length m) ys) (firsts-is need);
-          }
+pub builds : (l : List ℕ) (room : ℕ) (outcome : Outcome Body) → IfGiven (Accepted l room) outcome → (t : Builder) → Ready t ≡ preparedBy outcome
+    → Builds l room outcome t
+builds l room (refuse r) ok t is = let z : _≡_ {A = ℕ} 0 1 = cc in absurd (omega arith)
+builds l room (give b) ok t is =
+    let own : t ≡ firstOf b = cc in
+    subst (λ (u : Builder). Builds l room (give b) u) (sym own)
+    (subst (λ (m : List ℕ). Builds m room (give b) (firstOf b)) (ok .is-recording) (builds-body l b room ok))
 
-  -- ---- what the code chooses
+-- ---- what opening promises
 
-  pub job-spacing : spacingOk e spacing ≡ false → idle InvalidSpacing ≡ bodyJob l start e size spacing room
-  unfolding bodyJob
-  job-spacing h = rw h
+pub opens-refused : (outcome : Outcome Body) (r : Refusal) → NotReady r ≡ preparedBy outcome → (ys : List Checkpoint) → Opens outcome (Refused r) ys ys
+opens-refused (refuse q) r is ys = let e : r ≡ q = cc in rw e (record { is-told = refl; is-answer = refl; is-records = refl })
+opens-refused (give b) r is ys = let z : _≡_ {A = ℕ} 0 1 = cc in absurd (omega arith)
 
-  need-is : recordCount (length l - start) spacing ≡ need
-  need-is = ap (λ (n : ℕ). recordCount n spacing) (sym (length-drop start l))
+pub opens-built : (l : List ℕ) (room : ℕ) (outcome : Outcome Body) (t : Builder) → Builds l room outcome t → (r : OpenAnswer) (ys zs : List Checkpoint)
+    → r ≡ Opened (concluded (builderAt l t (t .cap))) → Laid (madeAt l t) (t .cap) ys zs → Opens outcome r ys zs
+opens-built l room outcome t s r ys zs is u =
+    let a : r ≡ openAnswer outcome = is ∙ s .is-answer in
+    record {
+      is-told = ap toldOpen a ∙ told-answer outcome;
+      is-answer = a;
+      is-records = laid-end (madeAt l t) (t .cap) ys zs u ∙ ap (λ (m : List Checkpoint). m ++ drop (length m) ys) (s .is-records);
+    }
 
-  pub job-short : (n : ℕ) → n ≡ recordCount (length l - start) spacing → spacingOk e spacing ≡ true → room < n → idle (TooFewRecords n) ≡ bodyJob l start e size spacing room
-  unfolding bodyJob
-  job-short n is h lt = let k : n ≡ need = is ∙ need-is in rw (h, k, lt-ltb room need (rw k at lt))
+-- ---- what the code chooses
 
-  pub job-none : (n : ℕ) → n ≡ recordCount (length l - start) spacing → spacingOk e spacing ≡ true → n ≤ room → sizeless size es ≡ true → idle InvalidSensorSize ≡ bodyJob l start e size spacing room
-  unfolding bodyJob
-  job-none n is h le z = let k : n ≡ need = is ∙ need-is in rw (h, le-ltb room need (rw k at le), z)
+module _ (b : Body) (room : ℕ) where
+  pub outcome-spacing : spacingOk (b .encoding) (b .spacing) ≡ false → bodyOutcome b room ≡ refuse InvalidSpacing
+  unfolding bodyOutcome
+  outcome-spacing h = rw h
 
-  pub job-made : (n : ℕ) → n ≡ recordCount (length l - start) spacing → spacingOk e spacing ≡ true → n ≤ room → sizeless size es ≡ false → buildJob (length l) start e size spacing n es ≡ bodyJob l start e size spacing room
-  unfolding bodyJob
-  job-made n is h le z = let k : n ≡ need = is ∙ need-is in rw (h, le-ltb room need (rw k at le), z, k)
+  module _ (n : ℕ) (is : n ≡ recordCount (length (b .recording) - b .start) (b .spacing)) (ok : spacingOk (b .encoding) (b .spacing) ≡ true) where
+    pub need-is : n ≡ needOf b
+    need-is = is ∙ ap (λ (m : ℕ). recordCount m (b .spacing)) (sym (length-drop (b .start) (b .recording)))
+
+    pub outcome-short : room < n → bodyOutcome b room ≡ refuse (TooFewRecords n)
+    unfolding bodyOutcome
+    outcome-short lt = rw (ok, lt-ltb room (needOf b) (rw need-is at lt), need-is)
+
+    module _ (enough : n ≤ room) where
+      pub outcome-none : sizeless (b .size) (eventsOf b) ≡ true → bodyOutcome b room ≡ refuse InvalidSensorSize
+      unfolding bodyOutcome
+      outcome-none z = rw (ok, le-ltb room (needOf b) (rw need-is at enough), z)
+
+      pub outcome-given : sizeless (b .size) (eventsOf b) ≡ false → bodyOutcome b room ≡ give b
+      unfolding bodyOutcome
+      outcome-given z = rw (ok, le-ltb room (needOf b) (rw need-is at enough), z)
 
 -- ---- without a size
 
@@ -220,7 +291,7 @@ grown : (f : Event → ℕ) (a : Event) (es : List Event) → greatest (λ e. f 
 grown f a [] = omega arith
 grown f a (b ∷ es) = omega (arith, grown f b es)
 
-module _ (e : Encoding) (body : List ℕ) (long : length body ≤ 2 ^ 30) where
+module _ (e : Encoding) (body : List ℕ) (long : length body ≤ mostBytes) where
   numbered-all : numberedOver wholeWindow (freshC e) body ≡ eventsFrom (freshC e) body
   numbered-all = same e ∙ kept-inside Unknown e body long
     where
@@ -230,7 +301,8 @@ module _ (e : Encoding) (body : List ℕ) (long : length body ≤ 2 ^ 30) where
 
   pub handed-all : handedOver wholeWindow 0 (freshC e) body ≡ eventsFrom (freshC e) body
   handed-all =
-      let n : length (numberedOver wholeWindow (freshC e) body) ≤ 6 * length body = rw (numbered-all, ← kept-inside Unknown e body long) (inside-bytes 65536 65536 (freshC e) body) in
+      let n : length (numberedOver wholeWindow (freshC e) body) ≤ 6 * length body =
+      rw (numbered-all, ← kept-inside Unknown e body long) (inside-bytes 65536 65536 (freshC e) body) in
       over-all wholeWindow (freshC e) body (ready-fresh e (length body) long .able) refl (omega arith) 0 (omega arith) (omega (arith, n)) ∙ numbered-all
 
   module _ (t : SurveyTotals) (is : t ≡ surveyed wholeWindow 0 (freshC e) body) where
@@ -247,8 +319,10 @@ module _ (e : Encoding) (body : List ℕ) (long : length body ≤ 2 ^ 30) where
     pub survey-some : (t .count ≡ 0 → ⊥) → (sizeless Unknown (eventsFrom (freshC e) body) ≡ false)
         × ((t .width ≡ widthOf Unknown (eventsFrom (freshC e) body)) × (t .height ≡ heightOf Unknown (eventsFrom (freshC e) body)))
     survey-some nz =
-        let w : t .width ≡ greatest (λ e. e .x + 1) (eventsFrom (freshC e) body) = ap (λ (u : SurveyTotals). u .width) is ∙ ap (greatest (λ e. e .x + 1)) handed-all in
-        let h : t .height ≡ greatest (λ e. e .y + 1) (eventsFrom (freshC e) body) = ap (λ (u : SurveyTotals). u .height) is ∙ ap (greatest (λ e. e .y + 1)) handed-all in
+        let w : t .width ≡ greatest (λ e. e .x + 1) (eventsFrom (freshC e) body) =
+        ap (λ (u : SurveyTotals). u .width) is ∙ ap (greatest (λ e. e .x + 1)) handed-all in
+        let h : t .height ≡ greatest (λ e. e .y + 1) (eventsFrom (freshC e) body) =
+        ap (λ (u : SurveyTotals). u .height) is ∙ ap (greatest (λ e. e .y + 1)) handed-all in
         go (eventsFrom (freshC e) body) survey-count w h
       where
         go : (es : List Event) → t .count ≡ length es → t .width ≡ greatest (λ e. e .x + 1) es → t .height ≡ greatest (λ e. e .y + 1) es
@@ -256,73 +330,71 @@ module _ (e : Encoding) (body : List ℕ) (long : length body ≤ 2 ^ 30) where
         go [] c w h = absurd (nz c)
         go (a ∷ es) c w h = (refl, (w ∙ grown (λ e. e .x) a es, h ∙ grown (λ e. e .y) a es))
 
--- ---- the runs that the code starts
+-- ---- the builders that the code begins
 
-module _ (l : List ℕ) (start : ℕ) (e : Encoding) (spacing room : ℕ) (long : length l ≤ 2 ^ 30) (within : start ≤ length l) (ok : spacingOk e spacing ≡ true)
+module _ (l : List ℕ) (start : ℕ) (e : Encoding) (size : SensorSize) (spacing room : ℕ) (long : length l ≤ mostBytes) (ok : spacingOk e spacing ≡ true)
     (n : ℕ) (is-n : n ≡ recordCount (length l - start) spacing) (enough : n ≤ room) where
-  abbrev plainJob : (width height w h : ℕ) → Job
-  plainJob width height w h = record {
-    encoding = e;
-    start = start;
-    spacing = spacing;
-    cap = n;
-    width = width;
-    height = height;
-    plan = Build (record { encoding = e; spacing = spacing; «data_offset» = start; len = length l; width = w; height = h; «n_events» = 0 });
-  }
+  abbrev given : SensorSize → Body
+  given s = bodyAt l start e s spacing
 
-  pub run-known : (size : SensorSize) (w h : ℕ) → size ≡ Known w h → (r : Run) → r ≡ firstOf (plainJob w h w h) → r ≡ firstOf (bodyJob l start e size spacing room)
-  run-known size w h q r is = is ∙ ap firstOf (job-made l start e (Known w h) spacing room long within n is-n ok enough refl) ∙ ap (λ (s : SensorSize). firstOf (bodyJob l start e s spacing room)) (sym q)
+  abbrev prepared : SensorSize → Prepared
+  prepared s = preparedBy (bodyOutcome (given s) room)
+
+  ready : (s : SensorSize) (source : RawSliceSource) (width height : ℕ) → source ≡ uncounted (given s) width height
+      → width ≡ widthOf s (eventsOf (given s)) → height ≡ heightOf s (eventsOf (given s)) → sizeless s (eventsOf (given s)) ≡ false
+      → (t : Builder) → t ≡ firstFor source n (spanWidth s) (spanHeight s) → size ≡ s → Ready t ≡ prepared size
+  ready s source width height is w h z t is-t q =
+      ap Ready is-t ∙ ap (λ (x : RawSliceSource). Ready (firstFor x n (spanWidth s) (spanHeight s))) is
+      ∙ (λ i. Ready (firstFor (uncounted (given s) (w i) (h i)) (need-is (given s) room n is-n ok i) (spanWidth s) (spanHeight s)))
+      ∙ sym (ap preparedBy (outcome-given (given s) room n is-n ok enough z)) ∙ ap prepared (sym q)
+
+  pub ready-known : (w h : ℕ) → size ≡ Known w h → (source : RawSliceSource) → source ≡ uncounted (given (Known w h)) w h
+      → (t : Builder) → t ≡ firstFor source n w h → Ready t ≡ prepared size
+  ready-known w h q source is t is-t = ready (Known w h) source w h is refl refl refl t is-t q
 
   -- the rest of the recording is surveyed
-  module _ (size : SensorSize) (q : size ≡ Unknown) (c : Codec) (is-c : c ≡ freshC e) (win : Window) (is-win : win ≡ wholeWindow) (t : SurveyTotals)
+  module _ (q : size ≡ Unknown) (c : Codec) (is-c : c ≡ freshC e) (win : Window) (is-win : win ≡ wholeWindow) (t : SurveyTotals)
       (is-t : t ≡ surveyed win 0 c (take (length l - start) (drop start l))) where
     is-tally : t ≡ surveyed wholeWindow 0 (freshC e) (drop start l)
-    is-tally =
-        is-t ∙ ap (λ (b : List ℕ). surveyed win 0 c b) (rest-of l start) ∙ ap (λ (d : Codec). surveyed win 0 d (drop start l)) is-c
-        ∙ ap (λ (w : Window). surveyed w 0 (freshC e) (drop start l)) is-win
+    is-tally = is-t ∙ (λ i. surveyed (is-win i) 0 (is-c i) (rest-of l start i))
 
-    long-rest : length (drop start l) ≤ 2 ^ 30
+    long-rest : length (drop start l) ≤ mostBytes
     long-rest = omega (arith, length-drop start l)
 
-    pub run-none : t .count ≡ 0 → (r : Run) → r ≡ firstOf (idle InvalidSensorSize) → r ≡ firstOf (bodyJob l start e size spacing room)
-    run-none z r is =
-        is ∙ ap firstOf (job-none l start e Unknown spacing room long within n is-n ok enough (survey-none e (drop start l) long-rest t is-tally z))
-        ∙ ap (λ (s : SensorSize). firstOf (bodyJob l start e s spacing room)) (sym q)
+    pub ready-none : t .count ≡ 0 → NotReady InvalidSensorSize ≡ prepared size
+    ready-none z =
+        sym (ap preparedBy (outcome-none (given Unknown) room n is-n ok enough (survey-none e (drop start l) long-rest t is-tally z)))
+        ∙ ap prepared (sym q)
 
-    pub run-unknown : (t .count ≡ 0 → ⊥) → (r : Run) → r ≡ firstOf (plainJob 65536 65536 (t .width) (t .height)) → r ≡ firstOf (bodyJob l start e size spacing room)
-    run-unknown nz r is =
+    pub ready-surveyed : (t .count ≡ 0 → ⊥) → (source : RawSliceSource) → source ≡ uncounted (given Unknown) (t .width) (t .height)
+        → (u : Builder) → u ≡ firstFor source n 65536 65536 → Ready u ≡ prepared size
+    ready-surveyed nz source is u is-u =
         let s = survey-some e (drop start l) long-rest t is-tally nz in
-        is ∙ ap (λ (w : ℕ). firstOf (plainJob 65536 65536 w (t .height))) (s .1 .0) ∙ ap (λ (h : ℕ). firstOf (plainJob 65536 65536 (widthOf Unknown (eventsFrom (freshC e) (drop start l))) h)) (s .1 .1)
-        ∙ ap firstOf (job-made l start e Unknown spacing room long within n is-n ok enough (s .0))
-        ∙ ap (λ (s : SensorSize). firstOf (bodyJob l start e s spacing room)) (sym q)
+        ready Unknown source (t .width) (t .height) is (s .1 .0) (s .1 .1) (s .0) u is-u q
 
-pub ready-rest : (l : List ℕ) (start : ℕ) (e : Encoding) (c : Codec) → c ≡ freshC e → length l ≤ 2 ^ 30 → Ready c 0 (length (take (length l - start) (drop start l)))
+pub ready-rest : (l : List ℕ) (start : ℕ) (e : Encoding) (c : Codec) → c ≡ freshC e → length l ≤ mostBytes
+    → ReadyFor c 0 (length (take (length l - start) (drop start l)))
 ready-rest l start e c is h = rw (is, rest-of l start) (ready-fresh e (length (drop start l)) (omega (arith, length-drop start l)))
 
 -- ---- the two entries
 
 module _ (l : List ℕ) (o : OpenOptions) (room : ℕ) (a : HeaderAnswer) (is-header : a ≡ headerOf l (o .«sensor_size»)) where
-  pub job-refused : (q : Refusal) → a ≡ NoHeader q → idle q ≡ rawJob l o room
-  unfolding rawJob
-  job-refused q h = sym (ap (λ (b : HeaderAnswer). jobAfter b l (o .spacing) room) (sym is-header ∙ h))
+  pub outcome-after : rawOutcome l o room ≡ outcomeAfter a l (o .spacing) room
+  unfolding rawOutcome
+  outcome-after = ap (λ (b : HeaderAnswer). outcomeAfter b l (o .spacing) room) (sym is-header)
 
-  pub job-header : (h : header.Header) → a ≡ Header h → bodyJob l (h .«data_offset») (h .encoding) (h .«sensor_size») (o .spacing) room ≡ rawJob l o room
-  unfolding rawJob
-  job-header h q = sym (ap (λ (b : HeaderAnswer). jobAfter b l (o .spacing) room) (sym is-header ∙ q))
-
-  pub header-fits : (h : header.Header) → a ≡ Header h → (length l ≤ 2 ^ 30) × (h .«data_offset» ≤ length l)
+  pub header-fits : (h : header.Header) → a ≡ Header h → (length l ≤ mostBytes) × (h .«data_offset» ≤ length l)
   header-fits h q = let k = of-accepted l (o .«sensor_size») h (sym is-header ∙ q) in (k .short, k .within)
 
 module _ (l : List ℕ) (o : WordsOptions) (room : ℕ) where
-  pub job-long : 2 ^ 30 < length l → idle TooLong ≡ wordsJob l o room
-  unfolding wordsJob
-  job-long h = rw (lt-ltb (2 ^ 30) (length l) h)
+  pub outcome-long : mostBytes < length l → wordsOutcome l o room ≡ refuse TooLong
+  unfolding wordsOutcome
+  outcome-long h = rw (lt-ltb mostBytes (length l) h)
 
-  pub job-zero : length l ≤ 2 ^ 30 → hasZero (o .«sensor_size») ≡ true → idle InvalidSensorSize ≡ wordsJob l o room
-  unfolding wordsJob
-  job-zero h z = rw (le-ltb (2 ^ 30) (length l) h, z)
+  pub outcome-zero : length l ≤ mostBytes → hasZero (o .«sensor_size») ≡ true → wordsOutcome l o room ≡ refuse InvalidSensorSize
+  unfolding wordsOutcome
+  outcome-zero h z = rw (le-ltb mostBytes (length l) h, z)
 
-  pub job-words : length l ≤ 2 ^ 30 → hasZero (o .«sensor_size») ≡ false → bodyJob l 0 (o .encoding) (o .«sensor_size») (o .spacing) room ≡ wordsJob l o room
-  unfolding wordsJob
-  job-words h z = rw (le-ltb (2 ^ 30) (length l) h, z)
+  pub outcome-words : length l ≤ mostBytes → hasZero (o .«sensor_size») ≡ false → wordsOutcome l o room ≡ bodyOutcome (wordsBody l o) room
+  unfolding wordsOutcome
+  outcome-words h z = rw (le-ltb mostBytes (length l) h, z)

@@ -1,14 +1,15 @@
 // The index of a recording: checkpoints at every `spacing` bytes of its body, made one by one. Proved:
 // the records and the answer are those of specs/Index.antt, which has what an index holds and what
-// opening answers, by document 01's table; specs/Build.antt has the making turn by turn. Records are
-// handed over by value. Crate `index_open` has the entries that make an index; crate `index_records` judges
-// records and finds the one that a slice starts at.
+// opening answers, by document 01's table; specs/Build.antt has the making, one iteration after another.
+// Records are handed over by value. Crate `index_open` has the entries that make an index; crate `index_records`
+// judges records and finds the one that a slice starts at.
 ghost use mathlib.Core.Path.{_≡_};
 ghost use mathlib.Core.Bool.{true};
-ghost use Prim.Native.Nat.{_≤_, _<_, _^_};
+ghost use Prim.Native.Nat.{_≤_};
 ghost use lib.ListN.{length};
-ghost use Rattle.index_build.specs.Index.{spacingOk, recordCount};
-ghost use Rattle.index_build.specs.Build.{Fit, Advanced, firstOf, idle, bodyJob, rawJob, refusedJob, wholeWindow, wordsJob, concluded};
+ghost use Rattle.evt_types.specs.Num.{mostBytes};
+ghost use Rattle.index_build.specs.Index.{spacingOk, recordCount, bodyAt, bodyOutcome, rawOutcome, wordsOutcome};
+ghost use Rattle.index_build.specs.Build.{Fit, Advanced, firstFor, preparedBy, wholeWindow, concluded};
 use evt_codec::Codec;
 use evt_types::Encoding;
 use evt_types::MOST_BYTES;
@@ -19,7 +20,7 @@ use evt_types::num::min_usize;
 use header::HeaderAnswer;
 use read_select::Window;
 
-// What is kept after the first `byte_offset` bytes: the events counted before, their greatest time
+// What is kept after the first `byte_offset` bytes: the events counted before, their maximum time
 // (0 if none), and the decoder.
 pub struct Checkpoint {
     pub byte_offset: usize,
@@ -62,14 +63,9 @@ pub struct WordsOptions {
     pub spacing: usize,
 }
 
-// What is to be answered: a refusal, or a source whose events are still to be counted.
-pub enum Plan {
-    Refuse(Refusal),
-    Build(RawSliceSource),
-}
-
-// The making of records: record `at` of `cap` is next, and stands at byte `offset`.
-pub struct Run {
+// The building of an index: record `at` of `cap` is next, and stands at byte `offset`. The events of `source`
+// are still to be counted.
+pub struct Builder {
     pub more: bool,
     pub at: usize,
     pub cap: usize,
@@ -80,49 +76,56 @@ pub struct Run {
     pub count: usize,
     pub latest: u64,
     pub codec: Codec,
-    pub plan: Plan,
+    pub source: RawSliceSource,
 }
 
-pub struct Ran {
+// One record, and the builder behind its bytes.
+pub struct BuildStep {
     pub record: Checkpoint,
-    pub next: Run,
+    pub next: Builder,
 }
 
-// The record that stands where the run is, and the run behind the record's bytes.
-pub fn advance(recording: &[u8], run: Run) -> Ran
-    requires { ⌜ Fit (now recording) run ⌝ }
-    ensures { λ r. ⌜ Advanced (now (recording .entry)) run r ⌝ }
+// Why there is no index, or the builder before the first record.
+pub enum Prepared {
+    Refused(Refusal),
+    Ready(Builder),
+}
+
+// The record that stands where the builder is, and the builder behind the record's bytes.
+pub fn advance(recording: &[u8], builder: Builder) -> BuildStep
+    requires { ⌜ Fit (now recording) builder ⌝ }
+    ensures { λ r. ⌜ Advanced (now (recording .entry)) builder r ⌝ }
 {
-    let codec = run.codec;
-    let plan = run.plan;
+    let codec = builder.codec;
+    let source = builder.source;
     let record = Checkpoint {
-        byte_offset: run.offset,
-        event_index: run.count,
-        time: run.latest as i64,
+        byte_offset: builder.offset,
+        event_index: builder.count,
+        time: builder.latest as i64,
         codec,
     };
-    let start = run.offset;
-    let next_offset = start + run.spacing;
+    let start = builder.offset;
+    let next_offset = start + builder.spacing;
     let end = min_usize(next_offset, recording.len());
-    let s = read_count::count_all(&recording[start..end], codec, run.width, run.height);
-    let count = run.count + s.count;
-    let latest = max_u64(run.latest, s.latest);
-    let at = run.at + 1;
+    let s = read_count::count_all(&recording[start..end], codec, builder.width, builder.height);
+    let count = builder.count + s.count;
+    let latest = max_u64(builder.latest, s.latest);
+    let at = builder.at + 1;
     let after = s.codec;
-    let next = Run {
-        more: at < run.cap,
+    let next = Builder {
+        more: at < builder.cap,
         at,
-        cap: run.cap,
+        cap: builder.cap,
         offset: next_offset,
-        spacing: run.spacing,
-        width: run.width,
-        height: run.height,
+        spacing: builder.spacing,
+        width: builder.width,
+        height: builder.height,
         count,
         latest,
         codec: after,
-        plan,
+        source,
     };
-    Ran { record, next }
+    BuildStep { record, next }
 }
 
 // What a spacing is a multiple of (rule 8), for each encoding.
@@ -148,45 +151,61 @@ pub fn spacing_ok(encoding: Encoding, spacing: usize) -> bool
 
 // One record for every `spacing` bytes begun, and one for no bytes.
 fn record_count(n: usize, spacing: usize) -> usize
-    requires { ⌜ (n ≤ 2 ^ 30) × ((4 ≤ spacing) × (spacing ≤ 4194304)) ⌝ }
+    requires { ⌜ (n ≤ mostBytes) × ((4 ≤ spacing) × (spacing ≤ 4194304)) ⌝ }
     ensures { λ r. ⌜ r ≡ recordCount n spacing ⌝ }
 {
     let begun = (n + (spacing - 1)) / spacing;
     if begun < 1 { 1 } else { begun }
 }
 
-// Before any record is made.
-fn first_run(
+// A source whose events are still to be counted.
+fn uncounted(
     encoding: Encoding,
-    start: usize,
     spacing: usize,
-    cap: usize,
-    width: u64,
-    height: u64,
-    plan: Plan,
-) -> Run
-    ensures { λ r. ⌜ r ≡ firstOf (record { encoding = encoding; start = start; spacing = spacing; cap = cap; width = width; height = height; plan = plan }) ⌝ }
+    data_offset: usize,
+    len: usize,
+    width: usize,
+    height: usize,
+) -> RawSliceSource
+    ensures { λ r. ⌜ r ≡ record {
+      encoding = encoding;
+      spacing = spacing;
+      «data_offset» = «data_offset»;
+      len = len;
+      width = width;
+      height = height;
+      «n_events» = 0;
+    } ⌝ }
 {
-    Run {
+    RawSliceSource {
+        encoding,
+        spacing,
+        data_offset,
+        len,
+        width,
+        height,
+        n_events: 0,
+    }
+}
+
+// Before any record is made.
+fn first_builder(source: RawSliceSource, cap: usize, width: u64, height: u64) -> Builder
+    ensures { λ r. ⌜ r ≡ firstFor source cap width height ⌝ }
+{
+    let encoding = source.encoding;
+    Builder {
         more: 0 < cap,
         at: 0,
         cap,
-        offset: start,
-        spacing,
+        offset: source.data_offset,
+        spacing: source.spacing,
         width,
         height,
         count: 0,
         latest: 0,
         codec: Codec::new(encoding),
-        plan,
+        source,
     }
-}
-
-// No record is made.
-fn idle_run(refusal: Refusal) -> Run
-    ensures { λ r. ⌜ r ≡ firstOf (idle refusal) ⌝ }
-{
-    first_run(Encoding::Evt2, 0, 0, 0, 0, 0, Plan::Refuse(refusal))
 }
 
 // All events, whatever their number, time and place.
@@ -203,158 +222,109 @@ fn whole_window() -> Window
     }
 }
 
-// A body from `start` on, its spacing allowed: 9, 1 for no event, or the making of its records.
-fn spaced_run(
+// A body from `start` on, its spacing allowed: 9, 1 for no event, or its builder.
+fn spaced_builder(
     recording: &[u8],
     start: usize,
     encoding: Encoding,
     size: SensorSize,
     spacing: usize,
     room: usize,
-) -> Run
-    requires { ⌜ (length (now recording) ≤ 2 ^ 30) × ((start ≤ length (now recording)) × (spacingOk encoding spacing ≡ true)) ⌝ }
-    ensures { λ r. ⌜ r ≡ firstOf (bodyJob (now (recording .entry)) start encoding size spacing room) ⌝ }
+) -> Prepared
+    requires { ⌜ (length (now recording) ≤ mostBytes) × ((start ≤ length (now recording)) × (spacingOk encoding spacing ≡ true)) ⌝ }
+    ensures { λ r. ⌜ r ≡ preparedBy (bodyOutcome (bodyAt (now (recording .entry)) start encoding size spacing) room) ⌝ }
 {
     let len = recording.len();
     let need = record_count(len - start, spacing);
     if room < need {
-        return idle_run(Refusal::TooFewRecords(need));
+        return Prepared::Refused(Refusal::TooFewRecords(need));
     }
     match size {
         SensorSize::Known(width, height) => {
-            let source = RawSliceSource {
-                encoding,
-                spacing,
-                data_offset: start,
-                len,
-                width,
-                height,
-                n_events: 0,
-            };
-            first_run(
-                encoding,
-                start,
-                spacing,
-                need,
-                width as u64,
-                height as u64,
-                Plan::Build(source),
-            )
+            let source = uncounted(encoding, spacing, start, len, width, height);
+            Prepared::Ready(first_builder(source, need, width as u64, height as u64))
         }
         SensorSize::Unknown => {
-            let tally = read_select::survey(
-                &recording[start..],
-                Codec::new(encoding),
-                whole_window(),
-                0,
-            );
+            let codec = Codec::new(encoding);
+            let tally = read_select::survey(&recording[start..], codec, whole_window(), 0);
             if tally.count == 0 {
-                return idle_run(Refusal::InvalidSensorSize);
+                return Prepared::Refused(Refusal::InvalidSensorSize);
             }
-            let source = RawSliceSource {
-                encoding,
-                spacing,
-                data_offset: start,
-                len,
-                width: tally.width as usize,
-                height: tally.height as usize,
-                n_events: 0,
-            };
-            first_run(
-                encoding,
-                start,
-                spacing,
-                need,
-                65536,
-                65536,
-                Plan::Build(source),
-            )
+            let width = tally.width as usize;
+            let height = tally.height as usize;
+            let source = uncounted(encoding, spacing, start, len, width, height);
+            Prepared::Ready(first_builder(source, need, 65536, 65536))
         }
     }
 }
 
 // 8, and so on.
-fn body_run(
+fn body_builder(
     recording: &[u8],
     start: usize,
     encoding: Encoding,
     size: SensorSize,
     spacing: usize,
     room: usize,
-) -> Run
-    requires { ⌜ (length (now recording) ≤ 2 ^ 30) × (start ≤ length (now recording)) ⌝ }
-    ensures { λ r. ⌜ r ≡ firstOf (bodyJob (now (recording .entry)) start encoding size spacing room) ⌝ }
+) -> Prepared
+    requires { ⌜ (length (now recording) ≤ mostBytes) × (start ≤ length (now recording)) ⌝ }
+    ensures { λ r. ⌜ r ≡ preparedBy (bodyOutcome (bodyAt (now (recording .entry)) start encoding size spacing) room) ⌝ }
 {
     if spacing_ok(encoding, spacing) {
-        return spaced_run(recording, start, encoding, size, spacing, room);
+        return spaced_builder(recording, start, encoding, size, spacing, room);
     }
-    idle_run(Refusal::InvalidSpacing)
-}
-
-// The refusal of a header that was not accepted.
-fn refused_run(answer: HeaderAnswer) -> Run
-    ensures { λ r. ⌜ r ≡ firstOf (refusedJob answer) ⌝ }
-{
-    match answer {
-        HeaderAnswer::Refused(r) => idle_run(r),
-        HeaderAnswer::Header(_) => idle_run(Refusal::UnknownEncoding),
-    }
+    Prepared::Refused(Refusal::InvalidSpacing)
 }
 
 // A recording: its header, then its body.
-pub fn prepare(recording: &[u8], options: OpenOptions, room: usize) -> Run
-    ensures { λ r. ⌜ r ≡ firstOf (rawJob (now (recording .entry)) options room) ⌝ }
+pub fn prepare(recording: &[u8], options: OpenOptions, room: usize) -> Prepared
+    ensures { λ r. ⌜ r ≡ preparedBy (rawOutcome (now (recording .entry)) options room) ⌝ }
 {
     let size = options.sensor_size;
     let spacing = options.spacing;
     let answer = header::parse_header(recording, size);
     let HeaderAnswer::Header(h) = answer else {
-        return refused_run(answer);
+        return Prepared::Refused(header::refusal_of(answer));
     };
     let start = h.data_offset;
     let encoding = h.encoding;
     let sensor = h.sensor_size;
-    body_run(recording, start, encoding, sensor, spacing, room)
+    body_builder(recording, start, encoding, sensor, spacing, room)
 }
 
 // Headerless words.
-pub fn prepare_words(words: &[u8], options: WordsOptions, room: usize) -> Run
-    ensures { λ r. ⌜ r ≡ firstOf (wordsJob (now (words .entry)) options room) ⌝ }
+pub fn prepare_words(words: &[u8], options: WordsOptions, room: usize) -> Prepared
+    ensures { λ r. ⌜ r ≡ preparedBy (wordsOutcome (now (words .entry)) options room) ⌝ }
 {
     let encoding = options.encoding;
     let size = options.sensor_size;
     let spacing = options.spacing;
     if MOST_BYTES < words.len() {
-        return idle_run(Refusal::TooLong);
+        return Prepared::Refused(Refusal::TooLong);
     }
     if header::has_zero(size) {
-        return idle_run(Refusal::InvalidSensorSize);
+        return Prepared::Refused(Refusal::InvalidSensorSize);
     }
-    body_run(words, 0, encoding, size, spacing, room)
+    body_builder(words, 0, encoding, size, spacing, room)
 }
 
-// The answer, where all records are made.
-pub fn conclude(run: Run) -> OpenAnswer
-    ensures { λ r. ⌜ r ≡ concluded run ⌝ }
+// What is opened, where all records are made.
+pub fn conclude(builder: Builder) -> OpenAnswer
+    ensures { λ r. ⌜ r ≡ OpenAnswer.Opened (concluded builder) ⌝ }
 {
-    let plan = run.plan;
-    match plan {
-        Plan::Refuse(r) => OpenAnswer::Refused(r),
-        Plan::Build(s) => {
-            let encoding = s.encoding;
-            let source = RawSliceSource {
-                encoding,
-                spacing: s.spacing,
-                data_offset: s.data_offset,
-                len: s.len,
-                width: s.width,
-                height: s.height,
-                n_events: run.count,
-            };
-            OpenAnswer::Opened(Opening {
-                source,
-                records: run.cap,
-            })
-        }
-    }
+    let s = builder.source;
+    let encoding = s.encoding;
+    let source = RawSliceSource {
+        encoding,
+        spacing: s.spacing,
+        data_offset: s.data_offset,
+        len: s.len,
+        width: s.width,
+        height: s.height,
+        n_events: builder.count,
+    };
+    OpenAnswer::Opened(Opening {
+        source,
+        records: builder.cap,
+    })
 }

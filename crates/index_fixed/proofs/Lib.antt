@@ -1,3 +1,5 @@
 pub mod Front
 pub mod Held
 pub mod Opened
+pub mod OpenInto
+pub mod SliceIn

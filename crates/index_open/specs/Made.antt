@@ -1,19 +1,15 @@
--- What the making of the records of a run says.
-use mathlib.Core.Path.{_≡_, subst}
+-- What the making of a builder's records says.
+use mathlib.Core.Path.{_≡_}
 use mathlib.Core.List.{List}
 use Prim.Native.Nat.{ℕ}
+use Rattle.index_build.specs.declared.Builder.{Builder}
 use Rattle.index_build.specs.declared.Checkpoint.{Checkpoint}
 use Rattle.index_build.specs.declared.OpenAnswer.{OpenAnswer}
-use Rattle.index_build.specs.declared.Run.{Run}
-use Rattle.index_build.specs.Build.{Job, firstOf, concluded}
-use Rattle.index_build.specs.Begun.{jobOf, own-job}
-use Rattle.index_build.specs.Stage.{Ended}
+use Rattle.index_build.specs.declared.OpenAnswer.the-variants.{Opened}
+use Rattle.index_build.specs.Build.{builderAt, concluded, madeAt}
+use Rattle.index_build.specs.Laws.{Laid}
 
 -- the records of ys became zs, and r is the answer
-pub record Made (l : List ℕ) (first : Run) (r : OpenAnswer) (ys zs : List Checkpoint) : Type 0 where
-  pub last : Run
-  pub ended : Ended (jobOf first) l ys last zs
-  pub is-answer : r ≡ concluded last
-
-pub ended-as : (l : List ℕ) (job : Job) (first : Run) → first ≡ firstOf job → (r : OpenAnswer) (ys zs : List Checkpoint) (m : Made l first r ys zs) → Ended job l ys (m .last) zs
-ended-as l job first is r ys zs m = subst (λ (k : Job). Ended k l ys (m .last) zs) (own-job job first is) (m .ended)
+pub record Made (l : List ℕ) (first : Builder) (r : OpenAnswer) (ys zs : List Checkpoint) : Type 0 where
+  pub is-answer : r ≡ Opened (concluded (builderAt l first (first .cap)))
+  pub laid : Laid (madeAt l first) (first .cap) ys zs

@@ -3,8 +3,7 @@ ghost use Rattle.evt_types.specs.declared.Encoding.the-variants.{Evt2, Evt3};
 ghost use Rattle.c_structs.specs.Opening.{OpensRaw, OpensWords};
 use c_structs::opening::PropheseeOpenOptions;
 use c_structs::opening::PropheseeOpening;
-use c_structs::opening::make_records;
-use c_structs::opening::opening_of;
+use c_structs::opening::open_entries;
 use c_structs::opening::options_of;
 use c_structs::opening::words_options_of;
 use evt_types::Encoding;
@@ -20,9 +19,8 @@ pub extern "C" fn prophesee_open(
 {
     let room = records.len() / 10;
     let o = options_of(options);
-    let run = index_build::prepare(recording, o, room);
-    let ran = make_records(recording, &mut *records, run);
-    opening_of(index_build::conclude(ran))
+    let prepared = index_build::prepare(recording, o, room);
+    open_entries(recording, &mut *records, prepared)
 }
 
 // Headerless words.
@@ -36,9 +34,8 @@ fn open_words(
 {
     let room = records.len() / 10;
     let o = words_options_of(encoding, options);
-    let run = index_build::prepare_words(words, o, room);
-    let ran = make_records(words, &mut *records, run);
-    opening_of(index_build::conclude(ran))
+    let prepared = index_build::prepare_words(words, o, room);
+    open_entries(words, &mut *records, prepared)
 }
 
 #[no_mangle]

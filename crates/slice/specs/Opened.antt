@@ -1,8 +1,8 @@
 -- An index that opening made is one of its own recording (specs/Own.antt): slices over it are never refused for their state, and are exact.
 use mathlib.Core.Path.{_≡_, refl, sym, ap, _∙_}
 use mathlib.Core.Bool.{Bool, true, false, cond}
-use mathlib.Core.List.{List, [], _++_}
-use Prim.Native.Nat.{ℕ, _-_, _^_, _≤_}
+use mathlib.Core.List.{List, _++_}
+use Prim.Native.Nat.{ℕ, _-_, _≤_}
 use native.Mathlib.Omega.{arith}
 use lib.Dec.{ltb, eqb·suc-zero}
 use lib.IntN.{ℤ}
@@ -18,7 +18,8 @@ use Rattle.evt_types.specs.declared.SensorSize.{SensorSize}
 use Rattle.evt_types.specs.declared.SensorSize.the-variants.{Unknown, Known}
 use Rattle.evt_types.specs.Columns.{colX, colY}
 use Rattle.evt_types.specs.Event.{Event}
-use Rattle.evt_types.specs.Outcome.{give}
+use Rattle.evt_types.specs.Num.{mostBytes}
+use Rattle.evt_types.specs.Outcome.{Outcome, refuse, give}
 use Rattle.header.specs.declared.Header as header
 use Rattle.header.specs.declared.HeaderAnswer.{HeaderAnswer}
 use Rattle.header.specs.declared.HeaderAnswer.the-variants.{Header, Refused as NoHeader}
@@ -31,8 +32,8 @@ use Rattle.index_build.specs.declared.OpenAnswer.{OpenAnswer}
 use Rattle.index_build.specs.declared.OpenAnswer.the-variants.{Opened, Refused}
 use Rattle.index_build.specs.declared.OpenOptions.{OpenOptions}
 use Rattle.index_build.specs.declared.WordsOptions.{WordsOptions}
-use Rattle.index_build.specs.Index.{keptEvents, recordCount, recordsOf, spacingOk, bodyAnswer, bodyMade, answerAfter, madeAfter, rawAnswer, rawMade}
-use Rattle.index_build.specs.Index.{wordsAnswer, wordsMade, OpensRaw, OpensWords}
+use Rattle.index_build.specs.Index.{keptEvents, recordCount, recordsOf, spacingOk, Body, bodyAt, bodyOutcome, outcomeAfter, rawOutcome, wordsBody, wordsOutcome}
+use Rattle.index_build.specs.Index.{openAnswer, openRecords, OpensRaw, OpensWords}
 use Rattle.index_records.specs.InRange.{indexInRange}
 use Rattle.index_build.specs.Laws.{length-firsts}
 use Rattle.slice_rules.specs.Slice.{sizeOf, firstOf, endOf, indexEvents, isDuring, timeEvents, sliceCheck}
@@ -42,14 +43,19 @@ use Rattle.slice.specs.Own.{ownEvents, ownSource, ownRecords, OwnPast, o
 
 pub record OpenedAs (l : List ℕ) (start : ℕ) (e : Encoding) (size : SensorSize) (spacing : ℕ) (o : Opening) (records : List Checkpoint) : Type 0 where
   pub within : start ≤ length l
-  pub long : length l ≤ 2 ^ 30
+  pub long : length l ≤ mostBytes
   pub allowed : spacingOk e spacing ≡ true
   pub positive : hasZero (sizeOf (ownSource size e start spacing l)) ≡ false
   pub is-source : o .source ≡ ownSource size e start spacing l
   pub is-records : take (o .records) records ≡ ownRecords size e start spacing l
 
-never : {P : Type 0} (r : Refusal) (o : Opening) → Refused r ≡ Opened o → P
-never r o e = let z : _≡_ {A = ℕ} 0 1 = cc in absurd (omega arith)
+module _ (o : Opening) (records₀ records : List Checkpoint) where
+  -- an outcome that is answered by o, its records standing in front
+  abbrev Gives : Outcome Body → Type 0
+  Gives q = (openAnswer q ≡ Opened o) × (records ≡ openRecords q ++ drop (length (openRecords q)) records₀)
+
+  never : {P : Type 0} (r : Refusal) → Gives (refuse r) → P
+  never r u = let e : Refused r ≡ Opened o = u .0 in let z : _≡_ {A = ℕ} 0 1 = cc in absurd (omega arith)
 
 same-opening : (a b : Opening) → Opened a ≡ Opened b → a ≡ b
 same-opening a b e = cc
@@ -74,86 +80,74 @@ module _ (l : List ℕ) (start : ℕ) (e : Encoding) (size : SensorSize) (spacin
   unfolding recordsOf
   length-own = length-firsts _ need
 
-  opened-body : (room : ℕ) → start ≤ length l → length l ≤ 2 ^ 30 → hasZero size ≡ false
-      → bodyAnswer (length l) start e size spacing body room ≡ Opened o
-      → records ≡ bodyMade start e size spacing body room ++ drop (length (bodyMade start e size spacing body room)) records₀
+  opened-body : (room : ℕ) → start ≤ length l → length l ≤ mostBytes → hasZero size ≡ false → Gives o records₀ records (bodyOutcome (bodyAt l start e size spacing) room)
       → OpenedAs l start e size spacing o records
-  unfolding bodyAnswer bodyMade
+  unfolding bodyOutcome
   opened-body room within long positive = go (spacingOk e spacing) refl (ltb room need) (sizeless size (keptEvents size e body))
     where
       go : (a : Bool) → spacingOk e spacing ≡ a → (b c : Bool)
-          → cond a (cond b (Refused (TooFewRecords need)) (cond c (Refused InvalidSensorSize) (Opened made))) (Refused InvalidSpacing) ≡ Opened o
-          → records ≡ cond a (cond b [] (cond c [] (ownRecords size e start spacing l))) []
-          ++ drop (length (cond a (cond b [] (cond c [] (ownRecords size e start spacing l))) [])) records₀
+          → Gives o records₀ records (cond a (cond b (refuse (TooFewRecords need)) (cond c (refuse InvalidSensorSize) (give (bodyAt l start e size spacing)))) (refuse InvalidSpacing))
           → OpenedAs l start e size spacing o records
-      go false p b c q u = never InvalidSpacing o q
-      go true p true c q u = never (TooFewRecords need) o q
-      go true p false true q u = never InvalidSensorSize o q
-      go true p false false q u =
-          let is : made ≡ o = same-opening made o q in
+      go false p b c u = never o records₀ records InvalidSpacing u
+      go true p true c u = never o records₀ records (TooFewRecords need) u
+      go true p false true u = never o records₀ records InvalidSensorSize u
+      go true p false false u =
+          let is : made ≡ o = same-opening made o (u .0) in
           record {
             within = within;
             long = long;
             allowed = p;
             positive = positive-own size (ownEvents size e start l) positive;
             is-source = ap (λ (x : Opening). x .source) (sym is);
-            is-records =
-                (λ i. take (sym is i .records) (u i))
+            is-records = (λ i. take (sym is i .records) (u .1 i))
                 ∙ take-at (ownRecords size e start spacing l) (drop (length (ownRecords size e start spacing l)) records₀) need length-own;
           }
 
 module _ (o : Opening) (r : OpenAnswer) (records₀ records : List Checkpoint) (accepted : r ≡ Opened o) where
   pub opened-words : (words : List ℕ) (options : WordsOptions) → OpensWords words options r records₀ records
       → OpenedAs words 0 (options .encoding) (options .«sensor_size») (options .spacing) o records
-  unfolding wordsAnswer wordsMade
-  opened-words words options h = go (ltb (2 ^ 30) (length words)) refl (hasZero (options .«sensor_size»)) refl (sym (h .is-answer) ∙ accepted) (h .is-records)
+  unfolding wordsOutcome
+  opened-words words options h =
+      go (ltb mostBytes (length words)) refl (hasZero (options .«sensor_size»)) refl (sym (h .is-answer) ∙ accepted, h .is-records)
     where
-      go : (a : Bool) → ltb (2 ^ 30) (length words) ≡ a → (b : Bool) → hasZero (options .«sensor_size») ≡ b
-          → cond a (Refused TooLong) (cond b (Refused InvalidSensorSize)
-          (bodyAnswer (length words) 0 (options .encoding) (options .«sensor_size») (options .spacing) words (length records₀))) ≡ Opened o
-          → records ≡ cond a [] (cond b [] (bodyMade 0 (options .encoding) (options .«sensor_size») (options .spacing) words (length records₀)))
-          ++ drop (length (cond a [] (cond b [] (bodyMade 0 (options .encoding) (options .«sensor_size») (options .spacing) words (length records₀))))) records₀
+      go : (a : Bool) → ltb mostBytes (length words) ≡ a → (b : Bool) → hasZero (options .«sensor_size») ≡ b
+          → Gives o records₀ records
+          (cond a (refuse TooLong) (cond b (refuse InvalidSensorSize) (bodyOutcome (wordsBody words options) (length records₀))))
           → OpenedAs words 0 (options .encoding) (options .«sensor_size») (options .spacing) o records
-      go true p b q e u = never TooLong o e
-      go false p true q e u = never InvalidSensorSize o e
-      go false p false q e u =
+      go true p b q u = never o records₀ records TooLong u
+      go false p true q u = never o records₀ records InvalidSensorSize u
+      go false p false q u =
           opened-body words 0 (options .encoding) (options .«sensor_size») (options .spacing) o records₀ records (length records₀) (omega arith)
-          (ltb-false (2 ^ 30) (length words) p) q e u
+          (ltb-false mostBytes (length words) p) q u
 
   pub opened-raw : (recording : List ℕ) (options : OpenOptions) → OpensRaw recording options r records₀ records
       → (h : header.Header) × (headerOf recording (options .«sensor_size») ≡ Header h)
       × OpenedAs recording (h .«data_offset») (h .encoding) (h .«sensor_size») (options .spacing) o records
-  unfolding rawAnswer rawMade
-  opened-raw recording options h = go (headerOf recording (options .«sensor_size»)) refl (sym (h .is-answer) ∙ accepted) (h .is-records)
+  unfolding rawOutcome
+  opened-raw recording options h = go (headerOf recording (options .«sensor_size»)) refl (sym (h .is-answer) ∙ accepted, h .is-records)
     where
       go : (a : HeaderAnswer) → headerOf recording (options .«sensor_size») ≡ a
-          → answerAfter a recording (options .spacing) (length records₀) ≡ Opened o
-          → records ≡ madeAfter a recording (options .spacing) (length records₀)
-          ++ drop (length (madeAfter a recording (options .spacing) (length records₀))) records₀
+          → Gives o records₀ records (outcomeAfter a recording (options .spacing) (length records₀))
           → (h : header.Header) × (headerOf recording (options .«sensor_size») ≡ Header h)
           × OpenedAs recording (h .«data_offset») (h .encoding) (h .«sensor_size») (options .spacing) o records
-      go (NoHeader q) p e u = never q o e
-      go (Header k) p e u =
+      go (NoHeader q) p u = never o records₀ records q u
+      go (Header k) p u =
           let a = of-accepted recording (options .«sensor_size») k p in (
             k,
             p,
-            opened-body recording (k .«data_offset») (k .encoding) (k .«sensor_size») (options .spacing) o records₀ records (length records₀) (a .within)
-                (a .short) (a .positive) e u,
+            opened-body recording (k .«data_offset») (k .encoding) (k .«sensor_size») (options .spacing) o records₀ records (length records₀)
+                (a .within) (a .short) (a .positive) u,
           )
 
 -- the other way: where no rule of the table applies, opening accepts
-pub words-opened : (words : List ℕ) (options : WordsOptions) (room : ℕ) → length words ≤ 2 ^ 30 → hasZero (options .«sensor_size») ≡ false
-    → spacingOk (options .encoding) (options .spacing) ≡ true
-    → recordCount (length words) (options .spacing) ≤ room
+pub words-opened : (words : List ℕ) (options : WordsOptions) (room : ℕ) → length words ≤ mostBytes → hasZero (options .«sensor_size») ≡ false
+    → spacingOk (options .encoding) (options .spacing) ≡ true → recordCount (length words) (options .spacing) ≤ room
     → sizeless (options .«sensor_size») (ownEvents (options .«sensor_size») (options .encoding) 0 words) ≡ false
-    → wordsAnswer words options room
-    ≡ Opened (record {
-      source = ownSource (options .«sensor_size») (options .encoding) 0 (options .spacing) words;
-      records = recordCount (length words) (options .spacing);
-    })
-unfolding wordsAnswer bodyAnswer
+    → openAnswer (wordsOutcome words options room)
+    ≡ Opened (record { source = ownSource (options .«sensor_size») (options .encoding) 0 (options .spacing) words; records = recordCount (length words) (options .spacing) })
+unfolding wordsOutcome bodyOutcome
 words-opened words options room long positive allowed enough sized =
-    rw (le-ltb (2 ^ 30) (length words) long, positive, allowed, le-ltb room (recordCount (length words) (options .spacing)) enough, sized)
+    rw (le-ltb mostBytes (length words) long, positive, allowed, le-ltb room (recordCount (length words) (options .spacing)) enough, sized)
 
 -- ---- slices over it
 

@@ -1,8 +1,6 @@
 use borrow.Author.Needs.{needs}
-use Prim.Native.Nat.{min}
 use denote.Ref.{now}
-use Rattle.index_build.specs.Index.{rawVerdict, rawAnswer, rawMade}
-use Rattle.index_build.specs.Nth.{blank}
+use Rattle.index_build.specs.Index.{rawOutcome}
 use Rattle.index_fixed.specs.Laws.{opens-at}
 use Rattle.index_fixed.proofs.open.Statement.{statement}
 use Rattle.index_fixed.proofs.open.Tie as tie
@@ -10,10 +8,8 @@ use Rattle.index_fixed.proofs.open.Tie as tie
 returns : tie.Need-returns
 returns c =
     let a = c .before .before .before .before .args in
-    opens-at (rawVerdict (now (a .recording)) (a .options)) (rawAnswer (now (a .recording)) (a .options))
-    (rawMade (now (a .recording)) (a .options))
-    (c .open-into .result .answer) 64 (c .open-into .result .records) (c .before .before .clamp .result) (min (a .room) 64)
-    (c .before .blank .result) blank (c .before .before .clamp .ensures) (c .before .blank .ensures) (c .open-into .ensures)
+    opens-at (rawOutcome (now (a .recording)) (a .options)) (c .open-into .result .answer) 64 (c .open-into .result .records)
+    (c .before .before .clamp .ensures) (c .before .blank .ensures) (c .open-into .ensures)
 
 pub open-spec : {M : Type 1} → statement M
 open-spec = tie.close (tie.spec (λ c κs. search needs) (λ c κs. search needs) (λ c κs. search needs) returns)

@@ -1,8 +1,6 @@
 use borrow.Author.Needs.{needs}
-use Prim.Native.Nat.{min}
 use denote.Ref.{now}
-use Rattle.index_build.specs.Index.{wordsVerdict, wordsAnswer, wordsMade}
-use Rattle.index_build.specs.Nth.{blank}
+use Rattle.index_build.specs.Index.{wordsOutcome}
 use Rattle.index_fixed.specs.Laws.{opens-at}
 use Rattle.index_fixed.proofs.open_words.Statement.{statement}
 use Rattle.index_fixed.proofs.open_words.Tie as tie
@@ -10,10 +8,8 @@ use Rattle.index_fixed.proofs.open_words.Tie as tie
 returns : tie.Need-returns
 returns c =
     let a = c .before .before .before .before .args in
-    opens-at (wordsVerdict (now (a .words)) (a .options)) (wordsAnswer (now (a .words)) (a .options))
-    (wordsMade (now (a .words)) (a .options))
-    (c .open-words-into .result .answer) 64 (c .open-words-into .result .records) (c .before .before .clamp .result) (min (a .room) 64)
-    (c .before .blank .result) blank (c .before .before .clamp .ensures) (c .before .blank .ensures) (c .open-words-into .ensures)
+    opens-at (wordsOutcome (now (a .words)) (a .options)) (c .open-words-into .result .answer) 64 (c .open-words-into .result .records)
+    (c .before .before .clamp .ensures) (c .before .blank .ensures) (c .open-words-into .ensures)
 
 pub open-words-spec : {M : Type 1} → statement M
 open-words-spec =

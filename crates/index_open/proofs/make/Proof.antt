@@ -1,7 +1,7 @@
 -- `index_open::make` meets its contract: a walk of its MIR with a loop, by hand. The borrow of the records is opened once, before the loop, and closed once,
 -- after it.
--- A turn stores the record that `advance` hands back, and `conclude` makes the answer.
-use mathlib.Core.Path.{_≡_, refl, sym, ap, subst}
+-- An iteration stores the record that `advance` hands back, and `conclude` makes the answer.
+use mathlib.Core.Path.{_≡_, refl, sym, ap, subst, _∙_}
 use Prim.Native.Nat.{ℕ, zero, suc, _*_, _<_, _^_}
 use native.Mathlib.Nat.{lt-suc-self}
 use native.Mathlib.Omega.{arith}
@@ -50,19 +50,19 @@ use denote.Triple.Walked.{says, needs, Stays, stay-dropped, stay-slice, walkOf, 
 use denote.Exit.{yes}
 use Rattle.index_build.specs.declared.Checkpoint.{Checkpoint}
 use Rattle.index_build.specs.declared.OpenAnswer.{OpenAnswer}
-use Rattle.index_build.specs.declared.Run.{Run}
-use Rattle.index_build.specs.declared.Ran.{Ran}
+use Rattle.index_build.specs.declared.Builder.{Builder}
+use Rattle.index_build.specs.declared.BuildStep.{BuildStep}
 use Rattle.index_build.specs.Nth.{blank}
-use Rattle.index_build.specs.Build.{Fit, Advanced, Job, concluded}
-use Rattle.index_build.specs.Begun.{jobOf, Begun}
+use Rattle.index_build.specs.declared.OpenAnswer.the-variants.{Opened}
+use Rattle.index_build.specs.Build.{Fit, Advanced, Begun, concluded}
 use Rattle.index_build.specs.Stage.{Stage, Ended, stage-start, stage-fit, stage-place, stage-next, stage-stops, stage-end}
 use Rattle.index_open.specs.Made.{Made}
 use Rattle.index_build.proofs.Checkpoint as T
 use Rattle.index_build.proofs.Checkpoint.Laws as T′
-use Rattle.index_build.proofs.Ran as D
-use Rattle.index_build.proofs.Ran.Laws as D′
-use Rattle.index_build.proofs.Run as S
-use Rattle.index_build.proofs.Run.Laws as S′
+use Rattle.index_build.proofs.BuildStep as D
+use Rattle.index_build.proofs.BuildStep.Laws as D′
+use Rattle.index_build.proofs.Builder as S
+use Rattle.index_build.proofs.Builder.Laws as S′
 use Rattle.index_build.proofs.OpenAnswer as E
 use Rattle.index_build.proofs.OpenAnswer.Laws as E′
 use Rattle.index_build.proofs.advance as advance
@@ -90,33 +90,31 @@ stayed = (
   (stay-slice (1 ∷ []) tt (plain (λ _. T.the-row)), (stay-dropped (plain (λ _. S.the-row)) yes, tt)),
 )
 
-abbrev IsS : Run → Type 0
+abbrev IsS : Builder → Type 0
 IsS d = Is S.the-row d (machS d ∷ [])
 
 module _ {M : Type 1} (𝓤 : URA M) (H : Heap 𝓤) (A : Atoms 𝓤) (at-mem : Memory → SProp 𝓤) (run : Routine → Fun 𝓤) where
   abbrev Advance : Contract 𝓤
   Advance = tripleOf 𝓤 H A advance.signature (advance.spec 𝓤 H A at-mem run)
 
-  adv-of : (κ : Lft) (bs : RefT (List ℕ)) (t : Run) (r : Ran)
+  adv-of : (κ : Lft) (bs : RefT (List ℕ)) (t : Builder) (r : BuildStep)
       → ent 𝓤 (ensured 𝓤 H A advance.ended (advance.clauses 𝓤 H A at-mem run) (κ, tt) (bs, (t, tt)) tt r) (fact 𝓤 (Advanced (bs .now) t r))
   adv-of κ bs t r = exE 𝓤 _ (λ ws. snd∗ 𝓤 (sem 𝓤 H A (lasts advance.ended (κ, tt) (bs, (t, tt)) ws)) (fact 𝓤 (Advanced (bs .now) t r)))
 
   abbrev Conclude : Contract 𝓤
   Conclude = tripleOf 𝓤 H A conclude.signature (conclude.spec 𝓤 H A at-mem run)
 
-  conc-of : (t : Run) (r : OpenAnswer) → ent 𝓤 (ensured 𝓤 H A conclude.ended (conclude.clauses 𝓤 H A at-mem run) tt (t, tt) tt r) (fact 𝓤 (r ≡ concluded t))
-  conc-of t r = exE 𝓤 _ (λ ws. snd∗ 𝓤 (sem 𝓤 H A (lasts conclude.ended tt (t, tt) ws)) (fact 𝓤 (r ≡ concluded t)))
+  conc-of : (t : Builder) (r : OpenAnswer)
+      → ent 𝓤 (ensured 𝓤 H A conclude.ended (conclude.clauses 𝓤 H A at-mem run) tt (t, tt) tt r) (fact 𝓤 (r ≡ Opened (concluded t)))
+  conc-of t r = exE 𝓤 _ (λ ws. snd∗ 𝓤 (sem 𝓤 H A (lasts conclude.ended tt (t, tt) ws)) (fact 𝓤 (r ≡ Opened (concluded t))))
 
 module _ {M : Type 1} (𝓤 : URA M) (H : Heap 𝓤) (A : Atoms 𝓤) (W : Given 𝓤 H A) (at-mem : Memory → SProp 𝓤) (run : Routine → Fun 𝓤)
-    (κ κ′ : Lft) (q q′ : Share) (xb : RefT (List ℕ)) (b o : ℕ) (γ : GName) (ys : List Checkpoint) (s : Run) where
+    (κ κ′ : Lft) (q q′ : Share) (xb : RefT (List ℕ)) (b o : ℕ) (γ : GName) (ys : List Checkpoint) (s : Builder) where
   abbrev n : ℕ
   n = length ys
 
   abbrev bs : List ℕ
   bs = xb .now
-
-  abbrev job : Job
-  job = jobOf s
 
   abbrev bval : Val
   bval = sliceVal (xb .ptr) (length bs)
@@ -124,7 +122,7 @@ module _ {M : Type 1} (𝓤 : URA M) (H : Heap 𝓤) (A : Atoms 𝓤) (W : Given
   abbrev xr : RefT (List Checkpoint)
   xr = record { ptr = (b, o); name = γ; now = ys }
 
-  abbrev x : RefT (List ℕ) × (RefT (List Checkpoint) × (Run × Unit {0}))
+  abbrev x : RefT (List ℕ) × (RefT (List Checkpoint) × (Builder × Unit {0}))
   x = (xb, (xr, (s, tt)))
 
   abbrev at : List Val × (List Val × (List Val × Unit {0}))
@@ -150,17 +148,17 @@ module _ {M : Type 1} (𝓤 : URA M) (H : Heap 𝓤) (A : Atoms 𝓤) (W : Given
       nothing ! $ nothing ! $ fjoin ! $ move ! (1 ∷ 0 ∷ []) $ fjoin ! $ nothing ! $ fjoin ! $ frame ! $
       owned ! E.the-row (Is E.the-row) (EL.makes E.the-type E′.the-plain 𝓤 H A) r _ gr $ done !
 
-  abbrev to-adv : Run → Advance 𝓤 H A at-mem run .Ghost
+  abbrev to-adv : Builder → Advance 𝓤 H A at-mem run .Ghost
   to-adv t = (((κ, tt), (q, tt), tt, (xb, (t, tt)), (bval ∷ [], (machS t ∷ [], tt))), tt)
 
-  goes-adv : (t : Run) → Fit bs t → IsS t → ent 𝓤 (sep 𝓤 (A .lft κ q) (sem 𝓤 H A OwnB)) (Advance 𝓤 H A at-mem run .pre (to-adv t))
+  goes-adv : (t : Builder) → Fit bs t → IsS t → ent 𝓤 (sep 𝓤 (A .lft κ q) (sem 𝓤 H A OwnB)) (Advance 𝓤 H A at-mem run .pre (to-adv t))
   goes-adv t fit gt = qed W (‵ (flft κ q) ∷ ‵ OwnB ∷ []) ∵ says ! fit $ nothing ! $ move ! (1 ∷ 0 ∷ []) $ join ! $ frame ! $
       nothing ! $ owned ! S.the-row (Is S.the-row) (LL.makes S.the-type S′.the-plain 𝓤 H A) t _ gt $ fjoin ! $ move ! (1 ∷ 0 ∷ []) $ fjoin ! $ done !
 
-  abbrev to-conc : Run → Conclude 𝓤 H A at-mem run .Ghost
+  abbrev to-conc : Builder → Conclude 𝓤 H A at-mem run .Ghost
   to-conc t = ((tt, tt, tt, (t, tt), (machS t ∷ [], tt)), tt)
 
-  goes-conc : (t : Run) → ent 𝓤 (sem 𝓤 H A (S.the-row .own t (machS t ∷ []))) (Conclude 𝓤 H A at-mem run .pre (to-conc t))
+  goes-conc : (t : Builder) → ent 𝓤 (sem 𝓤 H A (S.the-row .own t (machS t ∷ []))) (Conclude 𝓤 H A at-mem run .pre (to-conc t))
   goes-conc t = qed W (‵ (S.the-row .own t (machS t ∷ [])) ∷ []) ∵ nothing ! $ move ! (1 ∷ 0 ∷ []) $ join ! $ nothing ! $ join ! $ frame ! $ done !
 
   module _ (𝓣 : Tables 𝓤 H) (known : Triple 𝓤 (𝓣 .C #index_build·advance) (Advance 𝓤 H A at-mem run))
@@ -180,41 +178,41 @@ module _ {M : Type 1} (𝓤 : URA M) (H : Heap 𝓤) (A : Atoms 𝓤) (W : Given
         ‵ (fdies E′.mir l₀) ∷ ‵ (fdies bslice l₁) ∷ ‵ (fdies rslice l₂) ∷ ‵ (fdies S′.mir l₃) ∷ ‵ (fdies S′.mir l₄) ∷ ‵ (fdies word l₅)
         ∷ ‵ (fdies D′.mir l₆) ∷ ‵ (fdies tyBool l₇) ∷ ‵ (fdies word l₈) ∷ ‵ (fdies tyPtr l₉) ∷ []
 
-    -- what no turn touches
+    -- what no iteration touches
     abbrev Frame : List (Item 𝓤)
     Frame = ‵ (fat fullShare rslice l₂ 0 (sliceVal (b, o) n)) ∷ ‵ (fat fullShare S′.mir l₃ 0 (machS s)) ∷ ‵ (froom E′.mir l₀ 0)
         ∷ ‵ (fobor κ′ q′ (Held T.the-row n b o γ)) ∷ ‵ (fobs γ (codedHoleys T.the-row .code (heres T.the-row ys)))
         ∷ ‵ (fauth γ (codedHoleys T.the-row .code (heres T.the-row ys))) ∷ ‵ (at-slice T.the-row xr (at .1 .0))
         ∷ ‵ (fat fullShare bslice l₁ 0 bval) ∷ ‵ (flft κ q) ∷ ‵ OwnB ∷ Dies
 
-    -- the run stands at t, and the slice holds zs
-    abbrev At : Run → List Checkpoint → List (Item 𝓤)
+    -- the builder stands at t, and the slice holds zs
+    abbrev At : Builder → List Checkpoint → List (Item 𝓤)
     At t zs =
         ‵ (row T.the-row fullShare zs b o) ∷ ‵ (fat fullShare S′.mir l₄ 0 (machS t)) ∷ ‵ (froom word l₅ 0) ∷ ‵ (froom D′.mir l₆ 0)
         ∷ ‵ (froom tyBool l₇ 0) ∷ ‵ (froom word l₈ 0) ∷ ‵ (froom tyPtr l₉ 0) ∷ Frame
 
-    abbrev Facts : ℕ → Run → List Checkpoint → Type 0
-    Facts m t zs = Stage job bs ys m t zs × IsS t
+    abbrev Facts : ℕ → Builder → List Checkpoint → Type 0
+    Facts m t zs = Stage bs s ys m t zs × IsS t
 
     abbrev Inv : ℕ → SProp 𝓤
-    Inv m = ex 𝓤 (λ (t : Run). ex 𝓤 (λ (zs : List Checkpoint). guard 𝓤 (Facts m t zs) (⋆ 𝓤 H A (At t zs))))
+    Inv m = ex 𝓤 (λ (t : Builder). ex 𝓤 (λ (zs : List Checkpoint). guard 𝓤 (Facts m t zs) (⋆ 𝓤 H A (At t zs))))
 
     abbrev Below : ℕ → SProp 𝓤
     Below m = ex 𝓤 (λ (m′ : ℕ). guard 𝓤 (m′ < m) (Inv m′))
 
-    inv-in : (m : ℕ) (t : Run) (zs : List Checkpoint) → Facts m t zs → ent 𝓤 (⋆ 𝓤 H A (At t zs)) (Inv m)
+    inv-in : (m : ℕ) (t : Builder) (zs : List Checkpoint) → Facts m t zs → ent 𝓤 (⋆ 𝓤 H A (At t zs)) (Inv m)
     inv-in m t zs fs =
         via 𝓤 (guard 𝓤 (Facts m t zs) (⋆ 𝓤 H A (At t zs))) (guardI 𝓤 (Facts m t zs) (⋆ 𝓤 H A (At t zs)) fs)
         (via 𝓤 (ex 𝓤 (λ (us : List Checkpoint). guard 𝓤 (Facts m t us) (⋆ 𝓤 H A (At t us))))
         (exI 𝓤 (λ (us : List Checkpoint). guard 𝓤 (Facts m t us) (⋆ 𝓤 H A (At t us))) zs)
-        (exI 𝓤 (λ (u : Run). ex 𝓤 (λ (us : List Checkpoint). guard 𝓤 (Facts m u us) (⋆ 𝓤 H A (At u us)))) t))
+        (exI 𝓤 (λ (u : Builder). ex 𝓤 (λ (us : List Checkpoint). guard 𝓤 (Facts m u us) (⋆ 𝓤 H A (At u us)))) t))
 
     abbrev Left : Out → SProp 𝓤
     Left = afterBlock 𝓤 H (afterSeq 𝓤 H (Wp 𝓤 H C Λ En mir.t-3 (atReturn 𝓤 H En Post)) (atReturn 𝓤 H En Post))
 
-    -- a turn that stores one record, at the place that the run says
-    more : (t : Run) (zs : List Checkpoint) (X : SProp 𝓤) → t .more ≡ true → Fit bs t → t .at < n → t .at < length zs → IsS t
-        → ((r : Ran) → Advanced bs t r → IsS (r .next) → ent 𝓤 (⋆ 𝓤 H A (At (r .next) (set zs (t .at) (r .record)))) X)
+    -- an iteration that stores one record, at the place that the builder says
+    more : (t : Builder) (zs : List Checkpoint) (X : SProp 𝓤) → t .more ≡ true → Fit bs t → t .at < n → t .at < length zs → IsS t
+        → ((r : BuildStep) → Advanced bs t r → IsS (r .next) → ent 𝓤 (⋆ 𝓤 H A (At (r .next) (set zs (t .at) (r .record)))) X)
         → ent 𝓤 (⋆ 𝓤 H A (At t zs)) (Wp 𝓤 H C Λ En mir.turn-1 (afterTurn 𝓤 H X Left))
     unfolding afterTurn
     more t zs X yes′ fit small within gt k =
@@ -229,7 +227,7 @@ module _ {M : Type 1} (𝓤 : URA M) (H : Heap 𝓤) (A : Atoms 𝓤) (W : Given
         calls-at ! (fmOf 𝓤 H (W .laws) 𝓣) (Advance 𝓤 H A at-mem run) known (to-adv t)
         (and-then ! (load ! (from ! (stop !)) (look ! 16 refl)) (and-then ! (load ! (from ! (stop !)) (look ! 3 refl)) (no-more !)))
         (λ v.
-        use1 W (later (some (λ (r : Ran). ((‵ (flft κ q) ⊛ ‵ ftrue) ⊛ ‵ (D.the-row .own r (v ∷ [])))
+        use1 W (later (some (λ (r : BuildStep). ((‵ (flft κ q) ⊛ ‵ ftrue) ⊛ ‵ (D.the-row .own r (v ∷ [])))
         ⊛ raw (ensured 𝓤 H A advance.ended (advance.clauses 𝓤 H A at-mem run) (κ, tt) (xb, (t, tt)) tt r)))) (id⊢ 𝓤 _) $ await ! tt $
         pick ! (λ r.
         split ! $ move ! (1 ∷ []) $ use1 W (raw (fact 𝓤 (Advanced bs t r))) (adv-of 𝓤 H A at-mem run κ xb t r) $
@@ -257,8 +255,8 @@ module _ {M : Type 1} (𝓤 : URA M) (H : Heap 𝓤) (A : Atoms 𝓤) (W : Given
         forget ! 2 refl $ forget ! 3 refl $ forget ! 4 refl $ forget ! 5 refl $ forget ! 6 refl $
         by ! (k r e (LL.owed D.the-type D′.the-laws r _ is .1 .0)))))))
 
-    -- the turn that leaves the loop, and the rest of the body
-    ends : (t : Run) (zs : List Checkpoint) (X : SProp 𝓤) → t .more ≡ false → length zs ≡ n → Ended job bs ys t zs → IsS t
+    -- the iteration that leaves the loop, and the rest of the body
+    ends : (t : Builder) (zs : List Checkpoint) (X : SProp 𝓤) → t .more ≡ false → length zs ≡ n → Ended bs s ys t zs → IsS t
         → ent 𝓤 (⋆ 𝓤 H A (At t zs)) (Wp 𝓤 H C Λ En mir.turn-1 (afterTurn 𝓤 H X Left))
     unfolding afterTurn
     ends t zs X no′ len end gt =
@@ -273,7 +271,8 @@ module _ {M : Type 1} (𝓤 : URA M) (H : Heap 𝓤) (A : Atoms 𝓤) (W : Given
         use1 W (later (some (λ (r : OpenAnswer). (‵ ftrue ⊛ ‵ (E.the-row .own r (v ∷ [])))
         ⊛ raw (ensured 𝓤 H A conclude.ended (conclude.clauses 𝓤 H A at-mem run) tt (t, tt) tt r)))) (id⊢ 𝓤 _) $ await ! tt $
         pick ! (λ r.
-        split ! $ move ! (1 ∷ []) $ use1 W (raw (fact 𝓤 (r ≡ concluded t))) (conc-of 𝓤 H A at-mem run t r) $ heard ! (r ≡ concluded t) (λ e. split ! $ drop ! $
+        split ! $ move ! (1 ∷ []) $ use1 W (raw (fact 𝓤 (r ≡ Opened (concluded t)))) (conc-of 𝓤 H A at-mem run t r) $
+        heard ! (r ≡ Opened (concluded t)) (λ e. split ! $ drop ! $
         peeks ! E.the-row (Is E.the-row) (shows 𝓤 H A E.the-row) r (v ∷ []) (λ is.
         land ! (from ! (stop !)) (init ! 10 refl (EL.lawful E.the-type E′.the-laws 𝓤 H A W tt .typed r _ is .0)) $
         rewrite ! 10 (λ (u : Val). ‵ (fat fullShare E′.mir l₀ 0 u)) (ap only (EL.tells E.the-type E′.the-laws r _ is)) refl $ drop ! $
@@ -283,31 +282,32 @@ module _ {M : Type 1} (𝓤 : URA M) (H : Heap 𝓤) (A : Atoms 𝓤) (W : Given
         free1 ! $ move ! (3 ∷ 12 ∷ []) $ free1 ! $
         move ! (3 ∷ 11 ∷ []) $ free1 ! $ move ! (3 ∷ 10 ∷ []) $ free1 ! $ move ! (3 ∷ 9 ∷ []) $ free1 ! $ move ! (3 ∷ 8 ∷ []) $ free1 ! $
         move ! (3 ∷ 7 ∷ []) $ free1 ! $ free0 ! $
-        keep ! (0 ∷ 1 ∷ 2 ∷ 4 ∷ []) $ by ! (exits zs r g len (record { last = t; ended = end; is-answer = e })
+        keep ! (0 ∷ 1 ∷ 2 ∷ 4 ∷ []) $ by ! (exits zs r g len
+        (record { is-answer = e ∙ ap (λ (u : Builder). Opened (concluded u)) (end .is-builder); laid = end .laid })
         (subst (λ (u : Val). Is E.the-row r (u ∷ [])) (ap only (EL.tells E.the-type E′.the-laws r _ is)) is))))))
 
-    turn-at : (m : ℕ) (t : Run) (zs : List Checkpoint) (v : Bool) → t .more ≡ v → Facts m t zs
+    step-at : (m : ℕ) (t : Builder) (zs : List Checkpoint) (v : Bool) → t .more ≡ v → Facts m t zs
         → ent 𝓤 (⋆ 𝓤 H A (At t zs)) (Wp 𝓤 H C Λ En mir.turn-1 (afterTurn 𝓤 H (Below m) Left))
-    turn-at m t zs false e fs = ends t zs (Below m) e (fs .0 .laid .long) (stage-end job bs ys (ok .allowed) m t zs e (fs .0)) (fs .1)
-    turn-at zero t zs true e fs = absurd (stage-stops job bs ys (ok .allowed) t zs (fs .0) e)
-    turn-at (suc m) t zs true e fs =
-        more t zs (Below (suc m)) e (stage-fit job bs ys (ok .allowed) m t zs (fs .0)) small
+    step-at m t zs false e fs = ends t zs (Below m) e (fs .0 .laid .long) (stage-end bs s ys ok m t zs e (fs .0)) (fs .1)
+    step-at zero t zs true e fs = absurd (stage-stops bs s ys ok t zs (fs .0) e)
+    step-at (suc m) t zs true e fs =
+        more t zs (Below (suc m)) e (stage-fit bs s ys ok m t zs (fs .0)) small
         (subst (λ (j : ℕ). t .at < j) (sym (fs .0 .laid .long)) small) (fs .1) (λ r y gr.
-        via 𝓤 (Inv m) (inv-in m (r .next) (set zs (t .at) (r .record)) (stage-next job bs ys (ok .allowed) m t zs (fs .0) r y, gr))
+        via 𝓤 (Inv m) (inv-in m (r .next) (set zs (t .at) (r .record)) (stage-next bs s ys ok m t zs (fs .0) r y, gr))
         (via 𝓤 (guard 𝓤 (m < suc m) (Inv m)) (guardI 𝓤 (m < suc m) (Inv m) (lt-suc-self m)) (exI 𝓤 (λ (u : ℕ). guard 𝓤 (u < suc m) (Inv u)) m)))
       where
         small : t .at < n
-        small = stage-place job bs ys (ok .allowed) m t zs (fs .0)
+        small = stage-place bs s ys ok m t zs (fs .0)
 
-    turns : (m : ℕ) → ent 𝓤 (Inv m) (Wp 𝓤 H C Λ En mir.turn-1 (afterTurn 𝓤 H (Below m) Left))
-    turns m = exE 𝓤 (λ (t : Run). ex 𝓤 (λ (zs : List Checkpoint). guard 𝓤 (Facts m t zs) (⋆ 𝓤 H A (At t zs)))) (λ t.
+    steps : (m : ℕ) → ent 𝓤 (Inv m) (Wp 𝓤 H C Λ En mir.turn-1 (afterTurn 𝓤 H (Below m) Left))
+    steps m = exE 𝓤 (λ (t : Builder). ex 𝓤 (λ (zs : List Checkpoint). guard 𝓤 (Facts m t zs) (⋆ 𝓤 H A (At t zs)))) (λ t.
         exE 𝓤 (λ (zs : List Checkpoint). guard 𝓤 (Facts m t zs) (⋆ 𝓤 H A (At t zs)))
-        (λ zs. guardE 𝓤 (Facts m t zs) (⋆ 𝓤 H A (At t zs)) (λ fs. turn-at m t zs (t .more) refl fs)))
+        (λ zs. guardE 𝓤 (Facts m t zs) (⋆ 𝓤 H A (At t zs)) (λ fs. step-at m t zs (t .more) refl fs)))
 
     loops : ent 𝓤 (⋆ 𝓤 H A (At s ys)) (Wp 𝓤 H C Λ En (loop mir.turn-1) Left)
     loops =
-        via 𝓤 (Inv (job .cap)) (inv-in (job .cap) s ys (stage-start job bs ys (ok .allowed) s (ok .is-first), gs))
-        (loop-rule 𝓤 H (W .laws) 𝓣 _<_ (Nat·lt-wfRel .wf) En mir.turn-1 Left Inv turns (job .cap))
+        via 𝓤 (Inv (s .cap)) (inv-in (s .cap) s ys (stage-start bs s ys ok, gs))
+        (loop-rule 𝓤 H (W .laws) 𝓣 _<_ (Nat·lt-wfRel .wf) En mir.turn-1 Left Inv steps (s .cap))
 
     starts : Sq W (At s ys) (runs C Λ En mir.t-2 (atRet En Post))
     starts = by ! loops

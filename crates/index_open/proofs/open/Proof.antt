@@ -1,44 +1,24 @@
 -- `index_open::open` meets its contract, by the walk of proofs/Entries.antt.
-use mathlib.Core.Path.{refl}
 use contract.Running.{givenOf, tables, tablesOf}
 use denote.Triple.Spec.{tripleOf}
 use denote.Triple.Table.{entered, cited}
-use Rattle.index_build.specs.Build.{rawJob}
-use Rattle.index_build.specs.Index.{OpensRaw}
-use Rattle.index_build.specs.Stage.{allowed-raw, opens-raw}
-use Rattle.index_build.proofs.OpenOptions as P
-use Rattle.index_build.proofs.OpenOptions.Laws as P′
 use Rattle.index_build.proofs.prepare.Symbol as prepare-def
 use Rattle.index_build.proofs.prepare.Symbol.{name as #index_build·prepare}
 use Rattle.index_build.proofs.prepare.Met as prepare-thm
 use Rattle.index_open.proofs.make.Symbol as make-def
 use Rattle.index_open.proofs.make.Symbol.{name as #index_open·make}
 use Rattle.index_open.proofs.make.Met as make-thm
-use Rattle.index_open.proofs.Entries.{Entry, Prepare, Make, meets}
+use Rattle.index_open.proofs.Entries.{rawEntry, Prepare, Make, meets}
 use Rattle.index_open.proofs.open.Key.{name as #index_open·open}
 use Rattle.index_open.proofs.open as f
 use Rattle.index_open.proofs.open.Statement as stated
 use Rattle.index_open.proofs.open.Code as code
-
-abbrev entry : Entry
-entry = record {
-  options = P.the-type;
-  laws = P′.the-laws;
-  plains = P′.the-plain;
-  last = λ s. tt;
-  silent = λ s w. refl;
-  prepare = #index_build·prepare;
-  job = rawJob;
-  allowed = allowed-raw;
-  Opens = OpensRaw;
-  opens = opens-raw;
-}
 
 pub open-spec : {M : Type 1} → stated.statement M
 unfolding code.routine tablesOf
 open-spec 𝓤 H 𝓜 𝓖 𝓡 =
     entered 𝓤 H (tripleOf 𝓤 H (𝓖 .A) f.signature (f.spec 𝓤 H (𝓖 .A) (𝓜 .mem) (𝓡 .run)))
     (tables 𝓤 H 𝓜 𝓡 code.env .C) (tables 𝓤 H 𝓜 𝓡 code.env .Λ) #index_open·open code.function (code.unfolded 𝓤 H 𝓜 𝓡)
-    (meets entry 𝓤 H (𝓖 .A) (givenOf 𝓤 H 𝓜 𝓖) (𝓜 .mem) (𝓡 .run) (tablesOf 𝓤 H 𝓜 (tables 𝓤 H 𝓜 𝓡 code.env))
-    (cited 𝓤 H (Prepare entry 𝓤 H (𝓖 .A)) 𝓜 𝓡 code.env #index_build·prepare prepare-def.routine code.calls-index-build·prepare (prepare-thm.met 𝓤 H 𝓜 𝓖 𝓡))
-    (cited 𝓤 H (Make entry 𝓤 H (𝓖 .A) (𝓜 .mem) (𝓡 .run)) 𝓜 𝓡 code.env #index_open·make make-def.routine code.calls-index-open·make (make-thm.met 𝓤 H 𝓜 𝓖 𝓡)))
+    (meets rawEntry 𝓤 H (𝓖 .A) (givenOf 𝓤 H 𝓜 𝓖) (𝓜 .mem) (𝓡 .run) (tablesOf 𝓤 H 𝓜 (tables 𝓤 H 𝓜 𝓡 code.env))
+    (cited 𝓤 H (Prepare rawEntry 𝓤 H (𝓖 .A)) 𝓜 𝓡 code.env #index_build·prepare prepare-def.routine code.calls-index-build·prepare (prepare-thm.met 𝓤 H 𝓜 𝓖 𝓡))
+    (cited 𝓤 H (Make rawEntry 𝓤 H (𝓖 .A) (𝓜 .mem) (𝓡 .run)) 𝓜 𝓡 code.env #index_open·make make-def.routine code.calls-index-open·make (make-thm.met 𝓤 H 𝓜 𝓖 𝓡)))

@@ -1,59 +1,56 @@
 use native.Mathlib.Omega.{arith}
 use borrow.Author.Needs.{needs}
-use Rattle.index_build.specs.Begun.{jobOf}
 use Rattle.c_structs.specs.Making.{left, Stage, stage-start, stage-fit, stage-room, stage-next, stage-less, makes}
 use Rattle.c_structs.proofs.opening.make_records.Statement.{statement}
 use Rattle.c_structs.proofs.opening.make_records.Tie as tie
 
 abbrev Inv-loop : tie.InvT-loop
-Inv-loop recording records₀ t₀ records t = Stage (jobOf t₀) recording records₀ t records
+Inv-loop recording records₀ t₀ records t = Stage recording t₀ records₀ t records
 
 abbrev μ-loop : tie.MeasureT-loop
 μ-loop recording records₀ t₀ records t = left t
 
 loop-holds : tie.Need-loop-holds Inv-loop μ-loop
-loop-holds c =
-    stage-start (jobOf (c .before .before .args .run)) (c .before .before .args .recording .now) (c .before .before .args .records .now)
-    (c .before .before .pre .allowed) (c .before .before .args .run) (c .before .before .pre .is-first)
+loop-holds c = let s = c .before .before in stage-start (s .args .recording .now) (s .args .first) (s .args .records .now) (s .pre)
 
 advance-requires : tie.Need-advance-requires Inv-loop μ-loop
 advance-requires c κs =
     let s = c .before .before .before .before in
-    stage-fit (jobOf (s .args .run)) (s .args .recording .now) (s .args .records .now) (s .pre .allowed) _ _ (c .before .loop .inv) (c .loop-test .taken)
+    stage-fit (s .args .recording .now) (s .args .first) (s .args .records .now) (s .pre) _ _ (c .before .loop .inv) (c .loop-test .taken)
 
 mul-put-record : tie.Need-mul-put-record Inv-loop μ-loop
 mul-put-record c =
     let s = c .before .before .before .before .before .before .before in
     omega (
       arith,
-      stage-room (jobOf (s .args .run)) (s .args .recording .now) (s .args .records .now) (s .pre .allowed) _ _
+      stage-room (s .args .recording .now) (s .args .first) (s .args .records .now) (s .pre) _ _
           (c .before .before .before .before .loop .inv) (c .before .before .before .loop-test .taken),
     )
 
 put-record-requires : tie.Need-put-record-requires Inv-loop μ-loop
 put-record-requires c κs =
     let s = c .before .before .before .before .before .before .before in
-    stage-room (jobOf (s .args .run)) (s .args .recording .now) (s .args .records .now) (s .pre .allowed) _ _
+    stage-room (s .args .recording .now) (s .args .first) (s .args .records .now) (s .pre) _ _
     (c .before .before .before .before .loop .inv) (c .before .before .before .loop-test .taken)
 
 loop-less : tie.Need-loop-less Inv-loop μ-loop
 loop-less c =
     let b = c .before .before .before .before .before .before in
     let s = b .before .before .before .before .before in
-    stage-less (jobOf (s .args .run)) (s .args .recording .now) (s .args .records .now) (s .pre .allowed) _ _ (b .before .before .loop .inv)
+    stage-less (s .args .recording .now) (s .args .first) (s .args .records .now) (s .pre) _ _ (b .before .before .loop .inv)
     (b .before .loop-test .taken) (b .advance .result) (b .advance .ensures)
 
 loop-again : tie.Need-loop-again Inv-loop μ-loop
 loop-again c =
     let b = c .before .before .before .before .before .before in
     let s = b .before .before .before .before .before in
-    stage-next (jobOf (s .args .run)) (s .args .recording .now) (s .args .records .now) (s .pre .allowed) _ _ (b .before .before .loop .inv)
+    stage-next (s .args .recording .now) (s .args .first) (s .args .records .now) (s .pre) _ _ (b .before .before .loop .inv)
     (b .before .loop-test .taken) (b .advance .result) (b .advance .ensures) _ (c .before .before .before .put-record .ensures)
 
 returns : tie.Need-returns Inv-loop μ-loop
 returns c =
     let s = c .before .before .before .before in
-    makes (s .args .recording .now) (s .args .run) (s .args .records .now) _ _ (c .before .loop .inv) (s .pre .allowed) (c .loop-test .left)
+    makes (s .args .recording .now) (s .args .first) (s .args .records .now) (s .pre) _ _ (c .before .loop .inv) (c .loop-test .left)
 
 pub make-records-spec : {M : Type 1} → statement M
 make-records-spec =

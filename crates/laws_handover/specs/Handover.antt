@@ -1,18 +1,33 @@
 -- DEMAND 3, stated once, of the definitions that the contracts of `append`, `decode_words`, `open_words`, `slice_index` and `slice_time` cite.
--- specs/Proof.antt proves `DemandThree`.
+-- `DemandThree` speaks of lists of appends (specs/Proof.antt proves it), `DemandThreeRan`, at the end, of calls that ran (specs/Called.antt proves it).
+--
+--   a list of appends, each given the writer that the last one returned    `Call`, `next`; as they ran: `Ran`, `Chained`
+--   a fresh writer that sends no header                                    `fresh`
+--   accepted exactly if the table gives it no number                       `isAccepted`
+--   the accepted events, numbered from 0                                   `acceptedEvents`
+--   the stream                                                             `streamOf`; as it was written: `allWritten`
+--   the event word of each accepted event                                  `streamWords`, `Typed`, `GivenAt`
+--   a cut; whole before it                                                 `beforeCut`, `wholeBefore`
+--   the joined stream                                                      `joined`; of calls that ran: `joinedRan`
+--   decoding what came before gives exactly the whole events               `DemandThreeRan`: `of-cut`, `decoded`
+--   the joined stream decodes to all                                       `DemandThreeRan`: `of-joined`
+--   slices by number and time, exact at every allowed spacing              `opened`, `by-number`, `by-time` of `ReadBack`
+--   the count and all four columns up to it; at every spacing alike        `Holds`, `Alike`, `alike-number`, `alike-time`
 use mathlib.Core.Path.{_≡_}
 use mathlib.Core.Bool.{Bool, true, false, cond, _||_}
-use mathlib.Core.List.{List, [], _∷_, _++_}
+use mathlib.Core.List.{List, [], _∷_, _++_, map}
 use Prim.Native.Nat.{ℕ, _+_, _-_, _*_, _/_, _^_, _≤_, _<_, min, max}
 use lib.Dec.{leb, eqb}
 use lib.IntN.{ℤ}
 use lib.ListN.{length, take, drop}
-use Rattle.laws_stream.specs.Machine.{Note, All, words, notes}
+use Rattle.laws_stream.specs.Machine.{Machine, Note, All, words, notes}
 use Rattle.laws_stream.specs.Slice.{sift}
 use Rattle.laws_stream.specs.Words.{stream}
 use Rattle.evt_types.specs.Event.{Event}
 use Rattle.evt_types.specs.Outcome.{Outcome}
 use Rattle.evt_types.specs.Layout.{type2, type3}
+use Rattle.evt2_decoder.specs.Evt2.{fresh2, reader2}
+use Rattle.evt3_decoder.specs.Evt3.{fresh3, reader3}
 use Rattle.evt_types.specs.declared.Encoding.{Encoding}
 use Rattle.evt_types.specs.declared.Encoding.the-variants.{Evt2, Evt3}
 use Rattle.evt_types.specs.declared.Limit.the-variants.{Unlimited}
@@ -22,7 +37,10 @@ use Rattle.write_buffer.specs.Columns.{eventsIn}
 use Rattle.write_words.specs.Encode.{encodeNotes, encodeSize}
 use Rattle.write_rules.specs.declared.RawEventSink.{RawEventSink}
 use Rattle.write_rules.specs.Rules.{freshSink}
-use Rattle.write_append.specs.Append.{AppendedBytes, appendOutcome, accepts, handedOver, sinkAfter}
+use Rattle.write_append.specs.declared.AppendAnswer.{AppendAnswer}
+use Rattle.write_append.specs.declared.AppendAnswer.the-variants.{Written, Refused as AppendRefused}
+use Rattle.write_append.specs.declared.Appended.{Appended}
+use Rattle.write_append.specs.Append.{accepts, handedOver, sinkAfter, AppendOwed}
 use Rattle.read_rules.specs.declared.ReadAnswer.{ReadAnswer}
 use Rattle.read_rules.specs.declared.ReadAnswer.the-variants.{Read}
 use Rattle.header.specs.Header.{hasZero}
@@ -31,6 +49,7 @@ use Rattle.index_build.specs.declared.Checkpoint.{Checkpoint}
 use Rattle.index_build.specs.declared.RawSliceSource.{RawSliceSource}
 use Rattle.index_build.specs.declared.OpenAnswer.{OpenAnswer}
 use Rattle.index_build.specs.declared.OpenAnswer.the-variants.{Opened}
+use Rattle.index_build.specs.declared.Opening.{Opening}
 use Rattle.index_build.specs.Index.{OpensWords, recordCount, sourceOf, spacingOk}
 use Rattle.slice_rules.specs.declared.SliceAnswer.{SliceAnswer}
 use Rattle.slice_rules.specs.declared.SliceAnswer.the-variants.{Sliced}
@@ -97,6 +116,15 @@ isEventWord Evt3 w = eqb (type3 w) 2 || eqb (type3 w) 4
 -- and no other word carries events
 abbrev pub Typed : Encoding → Note ℕ Event → Type 0
 Typed e w = 0 < length (w .events) → isEventWord e (w .word) ≡ true
+
+-- each word's events are those that a decoder gives at it, having read the words before: of a type 4 word (VECT_12) the events of its set bits
+abbrev pub givenAlong : {S : Type 0} → Machine S ℕ Event → S → List (Note ℕ Event) → Type 0
+givenAlong M d [] = Unit
+givenAlong M d (w ∷ ws) = (M .emit d (w .word) ≡ w .events) × givenAlong M (M .step d (w .word)) ws
+
+abbrev pub GivenAt : Encoding → List (Note ℕ Event) → Type 0
+GivenAt Evt2 ws = givenAlong reader2 fresh2 ws
+GivenAt Evt3 ws = givenAlong reader3 fresh3 ws
 
 -- ---- the cut, and the joined stream
 
@@ -198,6 +226,7 @@ pub record Claim (e : Encoding) (bytes : List ℕ) (ws : List (Note ℕ Event)) 
   pub worded : bytes ≡ stream (encodeSize e) (words ws)
   pub noted : notes ws ≡ es
   pub typed : All (Typed e) ws
+  pub given : GivenAt e ws
   pub parted : whole e cut ws ++ others e cut ws ≡ es
   -- 2048 by 2048 keeps all
   pub whole-suits : Suits widest (whole e cut ws)
@@ -211,3 +240,113 @@ pub record Claim (e : Encoding) (bytes : List ℕ) (ws : List (Note ℕ Event)) 
 abbrev pub DemandThree : Type 0
 DemandThree = (e : Encoding) (calls : List Call) (cut : ℕ) → cut ≤ length (streamOf (fresh e) calls)
     → Claim e (streamOf (fresh e) calls) (streamWords (fresh e) calls) (acceptedEvents (fresh e) calls) cut
+
+-- ---- THE SAME OF CALLS THAT RAN, at a sensor of 2048 by 2048: by the contracts of `append`, `decode_words`, `open_words`, `slice_index` and `slice_time` alone
+
+-- an append that ran: its call, the output that it was lent, what it returned, and the output that it left
+pub record Ran : Type 0 where
+  pub call : Call
+  pub out₀ : List ℕ
+  pub is-room : call .room ≡ length out₀
+  pub result : Appended
+  pub out : List ℕ
+
+-- each met its contract, and was given the writer that the last one returned
+abbrev pub Chained : RawEventSink → List Ran → Type 0
+Chained s [] = Unit
+Chained s (a ∷ ran) =
+    let c = a .call in
+    AppendOwed s (c .width) (c .height) (c .xs) (c .ys) (c .ts) (c .ps) (a .out₀) (a .result) (a .out) × Chained (a .result .sink) ran
+
+abbrev pub callsOf : List Ran → List Call
+callsOf ran = map (λ a. a .call) ran
+
+-- the bytes that an append told to have written
+abbrev pub bytesTold : AppendAnswer → ℕ
+bytesTold (Written n) = n
+bytesTold (AppendRefused r) = 0
+
+abbrev pub allWritten : List Ran → List ℕ
+allWritten [] = []
+allWritten (a ∷ ran) = take (bytesTold (a .result .answer)) (a .out) ++ allWritten ran
+
+-- four columns, as they are lent or left
+pub record Columns : Type 0 where
+  pub xs : List ℕ
+  pub ys : List ℕ
+  pub ts : List ℤ
+  pub ps : List ℕ
+
+abbrev pub room : Columns → ℕ
+room c = shortest (c .xs) (c .ys) (c .ts) (c .ps)
+
+-- columns that were c₀ now hold es in front, and behind them what was there
+abbrev pub Holds : List Event → (c₀ c : Columns) → Type 0
+Holds es c₀ c = Handed es (c₀ .xs) (c₀ .ys) (c₀ .ts) (c₀ .ps) (c .xs) (c .ys) (c .ts) (c .ps)
+
+-- an index that was built from just these bytes, at an allowed spacing, into records that suffice
+pub record Index (e : Encoding) (bytes : List ℕ) : Type 0 where
+  pub spacing : ℕ
+  pub allowed : spacingOk e spacing ≡ true
+  pub answer : OpenAnswer
+  pub records₀ : List Checkpoint
+  pub records : List Checkpoint
+  pub ran : OpensWords bytes (record { encoding = e; «sensor_size» = widest; spacing = spacing }) answer records₀ records
+  pub enough : recordCount (length bytes) spacing ≤ length records₀
+
+module _ {e : Encoding} {bytes : List ℕ} (x : Index e bytes) (o : Opening) where
+  -- slices that ran, by the source that opening told and as many records as it told
+  abbrev pub NumberRan : (i0 i1 : ℕ) → SliceAnswer → (c₀ c : Columns) → Type 0
+  NumberRan i0 i1 r c₀ c =
+      SlicesIndex bytes (o .source) (take (o .records) (x .records)) i0 i1 r (c₀ .xs) (c₀ .ys) (c₀ .ts) (c₀ .ps) (c .xs) (c .ys) (c .ts) (c .ps)
+
+  abbrev pub TimeRan : (t0 t1 : ℤ) → SliceAnswer → (c₀ c : Columns) → Type 0
+  TimeRan t0 t1 r c₀ c =
+      SlicesTime bytes (o .source) (take (o .records) (x .records)) t0 t1 r (c₀ .xs) (c₀ .ys) (c₀ .ts) (c₀ .ps) (c .xs) (c .ys) (c .ts) (c .ps)
+
+-- two callers, whose columns may differ in length, get the same: the count n, and all four columns up to it
+pub record Alike (n : ℕ) (r₁ r₂ : SliceAnswer) (c₁ c₂ : Columns) : Type 0 where
+  pub first : r₁ ≡ Sliced n
+  pub second : r₂ ≡ Sliced n
+  pub same-x : take n (c₁ .xs) ≡ take n (c₂ .xs)
+  pub same-y : take n (c₁ .ys) ≡ take n (c₂ .ys)
+  pub same-t : take n (c₁ .ts) ≡ take n (c₂ .ts)
+  pub same-p : take n (c₁ .ps) ≡ take n (c₂ .ps)
+
+-- what calls that ran over some bytes have read: exactly es
+pub record ReadBack (e : Encoding) (bytes : List ℕ) (es : List Event) : Type 0 where
+  pub decoded : (r : ReadAnswer) (c₀ c : Columns)
+      → DecodesWords bytes e widest Unlimited r (c₀ .xs) (c₀ .ys) (c₀ .ts) (c₀ .ps) (c .xs) (c .ys) (c .ts) (c .ps) → length es ≤ room c₀
+      → (r ≡ Read (record { encoding = e; width = 2048; height = 2048; count = length es })) × Holds es c₀ c
+  pub opened : (x : Index e bytes)
+      → x .answer ≡ Opened (record { source = sourceOf (length bytes) 0 e widest (x .spacing) es; records = recordCount (length bytes) (x .spacing) })
+  pub by-number : (x : Index e bytes) (o : Opening) → x .answer ≡ Opened o → (i0 i1 : ℕ) (r : SliceAnswer) (c₀ c : Columns)
+      → NumberRan x o i0 i1 r c₀ c → length (numbered es i0 i1) ≤ room c₀ → (r ≡ Sliced (length (numbered es i0 i1))) × Holds (numbered es i0 i1) c₀ c
+  pub by-time : (x : Index e bytes) (o : Opening) → x .answer ≡ Opened o → (t0 t1 : ℤ) (r : SliceAnswer) (c₀ c : Columns)
+      → TimeRan x o t0 t1 r c₀ c → length (duringTimes es t0 t1) ≤ room c₀ → (r ≡ Sliced (length (duringTimes es t0 t1))) × Holds (duringTimes es t0 t1) c₀ c
+  -- at whatever two spacings, into whatever columns that suffice
+  pub alike-number : (x y : Index e bytes) (o p : Opening) → x .answer ≡ Opened o → y .answer ≡ Opened p → (i0 i1 : ℕ) (r q : SliceAnswer) (c₀ c d₀ d : Columns)
+      → NumberRan x o i0 i1 r c₀ c → NumberRan y p i0 i1 q d₀ d → length (numbered es i0 i1) ≤ room c₀ → length (numbered es i0 i1) ≤ room d₀
+      → Alike (length (numbered es i0 i1)) r q c d
+  pub alike-time : (x y : Index e bytes) (o p : Opening) → x .answer ≡ Opened o → y .answer ≡ Opened p → (t0 t1 : ℤ) (r q : SliceAnswer) (c₀ c d₀ d : Columns)
+      → TimeRan x o t0 t1 r c₀ c → TimeRan y p t0 t1 q d₀ d → length (duringTimes es t0 t1) ≤ room c₀ → length (duringTimes es t0 t1) ≤ room d₀
+      → Alike (length (duringTimes es t0 t1)) r q c d
+
+-- of appends that ran, cut at byte `cut` of what they wrote
+module _ (e : Encoding) (ran : List Ran) (cut : ℕ) where
+  abbrev pub wholeRan : List Event
+  wholeRan = whole e cut (streamWords (fresh e) (callsOf ran))
+
+  abbrev pub othersRan : List Event
+  othersRan = others e cut (streamWords (fresh e) (callsOf ran))
+
+  abbrev pub joinedRan : (second : List Ran) → List ℕ
+  joinedRan second = take (cut / encodeSize e * encodeSize e) (take cut (allWritten ran)) ++ allWritten second
+
+  pub record CutAndResumed : Type 0 where
+    pub of-cut : length (take cut (allWritten ran)) ≤ 2 ^ 30 → ReadBack e (take cut (allWritten ran)) wholeRan
+    pub of-joined : (second : List Ran) → Chained (fresh e) second → acceptedEvents (fresh e) (callsOf second) ≡ othersRan
+        → length (joinedRan second) ≤ 2 ^ 30 → ReadBack e (joinedRan second) (acceptedEvents (fresh e) (callsOf ran))
+
+abbrev pub DemandThreeRan : Type 0
+DemandThreeRan = (e : Encoding) (ran : List Ran) → Chained (fresh e) ran → (cut : ℕ) → cut ≤ length (allWritten ran) → CutAndResumed e ran cut

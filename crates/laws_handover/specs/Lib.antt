@@ -8,3 +8,4 @@ pub mod Proof
 pub mod Again
 pub mod Others
 pub mod Ran
+pub mod Called

@@ -1,18 +1,21 @@
 -- DEMAND 3, proved: what a fresh writer sends is a stream that a fresh decoder understands, so is what is left of such a stream and resumed, and all such streams are as claimed.
 use mathlib.Core.Path.{_≡_, refl, ap, _∙_}
 use mathlib.Core.Bool.{true}
-use mathlib.Core.List.{List, _++_}
+use mathlib.Core.List.{List, [], _∷_, _++_}
 use Prim.Native.Nat.{ℕ, _*_, _/_, _≤_, _<_}
 use native.Mathlib.Omega.{arith}
 use native.Mathlib.Nat.{div-add-mod'}
 use lib.ListN.{take, drop}
 use lib.Seq.{take-take}
-use Rattle.laws_stream.specs.Machine.{Note, All, all-append, all-append-left, all-take, notes, notes-append, notes-split}
+use Rattle.laws_stream.specs.Machine.{Machine, Note, Says, All, all-append, all-append-left, all-take, notes, notes-append, notes-split}
 use Rattle.laws_stream.specs.Order.{Rise}
 use Rattle.laws_stream.specs.Slice.{sift-all}
 use Rattle.evt_types.specs.Event.{Event}
 use Rattle.evt_codec.specs.Codec.{eventsFrom}
 use Rattle.evt_types.specs.declared.Encoding.{Encoding}
+use Rattle.evt_types.specs.declared.Encoding.the-variants.{Evt2, Evt3}
+use Rattle.evt2_decoder.specs.Evt2.{fresh2, reader2}
+use Rattle.evt3_decoder.specs.Evt3.{fresh3, reader3}
 use Rattle.header.specs.Header.{hasZero}
 use Rattle.read_columns.specs.Inside.{clock, inside}
 use Rattle.read_window.specs.declared.Window.{Window}
@@ -21,7 +24,7 @@ use Rattle.write_words.specs.Encode.{encodeSize}
 use Rattle.laws_formats.specs.Ready.{limit, sayable}
 use Rattle.laws_formats.specs.Either.{codecOf, freshOf, lawfulOf, fresh-is}
 use Rattle.laws_formats.specs.Appends.{noteBytes, rise-inside, Understood, resumed-understood, resumed-bytes, whole-events, whole-past, cut-events, cut-past}
-use Rattle.laws_handover.specs.Handover.{Call, acceptedEvents, streamOf, streamWords, fresh, beforeCut, whole, others, joined, Typed, Suits, widest, Exact, Claim, DemandThree}
+use Rattle.laws_handover.specs.Handover.{Call, acceptedEvents, streamOf, streamWords, fresh, beforeCut, whole, others, joined, Typed, givenAlong, GivenAt, Suits, widest, Exact, Claim, DemandThree}
 use Rattle.laws_handover.specs.Cut.{whole-is, broken-is, cut-parts}
 use Rattle.laws_handover.specs.Calls.{stream-words, stream-notes, stream-typed, groupsOf, groups-events, groups-words, fresh-rise, stream-understood}
 use Rattle.laws_handover.specs.Reading.{exact}
@@ -37,6 +40,16 @@ pub record Sent (e : Encoding) (bytes : List ℕ) (ws : List (Note ℕ Event)) (
 suits-inside : (es : List Event) → All (λ a. inside 2048 2048 a ≡ true) es → Suits widest es
 unfolding hasZero
 suits-inside es h = record { no-zero = refl; is-sized = refl; keeps = sift-all (inside 2048 2048) es h }
+
+-- what a decoder understands it gives word by word
+given-along : {S : Type 0} (M : Machine S ℕ Event) (Fit : ℕ → Type 0) (Ready : S → List Event → Type 0) (d : S) (ws : List (Note ℕ Event)) (more : List Event)
+    → Says M Fit Ready d ws more → givenAlong M d ws
+given-along M Fit Ready d [] more p = tt
+given-along M Fit Ready d (w ∷ ws) more p = (p .says, given-along M Fit Ready (M .step d (w .word)) ws more (p .rest))
+
+given-at : (e : Encoding) (ws : List (Note ℕ Event)) → Understood e (freshOf e) ws → GivenAt e ws
+given-at Evt2 ws u = given-along reader2 _ _ fresh2 ws [] u
+given-at Evt3 ws u = given-along reader3 _ _ fresh3 ws [] u
 
 module _ (e : Encoding) where
   sized : 0 < encodeSize e
@@ -96,6 +109,7 @@ module _ (e : Encoding) where
         worded = s .worded;
         noted = s .noted;
         typed = s .typed;
+        given = given-at e ws (s .understood);
         parted = parted;
         whole-suits = suits-inside (whole e cut ws) (all-append-left _ (whole e cut ws) (others e cut ws) (rw parted all));
         all-suits = suits-inside es all;

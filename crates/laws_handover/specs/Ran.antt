@@ -9,42 +9,14 @@ use Rattle.write_rules.specs.declared.RawEventSink.{RawEventSink}
 use Rattle.write_append.specs.declared.AppendAnswer.{AppendAnswer}
 use Rattle.write_append.specs.declared.AppendAnswer.the-variants.{Written, Refused}
 use Rattle.write_append.specs.declared.Appended.{Appended}
-use Rattle.write_append.specs.Append.{AppendedBytes, appendAnswer, handedOver, Appends, AppendOwed}
-use Rattle.laws_handover.specs.Handover.{Call, callOutcome, next, callBytes, streamOf}
+use Rattle.write_rules.specs.Range.{eventsInRange, fallsAfter, sameLengths, sinkInRange}
+use Rattle.write_append.specs.Append.{appendAnswer, sends, AppendOwed}
+use Rattle.laws_handover.specs.Handover.{Call, isAccepted, next, callBytes, streamOf, Ran, Chained, bytesTold, allWritten, callsOf}
 
 -- the writer that a list leaves
 abbrev pub sinkOf : RawEventSink → List Call → RawEventSink
 sinkOf s [] = s
 sinkOf s (c ∷ cs) = sinkOf (next s c) cs
-
--- an append that ran: its call, the output that it was lent, what it returned, and the output that it left
-pub record Ran : Type 0 where
-  pub call : Call
-  pub out₀ : List ℕ
-  pub is-room : call .room ≡ length out₀
-  pub result : Appended
-  pub out : List ℕ
-
--- each met its contract, and was given the writer that the last one returned
-abbrev pub Chained : RawEventSink → List Ran → Type 0
-Chained s [] = Unit
-Chained s (a ∷ ran) =
-    AppendOwed s (a .call .width) (a .call .height) (a .call .xs) (a .call .ys) (a .call .ts) (a .call .ps) (a .out₀) (a .result) (a .out) × Chained (a .result .sink) ran
-
--- how many bytes an answer tells
-abbrev pub bytesTold : AppendAnswer → ℕ
-bytesTold (Written n) = n
-bytesTold (Refused r) = 0
-
-abbrev pub written : Ran → List ℕ
-written a = take (bytesTold (a .result .answer)) (a .out)
-
-abbrev pub allWritten : List Ran → List ℕ
-allWritten [] = []
-allWritten (a ∷ ran) = written a ++ allWritten ran
-
-abbrev pub callsOf : List Ran → List Call
-callsOf ran = map (λ a. a .call) ran
 
 -- ---- one append
 

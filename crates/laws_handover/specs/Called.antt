@@ -1,0 +1,93 @@
+-- DEMAND 3 OF CALLS THAT RAN, proved: what appends wrote is the stream of their calls, of which `demand-three` speaks.
+use mathlib.Core.Path.{_≡_, refl, sym, ap, subst, _∙_}
+use mathlib.Core.List.{List, [], _∷_, _++_, map}
+use Prim.Native.Nat.{ℕ, _*_, _/_, _^_, _≤_}
+use lib.IntN.{ℤ}
+use lib.ListN.{length, take, drop, length-map}
+use lib.Seq.{take-at}
+use Rattle.evt_types.specs.Columns.{colX, colY, colT, colP}
+use Rattle.evt_types.specs.Event.{Event}
+use Rattle.evt_types.specs.declared.Encoding.{Encoding}
+use Rattle.index_build.specs.declared.Opening.{Opening}
+use Rattle.index_build.specs.declared.OpenAnswer.the-variants.{Opened}
+use Rattle.index_build.specs.Index.{recordCount, sourceOf}
+use Rattle.slice_rules.specs.declared.SliceAnswer.{SliceAnswer}
+use Rattle.slice_rules.specs.declared.SliceAnswer.the-variants.{Sliced}
+use Rattle.write_words.specs.Encode.{encodeSize}
+use Rattle.laws_handover.specs.Handover.{acceptedEvents, streamOf, fresh, widest, Suits, Exact, Reads, Ran, Chained, callsOf, allWritten, Columns, Holds, Index, Alike, ReadBack, CutAndResumed, DemandThreeRan, numbered, duringTimes, NumberRan, TimeRan, room, ByNumber, ByTime}
+use Rattle.laws_handover.specs.Proof.{demand-three}
+use Rattle.laws_handover.specs.Ran.{ran-written}
+
+-- ---- two callers
+
+front-same : {A : Type 0} (f : Event → A) (part : List Event) (old now old′ now′ : List A) → now ≡ map f part ++ drop (length part) old
+    → now′ ≡ map f part ++ drop (length part) old′ → take (length part) now ≡ take (length part) now′
+front-same f part old now old′ now′ a b =
+    ap (take (length part)) a ∙ take-at (map f part) (drop (length part) old) (length part) (length-map part f)
+    ∙ sym (ap (take (length part)) b ∙ take-at (map f part) (drop (length part) old′) (length part) (length-map part f))
+
+alike : (part : List Event) (r q : SliceAnswer) (c₀ c d₀ d : Columns) → (r ≡ Sliced (length part)) × Holds part c₀ c → (q ≡ Sliced (length part)) × Holds part d₀ d
+    → Alike (length part) r q c d
+alike part r q c₀ c d₀ d a b = record {
+  first = a .0;
+  second = b .0;
+  same-x = front-same colX part (c₀ .xs) (c .xs) (d₀ .xs) (d .xs) (a .1 .column-x) (b .1 .column-x);
+  same-y = front-same colY part (c₀ .ys) (c .ys) (d₀ .ys) (d .ys) (a .1 .column-y) (b .1 .column-y);
+  same-t = front-same colT part (c₀ .ts) (c .ts) (d₀ .ts) (d .ts) (a .1 .column-t) (b .1 .column-t);
+  same-p = front-same colP part (c₀ .ps) (c .ps) (d₀ .ps) (d .ps) (a .1 .column-p) (b .1 .column-p);
+}
+
+-- ---- bytes that are read exactly
+
+module _ (e : Encoding) (bytes : List ℕ) (es : List Event) (reads : Reads e widest bytes es) where
+  abbrev openedAs : (spacing : ℕ) → Opening
+  openedAs spacing = record { source = sourceOf (length bytes) 0 e widest spacing es; records = recordCount (length bytes) spacing }
+
+  module _ (x : Index e bytes) where
+    indexed : (x .answer ≡ Opened (openedAs (x .spacing))) × ByNumber bytes es (openedAs (x .spacing) .source) (take (openedAs (x .spacing) .records) (x .records))
+        × ByTime bytes es (openedAs (x .spacing) .source) (take (openedAs (x .spacing) .records) (x .records))
+    indexed = reads .indexes (x .spacing) (x .allowed) (x .answer) (x .records₀) (x .records) (x .ran) (x .enough)
+
+    -- the opening that it told is that one
+    told-is : (o : Opening) → x .answer ≡ Opened o → o ≡ openedAs (x .spacing)
+    told-is o h = cc (indexed .0)
+
+    sliced-number : (o : Opening) → x .answer ≡ Opened o → (i0 i1 : ℕ) (r : SliceAnswer) (c₀ c : Columns) → NumberRan x o i0 i1 r c₀ c
+        → length (numbered es i0 i1) ≤ room c₀ → (r ≡ Sliced (length (numbered es i0 i1))) × Holds (numbered es i0 i1) c₀ c
+    sliced-number o h i0 i1 r c₀ c ran fits =
+        let g = indexed .1 i0 i1 r (c₀ .xs) (c₀ .ys) (c₀ .ts) (c₀ .ps) (c .xs) (c .ys) (c .ts) (c .ps) (rw (told-is o h) at ran) fits in
+        (g .count, g .columns)
+
+    sliced-time : (o : Opening) → x .answer ≡ Opened o → (t0 t1 : ℤ) (r : SliceAnswer) (c₀ c : Columns) → TimeRan x o t0 t1 r c₀ c
+        → length (duringTimes es t0 t1) ≤ room c₀ → (r ≡ Sliced (length (duringTimes es t0 t1))) × Holds (duringTimes es t0 t1) c₀ c
+    sliced-time o h t0 t1 r c₀ c ran fits =
+        let g = indexed .2 t0 t1 r (c₀ .xs) (c₀ .ys) (c₀ .ts) (c₀ .ps) (c .xs) (c .ys) (c .ts) (c .ps) (rw (told-is o h) at ran) fits in
+        (g .count, g .columns)
+
+  read-back : ReadBack e bytes es
+  read-back = record {
+    decoded = λ r c₀ c d fits. reads .decodes r (c₀ .xs) (c₀ .ys) (c₀ .ts) (c₀ .ps) (c .xs) (c .ys) (c .ts) (c .ps) d fits;
+    opened = λ x. indexed x .0;
+    by-number = sliced-number;
+    by-time = sliced-time;
+    alike-number = λ x y o p ho hp i0 i1 r q c₀ c d₀ d a b fa fb.
+        alike (numbered es i0 i1) r q c₀ c d₀ d (sliced-number x o ho i0 i1 r c₀ c a fa) (sliced-number y p hp i0 i1 q d₀ d b fb);
+    alike-time = λ x y o p ho hp t0 t1 r q c₀ c d₀ d a b fa fb.
+        alike (duringTimes es t0 t1) r q c₀ c d₀ d (sliced-time x o ho t0 t1 r c₀ c a fa) (sliced-time y p hp t0 t1 q d₀ d b fb);
+  }
+
+exact-back : (e : Encoding) (bytes : List ℕ) (es : List Event) → Exact e bytes es → Suits widest es → length bytes ≤ 2 ^ 30 → ReadBack e bytes es
+exact-back e bytes es exact suits few = read-back e bytes es (exact few widest suits)
+
+-- ---- THE CALLS
+
+pub demand-three-ran : DemandThreeRan
+demand-three-ran e ran chained cut h =
+    let written = ran-written (fresh e) ran chained in
+    let claim = demand-three e (callsOf ran) cut (rw (← written) h) in
+    record {
+      of-cut = λ few. exact-back e _ _ (rw written (claim .of-cut)) (claim .whole-suits) few;
+      of-joined = λ second chained₂ rest few.
+          let written₂ = ran-written (fresh e) second chained₂ in
+          exact-back e _ _ (rw (written, written₂) (claim .of-joined (callsOf second) rest)) (claim .all-suits) few;
+    }

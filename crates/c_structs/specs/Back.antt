@@ -8,16 +8,11 @@ use lib.IntN.{ℤ, pos}
 use lib.ListN.{length, take, getD}
 use lib.Seq.{getD-append-add, take-suc, take-length}
 use borrow.Author.Tests.{lt-ltb}
-use Rattle.evt_types.specs.declared.Encoding.{Encoding}
-use Rattle.evt_codec.specs.declared.codec.Codec.{Codec}
-use Rattle.evt_codec.specs.declared.codec.Codec.the-variants.{Evt2, Evt3}
+use Rattle.evt_types.specs.{declared.Encoding.Encoding, Num.natural}
+use Rattle.evt_codec.specs.declared.{codec.Codec.Codec, codec.Codec.the-variants.Evt2, codec.Codec.the-variants.Evt3}
 use Rattle.evt_codec.specs.Codec.{encodingOf}
-use Rattle.evt_types.specs.Num.{natural}
-use Rattle.index_build.specs.declared.Checkpoint.{Checkpoint}
-use Rattle.index_build.specs.Index.{firsts}
-use Rattle.index_build.specs.Nth.{nth, blank}
-use Rattle.c_structs.specs.Laws.{bit-back}
-use Rattle.c_structs.specs.Making.{length-entries}
+use Rattle.index_build.specs.{declared.Checkpoint.Checkpoint, Index.firsts, Nth.nth, Nth.blank}
+use Rattle.c_structs.specs.{Laws.bit-back, Making.length-entries}
 use Rattle.c_structs.specs.Records.{flatOf, flatRecord, entriesOf, entriesAll, timeOf, checkpointOf, partAt, roomOf, recordAt, recordsIn}
 
 -- ---- one record
@@ -38,7 +33,8 @@ pub record Holds (e : Encoding) (c : Checkpoint) : Type 0 where
 time-back : (n : ℕ) → n < 2 ^ 63 → timeOf n ≡ pos n
 time-back n h = rw (lt-ltb n (2 ^ 63) h)
 
-held-back : (offset count n : ℕ) → n < 2 ^ 63 → (k : Codec) → Narrow k → checkpointOf (encodingOf k) (flatOf offset count n k) ≡ record { «byte_offset» = offset; «event_index» = count; time = pos n; codec = k }
+held-back : (offset count n : ℕ) → n < 2 ^ 63 → (k : Codec) → Narrow k
+    → checkpointOf (encodingOf k) (flatOf offset count n k) ≡ record { «byte_offset» = offset; «event_index» = count; time = pos n; codec = k }
 held-back offset count n h (Evt2 d) u = λ i. record {
   «byte_offset» = offset;
   «event_index» = count;
@@ -108,5 +104,6 @@ unfolding recordsIn
 records-back e cs holds =
     let room : roomOf (entriesAll cs) ≡ length cs = ap (λ (n : ℕ). n / 10) (length-entries cs) ∙ omega arith in
     ap (firsts (recordAt e (entriesAll cs))) room
-    ∙ firsts-take (recordAt e (entriesAll cs)) cs (length cs) (omega arith) (λ j h. ap (checkpointOf e) (part-at cs j h) ∙ checkpoint-back e (nth cs j) (holds j h))
+    ∙ firsts-take (recordAt e (entriesAll cs)) cs (length cs) (omega arith)
+    (λ j h. ap (checkpointOf e) (part-at cs j h) ∙ checkpoint-back e (nth cs j) (holds j h))
     ∙ take-length cs

@@ -8,10 +8,10 @@ use lib.Seq.{sets}
 use Rattle.evt_codec.specs.declared.codec.Codec.{Codec}
 use Rattle.evt_types.specs.Num.{natural}
 use Rattle.index_build.specs.declared.Checkpoint.{Checkpoint}
-use Rattle.c_structs.specs.declared.records.PropheseeRecord.{PropheseeRecord}
-use Rattle.c_structs.specs.Records.{flatOf, flatRecord, entriesOf}
+use Rattle.c_structs.specs.{declared.records.PropheseeRecord.PropheseeRecord, Records.flatOf, Records.flatRecord, Records.entriesOf}
 
-pub flat-is : (c : Checkpoint) (time : ℕ) (k : Codec) (r : PropheseeRecord) → r ≡ flatOf (c .«byte_offset») (c .«event_index») time k → time ≡ natural (c .time) → c .codec ≡ k → r ≡ flatRecord c
+pub flat-is : (c : Checkpoint) (time : ℕ) (k : Codec) (r : PropheseeRecord) → r ≡ flatOf (c .«byte_offset») (c .«event_index») time k
+    → time ≡ natural (c .time) → c .codec ≡ k → r ≡ flatRecord c
 flat-is c time k r is p q = is ∙ (λ i. flatOf (c .«byte_offset») (c .«event_index») (p i) (sym q i))
 
 abbrev pub five : (a b c d e : ℕ) → List ℕ
@@ -25,7 +25,8 @@ stores-five l at a b c d e =
     let p4 : at + 4 ≡ suc (suc (suc (suc at))) = omega arith in
     λ i. set (set (set (set (set l at a) (p1 i) b) (p2 i) c) (p3 i) d) (p4 i) e
 
-pub stores-record : (l m n : List ℕ) (at : ℕ) (r : PropheseeRecord) → m ≡ sets l at (five (r .«byte_offset») (r .«event_index») (r .time) (r .initialised) (r .«time_base»))
+pub stores-record : (l m n : List ℕ) (at : ℕ) (r : PropheseeRecord)
+    → m ≡ sets l at (five (r .«byte_offset») (r .«event_index») (r .time) (r .initialised) (r .«time_base»))
     → n ≡ sets m (at + 5) (five (r .«decoder_time») (r .«high_loops») (r .y) (r .«base_x») (r .polarity)) → n ≡ sets l at (entriesOf r)
 stores-record l m n at r p q =
     let p5 : at + 5 ≡ suc (suc (suc (suc (suc at)))) = omega arith in

@@ -8,49 +8,26 @@ use lib.Dec.{eqb}
 use lib.IntN.{ℤ}
 use lib.ListN.{length, getD}
 use borrow.Author.Tests.{ne-eqb}
-use Rattle.evt_types.specs.declared.Encoding.{Encoding}
-use Rattle.evt_types.specs.declared.Encoding.the-variants.{Evt2, Evt3}
-use Rattle.evt_types.specs.declared.Refusal.{Refusal}
-use Rattle.evt_types.specs.declared.Sent.{Sent}
-use Rattle.evt_types.specs.declared.Sent.the-variants.{Nothing, Value}
-use Rattle.evt_types.specs.Event.{Event}
-use Rattle.evt_types.specs.Told.{told, told-numbered, naturals}
-use Rattle.read_rules.specs.declared.LoadOptions.{LoadOptions}
-use Rattle.read_rules.specs.declared.ReadAnswer.{ReadAnswer}
+use Rattle.evt_types.specs.declared.{Encoding.Encoding, Encoding.the-variants.Evt2, Encoding.the-variants.Evt3, Refusal.Refusal, Sent.Sent}
+use Rattle.evt_types.specs.{declared.Sent.the-variants.Nothing, declared.Sent.the-variants.Value, Event.Event, Told.told, Told.told-numbered}
+use Rattle.evt_types.specs.{Told.naturals, Outcome.Outcome, Outcome.refuse, Outcome.give}
+use Rattle.read_rules.specs.{declared.LoadOptions.LoadOptions, declared.ReadAnswer.ReadAnswer, Read.ReadEvents}
 use Rattle.read_rules.specs.Read as Read
-use Rattle.read_rules.specs.Read.{ReadEvents}
-use Rattle.evt_types.specs.Outcome.{Outcome, refuse, give}
-use Rattle.index_build.specs.declared.Checkpoint.{Checkpoint}
-use Rattle.index_records.specs.declared.Judging.{Judging}
-use Rattle.index_build.specs.declared.RawSliceSource.{RawSliceSource}
-use Rattle.index_records.specs.BinarySearch.{chosenOf}
-use Rattle.index_records.specs.Choose.{Chose}
-use Rattle.index_records.specs.Judge.{judgedAll}
-use Rattle.index_records.specs.Search.{chosen}
-use Rattle.slice_rules.specs.declared.Asked.{Asked}
-use Rattle.slice_rules.specs.declared.SliceAnswer.{SliceAnswer}
+use Rattle.index_build.specs.declared.{Checkpoint.Checkpoint, RawSliceSource.RawSliceSource}
+use Rattle.index_records.specs.{declared.Judging.Judging, BinarySearch.chosenOf, Choose.Chose, Judge.judgedAll, Search.chosen, InRange.indexInRange}
+use Rattle.slice_rules.specs.{declared.Asked.Asked, declared.SliceAnswer.SliceAnswer, Slice.toldSlice, From.askedByNumber, From.askedByTime}
+use Rattle.slice_rules.specs.{From.passedFrom, From.SlicesFrom, From.Startable, Laws.startable, Laws.began-index, Laws.slices-index, Laws.began-time}
+use Rattle.slice_rules.specs.{Laws.slices-time}
 use Rattle.slice_rules.specs.Slice as Slice
-use Rattle.index_records.specs.InRange.{indexInRange}
-use Rattle.slice_rules.specs.Slice.{toldSlice}
-use Rattle.slice_rules.specs.From.{askedByNumber, askedByTime, passedFrom, SlicesFrom, Startable}
-use Rattle.slice_rules.specs.Laws.{startable, began-index, slices-index, began-time, slices-time}
 use Rattle.write_append.specs.declared.Appended.{Appended}
-use Rattle.write_rules.specs.declared.LastTime.{LastTime}
-use Rattle.write_rules.specs.declared.LastTime.the-variants.{Never, At}
-use Rattle.write_rules.specs.declared.RawEventSink.{RawEventSink}
+use Rattle.write_rules.specs.declared.{LastTime.LastTime, LastTime.the-variants.Never, LastTime.the-variants.At, RawEventSink.RawEventSink}
 use Rattle.write_append.specs.Append.{AppendedBytes, appendOutcome, toldAppend, appendVerdict, sinkAfter, AppendOwed}
-use Rattle.c_structs.specs.declared.opening.PropheseeSource.{PropheseeSource}
-use Rattle.c_structs.specs.declared.options.PropheseeOptions.{PropheseeOptions}
-use Rattle.c_structs.specs.declared.reading.PropheseeReading.{PropheseeReading}
-use Rattle.c_structs.specs.declared.slices.PropheseeSlice.{PropheseeSlice}
-use Rattle.c_structs.specs.declared.writer.PropheseeAppended.{PropheseeAppended}
-use Rattle.c_structs.specs.declared.writer.PropheseeSink.{PropheseeSink}
-use Rattle.c_structs.specs.Lookup.{length-records}
-use Rattle.c_structs.specs.Opening.{openingOf, sourceOf}
-use Rattle.c_structs.specs.Options.{flag, optionsOf}
-use Rattle.c_structs.specs.Reading.{valueOf, countOf, readingOf, Reads, DecodesWords, ReadsRaw}
-use Rattle.c_structs.specs.Records.{roomOf, recordsIn}
-use Rattle.c_structs.specs.Slicing.{slicedOf, SlicesFrom as SlicedFrom, SlicesIndex, SlicesTime}
+use Rattle.c_structs.specs.declared.{opening.PropheseeSource.PropheseeSource, options.PropheseeOptions.PropheseeOptions}
+use Rattle.c_structs.specs.declared.{reading.PropheseeReading.PropheseeReading, slices.PropheseeSlice.PropheseeSlice}
+use Rattle.c_structs.specs.declared.{writer.PropheseeAppended.PropheseeAppended, writer.PropheseeSink.PropheseeSink}
+use Rattle.c_structs.specs.{Lookup.length-records, Opening.openingOf, Opening.sourceOf, Options.flag, Options.optionsOf, Reading.valueOf}
+use Rattle.c_structs.specs.{Reading.countOf, Reading.readingOf, Reading.Reads, Reading.DecodesWords, Reading.ReadsRaw, Records.roomOf}
+use Rattle.c_structs.specs.{Records.recordsIn, Slicing.slicedOf, Slicing.SlicesFrom as SlicedFrom, Slicing.SlicesIndex, Slicing.SlicesTime}
 use Rattle.c_structs.specs.Writer.{versionOf, sentOf, lastOf, sinkOf, bit, evt3Of, hasSent, sentValue, hasLast, lastValue, flatSink, appendedOf, Appends}
 
 -- a refusal is no acceptance, and has none of its values
@@ -63,7 +40,8 @@ refused-not r = ne-eqb (told r .number) 0 (nonzero (told r .number) (told-number
 pub no-value : (r : Refusal) (i : ℕ) → valueOf (told r) i ≡ 0
 no-value r i = ap (λ (b : Bool). cond b (getD (naturals (told r .values)) i 0) 0) (refused-not r)
 
-pub refused-reading : (r : Refusal) (n k : ℕ) → n ≡ told r .number → k ≡ countOf (told r) → record { refusal = n; encoding = 0; told = k; width = 0; height = 0; count = 0 } ≡ readingOf (told r)
+pub refused-reading : (r : Refusal) (n k : ℕ) → n ≡ told r .number → k ≡ countOf (told r)
+    → record { refusal = n; encoding = 0; told = k; width = 0; height = 0; count = 0 } ≡ readingOf (told r)
 refused-reading r n k p q = λ i. record {
   refusal = p i;
   encoding = sym (no-value r 0) i;
@@ -74,7 +52,13 @@ refused-reading r n k p q = λ i. record {
 }
 
 pub refused-opening : (r : Refusal) (n k : ℕ) → n ≡ told r .number → k ≡ countOf (told r)
-    → record { refusal = n; encoding = 0; told = k; records = 0; source = record { spacing = 0; «data_offset» = 0; len = 0; width = 0; height = 0; «n_events» = 0 } } ≡ openingOf (told r)
+    → record {
+      refusal = n;
+      encoding = 0;
+      told = k;
+      records = 0;
+      source = record { spacing = 0; «data_offset» = 0; len = 0; width = 0; height = 0; «n_events» = 0 };
+    } ≡ openingOf (told r)
 refused-opening r n k p q = λ i. record {
   refusal = p i;
   encoding = sym (no-value r 0) i;
@@ -95,13 +79,15 @@ refused-slice r n k p q = λ i. record { refusal = p i; told = q i; count = sym 
 
 -- ---- reading
 
-module _ (o : PropheseeOptions) (given : LoadOptions) (is-given : given ≡ optionsOf o) (a : ReadAnswer) (r : PropheseeReading) (is-r : r ≡ readingOf (Read.toldRead a)) where
+module _ (o : PropheseeOptions) (given : LoadOptions) (is-given : given ≡ optionsOf o) (a : ReadAnswer) (r : PropheseeReading)
+    (is-r : r ≡ readingOf (Read.toldRead a)) where
   reads : {outcome : Outcome ReadEvents} {xs₀ ys₀ : List ℕ} {ts₀ : List ℤ} {ps₀ xs ys : List ℕ} {ts : List ℤ} {ps : List ℕ}
       → Read.Reads outcome a xs₀ ys₀ ts₀ ps₀ xs ys ts ps → Reads outcome r xs₀ ys₀ ts₀ ps₀ xs ys ts ps
   reads h = record { is-answer = is-r ∙ ap readingOf (h .is-told); columns = h .columns }
 
   pub reads-words : (words : List ℕ) (e : Encoding) {xs₀ ys₀ : List ℕ} {ts₀ : List ℤ} {ps₀ xs ys : List ℕ} {ts : List ℤ} {ps : List ℕ}
-      → Read.DecodesWords words e (given .«sensor_size») (given .«max_events») a xs₀ ys₀ ts₀ ps₀ xs ys ts ps → DecodesWords words e o r xs₀ ys₀ ts₀ ps₀ xs ys ts ps
+      → Read.DecodesWords words e (given .«sensor_size») (given .«max_events») a xs₀ ys₀ ts₀ ps₀ xs ys ts ps
+      → DecodesWords words e o r xs₀ ys₀ ts₀ ps₀ xs ys ts ps
   reads-words words e {xs₀} {ys₀} {ts₀} {ps₀} {xs} {ys} {ts} {ps} h =
       reads (subst (λ (g : LoadOptions). Read.DecodesWords words e (g .«sensor_size») (g .«max_events») a xs₀ ys₀ ts₀ ps₀ xs ys ts ps) is-given h)
 
@@ -151,8 +137,10 @@ refused-appended given next r n k p q = λ i. record {
   written = sym (no-value r 0) i;
 }
 
-pub appends : (given : PropheseeSink) (s : RawEventSink) → s ≡ sinkOf given → (width height : ℕ) (xs ys : List ℕ) (ts : List ℤ) (ps out₀ : List ℕ) (a : Appended) (out : List ℕ)
-    → AppendOwed s width height xs ys ts ps out₀ a out → (r : PropheseeAppended) → r ≡ appendedOf given (toldAppend (a .answer)) (a .sink) → Appends given width height xs ys ts ps out₀ r out
+pub appends : (given : PropheseeSink) (s : RawEventSink) → s ≡ sinkOf given
+    → (width height : ℕ) (xs ys : List ℕ) (ts : List ℤ) (ps out₀ : List ℕ) (a : Appended) (out : List ℕ)
+    → AppendOwed s width height xs ys ts ps out₀ a out → (r : PropheseeAppended) → r ≡ appendedOf given (toldAppend (a .answer)) (a .sink)
+    → Appends given width height xs ys ts ps out₀ r out
 appends given s is-s width height xs ys ts ps out₀ a out owed r is-r =
     let h = subst (λ (s : RawEventSink). AppendOwed s width height xs ys ts ps out₀ a out) is-s owed in
     let o = appendOutcome (sinkOf given) width height xs ys ts ps (length out₀) in
@@ -165,7 +153,8 @@ appends given s is-s width height xs ys ts ps out₀ a out owed r is-r =
 
 -- ---- slices
 
-module _ (e : Encoding) (recording entries : List ℕ) (given : PropheseeSource) (s : RawSliceSource) (is-s : s ≡ sourceOf e given) (a : SliceAnswer) (r : PropheseeSlice) (is-r : r ≡ slicedOf (toldSlice a)) where
+module _ (e : Encoding) (recording entries : List ℕ) (given : PropheseeSource) (s : RawSliceSource) (is-s : s ≡ sourceOf e given)
+    (a : SliceAnswer) (r : PropheseeSlice) (is-r : r ≡ slicedOf (toldSlice a)) where
   sliced : (f : RawSliceSource → List Event) {xs₀ ys₀ : List ℕ} {ts₀ : List ℤ} {ps₀ xs ys : List ℕ} {ts : List ℤ} {ps : List ℕ}
       → Slice.SlicesFrom recording s (indexInRange s (recordsIn e entries)) (f s) a xs₀ ys₀ ts₀ ps₀ xs ys ts ps
       → SlicedFrom recording (sourceOf e given) (indexInRange (sourceOf e given) (recordsIn e entries)) (f (sourceOf e given)) r xs₀ ys₀ ts₀ ps₀ xs ys ts ps
@@ -194,9 +183,11 @@ module _ (e : Encoding) (recording entries : List ℕ) (s : RawSliceSource) (ask
 
     pub slices-number : (given : PropheseeSource) → s ≡ sourceOf e given → (a : SliceAnswer) (r : PropheseeSlice) → r ≡ slicedOf (toldSlice a)
         → {xs₀ ys₀ : List ℕ} {ts₀ : List ℤ} {ps₀ xs ys : List ℕ} {ts : List ℤ} {ps : List ℕ}
-        → SlicesFrom recording s fine (passedFrom recording (asked .window) start) a xs₀ ys₀ ts₀ ps₀ xs ys ts ps → SlicesIndex recording e given entries i0 i1 r xs₀ ys₀ ts₀ ps₀ xs ys ts ps
+        → SlicesFrom recording s fine (passedFrom recording (asked .window) start) a xs₀ ys₀ ts₀ ps₀ xs ys ts ps
+        → SlicesIndex recording e given entries i0 i1 r xs₀ ys₀ ts₀ ps₀ xs ys ts ps
     slices-number given is-s a r is-r h =
-        sliced e recording entries given s is-s a r is-r (λ (k : RawSliceSource). Slice.indexEvents recording k records i0 i1) (slices-index recording s records asked judged start i0 i1 by-number refl chose (rw all at h))
+        sliced e recording entries given s is-s a r is-r (λ (k : RawSliceSource). Slice.indexEvents recording k records i0 i1)
+        (slices-index recording s records asked judged start i0 i1 by-number refl chose (rw all at h))
 
   module _ (t0 t1 : ℤ) (is : asked ≡ askedByTime s (roomOf entries) t0 t1) where
     by-time : asked ≡ askedByTime s (length records) t0 t1
@@ -207,6 +198,8 @@ module _ (e : Encoding) (recording entries : List ℕ) (s : RawSliceSource) (ask
 
     pub slices-during : (given : PropheseeSource) → s ≡ sourceOf e given → (a : SliceAnswer) (r : PropheseeSlice) → r ≡ slicedOf (toldSlice a)
         → {xs₀ ys₀ : List ℕ} {ts₀ : List ℤ} {ps₀ xs ys : List ℕ} {ts : List ℤ} {ps : List ℕ}
-        → SlicesFrom recording s fine (passedFrom recording (asked .window) start) a xs₀ ys₀ ts₀ ps₀ xs ys ts ps → SlicesTime recording e given entries t0 t1 r xs₀ ys₀ ts₀ ps₀ xs ys ts ps
+        → SlicesFrom recording s fine (passedFrom recording (asked .window) start) a xs₀ ys₀ ts₀ ps₀ xs ys ts ps
+        → SlicesTime recording e given entries t0 t1 r xs₀ ys₀ ts₀ ps₀ xs ys ts ps
     slices-during given is-s a r is-r h =
-        sliced e recording entries given s is-s a r is-r (λ (k : RawSliceSource). Slice.timeEvents recording k records t0 t1) (slices-time recording s records asked judged start t0 t1 by-time refl chose (rw all at h))
+        sliced e recording entries given s is-s a r is-r (λ (k : RawSliceSource). Slice.timeEvents recording k records t0 t1)
+        (slices-time recording s records asked judged start t0 t1 by-time refl chose (rw all at h))

@@ -11,16 +11,9 @@ use lib.ListN.{length, List·getD-append}
 use lib.Seq.{getD-append-seam}
 use borrow.Author.Tests.{ltb-true, ltb-false}
 use Rattle.evt_types.specs.declared.Encoding.{Encoding}
-use Rattle.index_build.specs.declared.Checkpoint.{Checkpoint}
-use Rattle.index_records.specs.declared.Choice.{Choice}
-use Rattle.index_records.specs.declared.Judging.{Judging}
-use Rattle.index_records.specs.declared.Search.{Search}
-use Rattle.index_build.specs.Index.{firsts}
-use Rattle.index_records.specs.BinarySearch.{narrowed, firstSearch, chosenOf}
-use Rattle.index_records.specs.Judge.{judgedOf, judgedAll}
-use Rattle.index_records.specs.JudgeLaws.{judged-failed}
-use Rattle.index_build.specs.Laws.{length-firsts}
-use Rattle.index_build.specs.Nth.{nth, blank}
+use Rattle.index_build.specs.{declared.Checkpoint.Checkpoint, Index.firsts, Laws.length-firsts, Nth.nth, Nth.blank}
+use Rattle.index_records.specs.{declared.Choice.Choice, declared.Judging.Judging, declared.Search.Search, BinarySearch.narrowed}
+use Rattle.index_records.specs.{BinarySearch.firstSearch, BinarySearch.chosenOf, Judge.judgedOf, Judge.judgedAll, JudgeLaws.judged-failed}
 use Rattle.index_records.specs.Search.{Searching, enough, Finds, finds-first, finds-place, finds-next, finds-end}
 use Rattle.c_structs.specs.Records.{roomOf, recordAt, recordsIn}
 
@@ -33,7 +26,8 @@ failed-more : (s : Judging) (f : ℕ → Checkpoint) (i k : ℕ) → judgedAll s
 failed-more s f i zero h = let n : 0 + i ≡ i = omega arith in rw n h
 failed-more s f i (suc k) h =
     let n : suc k + i ≡ suc (k + i) = omega arith in
-    rw n (ap (λ (j : Judging). j .ok) (judged-more s (firsts f (k + i)) (f (k + i))) ∙ judged-failed (judgedAll s (firsts f (k + i))) (f (k + i) ∷ []) (failed-more s f i k h))
+    rw n (ap (λ (j : Judging). j .ok) (judged-more s (firsts f (k + i)) (f (k + i)))
+    ∙ judged-failed (judgedAll s (firsts f (k + i))) (f (k + i) ∷ []) (failed-more s f i k h))
 
 nth-firsts : (f : ℕ → Checkpoint) (n i : ℕ) → i < n → nth (firsts f n) i ≡ f i
 nth-firsts f zero i h = absurd (omega arith)
@@ -66,7 +60,8 @@ module _ (e : Encoding) (l : List ℕ) where
 
   pub judged-next : (s : Judging) (i : ℕ) (t r : Judging) (c : Checkpoint) → Judged s i t → c ≡ recordAt e l i → r ≡ judgedOf t c → Judged s (i + 1) r
   judged-next s i t r c h is-c is-r =
-      is-r ∙ (λ k. judgedOf (h k) (is-c k)) ∙ sym (judged-more s (firsts (recordAt e l) i) (recordAt e l i)) ∙ ap (λ (n : ℕ). judgedAll s (firsts (recordAt e l) n)) (sym (add-one i))
+      is-r ∙ (λ k. judgedOf (h k) (is-c k)) ∙ sym (judged-more s (firsts (recordAt e l) i) (recordAt e l i))
+      ∙ ap (λ (n : ℕ). judgedAll s (firsts (recordAt e l) n)) (sym (add-one i))
 
   pub judged-end : (s : Judging) (i : ℕ) (t : Judging) → i ≡ roomOf l → Judged s i t → t ≡ judgedAll s (recordsIn e l)
   unfolding recordsIn
@@ -76,7 +71,8 @@ module _ (e : Encoding) (l : List ℕ) where
   unfolding recordsIn
   judged-stop s i t within h failed =
       let n : roomOf l - i + i ≡ roomOf l = omega arith in
-      ap (λ (n : ℕ). judgedAll s (firsts (recordAt e l) n) .ok) (sym n) ∙ failed-more s (recordAt e l) i (roomOf l - i) (sym (ap (λ (j : Judging). j .ok) h) ∙ failed)
+      ap (λ (n : ℕ). judgedAll s (firsts (recordAt e l) n) .ok) (sym n)
+      ∙ failed-more s (recordAt e l) i (roomOf l - i) (sym (ap (λ (j : Judging). j .ok) h) ∙ failed)
 
   -- ---- the search
 

@@ -1,6 +1,6 @@
 -- The making of an index's records into entries: one iteration after another, and that the end is what opening promises.
 use mathlib.Core.Path.{_≡_, refl, sym, ap, _∙_}
-use mathlib.Core.Bool.{Bool, true, false}
+use mathlib.Core.Bool.{true, false}
 use mathlib.Core.List.{List, [], _∷_, _++_, append-assoc}
 use Prim.Native.Nat.{ℕ, suc, _+_, _-_, _*_, _≤_, _<_}
 use native.Mathlib.Omega.{arith}
@@ -8,24 +8,15 @@ use lib.Dec.{ltb}
 use lib.ListN.{length, take, drop, length-append, length-drop}
 use lib.Seq.{sets, sets-eq, length-sets, take-at, drop-at, drop-drop}
 use borrow.Author.Tests.{ltb-true, ltb-false}
-use Rattle.evt_types.specs.declared.Refusal.{Refusal}
-use Rattle.evt_types.specs.Outcome.{Outcome, refuse, give}
-use Rattle.evt_types.specs.Told.{told}
-use Rattle.index_build.specs.declared.Builder.{Builder}
-use Rattle.index_build.specs.declared.BuildStep.{BuildStep}
-use Rattle.index_build.specs.declared.Checkpoint.{Checkpoint}
-use Rattle.index_build.specs.declared.OpenAnswer.{OpenAnswer}
-use Rattle.index_build.specs.declared.OpenAnswer.the-variants.{Opened}
-use Rattle.index_build.specs.declared.Prepared.{Prepared}
-use Rattle.index_build.specs.declared.Prepared.the-variants.{Ready, Refused as NotReady}
-use Rattle.index_build.specs.Index.{Body, firsts, openAnswer, openRecords, toldOpen, told-answer}
+use Rattle.evt_types.specs.{declared.Refusal.Refusal, Outcome.Outcome, Outcome.refuse, Outcome.give, Told.told}
+use Rattle.index_build.specs.declared.{BuildStep.BuildStep, Builder.Builder, Checkpoint.Checkpoint, OpenAnswer.OpenAnswer}
+use Rattle.index_build.specs.declared.{OpenAnswer.the-variants.Opened, Prepared.Prepared, Prepared.the-variants.Ready}
+use Rattle.index_build.specs.{declared.Prepared.the-variants.Refused as NotReady, Index.Body, Index.firsts, Index.openAnswer, Index.openRecords}
+use Rattle.index_build.specs.{Index.toldOpen, Index.told-answer, Laws.builder-next, Laws.builder-fit, Laws.length-firsts, Open.Accepted, Open.IfGiven}
+use Rattle.index_build.specs.{Open.Builds, Open.builds}
 use Rattle.index_build.specs.Build.{recordOf, nextOf, Fit, Advanced, Begun, builderAt, madeAt, preparedBy, concluded}
-use Rattle.index_build.specs.Laws.{builder-next, builder-fit, length-firsts}
-use Rattle.index_build.specs.Open.{Accepted, IfGiven, Builds, builds}
-use Rattle.c_structs.specs.declared.opening.PropheseeOpening.{PropheseeOpening}
-use Rattle.c_structs.specs.Lookup.{room-fits}
-use Rattle.c_structs.specs.Opening.{openingOf, Opens}
-use Rattle.c_structs.specs.Records.{flatRecord, entriesOf, entriesAll, roomOf}
+use Rattle.c_structs.specs.{declared.opening.PropheseeOpening.PropheseeOpening, Lookup.room-fits, Opening.openingOf, Opening.Opens}
+use Rattle.c_structs.specs.{Records.flatRecord, Records.entriesOf, Records.entriesAll, Records.roomOf}
 
 -- the entries of the first n records
 abbrev pub entriesTo : List ℕ → Builder → ℕ → List ℕ

@@ -3,19 +3,12 @@ use mathlib.Core.Path.{_≡_}
 use mathlib.Core.List.{List, _++_}
 use Prim.Native.Nat.{ℕ}
 use lib.ListN.{length, drop}
-use Rattle.evt_types.specs.declared.Encoding.{Encoding}
-use Rattle.evt_types.specs.Outcome.{Outcome}
-use Rattle.evt_types.specs.Told.{Told}
-use Rattle.index_build.specs.declared.OpenOptions.{OpenOptions}
-use Rattle.index_build.specs.declared.RawSliceSource.{RawSliceSource}
-use Rattle.index_build.specs.declared.WordsOptions.{WordsOptions}
+use Rattle.evt_types.specs.{declared.Encoding.Encoding, Outcome.Outcome, Told.Told}
+use Rattle.index_build.specs.declared.{OpenOptions.OpenOptions, RawSliceSource.RawSliceSource, WordsOptions.WordsOptions}
 use Rattle.index_build.specs.Index.{Body, rawOutcome, wordsOutcome, openVerdict, openRecords}
-use Rattle.c_structs.specs.declared.opening.PropheseeOpenOptions.{PropheseeOpenOptions}
-use Rattle.c_structs.specs.declared.opening.PropheseeOpening.{PropheseeOpening}
-use Rattle.c_structs.specs.declared.opening.PropheseeSource.{PropheseeSource}
-use Rattle.c_structs.specs.Options.{sizeOf}
-use Rattle.c_structs.specs.Reading.{valueOf, countOf}
-use Rattle.c_structs.specs.Records.{entriesAll, roomOf}
+use Rattle.c_structs.specs.declared.{opening.PropheseeOpenOptions.PropheseeOpenOptions, opening.PropheseeOpening.PropheseeOpening}
+use Rattle.c_structs.specs.{declared.opening.PropheseeSource.PropheseeSource, Options.sizeOf, Reading.valueOf, Reading.countOf}
+use Rattle.c_structs.specs.{Records.entriesAll, Records.roomOf}
 
 abbrev pub optionsOf : PropheseeOpenOptions → OpenOptions
 optionsOf o = record { «sensor_size» = sizeOf (o .sized) (o .width) (o .height); spacing = o .spacing }

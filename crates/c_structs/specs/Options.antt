@@ -2,10 +2,8 @@
 use mathlib.Core.Bool.{Bool, cond, not}
 use Prim.Native.Nat.{ℕ}
 use lib.Dec.{eqb}
-use Rattle.evt_types.specs.declared.Limit.{Limit}
-use Rattle.evt_types.specs.declared.Limit.the-variants.{Unlimited, AtMost}
-use Rattle.evt_types.specs.declared.SensorSize.{SensorSize}
-use Rattle.evt_types.specs.declared.SensorSize.the-variants.{Unknown, Known}
+use Rattle.evt_types.specs.declared.{Limit.Limit, Limit.the-variants.Unlimited, Limit.the-variants.AtMost, SensorSize.SensorSize}
+use Rattle.evt_types.specs.declared.{SensorSize.the-variants.Unknown, SensorSize.the-variants.Known}
 use Rattle.read_rules.specs.declared.LoadOptions.{LoadOptions}
 use Rattle.c_structs.specs.declared.options.PropheseeOptions.{PropheseeOptions}
 

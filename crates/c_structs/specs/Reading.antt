@@ -6,12 +6,9 @@ use Prim.Native.Nat.{ℕ}
 use lib.Dec.{eqb}
 use lib.IntN.{ℤ}
 use lib.ListN.{getD}
-use Rattle.evt_types.specs.declared.Encoding.{Encoding}
-use Rattle.evt_types.specs.Outcome.{Outcome}
-use Rattle.evt_types.specs.Told.{Told, naturals}
+use Rattle.evt_types.specs.{declared.Encoding.Encoding, Outcome.Outcome, Told.Told, Told.naturals}
 use Rattle.read_rules.specs.Read.{ReadEvents, Handed, shortest, wordsOutcome, rawOutcome, readVerdict, handedEvents}
-use Rattle.c_structs.specs.declared.options.PropheseeOptions.{PropheseeOptions}
-use Rattle.c_structs.specs.declared.reading.PropheseeReading.{PropheseeReading}
+use Rattle.c_structs.specs.declared.{options.PropheseeOptions.PropheseeOptions, reading.PropheseeReading.PropheseeReading}
 use Rattle.c_structs.specs.Options.{optionsOf}
 
 -- value i of an acceptance, and 0 of a refusal
@@ -39,7 +36,8 @@ pub record Reads (outcome : Outcome ReadEvents) (r : PropheseeReading)
   pub is-answer : r ≡ readingOf (readVerdict outcome)
   pub columns : Handed (handedEvents outcome) xs₀ ys₀ ts₀ ps₀ xs ys ts ps
 
-abbrev pub DecodesWords : List ℕ → Encoding → PropheseeOptions → PropheseeReading → (xs₀ ys₀ : List ℕ) (ts₀ : List ℤ) (ps₀ xs ys : List ℕ) (ts : List ℤ) (ps : List ℕ) → Type 0
+abbrev pub DecodesWords : List ℕ → Encoding → PropheseeOptions → PropheseeReading
+    → (xs₀ ys₀ : List ℕ) (ts₀ : List ℤ) (ps₀ xs ys : List ℕ) (ts : List ℤ) (ps : List ℕ) → Type 0
 DecodesWords words e options r xs₀ ys₀ ts₀ ps₀ =
     let o = optionsOf options in
     Reads (wordsOutcome words e (o .«sensor_size») (o .«max_events») (shortest xs₀ ys₀ ts₀ ps₀)) r xs₀ ys₀ ts₀ ps₀

@@ -5,16 +5,11 @@ use Prim.Native.Nat.{ℕ, _+_, _*_, _/_, _^_, min}
 use lib.Dec.{ltb}
 use lib.IntN.{ℤ, pos, negsuc}
 use lib.ListN.{length, getD}
-use Rattle.evt_types.specs.declared.Encoding.{Encoding}
+use Rattle.evt_types.specs.{declared.Encoding.Encoding, Num.natural}
 use Rattle.evt_types.specs.declared.Encoding.the-variants as Enc
-use Rattle.evt_codec.specs.declared.codec.Codec.{Codec}
-use Rattle.evt_codec.specs.declared.codec.Codec.the-variants.{Evt2, Evt3}
-use Rattle.evt_types.specs.Num.{natural}
-use Rattle.index_build.specs.declared.Checkpoint.{Checkpoint}
-use Rattle.index_build.specs.Index.{firsts}
-use Rattle.c_structs.specs.declared.records.PropheseeRecord.{PropheseeRecord}
-use Rattle.c_structs.specs.Options.{flag}
-use Rattle.c_structs.specs.Writer.{bit}
+use Rattle.evt_codec.specs.declared.{codec.Codec.Codec, codec.Codec.the-variants.Evt2, codec.Codec.the-variants.Evt3}
+use Rattle.index_build.specs.{declared.Checkpoint.Checkpoint, Index.firsts}
+use Rattle.c_structs.specs.{declared.records.PropheseeRecord.PropheseeRecord, Options.flag, Writer.bit}
 
 -- ---- a record
 
@@ -51,7 +46,8 @@ flatRecord c = flatOf (c .«byte_offset») (c .«event_index») (natural (c .tim
 
 abbrev pub entriesOf : PropheseeRecord → List ℕ
 entriesOf r =
-    r .«byte_offset» ∷ r .«event_index» ∷ r .time ∷ r .initialised ∷ r .«time_base» ∷ r .«decoder_time» ∷ r .«high_loops» ∷ r .y ∷ r .«base_x» ∷ r .polarity ∷ []
+    r .«byte_offset» ∷ r .«event_index» ∷ r .time ∷ r .initialised ∷ r .«time_base» ∷ r .«decoder_time» ∷ r .«high_loops» ∷ r .y
+    ∷ r .«base_x» ∷ r .polarity ∷ []
 
 -- record after record
 abbrev pub entriesAll : List Checkpoint → List ℕ
@@ -66,7 +62,8 @@ timeOf n = cond (ltb n (2 ^ 63)) (pos n) (negsuc 0)
 
 -- a row or a column over 65,535 saturates; in EVT2 the last three don't count
 abbrev pub codecOf : Encoding → PropheseeRecord → Codec
-codecOf Enc.Evt2 r = Evt2 (record { initialised = flag (r .initialised); «time_high» = r .«time_base»; time = r .«decoder_time»; «high_loops» = r .«high_loops» })
+codecOf Enc.Evt2 r =
+    Evt2 (record { initialised = flag (r .initialised); «time_high» = r .«time_base»; time = r .«decoder_time»; «high_loops» = r .«high_loops» })
 codecOf Enc.Evt3 r = Evt3 (record {
   initialised = flag (r .initialised);
   «time_base» = r .«time_base»;

@@ -4,19 +4,13 @@ use mathlib.Core.Bool.{Bool}
 use mathlib.Core.List.{List}
 use Prim.Native.Nat.{ℕ}
 use lib.IntN.{ℤ}
-use Rattle.evt_types.specs.declared.Encoding.{Encoding}
-use Rattle.evt_types.specs.Event.{Event}
-use Rattle.evt_types.specs.Outcome.{Outcome}
-use Rattle.evt_types.specs.Told.{Told}
+use Rattle.evt_types.specs.{declared.Encoding.Encoding, Event.Event, Outcome.Outcome, Told.Told}
 use Rattle.read_rules.specs.Read.{shortest, Handed}
 use Rattle.index_build.specs.declared.RawSliceSource.{RawSliceSource}
 use Rattle.index_records.specs.InRange.{indexInRange}
 use Rattle.slice_rules.specs.Slice.{indexEvents, timeEvents, sliceOutcome, sliceVerdict, sliceHanded}
-use Rattle.c_structs.specs.declared.opening.PropheseeSource.{PropheseeSource}
-use Rattle.c_structs.specs.declared.slices.PropheseeSlice.{PropheseeSlice}
-use Rattle.c_structs.specs.Opening.{sourceOf}
-use Rattle.c_structs.specs.Reading.{valueOf, countOf}
-use Rattle.c_structs.specs.Records.{recordsIn}
+use Rattle.c_structs.specs.declared.{opening.PropheseeSource.PropheseeSource, slices.PropheseeSlice.PropheseeSlice}
+use Rattle.c_structs.specs.{Opening.sourceOf, Reading.valueOf, Reading.countOf, Records.recordsIn}
 
 -- an acceptance tells the count
 abbrev pub slicedOf : Told → PropheseeSlice

@@ -6,21 +6,13 @@ use Prim.Native.Nat.{ℕ}
 use lib.Dec.{eqb}
 use lib.IntN.{ℤ, pos}
 use lib.ListN.{length, drop}
-use Rattle.evt_types.specs.declared.Encoding.{Encoding}
-use Rattle.evt_types.specs.declared.Encoding.the-variants.{Evt2, Evt3}
-use Rattle.evt_types.specs.declared.Sent.{Sent}
-use Rattle.evt_types.specs.declared.Sent.the-variants.{Nothing, Value}
-use Rattle.evt_types.specs.Outcome.{Outcome}
-use Rattle.evt_types.specs.Told.{Told}
+use Rattle.evt_types.specs.declared.{Encoding.Encoding, Encoding.the-variants.Evt2, Encoding.the-variants.Evt3, Sent.Sent, Sent.the-variants.Nothing}
+use Rattle.evt_types.specs.{declared.Sent.the-variants.Value, Outcome.Outcome, Told.Told}
 use Rattle.write_buffer.specs.declared.EncoderState.{EncoderState}
-use Rattle.write_rules.specs.declared.LastTime.{LastTime}
-use Rattle.write_rules.specs.declared.LastTime.the-variants.{Never, At}
-use Rattle.write_rules.specs.declared.RawEventSink.{RawEventSink}
+use Rattle.write_rules.specs.declared.{LastTime.LastTime, LastTime.the-variants.Never, LastTime.the-variants.At, RawEventSink.RawEventSink}
 use Rattle.write_append.specs.Append.{AppendedBytes, appendOutcome, appendVerdict, handedOver, sinkAfter}
-use Rattle.c_structs.specs.declared.writer.PropheseeSink.{PropheseeSink}
-use Rattle.c_structs.specs.declared.writer.PropheseeAppended.{PropheseeAppended}
-use Rattle.c_structs.specs.Options.{flag}
-use Rattle.c_structs.specs.Reading.{valueOf, countOf}
+use Rattle.c_structs.specs.declared.{writer.PropheseeAppended.PropheseeAppended, writer.PropheseeSink.PropheseeSink}
+use Rattle.c_structs.specs.{Options.flag, Reading.valueOf, Reading.countOf}
 
 -- ---- what the numbers mean
 

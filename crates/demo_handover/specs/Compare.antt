@@ -5,9 +5,7 @@ use mathlib.Core.List.{List}
 use Prim.Native.Nat.{ℕ, _-_}
 use lib.ListN.{take, drop}
 use Rattle.demo_handover.specs.Given.{givenXs, givenYs, givenTs, givenPs}
-use Rattle.demo_handover.specs.declared.compare.Got.{Got}
-use Rattle.demo_handover.specs.declared.compare.Difference.{Difference}
-use Rattle.demo_handover.specs.declared.compare.Difference.the-variants.{Nothing}
+use Rattle.demo_handover.specs.declared.{compare.Difference.Difference, compare.Difference.the-variants.Nothing, compare.Got.Got}
 
 -- of two columns: r says whether they are equal
 abbrev pub Same : {A : Type 0} → Bool → (a b : List A) → Type 0

@@ -6,8 +6,7 @@ use lib.IntN.{ℤ, pos}
 use lib.ListN.{length}
 use lib.Signed.{ltZ}
 use Rattle.laws_stream.specs.Slice.{sift}
-use Rattle.evt_types.specs.declared.Encoding.{Encoding}
-use Rattle.evt_types.specs.declared.Encoding.the-variants.{Evt2, Evt3}
+use Rattle.evt_types.specs.declared.{Encoding.Encoding, Encoding.the-variants.Evt2, Encoding.the-variants.Evt3}
 
 unfoldable pub givenXs : List ℕ
 givenXs = 10 ∷ 10 ∷ 20 ∷ 21 ∷ 23 ∷ 31 ∷ 31 ∷ 3 ∷ 100 ∷ 103 ∷ 111 ∷ 112 ∷ 119 ∷ 119 ∷ 5 ∷ 2047 ∷ []

@@ -11,9 +11,8 @@ use lib.Dec.{T}
 use lib.ListN.{length, take, drop, getD, set, length-set, length-drop, drop-of-length-le}
 use lib.Seq.{drop-cons, ext-getD, getD-take, getD-drop, length-take-le, sets, sets-eq}
 use Rattle.laws_stream.specs.Slice.{onto, sift}
-use Rattle.demo_handover.specs.Compare.{Same, Agree, Matches, Judges}
-use Rattle.demo_handover.specs.declared.compare.Got.{Got}
-use Rattle.demo_handover.specs.declared.compare.Difference.{Difference}
+use Rattle.demo_handover.specs.{Compare.Same, Compare.Agree, Compare.Matches, Compare.Judges, declared.compare.Got.Got}
+use Rattle.demo_handover.specs.{declared.compare.Difference.Difference}
 use Rattle.demo_handover.specs.declared.compare.Difference.the-variants.{Nothing, Refusal, Count, Column}
 
 -- ---- counting those that are kept: n of the first i

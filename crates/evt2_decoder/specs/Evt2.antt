@@ -5,14 +5,10 @@ use Prim.Native.Nat.{ℕ, _+_, _-_, _*_, _^_, _≤_, _<_}
 use native.Mathlib.Omega.{arith}
 use borrow.Author.Tests.{eq-eqb, ne-eqb, lt-ltb, le-ltb, ltb-true}
 use lib.Dec.{eqb, ltb}
-use Rattle.laws_stream.specs.Loop.{loopsAfter, timeAfter}
-use Rattle.laws_stream.specs.Machine.{Machine}
+use Rattle.laws_stream.specs.{Loop.loopsAfter, Loop.timeAfter, Machine.Machine}
 use Rattle.evt2_decoder.specs.declared.Evt2Decoder.{Evt2Decoder}
-use Rattle.evt_types.specs.declared.vector.Vector.{Vector}
-use Rattle.evt_types.specs.Clock.{either}
-use Rattle.evt_types.specs.Event.{Event, eventsOf, noEvents}
-use Rattle.evt_types.specs.Clock.{clockInRange}
-use Rattle.evt_types.specs.Layout.{type2, timeLow2, x2, y2, timeHigh2, grain2}
+use Rattle.evt_types.specs.{declared.vector.Vector.Vector, Clock.either, Event.Event, Event.eventsOf, Event.noEvents, Clock.clockInRange}
+use Rattle.evt_types.specs.{Layout.type2, Layout.timeLow2, Layout.x2, Layout.y2, Layout.timeHigh2, Layout.grain2}
 
 abbrev pub fresh2 : Evt2Decoder
 fresh2 = record { initialised = false; «time_high» = 0; time = 0; «high_loops» = 0 }

@@ -4,11 +4,10 @@ use mathlib.Core.Bool.{true}
 use Prim.Native.Nat.{ℕ, suc, _+_, _-_, _*_, _/_, _%_, _^_, _≤_, _<_}
 use native.Mathlib.Omega.{arith}
 use Rattle.laws_stream.specs.Loop.{never-twice}
-use Rattle.evt2_decoder.specs.declared.Evt2Decoder.{Evt2Decoder}
+use Rattle.evt2_decoder.specs.{declared.Evt2Decoder.Evt2Decoder, Evt2.period2, Evt2.threshold2, Evt2.step2, Evt2.inRange2, Evt2.time-word}
+use Rattle.evt2_decoder.specs.{Range.regular-range2, Range.below2}
 use Rattle.evt_types.specs.Layout.{type2, timeHigh2, grain2, timeWord2, time-type2, time-high2}
 use Rattle.evt_types.specs.Tracking.{ticking-tracks}
-use Rattle.evt2_decoder.specs.Evt2.{period2, threshold2, step2, inRange2, time-word}
-use Rattle.evt2_decoder.specs.Range.{regular-range2, below2}
 
 -- a started decoder reads the time word of a coarse time t, from its own up to the period less the threshold later, as t
 pub tracks2 : (d : Evt2Decoder) (t : ℕ) → inRange2 d ≡ true → d .initialised ≡ true → t % grain2 ≡ 0

@@ -7,13 +7,11 @@ use Prim.Native.Nat.{ℕ, suc, _+_, _*_, _^_, _≤_, _<_}
 use native.Mathlib.Omega.{arith}
 use borrow.Author.Tests.{eqb-true}
 use lib.ListN.{length}
-use Rattle.laws_stream.specs.Machine.{and-both, run, run-keeps}
-use Rattle.laws_stream.specs.Loop.{loops-one, charge, charge-one, charge-fresh, charge-run}
-use Rattle.laws_stream.specs.Words.{wordsOf, length-words}
+use Rattle.laws_stream.specs.{Machine.and-both, Machine.run, Machine.run-keeps, Loop.loops-one, Loop.charge, Loop.charge-one, Loop.charge-fresh}
+use Rattle.laws_stream.specs.{Loop.charge-run, Words.wordsOf, Words.length-words}
 use Rattle.evt2_decoder.specs.declared.Evt2Decoder.{Evt2Decoder}
-use Rattle.evt_types.specs.Clock.{Ticking, ticking-word, ticking-range, range-ticking}
-use Rattle.evt_types.specs.Event.{Narrow}
-use Rattle.evt_types.specs.Layout.{type2, timeHigh2, grain2, wordSize2}
+use Rattle.evt_types.specs.{Clock.Ticking, Clock.ticking-word, Clock.ticking-range, Clock.range-ticking, Event.Narrow, Layout.type2, Layout.timeHigh2}
+use Rattle.evt_types.specs.{Layout.grain2, Layout.wordSize2}
 use Rattle.evt2_decoder.specs.Evt2 as Evt2
 use Rattle.evt2_decoder.specs.Evt2.{fresh2, period2, threshold2, step2, vector2, reader2, inRange2, Sane2}
 

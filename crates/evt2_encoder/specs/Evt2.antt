@@ -4,13 +4,9 @@ use mathlib.Core.Bool.{Bool, true, false}
 use mathlib.Core.List.{List, [], _∷_, _++_}
 use Prim.Native.Nat.{ℕ, _/_, _%_, _^_, _<_}
 use native.Mathlib.Omega.{arith}
-use Rattle.laws_stream.specs.Machine.{Machine, Note, All, words, notes}
-use Rattle.laws_stream.specs.Words.{Fits}
-use Rattle.evt_types.specs.Event.{Event}
-use Rattle.evt_types.specs.Layout.{wordSize2, grain2, eventWord2, timeWord2}
-use Rattle.evt_types.specs.declared.Sent.the-variants.{Value}
-use Rattle.write_buffer.specs.declared.EncoderState.{EncoderState}
-use Rattle.write_buffer.specs.Sent.{sentIs, carries, due}
+use Rattle.laws_stream.specs.{Machine.Machine, Machine.Note, Machine.All, Machine.words, Machine.notes, Words.Fits}
+use Rattle.evt_types.specs.{Event.Event, Layout.wordSize2, Layout.grain2, Layout.eventWord2, Layout.timeWord2, declared.Sent.the-variants.Value}
+use Rattle.write_buffer.specs.{declared.EncoderState.EncoderState, Sent.sentIs, Sent.carries, Sent.due}
 
 abbrev pub highWord2 : (t : ℕ) → ℕ
 highWord2 t = timeWord2 (t / grain2 % 2 ^ 28)

@@ -9,15 +9,10 @@ use lib.Dec.{eqb}
 use lib.IntN.{ℤ, pos}
 use lib.ListN.{length, getD}
 use lib.Seq.{sets}
-use Rattle.laws_stream.specs.Machine.{run, words}
-use Rattle.laws_stream.specs.Columns.{sets-append}
-use Rattle.laws_stream.specs.Words.{stream, bytes}
-use Rattle.evt_types.specs.Event.{Event}
-use Rattle.evt_types.specs.Layout.{wordSize2, grain2}
-use Rattle.write_buffer.specs.declared.EncoderState.{EncoderState}
-use Rattle.write_buffer.specs.declared.Put.{Put}
+use Rattle.laws_stream.specs.{Machine.run, Machine.words, Columns.sets-append, Words.stream, Words.bytes}
+use Rattle.evt_types.specs.{Event.Event, Layout.wordSize2, Layout.grain2, Num.natural}
+use Rattle.write_buffer.specs.declared.{EncoderState.EncoderState, Put.Put}
 use Rattle.write_buffer.specs.Columns.{event, Sized, Whole, eventsIn, eventsPast, eventOf, events-at, events-end}
-use Rattle.evt_types.specs.Num.{natural}
 use Rattle.write_buffer.specs.Sent.{carries, due, stateAt, sentNumber, number-is}
 use Rattle.evt2_encoder.specs.Evt2.{highWord2, wordOf2, highSent2, encode2, stateOf2, encoded2, writer2}
 use Rattle.write_buffer.specs.Storing.{Roomy, sets-over, piece, bytesFrom, Going, going-start, going-iteration, going-room, going-end}

@@ -4,15 +4,10 @@ use mathlib.Core.Bool.{Bool, true, false, cond, not, _&&_}
 use Prim.Native.Nat.{ℕ, _+_, _*_, _^_, _<_, min}
 use borrow.Author.Tests.{eq-eqb, ne-eqb}
 use lib.Dec.{eqb, leb}
-use Rattle.laws_stream.specs.Loop.{loopsAfter, timeAfter}
-use Rattle.laws_stream.specs.Machine.{Machine}
-use Rattle.evt3_decoder.specs.declared.Decoder.{Decoder}
-use Rattle.evt3_decoder.specs.declared.WideDecoder.{WideDecoder}
-use Rattle.evt_types.specs.declared.vector.Vector.{Vector}
-use Rattle.evt_types.specs.Clock.{either}
-use Rattle.evt_types.specs.Event.{Event, eventsOf, noEvents}
-use Rattle.evt_types.specs.Clock.{clockInRange}
-use Rattle.evt_types.specs.Layout.{type3, y3, x3, polarity3, mask12, mask8, time3, grain3}
+use Rattle.laws_stream.specs.{Loop.loopsAfter, Loop.timeAfter, Machine.Machine}
+use Rattle.evt3_decoder.specs.declared.{Decoder.Decoder, WideDecoder.WideDecoder}
+use Rattle.evt_types.specs.{declared.vector.Vector.Vector, Clock.either, Event.Event, Event.eventsOf, Event.noEvents, Clock.clockInRange}
+use Rattle.evt_types.specs.{Layout.type3, Layout.y3, Layout.x3, Layout.polarity3, Layout.mask12, Layout.mask8, Layout.time3, Layout.grain3}
 
 abbrev pub fresh3 : Decoder
 fresh3 = record { initialised = false; «time_base» = 0; time = 0; y = 0; «base_x» = 0; polarity = false; «high_loops» = 0 }

@@ -4,11 +4,9 @@ use mathlib.Core.Bool.{Bool, true, false}
 use Prim.Native.Nat.{ℕ, suc, _+_, _-_, _*_, _/_, _%_, _≤_, _<_}
 use native.Mathlib.Omega.{arith}
 use Rattle.laws_stream.specs.Loop.{never-twice}
-use Rattle.evt3_decoder.specs.declared.Decoder.{Decoder}
-use Rattle.evt_types.specs.Layout.{type3, time3, grain3, word3, word-type3, word-time3}
-use Rattle.evt_types.specs.Tracking.{ticking-tracks}
-use Rattle.evt3_decoder.specs.Evt3.{period3, threshold3, step3, inRange3, started-word, first-word}
-use Rattle.evt3_decoder.specs.Range.{regular-range3, below3}
+use Rattle.evt3_decoder.specs.{declared.Decoder.Decoder, Evt3.period3, Evt3.threshold3, Evt3.step3, Evt3.inRange3, Evt3.started-word}
+use Rattle.evt3_decoder.specs.{Evt3.first-word, Range.regular-range3, Range.below3}
+use Rattle.evt_types.specs.{Layout.type3, Layout.time3, Layout.grain3, Layout.word3, Layout.word-type3, Layout.word-time3, Tracking.ticking-tracks}
 
 -- a started decoder reads the time word of a coarse time t, from its own up to the period less the threshold later, as t
 pub tracks3 : (d : Decoder) (t : ℕ) → inRange3 d ≡ true → d .initialised ≡ true → t % grain3 ≡ 0

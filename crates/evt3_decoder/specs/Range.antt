@@ -7,13 +7,11 @@ use Prim.Native.Nat.{ℕ, suc, _+_, _*_, _/_, _%_, _^_, _≤_, _<_}
 use native.Mathlib.Omega.{arith}
 use borrow.Author.Tests.{le-leb, leb-true, eqb-true}
 use lib.ListN.{length}
-use Rattle.laws_stream.specs.Machine.{and-both, run, run-keeps}
-use Rattle.laws_stream.specs.Loop.{loops-one, charge, charge-one, charge-le, charge-fresh, charge-run}
-use Rattle.laws_stream.specs.Words.{wordsOf, length-words}
+use Rattle.laws_stream.specs.{Machine.and-both, Machine.run, Machine.run-keeps, Loop.loops-one, Loop.charge, Loop.charge-one, Loop.charge-le}
+use Rattle.laws_stream.specs.{Loop.charge-fresh, Loop.charge-run, Words.wordsOf, Words.length-words}
 use Rattle.evt3_decoder.specs.declared.Decoder.{Decoder}
-use Rattle.evt_types.specs.Clock.{Ticking, ticking-word, ticking-range, range-ticking}
-use Rattle.evt_types.specs.Event.{Narrow}
-use Rattle.evt_types.specs.Layout.{type3, time3, grain3, wordSize3}
+use Rattle.evt_types.specs.{Clock.Ticking, Clock.ticking-word, Clock.ticking-range, Clock.range-ticking, Event.Narrow, Layout.type3, Layout.time3}
+use Rattle.evt_types.specs.{Layout.grain3, Layout.wordSize3}
 use Rattle.evt3_decoder.specs.Evt3 as Evt3
 use Rattle.evt3_decoder.specs.Evt3.{fresh3, period3, threshold3, step3, vector3, reader3, inRange3, isZero, Sane3, Slim, widened, number}
 

@@ -4,15 +4,9 @@ use mathlib.Core.List.{List, [], _∷_, _++_}
 use Prim.Native.Nat.{ℕ, zero, suc, _+_, _-_, _/_, _%_, _^_}
 use lib.Dec.{ltb}
 use lib.ListN.{length}
-use Rattle.laws_stream.specs.Machine.{Machine, Note}
-use Rattle.laws_stream.specs.Mask.{mask}
-use Rattle.evt_types.specs.Event.{Event}
-use Rattle.evt_types.specs.Layout.{grain3, word3, columnWord3}
-use Rattle.evt_types.specs.declared.Sent.{Sent}
-use Rattle.evt_types.specs.declared.Sent.the-variants.{Value}
-use Rattle.write_buffer.specs.declared.EncoderState.{EncoderState}
-use Rattle.write_buffer.specs.Columns.{event}
-use Rattle.write_buffer.specs.Sent.{sentIs, quiet, carries, due}
+use Rattle.laws_stream.specs.{Machine.Machine, Machine.Note, Mask.mask}
+use Rattle.evt_types.specs.{Event.Event, Layout.grain3, Layout.word3, Layout.columnWord3, declared.Sent.Sent, declared.Sent.the-variants.Value}
+use Rattle.write_buffer.specs.{declared.EncoderState.EncoderState, Columns.event, Sent.sentIs, Sent.quiet, Sent.carries, Sent.due}
 use Rattle.evt3_run_rules.specs.Runs.{Run, spread, firstX, lastX}
 
 -- ---- time and row

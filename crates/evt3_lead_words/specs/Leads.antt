@@ -8,14 +8,9 @@ use native.Mathlib.Nat.{add-zero}
 use lib.Dec.{eqb}
 use lib.ListN.{length, length-append}
 use lib.Seq.{sets}
-use Rattle.laws_stream.specs.Machine.{words, words-append}
-use Rattle.laws_stream.specs.Columns.{sets-append}
-use Rattle.laws_stream.specs.Words.{stream, bytes, stream-append}
-use Rattle.evt_types.specs.Layout.{wordSize3, grain3}
-use Rattle.evt_types.specs.declared.Sent.{Sent}
-use Rattle.write_buffer.specs.declared.EncoderState.{EncoderState}
-use Rattle.write_buffer.specs.Sent.{due, sentNumber, number-is}
-use Rattle.write_buffer.specs.Storing.{sets-over}
+use Rattle.laws_stream.specs.{Machine.words, Machine.words-append, Columns.sets-append, Words.stream, Words.bytes, Words.stream-append}
+use Rattle.evt_types.specs.{Layout.wordSize3, Layout.grain3, declared.Sent.Sent}
+use Rattle.write_buffer.specs.{declared.EncoderState.EncoderState, Sent.due, Sent.sentNumber, Sent.number-is, Storing.sets-over}
 use Rattle.evt3_lead_words.specs.Evt3.{highWord3, lowWord3, rowWord3, lowKept, highSent3, lowSent3, rowSent3, leads3}
 
 abbrev pub dueBytes : (sent : Bool) → ℕ → List ℕ

@@ -10,8 +10,7 @@ use lib.Dec.{eqb, ltb}
 use lib.IntN.{ℤ}
 use lib.ListN.{length, getD}
 use Rattle.laws_stream.specs.Machine.{and-both}
-use Rattle.write_buffer.specs.Columns.{Sized}
-use Rattle.write_buffer.specs.Every.{everyFrom, everyFrom-some, everyFrom-and, everyFrom-same}
+use Rattle.write_buffer.specs.{Columns.Sized, Every.everyFrom, Every.everyFrom-some, Every.everyFrom-and, Every.everyFrom-same}
 use Rattle.evt3_run_rules.specs.Marks.{timeAt, goOn, joinsNext, stopAt, Along, goes-on}
 
 -- a row or a polarity

@@ -12,11 +12,9 @@ use lib.ListN.{length, getD}
 use lib.Pow.{shr-shr}
 use borrow.Author.Tests.{lt-ltb, le-ltb, ltb-true, ltb-false, eq-eqb, ne-eqb}
 use Rattle.laws_stream.specs.Mask.{trailing-lt}
-use Rattle.evt_types.specs.Event.{Event}
-use Rattle.evt3_run_rules.specs.declared.Found.{Found}
+use Rattle.evt_types.specs.{Event.Event, Num.natural}
+use Rattle.evt3_run_rules.specs.{declared.Found.Found, Runs.goes, Runs.goes-true, Runs.follow}
 use Rattle.write_buffer.specs.Columns.{Sized, eventOf, eventsPast, events-at, events-end}
-use Rattle.evt_types.specs.Num.{natural}
-use Rattle.evt3_run_rules.specs.Runs.{goes, goes-true, follow}
 
 -- the second event goes on the run of the first
 abbrev pub joins : Event → Event → Bool

@@ -8,13 +8,9 @@ use lib.Bits.{bitOr, bitXor, xor-self, or-add-and, and-le-l, and-le-r}
 use lib.Dec.{eqb, ltb}
 use borrow.Author.Tests.{eq-eqb, eqb-true, ltb-true}
 use lib.ListN.{length, getD, take, drop}
-use Rattle.laws_stream.specs.Machine.{All, and-both}
-use Rattle.laws_stream.specs.Mask.{Inc}
-use Rattle.evt_types.specs.Event.{Event}
-use Rattle.evt_types.specs.Columns.{colX}
-use Rattle.write_buffer.specs.Columns.{event}
-use Rattle.write_buffer.specs.Emits.{eventsOf}
-use Rattle.write_buffer.specs.Every.{xor-equal}
+use Rattle.laws_stream.specs.{Machine.All, Machine.and-both, Mask.Inc}
+use Rattle.evt_types.specs.{Event.Event, Columns.colX}
+use Rattle.write_buffer.specs.{Columns.event, Emits.eventsOf, Every.xor-equal}
 
 pub record Run : Type 0 where
   pub t : ℕ

@@ -8,9 +8,7 @@ use lib.ListN.{length, getD}
 use lib.Seq.{sets}
 use lib.Dec.{eqb}
 use borrow.Author.Tests.{eqb-true, eqb-false}
-use Rattle.laws_stream.specs.Part.{between, between-at, between-end}
-use Rattle.laws_stream.specs.Columns.{sets-append}
-use Rattle.laws_stream.specs.Words.{bytes}
+use Rattle.laws_stream.specs.{Part.between, Part.between-at, Part.between-end, Columns.sets-append, Words.bytes}
 use Rattle.evt_types.specs.Layout.{wordSize3}
 use Rattle.write_buffer.specs.Storing.{Roomy, sets-over, Storing, storing-start, storing-iteration, storing-room, storing-end}
 use Rattle.evt3_lead_words.specs.Evt3.{singleWord3}

@@ -10,9 +10,8 @@ use lib.ListN.{length, getD}
 use lib.Pow.{pow-add}
 use lib.Seq.{sets}
 use borrow.Author.Tests.{ltb-true, ltb-false}
-use Rattle.laws_stream.specs.Part.{between, between-at, between-end}
-use Rattle.laws_stream.specs.Mask.{Inc, mask, mask-lt}
-use Rattle.laws_stream.specs.Words.{stream, bytes, stream-append}
+use Rattle.laws_stream.specs.{Part.between, Part.between-at, Part.between-end, Mask.Inc, Mask.mask, Mask.mask-lt, Words.stream, Words.bytes}
+use Rattle.laws_stream.specs.{Words.stream-append}
 use Rattle.evt_types.specs.Layout.{wordSize3, word3}
 use Rattle.evt3_run_words.specs.declared.MaskBits.{MaskBits}
 use Rattle.evt3_run_rules.specs.Runs.{Rising, firstX, lastX}

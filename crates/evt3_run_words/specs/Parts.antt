@@ -8,12 +8,10 @@ use native.Mathlib.Nat.{add-zero}
 use lib.Dec.{ltb}
 use borrow.Author.Tests.{lt-ltb, le-ltb, ltb-true, ltb-false}
 use lib.ListN.{length, getD, length-append, length-map}
-use Rattle.laws_stream.specs.Machine.{words, words-append, and-both}
-use Rattle.laws_stream.specs.Part.{between, between-getD, length-between}
-use Rattle.laws_stream.specs.Words.{stream, bytes, stream-append, length-stream}
+use Rattle.laws_stream.specs.{Machine.words, Machine.words-append, Machine.and-both, Part.between, Part.between-getD, Part.length-between}
+use Rattle.laws_stream.specs.{Words.stream, Words.bytes, Words.stream-append, Words.length-stream}
 use Rattle.evt_types.specs.Layout.{wordSize3}
-use Rattle.write_buffer.specs.declared.EncoderState.{EncoderState}
-use Rattle.write_buffer.specs.Storing.{piece}
+use Rattle.write_buffer.specs.{declared.EncoderState.EncoderState, Storing.piece}
 use Rattle.evt3_run_rules.specs.Runs.{Run, firstX, lastX}
 use Rattle.evt3_lead_words.specs.Evt3.{leads3, singleWord3, baseWord3, maskWord3, nearby, beyond, maskCount}
 use Rattle.evt3_lead_words.specs.Evt3.{vectored, singles, masks, vectors, body3, encode3, writer3}

@@ -4,17 +4,13 @@ use mathlib.Core.List.{List}
 use Prim.Native.Nat.{ℕ}
 use lib.Dec.{ltb}
 use lib.ListN.{length, take}
-use Rattle.laws_stream.specs.Words.{value}
-use Rattle.laws_stream.specs.Stream.{decode, after}
-use Rattle.evt_types.specs.declared.vector.Vector.{Vector}
-use Rattle.evt_types.specs.Event.{Event, noEvents}
-use Rattle.evt_types.specs.declared.Encoding.{Encoding}
+use Rattle.laws_stream.specs.{Words.value, Stream.decode, Stream.after}
+use Rattle.evt_types.specs.{declared.Encoding.Encoding, declared.vector.Vector.Vector, Event.Event, Event.noEvents, Layout.wordSize2}
+use Rattle.evt_types.specs.{Layout.wordSize3}
 use Rattle.evt_types.specs.declared.Encoding.the-variants as E
-use Rattle.evt_codec.specs.declared.codec.Codec.{Codec}
-use Rattle.evt_codec.specs.declared.codec.Codec.the-variants.{Evt2, Evt3}
+use Rattle.evt_codec.specs.declared.{codec.Codec.Codec, codec.Codec.the-variants.Evt2, codec.Codec.the-variants.Evt3}
 use Rattle.evt2_decoder.specs.Evt2.{fresh2, inRange2, step2, vector2, reader2}
 use Rattle.evt3_decoder.specs.Evt3.{fresh3, inRange3, step3, vector3, reader3}
-use Rattle.evt_types.specs.Layout.{wordSize2, wordSize3}
 
 abbrev pub freshC : Encoding → Codec
 freshC E.Evt2 = Evt2 fresh2

@@ -6,18 +6,12 @@ use Prim.Native.Nat.{ℕ, _≤_, _<_}
 use lib.ListN.{length, take}
 use borrow.Author.Tests.{lt-ltb, le-ltb}
 use Rattle.laws_stream.specs.Words.{value}
-use Rattle.evt_types.specs.declared.DecodeAnswer.{DecodeAnswer}
-use Rattle.evt_types.specs.declared.vector.Vector.{Vector}
-use Rattle.evt2_decoder.specs.declared.Evt2Decoder.{Evt2Decoder}
-use Rattle.evt3_decoder.specs.declared.Decoder.{Decoder}
-use Rattle.evt_codec.specs.declared.codec.Codec.{Codec}
-use Rattle.evt_codec.specs.declared.codec.CodecDecoded.{CodecDecoded}
-use Rattle.evt_codec.specs.declared.codec.Codec.the-variants.{Evt2, Evt3}
+use Rattle.evt_types.specs.{declared.DecodeAnswer.DecodeAnswer, declared.vector.Vector.Vector, Event.noEvents, Owed.Owed}
+use Rattle.evt2_decoder.specs.{declared.Evt2Decoder.Evt2Decoder, Evt2.step2, Evt2.vector2, Evt2.inRange2}
+use Rattle.evt3_decoder.specs.{declared.Decoder.Decoder, Evt3.step3, Evt3.vector3, Evt3.inRange3}
+use Rattle.evt_codec.specs.declared.{codec.Codec.Codec, codec.Codec.the-variants.Evt2, codec.Codec.the-variants.Evt3}
+use Rattle.evt_codec.specs.declared.{codec.CodecDecoded.CodecDecoded}
 use Rattle.evt_codec.specs.Codec.{inRangeC, wordSize, onWord, ofWord, stepC, vectorC}
-use Rattle.evt_types.specs.Event.{noEvents}
-use Rattle.evt_types.specs.Owed.{Owed}
-use Rattle.evt2_decoder.specs.Evt2.{step2, vector2, inRange2}
-use Rattle.evt3_decoder.specs.Evt3.{step3, vector3, inRange3}
 
 abbrev pub DecodedC : Codec → List ℕ → CodecDecoded → Type 0
 DecodedC c l r = Owed (inRangeC c) c (stepC c l) (vectorC c l) (r .next) (r .answer)

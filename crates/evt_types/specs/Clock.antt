@@ -6,8 +6,7 @@ use native.Mathlib.Omega.{arith}
 use native.Mathlib.Nat.{mul-lt-mul-of-pos-right, div-add-mod', mod-lt, mul-mod-left, add-mul, mul-assoc, le-div-iff-mul-le, div-lt-iff-lt-mul}
 use borrow.Author.Tests.{le-leb, lt-ltb, eq-eqb, leb-true, ltb-true, eqb-true}
 use lib.Dec.{leb, ltb, eqb}
-use Rattle.laws_stream.specs.Loop.{loopsAfter, timeAfter, in-period}
-use Rattle.laws_stream.specs.Machine.{and-both}
+use Rattle.laws_stream.specs.{Loop.loopsAfter, Loop.timeAfter, Loop.in-period, Machine.and-both}
 use Rattle.evt_types.specs.declared.clock.Clock.{Clock}
 
 abbrev pub clockAfter : (period threshold old loops raw : ℕ) → Clock
@@ -46,13 +45,21 @@ module _ (k grain : ℕ) (pos : 0 < grain) (more : 0 < k * grain) where
       record { low = p .0; high = p .1; whole = rw e (mul-mod-left (q + n * k) grain); past = omega arith; near = omega arith }
 
   -- and it is in range where the loops are few
-  pub ticking-range : (most coarse time loops : ℕ) → Ticking k grain coarse time loops → loops ≤ most → clockInRange (k * grain) grain most coarse time loops ≡ true
+  pub ticking-range : (most coarse time loops : ℕ) → Ticking k grain coarse time loops → loops ≤ most
+      → clockInRange (k * grain) grain most coarse time loops ≡ true
   ticking-range most coarse time loops t h =
       let lo : loops ≤ coarse / (k * grain) = le-div-iff-mul-le more .1 (t .low) in
       let hi : coarse / (k * grain) < suc loops = div-lt-iff-lt-mul more .1 (t .high) in
-      rw (le-leb loops most h, eq-eqb (coarse / (k * grain)) loops (omega arith), eq-eqb (coarse % grain) 0 (t .whole), le-leb coarse time (t .past), lt-ltb (time - coarse) grain (omega (arith, t .near, t .past)))
+      rw (
+        le-leb loops most h,
+        eq-eqb (coarse / (k * grain)) loops (omega arith),
+        eq-eqb (coarse % grain) 0 (t .whole),
+        le-leb coarse time (t .past),
+        lt-ltb (time - coarse) grain (omega (arith, t .near, t .past)),
+      )
 
-  pub range-ticking : (most coarse time loops : ℕ) → clockInRange (k * grain) grain most coarse time loops ≡ true → Ticking k grain coarse time loops × (loops ≤ most)
+  pub range-ticking : (most coarse time loops : ℕ) → clockInRange (k * grain) grain most coarse time loops ≡ true
+      → Ticking k grain coarse time loops × (loops ≤ most)
   range-ticking most coarse time loops h =
       let a = and-both _ _ h in
       let b = and-both _ _ (a .1) in

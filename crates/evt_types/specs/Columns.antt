@@ -6,8 +6,7 @@ use native.Mathlib.Omega.{arith}
 use lib.ListN.{length, set, length-append}
 use lib.IntN.{ℤ, pos}
 use Rattle.laws_stream.specs.Columns.{written, Column, column-start, column-one, column-run, column-end}
-use Rattle.evt_types.specs.declared.vector.Vector.{Vector}
-use Rattle.evt_types.specs.Event.{Event}
+use Rattle.evt_types.specs.{declared.vector.Vector.Vector, Event.Event}
 
 abbrev pub colX : Event → ℕ
 colX e = e .x
@@ -48,7 +47,8 @@ pub record Wrote (es : List Event) (at : ℕ) (xs₀ ys₀ : List ℕ) (ts₀ : 
   pub is-p : ps ≡ written ps₀ at (map colP es)
 
 -- On the way: n rows are written, and with `left` written from n on the columns hold all of `es` from `at` on.
-pub record Going (es : List Event) (at : ℕ) (xs₀ ys₀ : List ℕ) (ts₀ : List ℤ) (ps₀ : List ℕ) (left : List Event) (n : ℕ) (xs ys : List ℕ) (ts : List ℤ) (ps : List ℕ) : Type 0 where
+pub record Going (es : List Event) (at : ℕ) (xs₀ ys₀ : List ℕ) (ts₀ : List ℤ) (ps₀ : List ℕ) (left : List Event) (n : ℕ) (xs ys : List ℕ)
+    (ts : List ℤ) (ps : List ℕ) : Type 0 where
   pub count : n + length left ≡ at + length es
   pub in-x : Column colX es at xs₀ left n xs
   pub in-y : Column colY es at ys₀ left n ys

@@ -10,11 +10,8 @@ use lib.Dec.{eqb}
 use lib.IntN.{pos}
 use borrow.Author.Tests.{eqb-true, eqb-false}
 use Rattle.laws_stream.specs.Mask.{bits, bits-zero, low-bit}
-use Rattle.evt_types.specs.declared.RawEvent.{RawEvent}
-use Rattle.evt_types.specs.declared.vector.NextEvent.{NextEvent}
-use Rattle.evt_types.specs.declared.vector.NextEvent.the-variants.{Nothing, Event as First}
-use Rattle.evt_types.specs.declared.vector.Vector.{Vector}
-use Rattle.evt_types.specs.declared.vector.EventVector.{EventVector}
+use Rattle.evt_types.specs.declared.{RawEvent.RawEvent, vector.EventVector.EventVector, vector.NextEvent.NextEvent}
+use Rattle.evt_types.specs.declared.{vector.NextEvent.the-variants.Nothing, vector.NextEvent.the-variants.Event as First, vector.Vector.Vector}
 
 -- column x, row y, time t in microseconds, polarity p (0 or 1)
 pub record Event : Type 0 where

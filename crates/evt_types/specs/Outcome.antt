@@ -5,8 +5,7 @@ use mathlib.Core.Bool.{Bool, true, false, cond}
 use mathlib.Core.List.{List, []}
 use Prim.Native.Nat.{ℕ}
 use native.Mathlib.Omega.{arith}
-use Rattle.evt_types.specs.declared.Refusal.{Refusal}
-use Rattle.evt_types.specs.Told.{Told, told, accepted}
+use Rattle.evt_types.specs.{declared.Refusal.Refusal, Told.Told, Told.told, Told.accepted}
 
 pub data Outcome (A : Type 0) : Type 0 where
   refuse : Refusal → Outcome A

@@ -3,13 +3,9 @@ use mathlib.Core.Path.{_≡_, refl}
 use mathlib.Core.Bool.{Bool, true, false, cond}
 use mathlib.Core.List.{[], _∷_}
 use lib.IntN.{pos}
-use Rattle.evt_types.specs.declared.DecodeAnswer.{DecodeAnswer}
-use Rattle.evt_types.specs.declared.DecodeAnswer.the-variants.{Events, Refused}
-use Rattle.evt_types.specs.declared.Refusal.the-variants.{StateOutOfRange}
-use Rattle.evt_types.specs.declared.vector.Vector.{Vector}
-use Rattle.evt_types.specs.declared.vector.EventVector.{EventVector}
-use Rattle.evt_types.specs.Told.{Told, told, refused}
-use Rattle.evt_types.specs.Event.{narrowed}
+use Rattle.evt_types.specs.declared.{DecodeAnswer.DecodeAnswer, DecodeAnswer.the-variants.Events, DecodeAnswer.the-variants.Refused}
+use Rattle.evt_types.specs.declared.{Refusal.the-variants.StateOutOfRange, vector.EventVector.EventVector, vector.Vector.Vector}
+use Rattle.evt_types.specs.{Told.Told, Told.told, Told.refused, Event.narrowed}
 
 -- an acceptance tells column, row, time, polarity and mask
 abbrev pub toldEvents : EventVector → Told

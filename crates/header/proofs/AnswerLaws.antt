@@ -7,14 +7,11 @@ use native.Mathlib.Omega.{arith}
 use lib.ListN.{length, take}
 use lib.Dec.{eqb}
 use borrow.Author.Tests.{lt-ltb, le-ltb}
-use Rattle.evt_types.specs.declared.SensorSize.{SensorSize}
-use Rattle.evt_types.specs.declared.Encoding.{Encoding}
-use Rattle.evt_types.specs.declared.Encoding.the-variants.{Evt2, Evt3}
-use Rattle.evt_types.specs.declared.Refusal.the-variants.{InvalidSensorSize, UnknownEncoding, HeaderNotAscii, TooLong}
-use Rattle.header.specs.declared.Scan.{Scan}
-use Rattle.header.specs.declared.Named.the-variants.{As, Nothing}
-use Rattle.header.specs.declared.HeaderAnswer.{HeaderAnswer}
-use Rattle.header.specs.declared.HeaderAnswer.the-variants.{Refused}
+use Rattle.evt_types.specs.declared.{Encoding.Encoding, Encoding.the-variants.Evt2, Encoding.the-variants.Evt3}
+use Rattle.evt_types.specs.declared.{Refusal.the-variants.InvalidSensorSize, Refusal.the-variants.UnknownEncoding}
+use Rattle.evt_types.specs.declared.{Refusal.the-variants.HeaderNotAscii, Refusal.the-variants.TooLong, SensorSize.SensorSize}
+use Rattle.header.specs.declared.{HeaderAnswer.HeaderAnswer, HeaderAnswer.the-variants.Refused, Named.the-variants.As}
+use Rattle.header.specs.declared.{Named.the-variants.Nothing, Scan.Scan}
 use Rattle.header_text.specs.Text.{notAscii, any, begins, same}
 use Rattle.header.specs.Lines.{headerLines, headerBytes, bodyStart, keyOf}
 use Rattle.header.specs.Header.{geometryName, formatName, evtName, evt2, evt3, two, three, Said, readLine, readAll, nothing, saidBy, encodingOf}

@@ -9,8 +9,7 @@ use lib.Seq.{drop-drop}
 use lib.Dec.{eqb}
 use borrow.Author.Tests.{lt-ltb, le-ltb, ne-eqb}
 use Rattle.evt_types.specs.declared.SensorSize.{SensorSize}
-use Rattle.header.specs.declared.Seen.{Seen}
-use Rattle.header.specs.declared.Scan.{Scan}
+use Rattle.header.specs.declared.{Scan.Scan, Seen.Seen}
 use Rattle.header_text.specs.Text.{isBlank, isByte, upTo, from, any, trimOf, same}
 use Rattle.header_text.specs.Size.{geometryOf}
 use Rattle.header.specs.Lines.{joined, linesOf, startsPercent, leading, headerLines, joinedLines, headerBytes, bodyStart, bodyOf, keyOf, valueOf}

@@ -5,20 +5,15 @@ use mathlib.Core.List.{List, [], _∷_}
 use mathlib.Core.Bool.{Bool, false, cond, _||_}
 use lib.ListN.{length}
 use lib.Dec.{ltb, eqb}
-use Rattle.evt_types.specs.declared.SensorSize.{SensorSize}
-use Rattle.evt_types.specs.declared.SensorSize.the-variants.{Unknown, Known}
-use Rattle.evt_types.specs.declared.Encoding.the-variants.{Evt2, Evt3}
-use Rattle.evt_types.specs.declared.Refusal.the-variants.{InvalidSensorSize, UnknownEncoding, HeaderNotAscii, TooLong}
-use Rattle.evt_types.specs.Num.{mostBytes, encodingNumber}
-use Rattle.evt_types.specs.Outcome.{Outcome, refuse, give, onOutcome, verdict}
-use Rattle.evt_types.specs.Told.{Told, accepted, told}
+use Rattle.evt_types.specs.declared.{Encoding.the-variants.Evt2, Encoding.the-variants.Evt3, Refusal.the-variants.InvalidSensorSize}
+use Rattle.evt_types.specs.declared.{Refusal.the-variants.UnknownEncoding, Refusal.the-variants.HeaderNotAscii, Refusal.the-variants.TooLong}
+use Rattle.evt_types.specs.declared.{SensorSize.SensorSize, SensorSize.the-variants.Unknown, SensorSize.the-variants.Known}
+use Rattle.evt_types.specs.{Num.mostBytes, Num.encodingNumber, Outcome.Outcome, Outcome.refuse, Outcome.give, Outcome.onOutcome, Outcome.verdict}
+use Rattle.evt_types.specs.{Told.Told, Told.accepted, Told.told}
 use Rattle.header.specs.declared.Header as header
-use Rattle.header.specs.declared.Named.{Named}
-use Rattle.header.specs.declared.Named.the-variants.{As, Nothing}
-use Rattle.header.specs.declared.HeaderAnswer.{HeaderAnswer}
-use Rattle.header.specs.declared.HeaderAnswer.the-variants.{Header, Refused}
-use Rattle.header_text.specs.Text.{notAscii, any, begins, same}
-use Rattle.header_text.specs.Size.{geometryOf}
+use Rattle.header.specs.declared.{HeaderAnswer.HeaderAnswer, HeaderAnswer.the-variants.Header, HeaderAnswer.the-variants.Refused, Named.Named}
+use Rattle.header.specs.declared.{Named.the-variants.As, Named.the-variants.Nothing}
+use Rattle.header_text.specs.{Text.notAscii, Text.any, Text.begins, Text.same, Size.geometryOf}
 use Rattle.header.specs.Lines.{headerLines, headerBytes, bodyStart, keyOf, valueOf}
 
 -- ---- the keys, and what their values begin with

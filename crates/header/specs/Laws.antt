@@ -9,19 +9,13 @@ use lib.ListN.{length, take, getD, length-take}
 use lib.Seq.{take-at}
 use lib.Dec.{ltb, eqb}
 use borrow.Author.Tests.{ltb-false}
-use Rattle.evt_types.specs.declared.SensorSize.{SensorSize}
-use Rattle.evt_types.specs.declared.SensorSize.the-variants.{Unknown, Known}
-use Rattle.evt_types.specs.declared.Encoding.{Encoding}
-use Rattle.evt_types.specs.declared.Encoding.the-variants.{Evt2, Evt3}
-use Rattle.evt_types.specs.declared.Refusal.the-variants.{UnknownEncoding}
+use Rattle.evt_types.specs.declared.{Encoding.Encoding, Encoding.the-variants.Evt2, Encoding.the-variants.Evt3, Refusal.the-variants.UnknownEncoding}
+use Rattle.evt_types.specs.declared.{SensorSize.SensorSize, SensorSize.the-variants.Unknown, SensorSize.the-variants.Known}
 use Rattle.evt_types.specs.Told.{Told, told, told-apart, told-numbered, naturals, accepted-naturals}
-use Rattle.header.specs.declared.Named.{Named}
-use Rattle.header.specs.declared.Named.the-variants.{As, Nothing}
+use Rattle.header.specs.declared.{HeaderAnswer.HeaderAnswer, HeaderAnswer.the-variants.Header, HeaderAnswer.the-variants.Refused, Named.Named}
+use Rattle.header.specs.declared.{Named.the-variants.As, Named.the-variants.Nothing}
 use Rattle.header.specs.declared.Header as header
-use Rattle.header.specs.declared.HeaderAnswer.{HeaderAnswer}
-use Rattle.header.specs.declared.HeaderAnswer.the-variants.{Header, Refused}
-use Rattle.header_text.specs.Cases.{by-bool}
-use Rattle.header_text.specs.Text.{notAscii, any}
+use Rattle.header_text.specs.{Cases.by-bool, Text.notAscii, Text.any}
 use Rattle.header.specs.Lines.{joined, linesOf, startsPercent, leading, headerLines, joinedLines, headerBytes, bodyStart}
 use Rattle.header.specs.Header.{saidBy, encodingOf, sizeThatHolds, hasZero, sizeValues, headerValues, toldHeader, withEncoding, headerOutcome}
 use Rattle.header.specs.Header.{answerBy, headerOf, headerVerdict}

@@ -4,14 +4,9 @@ use Prim.Native.Nat.{ℕ, suc}
 use mathlib.Core.List.{List, [], _∷_}
 use mathlib.Core.Bool.{cond, _||_}
 use lib.Dec.{eqb}
-use Rattle.evt_types.specs.declared.Encoding.the-variants.{Evt2, Evt3}
-use Rattle.evt_types.specs.declared.SensorSize.the-variants.{Unknown}
-use Rattle.header.specs.declared.Named.{Named}
-use Rattle.header.specs.declared.Named.the-variants.{As, Nothing}
-use Rattle.header.specs.declared.Seen.{Seen}
-use Rattle.header.specs.declared.Scan.{Scan}
-use Rattle.header_text.specs.Text.{begins, same}
-use Rattle.header_text.specs.Size.{geometryOf}
+use Rattle.evt_types.specs.declared.{Encoding.the-variants.Evt2, Encoding.the-variants.Evt3, SensorSize.the-variants.Unknown}
+use Rattle.header.specs.declared.{Named.Named, Named.the-variants.As, Named.the-variants.Nothing, Scan.Scan, Seen.Seen}
+use Rattle.header_text.specs.{Text.begins, Text.same, Size.geometryOf}
 use Rattle.header.specs.Lines.{headerLines, bodyStart, keyOf, valueOf}
 use Rattle.header.specs.Header.{Said, geometryName, formatName, evtName, evt2, evt3, two, three}
 

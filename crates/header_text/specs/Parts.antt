@@ -4,10 +4,9 @@ use mathlib.Core.List.{List}
 use mathlib.Core.Bool.{Bool}
 use lib.ListN.{take, drop}
 use Rattle.evt_types.specs.declared.SensorSize.{SensorSize}
-use Rattle.header_text.specs.declared.text.ByteClass.{ByteClass}
+use Rattle.header_text.specs.{declared.text.ByteClass.ByteClass, Text.isBlank, Text.notBlank, Text.notPercent, Text.notAscii, Text.isByte}
+use Rattle.header_text.specs.{Text.trimOf, Size.numberOf, Size.both}
 use Rattle.header_text.specs.declared.text.ByteClass.the-variants.{Blank, NotBlank, NotPercent, NotAscii, Byte}
-use Rattle.header_text.specs.Text.{isBlank, notBlank, notPercent, notAscii, isByte, trimOf}
-use Rattle.header_text.specs.Size.{numberOf, both}
 
 abbrev pub isIn : ByteClass → ℕ → Bool
 isIn Blank = isBlank

@@ -3,10 +3,8 @@ use Prim.Native.Nat.{ℕ, _+_, _*_, _-_, _^_}
 use mathlib.Core.List.{List, [], _∷_}
 use mathlib.Core.Bool.{Bool, true, cond, _&&_}
 use lib.Dec.{leb, ltb, eqb}
-use Rattle.evt_types.specs.declared.SensorSize.{SensorSize}
-use Rattle.evt_types.specs.declared.SensorSize.the-variants.{Unknown, Known}
-use Rattle.header_text.specs.declared.size.Number.{Number}
-use Rattle.header_text.specs.declared.size.Number.the-variants.{Invalid, Value}
+use Rattle.evt_types.specs.declared.{SensorSize.SensorSize, SensorSize.the-variants.Unknown, SensorSize.the-variants.Known}
+use Rattle.header_text.specs.declared.{size.Number.Number, size.Number.the-variants.Invalid, size.Number.the-variants.Value}
 use Rattle.header_text.specs.Text.{isByte, upTo, from, any, restOf, trimOf}
 
 unfoldable pub isDigit : ℕ → Bool

@@ -7,26 +7,17 @@ use lib.Dec.{ltb}
 use lib.IntN.{pos}
 use lib.ListN.{length, take, drop}
 use Rattle.laws_stream.specs.Order.{greatest}
-use Rattle.evt_types.specs.declared.SensorSize.{SensorSize}
-use Rattle.evt_types.specs.declared.SensorSize.the-variants.{Unknown, Known}
-use Rattle.evt_types.specs.Event.{Event}
-use Rattle.evt_types.specs.Num.{mostBytes}
-use Rattle.evt_types.specs.Outcome.{Outcome, onOutcome}
-use Rattle.evt_codec.specs.declared.codec.Codec.{Codec}
-use Rattle.evt_codec.specs.Codec.{freshC, codecAfter}
+use Rattle.evt_types.specs.declared.{SensorSize.SensorSize, SensorSize.the-variants.Unknown, SensorSize.the-variants.Known}
+use Rattle.evt_types.specs.{Event.Event, Num.mostBytes, Outcome.Outcome, Outcome.onOutcome}
+use Rattle.evt_codec.specs.{declared.codec.Codec.Codec, Codec.freshC, Codec.codecAfter}
 use Rattle.read_columns.specs.Inside.{clock}
 use Rattle.read_fill.specs.Decode.{Bounded, insideEvents}
 use Rattle.read_count.specs.Count.{countedAllOf}
 use Rattle.read_window.specs.declared.Window.{Window}
 use Rattle.read_rules.specs.Read.{widthOf, heightOf}
-use Rattle.index_build.specs.declared.Builder.{Builder}
-use Rattle.index_build.specs.declared.BuildStep.{BuildStep}
-use Rattle.index_build.specs.declared.Checkpoint.{Checkpoint}
-use Rattle.index_build.specs.declared.Opening.{Opening}
-use Rattle.index_build.specs.declared.Prepared.{Prepared}
-use Rattle.index_build.specs.declared.Prepared.the-variants.{Ready, Refused}
-use Rattle.index_build.specs.declared.RawSliceSource.{RawSliceSource}
-use Rattle.index_build.specs.Index.{Body, eventsOf, needOf}
+use Rattle.index_build.specs.declared.{BuildStep.BuildStep, Builder.Builder, Checkpoint.Checkpoint, Opening.Opening, Prepared.Prepared}
+use Rattle.index_build.specs.declared.{Prepared.the-variants.Ready, Prepared.the-variants.Refused, RawSliceSource.RawSliceSource}
+use Rattle.index_build.specs.Index.{Body, bodyKept, needOf}
 
 -- ---- one iteration
 
@@ -150,7 +141,7 @@ uncounted b width height = record {
 
 abbrev pub firstOf : Body → Builder
 firstOf b =
-    firstFor (uncounted b (widthOf (b .size) (eventsOf b)) (heightOf (b .size) (eventsOf b))) (needOf b) (spanWidth (b .size)) (spanHeight (b .size))
+    firstFor (uncounted b (widthOf (b .size) (bodyKept b)) (heightOf (b .size) (bodyKept b))) (needOf b) (spanWidth (b .size)) (spanHeight (b .size))
 
 abbrev pub preparedBy : Outcome Body → Prepared
 preparedBy = onOutcome Refused (λ b. Ready (firstOf b))

@@ -1,5 +1,5 @@
 -- What an index holds, and what opening answers, by document 01's table.
-use mathlib.Core.Path.{_≡_, refl, ap, _∙_}
+use mathlib.Core.Path.{_≡_, refl}
 use mathlib.Core.Bool.{Bool, false, cond}
 use mathlib.Core.List.{List, [], _∷_, _++_}
 use Prim.Native.Nat.{ℕ, zero, suc, _+_, _-_, _*_, _/_, _%_, max}
@@ -7,27 +7,19 @@ use lib.Dec.{ltb, eqb}
 use lib.IntN.{pos}
 use lib.ListN.{length, take, drop}
 use Rattle.laws_stream.specs.Order.{greatest}
-use Rattle.evt_types.specs.declared.Encoding.{Encoding}
-use Rattle.evt_types.specs.declared.Encoding.the-variants.{Evt2, Evt3}
-use Rattle.evt_types.specs.declared.Refusal.the-variants.{InvalidSensorSize, TooLong, InvalidSpacing, TooFewRecords}
-use Rattle.evt_types.specs.declared.SensorSize.{SensorSize}
+use Rattle.evt_types.specs.declared.{Encoding.Encoding, Encoding.the-variants.Evt2, Encoding.the-variants.Evt3}
+use Rattle.evt_types.specs.declared.{Refusal.the-variants.InvalidSensorSize, Refusal.the-variants.TooLong, Refusal.the-variants.InvalidSpacing}
+use Rattle.evt_types.specs.{declared.Refusal.the-variants.TooFewRecords, declared.SensorSize.SensorSize, Event.Event, Num.encodingNumber}
+use Rattle.evt_types.specs.{Num.mostBytes, Outcome.Outcome, Outcome.refuse, Outcome.give, Outcome.onOutcome, Outcome.verdict, Outcome.handedBy}
+use Rattle.evt_types.specs.{Told.Told, Told.told, Told.accepted}
 use Rattle.evt_codec.specs.Codec.{freshC, eventsFrom, codecAfter}
-use Rattle.evt_types.specs.Event.{Event}
-use Rattle.evt_types.specs.Num.{encodingNumber, mostBytes}
-use Rattle.evt_types.specs.Outcome.{Outcome, refuse, give, onOutcome, verdict, handedBy}
-use Rattle.evt_types.specs.Told.{Told, told, accepted}
 use Rattle.read_columns.specs.Inside.{clock}
-use Rattle.header.specs.declared.HeaderAnswer.{HeaderAnswer}
-use Rattle.header.specs.declared.HeaderAnswer.the-variants.{Header, Refused as NoHeader}
+use Rattle.header.specs.declared.{HeaderAnswer.HeaderAnswer, HeaderAnswer.the-variants.Header, HeaderAnswer.the-variants.Refused as NoHeader}
 use Rattle.header.specs.Header.{hasZero, headerOf}
 use Rattle.read_rules.specs.Read.{kept, widthOf, heightOf, sizeless}
-use Rattle.index_build.specs.declared.Checkpoint.{Checkpoint}
-use Rattle.index_build.specs.declared.Opening.{Opening}
-use Rattle.index_build.specs.declared.RawSliceSource.{RawSliceSource}
-use Rattle.index_build.specs.declared.OpenOptions.{OpenOptions}
-use Rattle.index_build.specs.declared.WordsOptions.{WordsOptions}
-use Rattle.index_build.specs.declared.OpenAnswer.{OpenAnswer}
-use Rattle.index_build.specs.declared.OpenAnswer.the-variants.{Opened, Refused}
+use Rattle.index_build.specs.declared.{Checkpoint.Checkpoint, OpenAnswer.OpenAnswer, OpenAnswer.the-variants.Opened}
+use Rattle.index_build.specs.declared.{OpenAnswer.the-variants.Refused, OpenOptions.OpenOptions, Opening.Opening, RawSliceSource.RawSliceSource}
+use Rattle.index_build.specs.declared.{WordsOptions.WordsOptions}
 
 -- ---- the records of an index
 
@@ -78,14 +70,14 @@ pub record Body : Type 0 where
 abbrev pub bodyAt : (recording : List ℕ) → (start : ℕ) → Encoding → SensorSize → (spacing : ℕ) → Body
 bodyAt recording start e size spacing = record { recording = recording; start = start; encoding = e; size = size; spacing = spacing }
 
-abbrev pub bytesOf : Body → List ℕ
-bytesOf b = drop (b .start) (b .recording)
+abbrev pub bodyBytes : Body → List ℕ
+bodyBytes b = drop (b .start) (b .recording)
 
-abbrev pub eventsOf : Body → List Event
-eventsOf b = keptEvents (b .size) (b .encoding) (bytesOf b)
+abbrev pub bodyKept : Body → List Event
+bodyKept b = keptEvents (b .size) (b .encoding) (bodyBytes b)
 
 abbrev pub needOf : Body → ℕ
-needOf b = recordCount (length (bytesOf b)) (b .spacing)
+needOf b = recordCount (length (bodyBytes b)) (b .spacing)
 
 abbrev pub sourceOf : (len start : ℕ) → Encoding → SensorSize → (spacing : ℕ) → List Event → RawSliceSource
 sourceOf len start e size spacing es = record {
@@ -100,12 +92,12 @@ sourceOf len start e size spacing es = record {
 
 abbrev pub openingOf : Body → Opening
 openingOf b = record {
-  source = sourceOf (length (b .recording)) (b .start) (b .encoding) (b .size) (b .spacing) (eventsOf b);
+  source = sourceOf (length (b .recording)) (b .start) (b .encoding) (b .size) (b .spacing) (bodyKept b);
   records = needOf b;
 }
 
 abbrev pub recordsBy : Body → List Checkpoint
-recordsBy b = recordsOf (b .size) (b .encoding) (b .start) (b .spacing) (bytesOf b)
+recordsBy b = recordsOf (b .size) (b .encoding) (b .start) (b .spacing) (bodyBytes b)
 
 -- ---- which body is accepted, and what is refused, by the table
 
@@ -114,7 +106,7 @@ unfoldable pub bodyOutcome : Body → (room : ℕ) → Outcome Body
 bodyOutcome b room =
     cond (spacingOk (b .encoding) (b .spacing))
     (cond (ltb room (needOf b)) (refuse (TooFewRecords (needOf b)))
-    (cond (sizeless (b .size) (eventsOf b)) (refuse InvalidSensorSize)
+    (cond (sizeless (b .size) (bodyKept b)) (refuse InvalidSensorSize)
     (give b)))
     (refuse InvalidSpacing)
 

@@ -11,19 +11,14 @@ use lib.IntN.{ℤ, pos}
 use lib.ListN.{length, take, drop, set, length-take, length-drop, length-append}
 use lib.Seq.{take-add, drop-drop, take-suc-set, drop-set-lt, length-take-le, take-all}
 use borrow.Author.Tests.{ltb-true, ltb-false}
-use Rattle.laws_stream.specs.Order.{greatest}
-use Rattle.laws_stream.specs.Slice.{sift}
-use Rattle.evt_types.specs.Event.{Event}
-use Rattle.evt_types.specs.Num.{mostBytes}
+use Rattle.laws_stream.specs.{Order.greatest, Slice.sift}
+use Rattle.evt_types.specs.{Event.Event, Num.mostBytes}
 use Rattle.evt_codec.specs.Codec.{codecAfter}
 use Rattle.read_columns.specs.Inside.{clock, inside}
 use Rattle.read_fill.specs.Decode.{Bounded, insideEvents}
-use Rattle.read_count.specs.Count.{countedAllOf}
+use Rattle.read_count.specs.{Count.countedAllOf, declared.CountedAll.CountedAll}
 use Rattle.read_fill.specs.Laws.{codec-append, codec-nil, events-nil, count-append, latest-append, bounded-after, bounded-less, inside-bytes, latest-small}
-use Rattle.read_count.specs.declared.CountedAll.{CountedAll}
-use Rattle.index_build.specs.declared.Builder.{Builder}
-use Rattle.index_build.specs.declared.Checkpoint.{Checkpoint}
-use Rattle.index_build.specs.Index.{firsts}
+use Rattle.index_build.specs.{declared.Builder.Builder, declared.Checkpoint.Checkpoint, Index.firsts}
 use Rattle.index_build.specs.Build.{Advanced, Begun, Fit, builderAt, chunkOf, frontOf, moved, nextOf, seenOf}
 
 -- ---- one iteration
@@ -164,7 +159,8 @@ pub laid-next : (f : ℕ → Checkpoint) (j : ℕ) (ys zs : List Checkpoint) (c 
 laid-next f j ys zs c lt is u = record {
   long = lib.ListN.length-set zs j c ∙ u .long;
   front =
-      take-suc-set zs j c (omega (arith, u .long)) ∙ ap (λ (a : List Checkpoint). a ++ (c ∷ [])) (u .front) ∙ ap (λ (d : Checkpoint). firsts f j ++ (d ∷ [])) is;
+      take-suc-set zs j c (omega (arith, u .long)) ∙ ap (λ (a : List Checkpoint). a ++ (c ∷ [])) (u .front)
+      ∙ ap (λ (d : Checkpoint). firsts f j ++ (d ∷ [])) is;
   rest = drop-set-lt (suc j) zs j c (omega arith) ∙ sym (drop-drop′ zs) ∙ ap (drop 1) (u .rest) ∙ drop-drop′ ys;
 }
   where

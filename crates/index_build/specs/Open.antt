@@ -10,47 +10,28 @@ use lib.IntN.{pos}
 use lib.ListN.{length, take, drop, length-take, length-drop}
 use lib.Seq.{take-all}
 use borrow.Author.Tests.{lt-ltb, le-ltb, ltb-false, eqb-true}
-use Rattle.laws_stream.specs.Part.{rest-of}
-use Rattle.laws_stream.specs.Order.{greatest}
-use Rattle.evt_types.specs.declared.Encoding.{Encoding}
-use Rattle.evt_types.specs.declared.Encoding.the-variants.{Evt2, Evt3}
-use Rattle.evt_types.specs.declared.Refusal.{Refusal}
-use Rattle.evt_types.specs.declared.Refusal.the-variants.{InvalidSensorSize, TooLong, InvalidSpacing, TooFewRecords}
-use Rattle.evt_types.specs.declared.SensorSize.{SensorSize}
-use Rattle.evt_types.specs.declared.SensorSize.the-variants.{Unknown, Known}
-use Rattle.evt_types.specs.Event.{Event}
-use Rattle.evt_types.specs.Num.{mostBytes}
-use Rattle.evt_types.specs.Outcome.{Outcome, refuse, give}
-use Rattle.evt_codec.specs.declared.codec.Codec.{Codec}
-use Rattle.evt_codec.specs.Codec.{freshC, eventsFrom, codecAfter}
+use Rattle.laws_stream.specs.{Part.rest-of, Order.greatest}
+use Rattle.evt_types.specs.declared.{Encoding.Encoding, Encoding.the-variants.Evt2, Encoding.the-variants.Evt3, Refusal.Refusal}
+use Rattle.evt_types.specs.declared.{Refusal.the-variants.InvalidSensorSize, Refusal.the-variants.TooLong, Refusal.the-variants.InvalidSpacing}
+use Rattle.evt_types.specs.declared.{Refusal.the-variants.TooFewRecords, SensorSize.SensorSize, SensorSize.the-variants.Unknown}
+use Rattle.evt_types.specs.{declared.SensorSize.the-variants.Known, Event.Event, Num.mostBytes, Outcome.Outcome, Outcome.refuse, Outcome.give}
+use Rattle.evt_codec.specs.{declared.codec.Codec.Codec, Codec.freshC, Codec.eventsFrom, Codec.codecAfter}
 use Rattle.read_columns.specs.Inside.{clock}
-use Rattle.read_fill.specs.Decode.{insideEvents}
-use Rattle.read_fill.specs.Laws.{bounded-fresh, all-inside, inside-bytes}
+use Rattle.read_fill.specs.{Decode.insideEvents, Laws.bounded-fresh, Laws.all-inside, Laws.inside-bytes}
 use Rattle.header.specs.declared.Header as header
-use Rattle.header.specs.declared.HeaderAnswer.{HeaderAnswer}
-use Rattle.header.specs.declared.HeaderAnswer.the-variants.{Header, Refused as NoHeader}
-use Rattle.header.specs.Header.{hasZero, headerOf}
-use Rattle.header.specs.Laws.{of-accepted}
-use Rattle.read_select.specs.declared.SurveyTotals.{SurveyTotals}
-use Rattle.read_select.specs.Pass.{Ready as ReadyFor, handedOver, surveyed}
-use Rattle.read_select.specs.Uses.{numberedOver, over-all}
+use Rattle.header.specs.declared.{HeaderAnswer.HeaderAnswer, HeaderAnswer.the-variants.Header, HeaderAnswer.the-variants.Refused as NoHeader}
+use Rattle.header.specs.{Header.hasZero, Header.headerOf, Laws.of-accepted}
+use Rattle.read_select.specs.{declared.SurveyTotals.SurveyTotals, Pass.Ready as ReadyFor, Pass.handedOver, Pass.surveyed, Uses.numberedOver}
+use Rattle.read_select.specs.{Uses.over-all}
 use Rattle.read_window.specs.declared.Window.{Window}
-use Rattle.read_rules.specs.Laws.{ready-fresh}
-use Rattle.read_rules.specs.Read.{widthOf, heightOf, sizeless}
-use Rattle.index_build.specs.declared.Builder.{Builder}
-use Rattle.index_build.specs.declared.Checkpoint.{Checkpoint}
-use Rattle.index_build.specs.declared.OpenAnswer.{OpenAnswer}
-use Rattle.index_build.specs.declared.OpenAnswer.the-variants.{Opened, Refused}
-use Rattle.index_build.specs.declared.OpenOptions.{OpenOptions}
-use Rattle.index_build.specs.declared.Prepared.{Prepared}
-use Rattle.index_build.specs.declared.Prepared.the-variants.{Ready, Refused as NotReady}
-use Rattle.index_build.specs.declared.RawSliceSource.{RawSliceSource}
-use Rattle.index_build.specs.declared.WordsOptions.{WordsOptions}
-use Rattle.index_build.specs.Index.{keptEvents, recordAt, firsts, recordCount, recordsOf, alignment, spacingOk, Body, bodyAt, bytesOf, eventsOf, needOf}
+use Rattle.read_rules.specs.{Laws.ready-fresh, Read.widthOf, Read.heightOf, Read.sizeless}
+use Rattle.index_build.specs.declared.{Builder.Builder, Checkpoint.Checkpoint, OpenAnswer.OpenAnswer, OpenAnswer.the-variants.Opened}
+use Rattle.index_build.specs.declared.{OpenAnswer.the-variants.Refused, OpenOptions.OpenOptions, Prepared.Prepared, Prepared.the-variants.Ready}
+use Rattle.index_build.specs.declared.{Prepared.the-variants.Refused as NotReady, RawSliceSource.RawSliceSource, WordsOptions.WordsOptions}
+use Rattle.index_build.specs.Index.{keptEvents, recordAt, firsts, recordCount, recordsOf, alignment, spacingOk, Body, bodyAt, bodyBytes, bodyKept, needOf}
 use Rattle.index_build.specs.Index.{openingOf, recordsBy, bodyOutcome, outcomeAfter, rawOutcome, wordsBody, wordsOutcome, openAnswer, openRecords}
-use Rattle.index_build.specs.Index.{Opens, toldOpen, told-answer}
+use Rattle.index_build.specs.{Index.Opens, Index.toldOpen, Index.told-answer, Laws.builder-start, Laws.Laid, Laws.laid-end}
 use Rattle.index_build.specs.Build.{Begun, builderAt, madeAt, spanWidth, spanHeight, wholeWindow, firstFor, uncounted, firstOf, preparedBy, concluded}
-use Rattle.index_build.specs.Laws.{builder-start, Laid, laid-end}
 
 -- ---- spacing and counts
 
@@ -123,7 +104,7 @@ IfGiven P (give b) = P b
 accepted-body : (b : Body) (room : ℕ) → length (b .recording) ≤ mostBytes → b .start ≤ length (b .recording) → hasZero (b .size) ≡ false
     → IfGiven (Accepted (b .recording) room) (bodyOutcome b room)
 unfolding bodyOutcome
-accepted-body b room long within positive = go (spacingOk (b .encoding) (b .spacing)) refl (ltb room (needOf b)) refl (sizeless (b .size) (eventsOf b))
+accepted-body b room long within positive = go (spacingOk (b .encoding) (b .spacing)) refl (ltb room (needOf b)) refl (sizeless (b .size) (bodyKept b))
   where
     go : (x : Bool) → spacingOk (b .encoding) (b .spacing) ≡ x → (y : Bool) → ltb room (needOf b) ≡ y → (z : Bool)
         → IfGiven (Accepted (b .recording) room)
@@ -167,7 +148,7 @@ module _ (m : List ℕ) (b : Body) (room : ℕ) (ok : Accepted m room b) where
   l = b .recording
 
   abbrev body : List ℕ
-  body = bytesOf b
+  body = bodyBytes b
 
   abbrev t : Builder
   t = firstOf b
@@ -220,15 +201,15 @@ module _ (m : List ℕ) (b : Body) (room : ℕ) (ok : Accepted m room b) where
   opening-is : concluded (builderAt l t (needOf b)) ≡ openingOf b
   opening-is =
       let all : take (needOf b * b .spacing) body ≡ body = take-all (needOf b * b .spacing) body (count-covers (length body) (b .spacing) is-spaced) in
-      let k : insides (take (needOf b * b .spacing) body) ≡ eventsOf b = ap insides all ∙ kept-inside (b .size) (b .encoding) body body-long in
+      let k : insides (take (needOf b * b .spacing) body) ≡ bodyKept b = ap insides all ∙ kept-inside (b .size) (b .encoding) body body-long in
       λ i. record {
         source = record {
           encoding = b .encoding;
           spacing = b .spacing;
           «data_offset» = b .start;
           len = length l;
-          width = widthOf (b .size) (eventsOf b);
-          height = heightOf (b .size) (eventsOf b);
+          width = widthOf (b .size) (bodyKept b);
+          height = heightOf (b .size) (bodyKept b);
           «n_events» = length (k i);
         };
         records = needOf b;
@@ -277,11 +258,11 @@ module _ (b : Body) (room : ℕ) where
     outcome-short lt = rw (ok, lt-ltb room (needOf b) (rw need-is at lt), need-is)
 
     module _ (enough : n ≤ room) where
-      pub outcome-none : sizeless (b .size) (eventsOf b) ≡ true → bodyOutcome b room ≡ refuse InvalidSensorSize
+      pub outcome-none : sizeless (b .size) (bodyKept b) ≡ true → bodyOutcome b room ≡ refuse InvalidSensorSize
       unfolding bodyOutcome
       outcome-none z = rw (ok, le-ltb room (needOf b) (rw need-is at enough), z)
 
-      pub outcome-given : sizeless (b .size) (eventsOf b) ≡ false → bodyOutcome b room ≡ give b
+      pub outcome-given : sizeless (b .size) (bodyKept b) ≡ false → bodyOutcome b room ≡ give b
       unfolding bodyOutcome
       outcome-given z = rw (ok, le-ltb room (needOf b) (rw need-is at enough), z)
 
@@ -341,7 +322,7 @@ module _ (l : List ℕ) (start : ℕ) (e : Encoding) (size : SensorSize) (spacin
   prepared s = preparedBy (bodyOutcome (given s) room)
 
   ready : (s : SensorSize) (source : RawSliceSource) (width height : ℕ) → source ≡ uncounted (given s) width height
-      → width ≡ widthOf s (eventsOf (given s)) → height ≡ heightOf s (eventsOf (given s)) → sizeless s (eventsOf (given s)) ≡ false
+      → width ≡ widthOf s (bodyKept (given s)) → height ≡ heightOf s (bodyKept (given s)) → sizeless s (bodyKept (given s)) ≡ false
       → (t : Builder) → t ≡ firstFor source n (spanWidth s) (spanHeight s) → size ≡ s → Ready t ≡ prepared size
   ready s source width height is w h z t is-t q =
       ap Ready is-t ∙ ap (λ (x : RawSliceSource). Ready (firstFor x n (spanWidth s) (spanHeight s))) is

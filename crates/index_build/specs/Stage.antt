@@ -7,9 +7,7 @@ use native.Mathlib.Omega.{arith}
 use lib.Dec.{ltb}
 use lib.ListN.{length, set}
 use borrow.Author.Tests.{ltb-true, ltb-false}
-use Rattle.index_build.specs.declared.Builder.{Builder}
-use Rattle.index_build.specs.declared.BuildStep.{BuildStep}
-use Rattle.index_build.specs.declared.Checkpoint.{Checkpoint}
+use Rattle.index_build.specs.declared.{BuildStep.BuildStep, Builder.Builder, Checkpoint.Checkpoint}
 use Rattle.index_build.specs.Build.{recordOf, nextOf, Fit, Advanced, Begun, builderAt, madeAt}
 use Rattle.index_build.specs.Laws.{builder-next, builder-fit, Laid, laid-start, laid-next}
 

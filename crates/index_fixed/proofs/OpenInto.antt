@@ -41,8 +41,7 @@ use denote.Triple.Entry.{onEntry}
 use denote.Triple.Spec.{Meets, tripleOf}
 use denote.Triple.Walked.{says, needs, Stays, stay-dropped, walkOf, goes-dropped, Walks, ends-at, walked, walk-meets}
 use denote.Exit.{yes}
-use Rattle.index_build.specs.declared.Checkpoint.{Checkpoint}
-use Rattle.index_build.specs.declared.OpenAnswer.{OpenAnswer}
+use Rattle.index_build.specs.declared.{Checkpoint.Checkpoint, OpenAnswer.OpenAnswer}
 use Rattle.index_build.specs.Index.{Opens}
 use Rattle.index_build.proofs.Checkpoint as T
 use Rattle.index_build.proofs.Checkpoint.Laws as T′

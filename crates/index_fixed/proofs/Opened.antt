@@ -4,8 +4,7 @@ use mathlib.Core.List.{List, [], _∷_}
 use mir.Val.{Val, vstruct, vcons, vnil}
 use denote.Laws.{Is}
 use denote.Enum.Laws as EL
-use Rattle.index_build.specs.declared.Checkpoint.{Checkpoint}
-use Rattle.index_build.specs.declared.OpenAnswer.{OpenAnswer}
+use Rattle.index_build.specs.declared.{Checkpoint.Checkpoint, OpenAnswer.OpenAnswer}
 use Rattle.index_build.proofs.Checkpoint as T
 use Rattle.index_build.proofs.OpenAnswer as E
 use Rattle.index_build.proofs.OpenAnswer.Laws as E′

@@ -11,12 +11,9 @@ use lib.Dec.{ltb}
 use lib.Seq.{length-take-le, take-all}
 use borrow.Author.Tests.{ltb-true, ltb-false}
 use Rattle.evt_types.specs.Outcome.{Outcome}
-use Rattle.index_build.specs.declared.Checkpoint.{Checkpoint}
-use Rattle.index_build.specs.declared.OpenAnswer.{OpenAnswer}
+use Rattle.index_build.specs.declared.{Checkpoint.Checkpoint, OpenAnswer.OpenAnswer, RawSliceSource.RawSliceSource}
 use Rattle.index_build.specs.Index.{Body, Opens, openRecords}
-use Rattle.index_build.specs.declared.RawSliceSource.{RawSliceSource}
-use Rattle.slice_rules.specs.declared.SliceAnswer.{SliceAnswer}
-use Rattle.slice_rules.specs.Slice.{SlicesIndex, SlicesTime}
+use Rattle.slice_rules.specs.{declared.SliceAnswer.SliceAnswer, Slice.SlicesIndex, Slice.SlicesTime}
 
 fewer : (a b n k : ℕ) → n ≡ a + b → n ≡ k → a ≤ k
 fewer a b n k e l = omega arith

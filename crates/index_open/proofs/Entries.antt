@@ -48,12 +48,8 @@ use denote.Triple.Spec.{Meets, tripleOf}
 use denote.Triple.Walked.{says, Stays, stay-dropped, gave-slice, walkOf, goes-dropped, goes-gave-slice, Walks, ends-at, walked, walk-meets}
 use Rattle.evt_types.specs.declared.Refusal.{Refusal}
 use Rattle.evt_types.specs.Outcome.{Outcome}
-use Rattle.index_build.specs.declared.Builder.{Builder}
-use Rattle.index_build.specs.declared.Checkpoint.{Checkpoint}
-use Rattle.index_build.specs.declared.OpenAnswer.{OpenAnswer}
-use Rattle.index_build.specs.declared.OpenAnswer.the-variants.{Refused}
-use Rattle.index_build.specs.declared.Prepared.{Prepared}
-use Rattle.index_build.specs.declared.Prepared.the-variants.{Refused as NotReady, Ready}
+use Rattle.index_build.specs.declared.{Builder.Builder, Checkpoint.Checkpoint, OpenAnswer.OpenAnswer, OpenAnswer.the-variants.Refused}
+use Rattle.index_build.specs.declared.{Prepared.Prepared, Prepared.the-variants.Refused as NotReady, Prepared.the-variants.Ready}
 use Rattle.index_build.specs.Index.{Body as OpenBody, Opens, rawOutcome, wordsOutcome}
 use Rattle.index_build.specs.Build.{Begun, preparedBy}
 use Rattle.index_build.specs.Open.{Accepted, accepted-raw, accepted-words, IfGiven, Builds, builds, opens-refused, opens-built}

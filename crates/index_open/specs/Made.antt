@@ -2,12 +2,8 @@
 use mathlib.Core.Path.{_≡_}
 use mathlib.Core.List.{List}
 use Prim.Native.Nat.{ℕ}
-use Rattle.index_build.specs.declared.Builder.{Builder}
-use Rattle.index_build.specs.declared.Checkpoint.{Checkpoint}
-use Rattle.index_build.specs.declared.OpenAnswer.{OpenAnswer}
-use Rattle.index_build.specs.declared.OpenAnswer.the-variants.{Opened}
-use Rattle.index_build.specs.Build.{builderAt, concluded, madeAt}
-use Rattle.index_build.specs.Laws.{Laid}
+use Rattle.index_build.specs.declared.{Builder.Builder, Checkpoint.Checkpoint, OpenAnswer.OpenAnswer, OpenAnswer.the-variants.Opened}
+use Rattle.index_build.specs.{Build.builderAt, Build.concluded, Build.madeAt, Laws.Laid}
 
 -- the records of ys became zs, and r is the answer
 pub record Made (l : List ℕ) (first : Builder) (r : OpenAnswer) (ys zs : List Checkpoint) : Type 0 where

@@ -96,7 +96,8 @@ pub record Scan : Type 2 where
   pub stepOf : state .row .Denot → Checkpoint → state .row .Denot
   -- what holds with so many iterations left at most
   pub Holds : param .row .Denot → List Checkpoint → ℕ → state .row .Denot → Type 0
-  pub starts : (p : param .row .Denot) (l : List Checkpoint) → length l < 2 ^ 64 → (t : state .row .Denot) → t ≡ firstOf (length l) p → Holds p l (suc (length l)) t
+  pub starts : (p : param .row .Denot) (l : List Checkpoint) → length l < 2 ^ 64 → (t : state .row .Denot) → t ≡ firstOf (length l) p
+      → Holds p l (suc (length l)) t
   pub stops : (p : param .row .Denot) (l : List Checkpoint) (t : state .row .Denot) → Holds p l zero t → state .more t ≡ true → ⊥
   pub within : (p : param .row .Denot) (l : List Checkpoint) (m : ℕ) (t : state .row .Denot) → Holds p l m t → state .more t ≡ true → state .at t < length l
   pub steps : (p : param .row .Denot) (l : List Checkpoint) (m : ℕ) (t : state .row .Denot) → Holds p l (suc m) t → state .more t ≡ true

@@ -4,11 +4,8 @@ use mathlib.Core.List.{List}
 use Prim.Native.Nat.{ℕ, zero, suc, _+_, _-_, _/_}
 use lib.Dec.{ltb}
 use lib.ListN.{length}
-use Rattle.index_build.specs.declared.Checkpoint.{Checkpoint}
-use Rattle.index_build.specs.Nth.{nth, blank}
-use Rattle.index_records.specs.declared.Choice.{Choice}
-use Rattle.index_records.specs.declared.Search.{Search}
-use Rattle.index_records.specs.Choose.{passesOf}
+use Rattle.index_build.specs.{declared.Checkpoint.Checkpoint, Nth.nth, Nth.blank}
+use Rattle.index_records.specs.{declared.Choice.Choice, declared.Search.Search, Choose.passesOf}
 
 abbrev pub middleOf : (lo hi : ℕ) → ℕ
 middleOf lo hi = lo + (hi - lo) / 2

@@ -5,8 +5,7 @@ use mathlib.Core.List.{List, [], _∷_}
 use lib.Dec.{leb}
 use lib.Signed.{ltZ}
 use Rattle.index_build.specs.declared.Checkpoint.{Checkpoint}
-use Rattle.index_records.specs.declared.Choice.{Choice}
-use Rattle.index_records.specs.Start.{Parted, lastPassing}
+use Rattle.index_records.specs.{declared.Choice.Choice, Start.Parted, Start.lastPassing}
 
 -- a count at most the index, or a time below the time asked for
 abbrev pub passesOf : Choice → Checkpoint → Bool

@@ -6,8 +6,7 @@ use lib.Dec.{eqb, leb, ltb}
 use lib.IntN.{ℤ, pos}
 use lib.Signed.{leZ}
 use Rattle.evt_codec.specs.Codec.{inRangeC}
-use Rattle.index_build.specs.declared.Checkpoint.{Checkpoint}
-use Rattle.index_build.specs.declared.RawSliceSource.{RawSliceSource}
+use Rattle.index_build.specs.declared.{Checkpoint.Checkpoint, RawSliceSource.RawSliceSource}
 use Rattle.index_records.specs.Judge.{isOther}
 
 -- a record stands at `offset`, which is no place at all from 2^64 on, and is of the source's encoding, with a decoder in range; its count is no less than

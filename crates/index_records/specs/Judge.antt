@@ -9,12 +9,9 @@ use lib.Signed.{leZ}
 use Rattle.evt_types.specs.declared.Encoding.{Encoding}
 use Rattle.evt_types.specs.declared.Encoding.the-variants as Enc
 use Rattle.evt_codec.specs.Codec.{inRangeC}
-use Rattle.evt_codec.specs.declared.codec.Codec.{Codec}
-use Rattle.evt_codec.specs.declared.codec.Codec.the-variants.{Evt2, Evt3}
-use Rattle.index_build.specs.declared.Checkpoint.{Checkpoint}
-use Rattle.index_records.specs.declared.Judging.{Judging}
-use Rattle.index_records.specs.declared.JudgeState.{JudgeState}
-use Rattle.index_build.specs.declared.RawSliceSource.{RawSliceSource}
+use Rattle.evt_codec.specs.declared.{codec.Codec.Codec, codec.Codec.the-variants.Evt2, codec.Codec.the-variants.Evt3}
+use Rattle.index_build.specs.declared.{Checkpoint.Checkpoint, RawSliceSource.RawSliceSource}
+use Rattle.index_records.specs.declared.{JudgeState.JudgeState, Judging.Judging}
 
 -- a record of the other encoding
 abbrev pub isOther : Codec → Encoding → Bool

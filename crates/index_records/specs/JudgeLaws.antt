@@ -11,14 +11,10 @@ use lib.Signed.{leZ, ltZ}
 use borrow.Author.Tests.{ltb-true, ltb-false, leb-true, leb-false, eqb-true, lt-ltb, le-ltb, le-leb, lt-leb, eq-eqb, ne-eqb, not-true}
 use Rattle.laws_stream.specs.Machine.{and-both, All, all-map}
 use Rattle.evt_codec.specs.Codec.{inRangeC}
-use Rattle.index_build.specs.declared.Checkpoint.{Checkpoint}
-use Rattle.index_records.specs.declared.Choice.{Choice}
-use Rattle.index_records.specs.declared.Judging.{Judging}
-use Rattle.index_build.specs.declared.RawSliceSource.{RawSliceSource}
-use Rattle.index_records.specs.Choose.{passesOf}
-use Rattle.index_records.specs.InRange.{recordInRange, recordsInRange, indexInRange}
+use Rattle.index_build.specs.declared.{Checkpoint.Checkpoint, RawSliceSource.RawSliceSource}
+use Rattle.index_records.specs.{declared.Choice.Choice, declared.Judging.Judging, Choose.passesOf, InRange.recordInRange}
+use Rattle.index_records.specs.{InRange.recordsInRange, InRange.indexInRange, Start.lastPassing, Start.Parted}
 use Rattle.index_records.specs.Judge.{isOther, firstJudging, standsOf, aheadOf, onwardOf, admitsOf, judgedOf, judgedAll}
-use Rattle.index_records.specs.Start.{lastPassing, Parted}
 
 -- ---- tests in other words
 

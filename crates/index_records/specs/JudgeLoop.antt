@@ -10,11 +10,8 @@ use lib.Dec.{ltb}
 use lib.ListN.{length, drop, drop-of-length-le}
 use lib.Seq.{drop-cons}
 use borrow.Author.Tests.{ltb-true, ltb-false}
-use Rattle.index_build.specs.declared.Checkpoint.{Checkpoint}
-use Rattle.index_build.specs.Nth.{nth, blank}
-use Rattle.index_records.specs.declared.Judging.{Judging}
-use Rattle.index_records.specs.declared.JudgeState.{JudgeState}
-use Rattle.index_records.specs.Judge.{judgedAll, judgeAt, judgedNext}
+use Rattle.index_build.specs.{declared.Checkpoint.Checkpoint, Nth.nth, Nth.blank}
+use Rattle.index_records.specs.{declared.JudgeState.JudgeState, declared.Judging.Judging, Judge.judgedAll, Judge.judgeAt, Judge.judgedNext}
 
 -- with m iterations left at most
 pub record Judges (s : Judging) (l : List Checkpoint) (m : ℕ) (t : JudgeState) : Type 0 where

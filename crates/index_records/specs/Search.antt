@@ -9,12 +9,8 @@ use lib.Dec.{ltb}
 use lib.ListN.{length}
 use borrow.Author.Tests.{ltb-true, ltb-false, lt-ltb, le-ltb}
 use Rattle.laws_stream.specs.Machine.{All}
-use Rattle.index_build.specs.declared.Checkpoint.{Checkpoint}
-use Rattle.index_records.specs.declared.Choice.{Choice}
-use Rattle.index_records.specs.declared.Search.{Search}
-use Rattle.index_build.specs.Nth.{nth}
-use Rattle.index_records.specs.Start.{Parted, lastPassing}
-use Rattle.index_records.specs.Choose.{passesOf, Chose}
+use Rattle.index_build.specs.{declared.Checkpoint.Checkpoint, Nth.nth}
+use Rattle.index_records.specs.{declared.Choice.Choice, declared.Search.Search, Start.Parted, Start.lastPassing, Choose.passesOf, Choose.Chose}
 use Rattle.index_records.specs.BinarySearch.{middleOf, placeOf, bracketOf, narrowed, firstSearch, searched, chosenOf}
 
 -- ---- by the outcome of each test

@@ -3,12 +3,8 @@ use mathlib.Core.Path.{_≡_, refl}
 use mathlib.Core.List.{List, [], _∷_}
 use Prim.Native.Nat.{ℕ}
 use lib.ListN.{take}
-use Rattle.laws_stream.specs.Loop.{loopsAfter, timeAfter}
-use Rattle.laws_stream.specs.Machine.{All}
-use Rattle.laws_stream.specs.Mask.{bits}
-use Rattle.laws_stream.specs.Words.{stream}
-use Rattle.evt_types.specs.declared.Encoding.{Encoding}
-use Rattle.evt_types.specs.declared.Encoding.the-variants.{Evt2, Evt3}
+use Rattle.laws_stream.specs.{Loop.loopsAfter, Loop.timeAfter, Machine.All, Mask.bits, Words.stream}
+use Rattle.evt_types.specs.declared.{Encoding.Encoding, Encoding.the-variants.Evt2, Encoding.the-variants.Evt3}
 use Rattle.evt_codec.specs.Codec.{freshC, eventsFrom, codecAfter, timeC, loopsC}
 use Rattle.evt_types.specs.Event.{Event}
 use Rattle.evt2_decoder.specs.Evt2.{step2, vector2}

@@ -7,24 +7,20 @@ use Prim.Native.Nat.{ℕ, _*_, _/_, _≤_}
 use borrow.Author.Tests.{lt-ltb}
 use lib.ListN.{take, drop}
 use Rattle.laws_stream.specs.Machine.{Note, All, all-of, run, emits, words, notes, words-append, notes-append, words-take, says-take, says-fits}
-use Rattle.laws_stream.specs.Words.{Fits, stream, stream-append, wordsOf, wordsOf-stream, wordsOf-take}
-use Rattle.laws_stream.specs.Format.{Format, Lawful, Good, givens, writes, resumes}
-use Rattle.laws_stream.specs.Stream.{after, notedBytes, decode-whole, decode-cut, bytes-resumed}
-use Rattle.laws_stream.specs.Checkpoint.{good-timed}
-use Rattle.laws_stream.specs.Order.{Rise}
-use Rattle.laws_stream.specs.Slice.{Past, within, reached, over-time, says-past}
-use Rattle.evt_types.specs.declared.Encoding.{Encoding}
-use Rattle.evt_types.specs.Event.{Event}
+use Rattle.laws_stream.specs.{Words.Fits, Words.stream, Words.stream-append, Words.wordsOf, Words.wordsOf-stream, Words.wordsOf-take, Format.Format}
+use Rattle.laws_stream.specs.{Format.Lawful, Format.Good, Format.givens, Format.writes, Format.resumes, Stream.after, Stream.notedBytes}
+use Rattle.laws_stream.specs.{Stream.decode-whole, Stream.decode-cut, Stream.bytes-resumed, Checkpoint.good-timed, Order.Rise, Slice.Past}
+use Rattle.laws_stream.specs.{Slice.within, Slice.reached, Slice.over-time, Slice.says-past}
+use Rattle.evt_types.specs.{declared.Encoding.Encoding, Event.Event}
 use Rattle.evt_codec.specs.Codec.{eventsFrom}
 use Rattle.read_columns.specs.Inside.{inside, clock}
 use Rattle.read_window.specs.declared.Window.{Window}
 use Rattle.read_select.specs.Uses.{PastOver}
-use Rattle.write_buffer.specs.declared.EncoderState.{EncoderState}
-use Rattle.write_buffer.specs.Sent.{freshState}
-use Rattle.write_words.specs.Encode.{encodeNotes, encodeState, encodeSize, encodeBytes}
-use Rattle.write_words.specs.Laws.{encode-notes}
+use Rattle.write_buffer.specs.{declared.EncoderState.EncoderState, Sent.freshState}
+use Rattle.write_words.specs.{Encode.encodeNotes, Encode.encodeState, Encode.encodeSize, Encode.encodeBytes, Laws.encode-notes}
 use Rattle.laws_formats.specs.Ready.{limit, sayable, sayable-true}
-use Rattle.laws_formats.specs.Either.{StateOf, codecOf, freshOf, readerOf, appender, ReadyOf, AgreeOf, formatOf, lawfulOf, events-are, fresh-ready, isStarted, timeOf, ready-ahead, past-over}
+use Rattle.laws_formats.specs.Either.{StateOf, codecOf, freshOf, readerOf, appender, ReadyOf, AgreeOf, formatOf, lawfulOf, events-are, fresh-ready}
+use Rattle.laws_formats.specs.Either.{isStarted, timeOf, ready-ahead, past-over}
 
 -- all the events of some appends
 abbrev pub flat : List (List Event) → List Event
@@ -76,7 +72,8 @@ module _ {S Q I E : Type 0} (F : Format S Q I E) (L : Lawful F) (live : S → Bo
   cut-timed t₀ t₁ s ns g c =
       let k = c / F .size in
       rw (wordsOf-take (F .size) (L .sized) c (words ns) (says-fits (F .reader) (Fits (F .size)) (F .Ready) s ns [] g), ← words-take k ns)
-      (says-past (F .reader) (within clock t₀ t₁) (reached live time t₁) (Fits (F .size)) (F .Ready) (λ s es rd d. over-time live time t₁ clock t₀ s es (ahead s es rd) d)
+      (says-past (F .reader) (within clock t₀ t₁) (reached live time t₁) (Fits (F .size)) (F .Ready)
+      (λ s es rd d. over-time live time t₁ clock t₀ s es (ahead s es rd) d)
       s (take k ns) (notes (drop k ns) ++ []) (says-take (F .reader) (Fits (F .size)) (F .Ready) k s ns [] g))
 
 module _ (e : Encoding) where
@@ -106,7 +103,8 @@ module _ (e : Encoding) where
       → Understood d (take k ns ++ appendNotes e freshState gs)
   resumed-understood d k ns gs u h = resumes (formatOf e) (lawfulOf e) k d ns gs [] (valid gs) u (given-all gs ∙ h)
 
-  pub resumed-bytes : (c : ℕ) (ns ms : List (Note ℕ Event)) → take (c / encodeSize e * encodeSize e) (noteBytes e ns) ++ noteBytes e ms ≡ noteBytes e (take (c / encodeSize e) ns ++ ms)
+  pub resumed-bytes : (c : ℕ) (ns ms : List (Note ℕ Event))
+      → take (c / encodeSize e * encodeSize e) (noteBytes e ns) ++ noteBytes e ms ≡ noteBytes e (take (c / encodeSize e) ns ++ ms)
   resumed-bytes c ns ms = bytes-resumed (formatOf e) (lawfulOf e) c ns ms
 
   module _ (d : StateOf e) (ns : List (Note ℕ Event)) (understood : Understood d ns) where
@@ -116,7 +114,8 @@ module _ (e : Encoding) where
 
     pub whole-past : (win : Window) → PastOver win (codecOf e d) (noteBytes e ns)
     whole-past win =
-        past-over e win d (noteBytes e ns) (good-timed (formatOf e) (lawfulOf e) (isStarted e) (timeOf e) clock (λ d es rd l. ready-ahead e d es rd) (win .t0) (win .t1) d ns understood)
+        past-over e win d (noteBytes e ns)
+        (good-timed (formatOf e) (lawfulOf e) (isStarted e) (timeOf e) clock (λ d es rd l. ready-ahead e d es rd) (win .t0) (win .t1) d ns understood)
 
     -- THE CUT: of the first c bytes, the events whose words lie whole within them
     pub cut-events : (c : ℕ) → eventsFrom (codecOf e d) (take c (noteBytes e ns)) ≡ notes (take (c / encodeSize e) ns)
@@ -129,4 +128,5 @@ module _ (e : Encoding) where
 
     -- the decoder after it is the one after its words
     pub after-words : after (encodeSize e) (readerOf e) d (noteBytes e ns) ≡ run (readerOf e) d (words ns)
-    after-words = rw (wordsOf-stream (encodeSize e) (lawfulOf e .sized) (words ns) (says-fits (readerOf e) (Fits (encodeSize e)) (ReadyOf e) d ns [] understood))
+    after-words =
+        rw (wordsOf-stream (encodeSize e) (lawfulOf e .sized) (words ns) (says-fits (readerOf e) (Fits (encodeSize e)) (ReadyOf e) d ns [] understood))

@@ -4,33 +4,22 @@ use mathlib.Core.Bool.{Bool}
 use mathlib.Core.List.{List, [], _∷_}
 use Prim.Native.Nat.{ℕ, _≤_}
 use native.Mathlib.Omega.{arith}
-use Rattle.evt_types.specs.Layout.{wordSize2, wordSize3}
-use Rattle.laws_stream.specs.Machine.{Machine, Note, All, all-of}
-use Rattle.laws_stream.specs.Words.{wordsOf}
-use Rattle.laws_stream.specs.Format.{Format, Lawful, through, givens}
-use Rattle.laws_stream.specs.Stream.{decode, after}
-use Rattle.laws_stream.specs.Order.{Rise, rise-all}
-use Rattle.laws_stream.specs.Slice.{Past, reached, past-then}
-use Rattle.evt_types.specs.declared.Encoding.{Encoding}
-use Rattle.evt_types.specs.declared.Encoding.the-variants.{Evt2, Evt3}
-use Rattle.evt2_decoder.specs.declared.Evt2Decoder.{Evt2Decoder}
-use Rattle.evt3_decoder.specs.declared.Decoder.{Decoder}
-use Rattle.evt_codec.specs.declared.codec.Codec.{Codec}
+use Rattle.evt_types.specs.{Layout.wordSize2, Layout.wordSize3, Event.Event}
+use Rattle.laws_stream.specs.{Machine.Machine, Machine.Note, Machine.All, Machine.all-of, Words.wordsOf, Format.Format, Format.Lawful, Format.through}
+use Rattle.laws_stream.specs.{Format.givens, Stream.decode, Stream.after, Order.Rise, Order.rise-all, Slice.Past, Slice.reached, Slice.past-then}
+use Rattle.evt_types.specs.declared.{Encoding.Encoding, Encoding.the-variants.Evt2, Encoding.the-variants.Evt3}
+use Rattle.evt2_decoder.specs.{declared.Evt2Decoder.Evt2Decoder, Evt2.fresh2, Evt2.reader2}
+use Rattle.evt3_decoder.specs.{declared.Decoder.Decoder, Evt3.fresh3, Evt3.reader3}
+use Rattle.evt_codec.specs.{declared.codec.Codec.Codec, Codec.freshC, Codec.startedC, Codec.timeC, Codec.eventsFrom, Codec.codecAfter}
 use Rattle.evt_codec.specs.declared.codec.Codec.the-variants as C
-use Rattle.evt_types.specs.Event.{Event}
-use Rattle.evt2_decoder.specs.Evt2.{fresh2, reader2}
-use Rattle.evt3_decoder.specs.Evt3.{fresh3, reader3}
-use Rattle.evt_codec.specs.Codec.{freshC, startedC, timeC, eventsFrom, codecAfter}
 use Rattle.read_columns.specs.Inside.{inside, clock}
 use Rattle.read_window.specs.declared.Window.{Window}
 use Rattle.read_select.specs.Uses.{isTimely, PastOver}
-use Rattle.write_buffer.specs.declared.EncoderState.{EncoderState}
-use Rattle.write_buffer.specs.Sent.{freshState}
+use Rattle.write_buffer.specs.{declared.EncoderState.EncoderState, Sent.freshState}
 use Rattle.evt3_run_rules.specs.Runs.{Run, runs, runs-are, givenBy}
 use Rattle.write_words.specs.Encode.{encodeNotes, encodeState, encodeSize}
-use Rattle.laws_formats.specs.Ready.{limit, sayable}
-use Rattle.laws_formats.specs.Lawful2.{Ready2, format2, lawful2}
-use Rattle.laws_formats.specs.Lawful3.{Ready3, format3, lawful3}
+use Rattle.laws_formats.specs.{Ready.limit, Ready.sayable, Lawful2.Ready2, Lawful2.format2, Lawful2.lawful2, Lawful3.Ready3, Lawful3.format3}
+use Rattle.laws_formats.specs.{Lawful3.lawful3}
 
 -- a decoder of the encoding
 abbrev pub StateOf : Encoding → Type 0
@@ -122,5 +111,7 @@ ready-ahead Evt3 d es rd = rise-all clock (sayable (limit Evt3)) (d .time) es (r
 
 pub past-over : (e : Encoding) (win : Window) (d : StateOf e) (l : List ℕ)
     → Past (readerOf e) (isTimely win) (reached (isStarted e) (timeOf e) (win .t1)) d (wordsOf (encodeSize e) l) → PastOver win (codecOf e d) l
-past-over Evt2 win d l p = past-then reader2 (inside (win .width) (win .height)) (isTimely win) (reached (isStarted Evt2) (timeOf Evt2) (win .t1)) d (wordsOf wordSize2 l) p
-past-over Evt3 win d l p = past-then reader3 (inside (win .width) (win .height)) (isTimely win) (reached (isStarted Evt3) (timeOf Evt3) (win .t1)) d (wordsOf wordSize3 l) p
+past-over Evt2 win d l p =
+    past-then reader2 (inside (win .width) (win .height)) (isTimely win) (reached (isStarted Evt2) (timeOf Evt2) (win .t1)) d (wordsOf wordSize2 l) p
+past-over Evt3 win d l p =
+    past-then reader3 (inside (win .width) (win .height)) (isTimely win) (reached (isStarted Evt3) (timeOf Evt3) (win .t1)) d (wordsOf wordSize3 l) p

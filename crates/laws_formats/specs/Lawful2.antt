@@ -4,19 +4,14 @@ use mathlib.Core.Bool.{Bool, true, false}
 use mathlib.Core.List.{List, [], _∷_, _++_}
 use Prim.Native.Nat.{ℕ, _+_, _*_, _/_, _%_, _^_, _≤_, _<_}
 use native.Mathlib.Omega.{arith}
-use Rattle.laws_stream.specs.Machine.{run, words}
-use Rattle.laws_stream.specs.Format.{Format, Lawful, Good}
-use Rattle.laws_stream.specs.Loop.{tracks-same}
-use Rattle.laws_stream.specs.Order.{rise-first}
-use Rattle.evt_types.specs.declared.Encoding.the-variants.{Evt2}
+use Rattle.laws_stream.specs.{Machine.run, Machine.words, Format.Format, Format.Lawful, Format.Good, Loop.tracks-same, Order.rise-first}
+use Rattle.evt_types.specs.{declared.Encoding.the-variants.Evt2, Event.Event, Event.eventsOf}
 use Rattle.evt2_decoder.specs.declared.Evt2Decoder.{Evt2Decoder}
-use Rattle.evt_types.specs.Event.{Event, eventsOf}
 use Rattle.evt_types.specs.Layout.{type2, timeLow2, x2, y2, event-type2, event-low2, event-x2, event-y2, event-fits2, time-type2, time-high2, time-fits2}
 use Rattle.evt2_decoder.specs.Evt2 as Reader
 use Rattle.evt2_decoder.specs.Evt2.{fresh2, period2, threshold2, step2, vector2, reader2, time-word, event-word}
 use Rattle.read_columns.specs.Inside.{clock}
-use Rattle.write_buffer.specs.declared.EncoderState.{EncoderState}
-use Rattle.write_buffer.specs.Sent.{freshState, carries, due}
+use Rattle.write_buffer.specs.{declared.EncoderState.EncoderState, Sent.freshState, Sent.carries, Sent.due}
 use Rattle.evt2_encoder.specs.Evt2.{highWord2, wordOf2, highSent2, encode2, writer2, encode-notes2}
 use Rattle.laws_formats.specs.Ready.{limit, sayable, Ready, Holds, holds-sent, Sayable, sayable-true, no-event, one-event}
 
@@ -74,7 +69,8 @@ module _ (d : Evt2Decoder) (e : Event) (f : Sayable (limit Evt2) e) (on : d .ini
   by-event = event-word d w (type2 w) refl (omega (arith, is-p, f .p<)) on
 
   pub event-emits : eventsOf (vector2 d w) ≡ e ∷ []
-  event-emits = ap eventsOf (by-event .1) ∙ one-event (x2 w) (y2 w) (d .«time_high» + timeLow2 w) (type2 w) (omega (arith, is-x, f .x<)) ∙ rw (is-x, is-y, is-t, is-p)
+  event-emits =
+      ap eventsOf (by-event .1) ∙ one-event (x2 w) (y2 w) (d .«time_high» + timeLow2 w) (type2 w) (omega (arith, is-x, f .x<)) ∙ rw (is-x, is-y, is-t, is-p)
 
   pub event-steps : step2 d w ≡ record { initialised = d .initialised; «time_high» = d .«time_high»; time = e .t; «high_loops» = d .«high_loops» }
   event-steps = by-event .0 ∙ rw is-t
@@ -99,7 +95,8 @@ module _ (d : Evt2Decoder) (t : ℕ) (low : d .«high_loops» * period2 ≤ t) (
   q< : q < 2 ^ 28
   q< = omega arith
 
-  by-time : (step2 d (highWord2 t) ≡ Reader.stepAs Reader.timeHigh d (highWord2 t)) × (vector2 d (highWord2 t) ≡ Reader.vectorAs Reader.timeHigh d (highWord2 t))
+  by-time : (step2 d (highWord2 t) ≡ Reader.stepAs Reader.timeHigh d (highWord2 t))
+      × (vector2 d (highWord2 t) ≡ Reader.vectorAs Reader.timeHigh d (highWord2 t))
   by-time = time-word d (highWord2 t) (type2 (highWord2 t)) refl (time-type2 q q<)
 
   pub high-fits : highWord2 t < 256 ^ 4
@@ -125,7 +122,11 @@ group-as false d e more h rd =
     let high : e .t < d .«high_loops» * period2 + period2 = omega (arith, f .t<) in
     let next : Evt2Decoder = record { initialised = true; «time_high» = e .t / 64 * 64; time = e .t / 64 * 64; «high_loops» = d .«high_loops» } in
     let up : step2 d (highWord2 (e .t)) ≡ next = high-steps d (e .t) low high le in
-    let r = said-event next e f refl refl more (record { counted = omega arith; past = omega arith; rises = rise-first clock (sayable (limit Evt2)) (d .time) (e .t / 64 * 64) e more (omega arith) (rd .rises) }) in
+    let r = said-event next e f refl refl more (record {
+      counted = omega arith;
+      past = omega arith;
+      rises = rise-first clock (sayable (limit Evt2)) (d .time) (e .t / 64 * 64) e more (omega arith) (rd .rises);
+    }) in
     (record { ready = rd; fits = high-fits d (e .t) low high le; says = high-emits d (e .t) low high le; rest = rw up (r .0) }, rw up (r .1))
 
 pub lawful2 : Lawful format2

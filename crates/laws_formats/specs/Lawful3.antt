@@ -7,24 +7,18 @@ use native.Mathlib.Omega.{arith}
 use lib.Dec.{eqb}
 use lib.ListN.{length, getD}
 use borrow.Author.Tests.{eqb-true}
-use Rattle.laws_stream.specs.Machine.{Note, run, words, notes}
-use Rattle.laws_stream.specs.Format.{Format, Lawful, Good}
-use Rattle.laws_stream.specs.Loop.{tracks-same}
-use Rattle.laws_stream.specs.Mask.{Inc, mask, bits, bits-mask, mask-lt}
-use Rattle.laws_stream.specs.Order.{Rise, rise-from, rise-suffix}
-use Rattle.evt_types.specs.declared.Encoding.the-variants.{Evt3}
-use Rattle.evt3_decoder.specs.declared.Decoder.{Decoder}
-use Rattle.evt_types.specs.declared.Sent.{Sent}
-use Rattle.evt_types.specs.declared.vector.Vector.{Vector}
-use Rattle.evt_types.specs.Event.{Event, eventAt, eventsOf}
-use Rattle.evt_types.specs.Layout.{type3, x3, polarity3, mask12, time3, word-type3, word-time3, word-mask12, word-y3, word-fits3, column-type3, column-polarity3, column-x3, column-fits3}
-use Rattle.evt3_decoder.specs.Evt3.{fresh3, period3, threshold3, atCoarse, past, number, step3, vector3, reader3, stepAs, vectorAs, kindOn, started-word, first-word}
+use Rattle.laws_stream.specs.{Machine.Note, Machine.run, Machine.words, Machine.notes, Format.Format, Format.Lawful, Format.Good, Loop.tracks-same}
+use Rattle.laws_stream.specs.{Mask.Inc, Mask.mask, Mask.bits, Mask.bits-mask, Mask.mask-lt, Order.Rise, Order.rise-from, Order.rise-suffix}
+use Rattle.evt_types.specs.{declared.Encoding.the-variants.Evt3, declared.Sent.Sent, declared.vector.Vector.Vector, Event.Event, Event.eventAt}
+use Rattle.evt_types.specs.{Event.eventsOf, Layout.column-polarity3, Layout.column-x3, Layout.column-fits3}
+use Rattle.evt3_decoder.specs.{declared.Decoder.Decoder, Evt3.first-word}
+use Rattle.evt_types.specs.Layout.{type3, x3, polarity3, mask12, time3, word-type3, word-time3, word-mask12, word-y3, word-fits3, column-type3}
+use Rattle.evt3_decoder.specs.Evt3.{fresh3, period3, threshold3, atCoarse, past, number, step3, vector3, reader3, stepAs, vectorAs, kindOn, started-word}
 use Rattle.read_columns.specs.Inside.{clock}
-use Rattle.write_buffer.specs.declared.EncoderState.{EncoderState}
-use Rattle.write_buffer.specs.Columns.{event}
-use Rattle.write_buffer.specs.Sent.{freshState, sentIs, due}
+use Rattle.write_buffer.specs.{declared.EncoderState.EncoderState, Columns.event, Sent.freshState, Sent.sentIs, Sent.due}
 use Rattle.evt3_run_rules.specs.Runs.{Run, given, spread, Rising, Valid, firstX, lastX}
-use Rattle.evt3_lead_words.specs.Evt3.{highWord3, lowWord3, rowWord3, lowKept, highSent3, lowSent3, rowSent3, leads3, singleWord3, baseWord3, maskWord3, nearby, beyond, maskCount, vectored, singles, masks, vectors, body3, encode3, encoded3, writer3}
+use Rattle.evt3_lead_words.specs.Evt3.{highWord3, lowWord3, rowWord3, lowKept, highSent3, lowSent3, rowSent3, leads3, singleWord3, baseWord3, maskWord3, nearby}
+use Rattle.evt3_lead_words.specs.Evt3.{beyond, maskCount, vectored, singles, masks, vectors, body3, encode3, encoded3, writer3}
 use Rattle.evt3_run_words.specs.Masks.{near-inc}
 use Rattle.write_words.specs.Laws.{reach, spread-is, none-left, singles-notes, masks-notes, body-notes, due-notes, encode-notes3}
 use Rattle.laws_formats.specs.Ready.{limit, sayable, Ready, Holds, holds-sent, Sayable, sayable-true, no-event, one-event}
@@ -89,7 +83,8 @@ said-word t y d d′ w es left ns more st em fits nl rd next = (
 
 -- ---- events one by one
 
-said-singles : (t y p : ℕ) (xs : List ℕ) (d : Decoder) (more : List Event) → Fixed t y d → Rises t (spread t y p xs ++ more) → Reads t y d (singles t y p xs) more
+said-singles : (t y p : ℕ) (xs : List ℕ) (d : Decoder) (more : List Event) → Fixed t y d → Rises t (spread t y p xs ++ more)
+    → Reads t y d (singles t y p xs) more
 said-singles t y p [] d more f r = (fixed-ready t y d more f r, f)
 said-singles t y p (x ∷ xs) d more f r =
     let g = sayable-true (limit Evt3) (event x y t p) (r .0 .fine) in
@@ -112,7 +107,8 @@ spread-at v b to (x ∷ xs) h i =
     let e : min x 65535 ≡ x = omega (arith, i .1) in
     rw (e, spread-at v (suc x) to xs h (i .2))
 
-mask-events : (v : Vector) (xs : List ℕ) → v .x + 12 ≤ 65536 → v .mask ≡ mask (v .x) xs → Inc (v .x) (v .x + 12) xs → eventsOf v ≡ spread (v .t) (v .y) (v .p) xs
+mask-events : (v : Vector) (xs : List ℕ) → v .x + 12 ≤ 65536 → v .mask ≡ mask (v .x) xs → Inc (v .x) (v .x + 12) xs
+    → eventsOf v ≡ spread (v .t) (v .y) (v .p) xs
 mask-events v xs h e i =
     ap (λ (m : ℕ). map (eventAt v) (bits 32 (v .x) m)) e
     ∙ ap (map (eventAt v)) (bits-mask 32 (v .x) (v .x + 12) (v .x) xs (omega arith) (omega arith) i)
@@ -137,8 +133,10 @@ said-masks t y p (suc k) b xs d more f eb ep fits i r =
     let inc : Inc (d .«base_x») (d .«base_x» + 12) near = rw eb (n .0) in
     said-word t y d (past 12 d) w (spread t y p near) (spread t y p far) (masks t y p k (b + 12) far) more (by .0)
     (ap eventsOf (by .1) ∙ mask-events (vectorAs (kindOn 4) d w) near (omega arith) is-mask inc ∙ rw (f .at-time, f .at-row, ep))
-    (word-fits3 4 (mask b near % 4096) (omega arith) m<) (masks-notes t y p k (b + 12) far i′) (fixed-ready t y d (spread t y p near ++ (spread t y p far ++ more)) f r₂)
-    (said-masks t y p k (b + 12) far (past 12 d) more (record { on = f .on; counted = f .counted; at-coarse = f .at-coarse; at-time = f .at-time; at-row = f .at-row })
+    (word-fits3 4 (mask b near % 4096) (omega arith) m<) (masks-notes t y p k (b + 12) far i′)
+    (fixed-ready t y d (spread t y p near ++ (spread t y p far ++ more)) f r₂)
+    (said-masks t y p k (b + 12) far (past 12 d) more
+    (record { on = f .on; counted = f .counted; at-coarse = f .at-coarse; at-time = f .at-time; at-row = f .at-row })
     next ep (omega arith) i′ (rise-suffix clock (sayable (limit Evt3)) t (spread t y p near) (spread t y p far ++ more) r₂))
 
 -- ---- the columns of a run
@@ -176,7 +174,8 @@ module _ (t y p : ℕ) (xs : List ℕ) (v : Rising xs) (more : List Event) (r : 
       let is-p : polarity3 w ≡ p = column-polarity3 3 (p % 2) (x % 2048) (omega arith) p2 xm ∙ omega (arith, fine .p<) in
       let by = started-word d w (type3 w) refl 3 (column-type3 3 (p % 2) (x % 2048) (omega arith) p2 xm) (f .on) in
       said-word t y d (stepAs (kindOn 3) d w) w [] (spread t y p xs) (masks t y p (maskCount xs) x xs) more (by .0) (ap eventsOf (by .1) ∙ no-event)
-      (column-fits3 3 (p % 2) (x % 2048) (omega arith) p2 xm) (masks-notes t y p (maskCount xs) x xs (reach xs v)) (fixed-ready t y d (spread t y p xs ++ more) f r)
+      (column-fits3 3 (p % 2) (x % 2048) (omega arith) p2 xm) (masks-notes t y p (maskCount xs) x xs (reach xs v))
+      (fixed-ready t y d (spread t y p xs ++ more) f r)
       (said-masks t y p (maskCount xs) x xs (stepAs (kindOn 3) d w) more
       (record { on = f .on; counted = f .counted; at-coarse = f .at-coarse; at-time = f .at-time; at-row = f .at-row })
       is-x (ap (λ (q : ℕ). number (eqb q 1)) is-p ∙ number-is p (fine .p<)) (omega (arith, fine .x<)) (reach xs v) r)
@@ -202,7 +201,13 @@ module _ (t y p : ℕ) (xs : List ℕ) (v : Rising xs) (more : List Event) (r : 
       let by = started-word d w (type3 w) refl 0 (word-type3 0 (y % 2048) (omega arith) (omega arith)) (f .on) in
       said-word t y d (stepAs (kindOn 0) d w) w [] (spread t y p xs) here more (by .0) (ap eventsOf (by .1) ∙ no-event)
       (word-fits3 0 (y % 2048) (omega arith) (omega arith)) (body-notes t y p xs v) (fixed-ready t (d .y) d (spread t y p xs ++ more) f r)
-      (said-body (stepAs (kindOn 0) d w) (record { on = f .on; counted = f .counted; at-coarse = f .at-coarse; at-time = f .at-time; at-row = word-y3 0 (y % 2048) (omega arith) y< .0 ∙ omega (arith, fine .y<) }))
+      (said-body (stepAs (kindOn 0) d w) (record {
+        on = f .on;
+        counted = f .counted;
+        at-coarse = f .at-coarse;
+        at-time = f .at-time;
+        at-row = word-y3 0 (y % 2048) (omega arith) y< .0 ∙ omega (arith, fine .y<);
+      }))
 
   said-low : (lo ro : Bool) (d : Decoder) → d .initialised ≡ true → d .«time_base» ≡ t / 4096 * 4096 → Ready3 d (spread t y p xs ++ more)
       → (lo ≡ true → d .time ≡ t) → (ro ≡ true → d .y ≡ y) → Reads t y d (due lo (lowWord3 t) ++ (due ro (rowWord3 y) ++ here)) more
@@ -249,14 +254,20 @@ module _ (t y p : ℕ) (xs : List ℕ) (v : Rising xs) (more : List Event) (r : 
       let low : d .«high_loops» * period3 ≤ t = omega (arith, rd .counted, rd .past) in
       let q = high-word (d .initialised) d refl low (omega (arith, rd .past)) in
       said-word t y d d′ w [] (spread t y p xs) (due lo (lowWord3 t) ++ (due ro (rowWord3 y) ++ here)) more (q .0) (q .1)
-      (word-fits3 8 (t / 4096 % 4096) (omega arith) (omega arith)) (due-notes lo (lowWord3 t) (due ro (rowWord3 y) ++ here) ∙ due-notes ro (rowWord3 y) here ∙ body-notes t y p xs v) rd
+      (word-fits3 8 (t / 4096 % 4096) (omega arith) (omega arith))
+      (due-notes lo (lowWord3 t) (due ro (rowWord3 y) ++ here) ∙ due-notes ro (rowWord3 y) here ∙ body-notes t y p xs v) rd
       (said-low lo ro d′ refl refl
-      (record { counted = omega arith; past = omega arith; rises = rise-from clock (sayable (limit Evt3)) (t / 4096 * 4096) t (spread t y p xs ++ more) (omega arith) r })
+      (record {
+        counted = omega arith;
+        past = omega arith;
+        rises = rise-from clock (sayable (limit Evt3)) (t / 4096 * 4096) t (spread t y p xs ++ more) (omega arith) r;
+      })
       (λ e. omega (arith, ht e .1 refl)) hr)
 
 -- ---- the law
 
-rise-run : (t y p from : ℕ) (xs : List ℕ) (more : List Event) → 1 ≤ length xs → Rises from (spread t y p xs ++ more) → Rises t (spread t y p xs ++ more) × (from ≤ t)
+rise-run : (t y p from : ℕ) (xs : List ℕ) (more : List Event) → 1 ≤ length xs → Rises from (spread t y p xs ++ more)
+    → Rises t (spread t y p xs ++ more) × (from ≤ t)
 rise-run t y p from [] more h r = absurd (omega arith)
 rise-run t y p from (x ∷ xs) more h r = ((record { rises = omega arith; fine = r .0 .fine }, r .1), r .0 .rises)
 
@@ -265,7 +276,8 @@ low-sent true l q e = ((λ f. e), (λ f. absurd (true≢false f)))
 low-sent false l q e = ((λ f. absurd (true≢false (sym f))), (λ f. sym (eqb-true 0 q e)))
 
 encode-is : (v : EncoderState) (r : Run)
-    → encode3 v r ≡ due (highSent3 v (r .t)) (highWord3 (r .t)) ++ (due (lowSent3 v (r .t)) (lowWord3 (r .t)) ++ (due (rowSent3 v (r .y)) (rowWord3 (r .y)) ++ body3 (r .t) (r .y) (r .p) (r .xs)))
+    → encode3 v r ≡ due (highSent3 v (r .t)) (highWord3 (r .t))
+    ++ (due (lowSent3 v (r .t)) (lowWord3 (r .t)) ++ (due (rowSent3 v (r .y)) (rowWord3 (r .y)) ++ body3 (r .t) (r .y) (r .p) (r .xs)))
 unfolding encode3 leads3
 encode-is v r = simp append-assoc
 

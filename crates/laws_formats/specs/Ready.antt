@@ -6,19 +6,13 @@ use Prim.Native.Nat.{ℕ, _*_, _^_, _≤_, _<_, min}
 use native.Mathlib.Omega.{arith}
 use lib.Dec.{leb, ltb}
 use borrow.Author.Tests.{leb-true, ltb-true, eqb-true}
-use Rattle.laws_stream.specs.Machine.{and-both}
-use Rattle.laws_stream.specs.Mask.{bits-zero, bits-one}
-use Rattle.laws_stream.specs.Order.{Rise}
-use Rattle.evt_types.specs.declared.Encoding.{Encoding}
-use Rattle.evt_types.specs.declared.Encoding.the-variants.{Evt2, Evt3}
-use Rattle.evt_types.specs.declared.Sent.{Sent}
-use Rattle.evt_types.specs.declared.Sent.the-variants.{Nothing, Value}
-use Rattle.evt_types.specs.Event.{Event, eventsOf, noEvents}
+use Rattle.laws_stream.specs.{Machine.and-both, Mask.bits-zero, Mask.bits-one, Order.Rise}
+use Rattle.evt_types.specs.declared.{Encoding.Encoding, Encoding.the-variants.Evt2, Encoding.the-variants.Evt3, Sent.Sent, Sent.the-variants.Nothing}
+use Rattle.evt_types.specs.{declared.Sent.the-variants.Value, Event.Event, Event.eventsOf, Event.noEvents}
 use Rattle.evt2_decoder.specs.Evt2.{period2}
 use Rattle.evt3_decoder.specs.Evt3.{period3}
 use Rattle.read_columns.specs.Inside.{clock}
-use Rattle.write_buffer.specs.Columns.{event}
-use Rattle.write_buffer.specs.Sent.{sentIs}
+use Rattle.write_buffer.specs.{Columns.event, Sent.sentIs}
 
 -- the times that a writer's words can say, those of the first loop: rule 7's bound is not above it
 abbrev pub limit : Encoding → ℕ

@@ -10,8 +10,7 @@ use lib.ListN.{length, take, drop, length-append, length-drop}
 use lib.Seq.{take-append-le, drop-append-le}
 use borrow.Author.Tests.{leb-true, leb-false}
 use Rattle.laws_stream.specs.Machine.{Note}
-use Rattle.evt_types.specs.Event.{Event}
-use Rattle.evt_types.specs.declared.Encoding.{Encoding}
+use Rattle.evt_types.specs.{Event.Event, declared.Encoding.Encoding}
 use Rattle.slice_rules.specs.declared.SliceAnswer.{SliceAnswer}
 use Rattle.laws_handover.specs.Handover.{Call, acceptedEvents, streamOf, streamWords, fresh, others, joined, numbered, Gives, Exact, Claim}
 use Rattle.laws_handover.specs.Proof.{Sent, fresh-sent, joinedWords, joined-sent, exact-whole, claim}
@@ -42,10 +41,12 @@ module _ (e : Encoding) where
   Owed ws [] = Unit
   Owed ws (t ∷ ts) = (acceptedEvents (fresh e) (t .calls) ≡ others e (t .cut) ws) × Owed (joinedWords e (t .cut) ws (t .calls)) ts
 
-  sent-after : (bytes : List ℕ) (ws : List (Note ℕ Event)) (es : List Event) → Sent e bytes ws es → (ts : List Turn) → Owed ws ts → Sent e (bytesAfter bytes ts) (wordsAfter ws ts) es
+  sent-after : (bytes : List ℕ) (ws : List (Note ℕ Event)) (es : List Event) → Sent e bytes ws es → (ts : List Turn) → Owed ws ts
+      → Sent e (bytesAfter bytes ts) (wordsAfter ws ts) es
   sent-after bytes ws es s [] o = s
   sent-after bytes ws es s (t ∷ ts) o =
-      sent-after (joined e (t .cut) bytes (t .calls)) (joinedWords e (t .cut) ws (t .calls)) es (joined-sent e bytes ws es s (t .cut) (t .calls) (o .0)) ts (o .1)
+      sent-after (joined e (t .cut) bytes (t .calls)) (joinedWords e (t .cut) ws (t .calls)) es
+      (joined-sent e bytes ws es s (t .cut) (t .calls) (o .0)) ts (o .1)
 
   pub claim-after : (calls : List Call) (ts : List Turn) → Owed (streamWords (fresh e) calls) ts → (cut : ℕ)
       → Claim e (bytesAfter (streamOf (fresh e) calls) ts) (wordsAfter (streamWords (fresh e) calls) ts) (acceptedEvents (fresh e) calls) cut
@@ -87,7 +88,8 @@ pub record Same (r₁ r₂ : SliceAnswer) (xs₁ xs₂ ys₁ ys₂ : List ℕ) (
   pub column-t : ts₁ ≡ ts₂
   pub column-p : ps₁ ≡ ps₂
 
-pub slices-same : (part : List Event) (xs₀ ys₀ : List ℕ) (ts₀ : List ℤ) (ps₀ : List ℕ) (r₁ r₂ : SliceAnswer) (xs₁ xs₂ ys₁ ys₂ : List ℕ) (ts₁ ts₂ : List ℤ) (ps₁ ps₂ : List ℕ)
+pub slices-same : (part : List Event) (xs₀ ys₀ : List ℕ) (ts₀ : List ℤ) (ps₀ : List ℕ) (r₁ r₂ : SliceAnswer) (xs₁ xs₂ ys₁ ys₂ : List ℕ)
+    (ts₁ ts₂ : List ℤ) (ps₁ ps₂ : List ℕ)
     → Gives part r₁ xs₀ ys₀ ts₀ ps₀ xs₁ ys₁ ts₁ ps₁ → Gives part r₂ xs₀ ys₀ ts₀ ps₀ xs₂ ys₂ ts₂ ps₂ → Same r₁ r₂ xs₁ xs₂ ys₁ ys₂ ts₁ ts₂ ps₁ ps₂
 slices-same part xs₀ ys₀ ts₀ ps₀ r₁ r₂ xs₁ xs₂ ys₁ ys₂ ts₁ ts₂ ps₁ ps₂ a b = record {
   answer = a .count ∙ sym (b .count);

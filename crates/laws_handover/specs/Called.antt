@@ -1,22 +1,16 @@
 -- DEMAND 3 OF CALLS THAT RAN, proved: what appends wrote is the stream of their calls, of which `demand-three` speaks.
-use mathlib.Core.Path.{_≡_, refl, sym, ap, subst, _∙_}
-use mathlib.Core.List.{List, [], _∷_, _++_, map}
-use Prim.Native.Nat.{ℕ, _*_, _/_, _^_, _≤_}
+use mathlib.Core.Path.{_≡_, sym, ap, _∙_}
+use mathlib.Core.List.{List, _++_, map}
+use Prim.Native.Nat.{ℕ, _^_, _≤_}
 use lib.IntN.{ℤ}
 use lib.ListN.{length, take, drop, length-map}
 use lib.Seq.{take-at}
-use Rattle.evt_types.specs.Columns.{colX, colY, colT, colP}
-use Rattle.evt_types.specs.Event.{Event}
-use Rattle.evt_types.specs.declared.Encoding.{Encoding}
-use Rattle.index_build.specs.declared.Opening.{Opening}
-use Rattle.index_build.specs.declared.OpenAnswer.the-variants.{Opened}
-use Rattle.index_build.specs.Index.{recordCount, sourceOf}
-use Rattle.slice_rules.specs.declared.SliceAnswer.{SliceAnswer}
-use Rattle.slice_rules.specs.declared.SliceAnswer.the-variants.{Sliced}
-use Rattle.write_words.specs.Encode.{encodeSize}
-use Rattle.laws_handover.specs.Handover.{acceptedEvents, streamOf, fresh, widest, Suits, Exact, Reads, Ran, Chained, callsOf, allWritten, Columns, Holds, Index, Alike, ReadBack, CutAndResumed, DemandThreeRan, numbered, duringTimes, NumberRan, TimeRan, room, ByNumber, ByTime}
-use Rattle.laws_handover.specs.Proof.{demand-three}
-use Rattle.laws_handover.specs.Ran.{ran-written}
+use Rattle.evt_types.specs.{Columns.colX, Columns.colY, Columns.colT, Columns.colP, Event.Event, declared.Encoding.Encoding}
+use Rattle.index_build.specs.{declared.OpenAnswer.the-variants.Opened, declared.Opening.Opening, Index.recordCount, Index.sourceOf}
+use Rattle.slice_rules.specs.declared.{SliceAnswer.SliceAnswer, SliceAnswer.the-variants.Sliced}
+use Rattle.laws_handover.specs.{Handover.fresh, Handover.widest, Handover.Suits, Handover.Exact, Handover.Reads, Handover.callsOf}
+use Rattle.laws_handover.specs.{Handover.Columns, Handover.Holds, Handover.ByTime, Proof.demand-three, Ran.ran-written}
+use Rattle.laws_handover.specs.Handover.{Index, Alike, ReadBack, DemandThreeRan, numbered, duringTimes, NumberRan, TimeRan, room, ByNumber}
 
 -- ---- two callers
 
@@ -26,7 +20,8 @@ front-same f part old now old′ now′ a b =
     ap (take (length part)) a ∙ take-at (map f part) (drop (length part) old) (length part) (length-map part f)
     ∙ sym (ap (take (length part)) b ∙ take-at (map f part) (drop (length part) old′) (length part) (length-map part f))
 
-alike : (part : List Event) (r q : SliceAnswer) (c₀ c d₀ d : Columns) → (r ≡ Sliced (length part)) × Holds part c₀ c → (q ≡ Sliced (length part)) × Holds part d₀ d
+alike : (part : List Event) (r q : SliceAnswer) (c₀ c d₀ d : Columns) → (r ≡ Sliced (length part)) × Holds part c₀ c
+    → (q ≡ Sliced (length part)) × Holds part d₀ d
     → Alike (length part) r q c d
 alike part r q c₀ c d₀ d a b = record {
   first = a .0;
@@ -44,7 +39,8 @@ module _ (e : Encoding) (bytes : List ℕ) (es : List Event) (reads : Reads e wi
   openedAs spacing = record { source = sourceOf (length bytes) 0 e widest spacing es; records = recordCount (length bytes) spacing }
 
   module _ (x : Index e bytes) where
-    indexed : (x .answer ≡ Opened (openedAs (x .spacing))) × ByNumber bytes es (openedAs (x .spacing) .source) (take (openedAs (x .spacing) .records) (x .records))
+    indexed : (x .answer ≡ Opened (openedAs (x .spacing)))
+        × ByNumber bytes es (openedAs (x .spacing) .source) (take (openedAs (x .spacing) .records) (x .records))
         × ByTime bytes es (openedAs (x .spacing) .source) (take (openedAs (x .spacing) .records) (x .records))
     indexed = reads .indexes (x .spacing) (x .allowed) (x .answer) (x .records₀) (x .records) (x .ran) (x .enough)
 

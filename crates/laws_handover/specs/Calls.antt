@@ -9,25 +9,17 @@ use lib.IntN.{ℤ, pos, negsuc}
 use lib.Signed.{ltZ, nonNeg}
 use lib.Dec.{ltb}
 use borrow.Author.Tests.{ltb-false, le-ltb}
-use Rattle.laws_stream.specs.Machine.{and-both, Note, All, notes}
-use Rattle.laws_stream.specs.Order.{Rise, lastOf, rise-append}
-use Rattle.evt_types.specs.Event.{Event}
-use Rattle.evt_types.specs.declared.Encoding.{Encoding}
-use Rattle.evt_types.specs.declared.Encoding.the-variants.{Evt2, Evt3}
+use Rattle.laws_stream.specs.{Machine.and-both, Machine.Note, Machine.All, Machine.notes, Order.Rise, Order.lastOf, Order.rise-append}
+use Rattle.evt_types.specs.{Event.Event, Num.natural}
+use Rattle.evt_types.specs.declared.{Encoding.Encoding, Encoding.the-variants.Evt2, Encoding.the-variants.Evt3}
 use Rattle.read_columns.specs.Inside.{clock}
-use Rattle.write_buffer.specs.declared.EncoderState.{EncoderState}
-use Rattle.write_buffer.specs.Columns.{eventsIn}
-use Rattle.evt_types.specs.Num.{natural}
+use Rattle.write_buffer.specs.{declared.EncoderState.EncoderState, Columns.eventsIn}
 use Rattle.write_words.specs.Encode.{encodeNotes, encodeBytes}
-use Rattle.laws_formats.specs.Ready.{limit, sayable}
-use Rattle.laws_formats.specs.Either.{freshOf}
+use Rattle.laws_formats.specs.{Ready.limit, Ready.sayable, Either.freshOf}
 use Rattle.laws_formats.specs.Appends.{flat, appendNotes, noteBytes, appendBytes, bytes-next, notes-all, Understood, fresh-understood}
-use Rattle.write_rules.specs.declared.LastTime.{LastTime}
-use Rattle.write_rules.specs.declared.LastTime.the-variants.{Never, At}
-use Rattle.write_rules.specs.declared.RawEventSink.{RawEventSink}
+use Rattle.write_rules.specs.declared.{LastTime.LastTime, LastTime.the-variants.Never, LastTime.the-variants.At, RawEventSink.RawEventSink}
 use Rattle.write_rules.specs.Range.{timeBound, timeInRange, every, atMost, falls, fallsAfter, lastInRange, sinkInRange}
-use Rattle.write_append.specs.Append.{lastAfter, sends, nextSink, appendOutcome}
-use Rattle.write_append.specs.Ends.{accepts-checked, by-acceptance}
+use Rattle.write_append.specs.{Append.lastAfter, Append.sends, Append.nextSink, Append.appendOutcome, Ends.accepts-checked, Ends.by-acceptance}
 use Rattle.write_rules.specs.Checks.{Checked, checked-of, or-neither}
 use Rattle.laws_handover.specs.Handover.{Call, isAccepted, next, callBytes, callEvents, callWords, acceptedEvents, streamOf, streamWords, fresh, Typed}
 use Rattle.laws_handover.specs.EventWords.{append-typed}
@@ -94,7 +86,8 @@ groups-events s [] = refl
 groups-events s (c ∷ cs) = rw (by-call s c .0) (groups-go (isAccepted s c) s c cs (λ u. groups-events u cs))
 
 -- their words
-words-go : (b : Bool) (s : RawEventSink) (c : Call) (cs : List Call) → ((u : RawEventSink) → streamWords u cs ≡ appendNotes (u .version) (u .state) (groupsOf u cs))
+words-go : (b : Bool) (s : RawEventSink) (c : Call) (cs : List Call)
+    → ((u : RawEventSink) → streamWords u cs ≡ appendNotes (u .version) (u .state) (groupsOf u cs))
     → cond b (encodeNotes (s .version) (s .state) (columns s c)) [] ++ streamWords (cond b (later s c) s) cs
     ≡ appendNotes (s .version) (s .state) (cond b (columns s c ∷ []) [] ++ groupsOf (cond b (later s c) s) cs)
 words-go true s c cs ih = ap (λ (l : List (Note ℕ Event)). encodeNotes (s .version) (s .state) (columns s c) ++ l) (ih (later s c))
@@ -153,8 +146,10 @@ module _ (e : Encoding) where
   abbrev pub Rises : ℕ → List Event → Type 0
   Rises = Rise clock (sayable (timeBound e))
 
-  columns-rise : (from : ℕ) (l : LastTime) (xs ys : List ℕ) (ts : List ℤ) (ps : List ℕ) → length ys ≡ length xs → length ts ≡ length xs → length ps ≡ length xs → lastTime l ≡ from
-      → falls (pos from) ts ≡ false → every (atMost 2047) xs ≡ true → every (atMost 2047) ys ≡ true → every (atMost 1) ps ≡ true → every (timeInRange e) ts ≡ true
+  columns-rise : (from : ℕ) (l : LastTime) (xs ys : List ℕ) (ts : List ℤ) (ps : List ℕ) → length ys ≡ length xs → length ts ≡ length xs
+      → length ps ≡ length xs → lastTime l ≡ from
+      → falls (pos from) ts ≡ false → every (atMost 2047) xs ≡ true → every (atMost 2047) ys ≡ true → every (atMost 1) ps ≡ true
+      → every (timeInRange e) ts ≡ true
       → Rises from (eventsIn xs ys ts ps) × (lastTime (lastAfter l ts) ≡ lastOf clock (sayable (timeBound e)) from (eventsIn xs ys ts ps))
   unfolding falls every lastAfter
   columns-rise from l [] ys [] ps ey et ep el f hx hy hp ht = (tt, el)
@@ -174,7 +169,8 @@ module _ (e : Encoding) where
       ((record { rises = not-before t from (b .0) (g .0); fine = rw (ax .0, ay .0, ap′ .0, b .1) }, r .0), r .1)
 
   -- by the writer's last time, or by 0 before any
-  falls-from : (l : LastTime) (ts : List ℤ) → fallsAfter l ts ≡ false → every (timeInRange e) ts ≡ true → (v : EncoderState) (n : ℕ) → lastInRange e v n l ≡ true → falls (pos (lastTime l)) ts ≡ false
+  falls-from : (l : LastTime) (ts : List ℤ) → fallsAfter l ts ≡ false → every (timeInRange e) ts ≡ true → (v : EncoderState) (n : ℕ)
+      → lastInRange e v n l ≡ true → falls (pos (lastTime l)) ts ≡ false
   unfolding falls every
   falls-from Never [] f h v n k = refl
   falls-from Never (t ∷ ts) f h v n k =
@@ -196,14 +192,16 @@ call-rise s c h =
     let b = and-both (every (atMost 2047) (c .ys)) _ (a .1) in
     let d = and-both (every (atMost 1) (c .ps)) (every (timeInRange (s .version)) (c .ts)) (b .1) in
     let f = falls-from (s .version) (s .«last_t») (c .ts) (k .rising) (d .1) (s .state) (s .«n_events») (k .in-range) in
-    columns-rise (s .version) (lastTime (s .«last_t»)) (s .«last_t») (c .xs) (c .ys) (c .ts) (c .ps) (z .same-y) (z .same-t) (z .same-p) refl f (a .0) (b .0) (d .0) (d .1)
+    columns-rise (s .version) (lastTime (s .«last_t»)) (s .«last_t») (c .xs) (c .ys) (c .ts) (c .ps) (z .same-y) (z .same-t) (z .same-p)
+    refl f (a .0) (b .0) (d .0) (d .1)
 
 rise-go : (b : Bool) (s : RawEventSink) (c : Call) (cs : List Call) → isAccepted s c ≡ b
     → ((u : RawEventSink) → Rises (u .version) (lastTime (u .«last_t»)) (acceptedEvents u cs))
     → Rises (s .version) (lastTime (s .«last_t»)) (cond b (columns s c) [] ++ acceptedEvents (cond b (later s c) s) cs)
 rise-go true s c cs h ih =
     let r = call-rise s c h in
-    rise-append clock (sayable (timeBound (s .version))) (lastTime (s .«last_t»)) (columns s c) (acceptedEvents (later s c) cs) (r .0) (rw (← r .1) (ih (later s c)))
+    rise-append clock (sayable (timeBound (s .version))) (lastTime (s .«last_t»)) (columns s c) (acceptedEvents (later s c) cs) (r .0)
+    (rw (← r .1) (ih (later s c)))
 rise-go false s c cs h ih = ih s
 
 -- they begin no earlier than the writer's last time

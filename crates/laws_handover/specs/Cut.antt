@@ -34,7 +34,8 @@ module _ (size cut : ℕ) (sized : 0 < size) where
 
   -- from word k on, which begins at byte `at`
   whole-as : (b : Bool) (k at : ℕ) (w : Note ℕ Event) (ws : List (Note ℕ Event)) → at ≡ k * size → leb (at + size) cut ≡ b
-      → wholeBefore size cut (at + size) ws ≡ notes (take (cut / size - suc k) ws) → cond b (w .events) [] ++ wholeBefore size cut (at + size) ws ≡ notes (take (cut / size - k) (w ∷ ws))
+      → wholeBefore size cut (at + size) ws ≡ notes (take (cut / size - suc k) ws)
+      → cond b (w .events) [] ++ wholeBefore size cut (at + size) ws ≡ notes (take (cut / size - k) (w ∷ ws))
   whole-as true k at w ws h q ih = rw (in-front k at h q, ih)
   whole-as false k at w ws h q ih = let z = behind k at h q in ih ∙ rw (z .0, z .1)
 
@@ -43,7 +44,8 @@ module _ (size cut : ℕ) (sized : 0 < size) where
   whole-from k at (w ∷ ws) h = whole-as (leb (at + size) cut) k at w ws h refl (whole-from (suc k) (at + size) ws (omega arith))
 
   broken-as : (b : Bool) (k at : ℕ) (w : Note ℕ Event) (ws : List (Note ℕ Event)) → at ≡ k * size → leb (at + size) cut ≡ b
-      → brokenAfter size cut (at + size) ws ≡ notes (drop (cut / size - suc k) ws) → cond b [] (w .events) ++ brokenAfter size cut (at + size) ws ≡ notes (drop (cut / size - k) (w ∷ ws))
+      → brokenAfter size cut (at + size) ws ≡ notes (drop (cut / size - suc k) ws)
+      → cond b [] (w .events) ++ brokenAfter size cut (at + size) ws ≡ notes (drop (cut / size - k) (w ∷ ws))
   broken-as true k at w ws h q ih = rw (in-front k at h q) ih
   broken-as false k at w ws h q ih = let z = behind k at h q in rw (z .0) (ap (λ (l : List Event). w .events ++ l) (ih ∙ rw (z .1)))
 

@@ -5,17 +5,14 @@ use mathlib.Core.List.{List, [], _∷_, _++_}
 use Prim.Native.Nat.{ℕ, zero, suc, _+_, _%_}
 use native.Mathlib.Omega.{arith}
 use borrow.Author.Tests.{le-leb}
-use Rattle.laws_stream.specs.Machine.{All, all-append, emits}
-use Rattle.laws_stream.specs.Mask.{mask}
-use Rattle.evt_types.specs.Event.{Event}
-use Rattle.evt_types.specs.declared.Encoding.{Encoding}
-use Rattle.evt_types.specs.declared.Encoding.the-variants.{Evt2, Evt3}
-use Rattle.evt_types.specs.Layout.{event-type2, word-type3, column-type3}
-use Rattle.write_buffer.specs.declared.EncoderState.{EncoderState}
-use Rattle.write_buffer.specs.Sent.{carries, due}
+use Rattle.laws_stream.specs.{Machine.All, Machine.all-append, Machine.emits, Mask.mask}
+use Rattle.evt_types.specs.{Event.Event, Layout.event-type2, Layout.word-type3, Layout.column-type3}
+use Rattle.evt_types.specs.declared.{Encoding.Encoding, Encoding.the-variants.Evt2, Encoding.the-variants.Evt3}
+use Rattle.write_buffer.specs.{declared.EncoderState.EncoderState, Sent.carries, Sent.due}
 use Rattle.evt2_encoder.specs.Evt2.{wordOf2, highWord2, highSent2, encode2, encoded2, writer2}
 use Rattle.evt3_run_rules.specs.Runs.{Run, runs, firstX}
-use Rattle.evt3_lead_words.specs.Evt3.{nearby, beyond, maskCount, vectored, singles, masks, vectors, body3, leads3, highWord3, lowWord3, rowWord3, highSent3, lowSent3, rowSent3, encode3, encoded3, writer3}
+use Rattle.evt3_lead_words.specs.Evt3.{nearby, beyond, maskCount, vectored, singles, masks, vectors, body3, leads3, highWord3, lowWord3, rowWord3, highSent3}
+use Rattle.evt3_lead_words.specs.Evt3.{lowSent3, rowSent3, encode3, encoded3, writer3}
 use Rattle.write_words.specs.Encode.{encodeNotes, encodeState}
 use Rattle.laws_formats.specs.Appends.{appendNotes}
 use Rattle.laws_handover.specs.Handover.{isEventWord, Typed}
@@ -27,14 +24,17 @@ due-typed e false w = ((λ h. absurd (omega arith)), tt)
 -- ---- EVT2
 
 event-typed : (a : Event) → isEventWord Evt2 (wordOf2 a) ≡ true
-event-typed a = rw (event-type2 (a .p % 2) (a .t % 64) (a .x % 2048) (a .y % 2048) (omega arith) (omega arith) (omega arith) (omega arith)) (le-leb (a .p % 2) 1 (omega arith))
+event-typed a =
+    rw (event-type2 (a .p % 2) (a .t % 64) (a .x % 2048) (a .y % 2048) (omega arith) (omega arith) (omega arith) (omega arith))
+    (le-leb (a .p % 2) 1 (omega arith))
 
 typed2 : (v : EncoderState) (es : List Event) → All (Typed Evt2) (emits writer2 v es)
 unfolding encode2
 typed2 v [] = tt
 typed2 v (a ∷ es) =
     all-append (Typed Evt2) (encode2 v a) (emits writer2 (encoded2 v a) es)
-    (all-append (Typed Evt2) (due (highSent2 v a) (highWord2 (a .t))) (carries (wordOf2 a) a ∷ []) (due-typed Evt2 (highSent2 v a) (highWord2 (a .t))) ((λ h. event-typed a), tt))
+    (all-append (Typed Evt2) (due (highSent2 v a) (highWord2 (a .t))) (carries (wordOf2 a) a ∷ [])
+    (due-typed Evt2 (highSent2 v a) (highWord2 (a .t))) ((λ h. event-typed a), tt))
     (typed2 (encoded2 v a) es)
 
 -- ---- EVT3
@@ -46,7 +46,8 @@ module _ (t y p : ℕ) where
 
   masks-typed : (k b : ℕ) (xs : List ℕ) → All (Typed Evt3) (masks t y p k b xs)
   masks-typed zero b xs = tt
-  masks-typed (suc k) b xs = ((λ h. rw (word-type3 4 (mask b (nearby (b + 12) xs) % 4096) (omega arith) (omega arith))), masks-typed k (b + 12) (beyond (b + 12) xs))
+  masks-typed (suc k) b xs =
+      ((λ h. rw (word-type3 4 (mask b (nearby (b + 12) xs) % 4096) (omega arith) (omega arith))), masks-typed k (b + 12) (beyond (b + 12) xs))
 
   body-typed : (xs : List ℕ) → All (Typed Evt3) (body3 t y p xs)
   unfolding body3
@@ -69,7 +70,8 @@ unfolding encode3
 typed3 v [] = tt
 typed3 v (r ∷ rs) =
     all-append (Typed Evt3) (encode3 v r) (emits writer3 (encoded3 v r) rs)
-    (all-append (Typed Evt3) (leads3 v (r .t) (r .y)) (body3 (r .t) (r .y) (r .p) (r .xs)) (leads-typed v (r .t) (r .y)) (body-typed (r .t) (r .y) (r .p) (r .xs)))
+    (all-append (Typed Evt3) (leads3 v (r .t) (r .y)) (body3 (r .t) (r .y) (r .p) (r .xs)) (leads-typed v (r .t) (r .y))
+    (body-typed (r .t) (r .y) (r .p) (r .xs)))
     (typed3 (encoded3 v r) rs)
 
 -- ---- either

@@ -20,39 +20,24 @@ use Prim.Native.Nat.{ℕ, _+_, _-_, _*_, _/_, _^_, _≤_, _<_, min, max}
 use lib.Dec.{leb, eqb}
 use lib.IntN.{ℤ}
 use lib.ListN.{length, take, drop}
-use Rattle.laws_stream.specs.Machine.{Machine, Note, All, words, notes}
-use Rattle.laws_stream.specs.Slice.{sift}
-use Rattle.laws_stream.specs.Words.{stream}
-use Rattle.evt_types.specs.Event.{Event}
-use Rattle.evt_types.specs.Outcome.{Outcome}
-use Rattle.evt_types.specs.Layout.{type2, type3}
+use Rattle.laws_stream.specs.{Machine.Machine, Machine.Note, Machine.All, Machine.words, Machine.notes, Slice.sift, Words.stream}
+use Rattle.evt_types.specs.{Event.Event, Outcome.Outcome, Layout.type2, Layout.type3, declared.SensorSize.SensorSize}
+use Rattle.evt_types.specs.{declared.SensorSize.the-variants.Known}
 use Rattle.evt2_decoder.specs.Evt2.{fresh2, reader2}
 use Rattle.evt3_decoder.specs.Evt3.{fresh3, reader3}
-use Rattle.evt_types.specs.declared.Encoding.{Encoding}
-use Rattle.evt_types.specs.declared.Encoding.the-variants.{Evt2, Evt3}
-use Rattle.evt_types.specs.declared.Limit.the-variants.{Unlimited}
-use Rattle.evt_types.specs.declared.SensorSize.{SensorSize}
-use Rattle.evt_types.specs.declared.SensorSize.the-variants.{Known}
+use Rattle.evt_types.specs.declared.{Encoding.Encoding, Encoding.the-variants.Evt2, Encoding.the-variants.Evt3, Limit.the-variants.Unlimited}
 use Rattle.write_buffer.specs.Columns.{eventsIn}
 use Rattle.write_words.specs.Encode.{encodeNotes, encodeSize}
-use Rattle.write_rules.specs.declared.RawEventSink.{RawEventSink}
-use Rattle.write_rules.specs.Rules.{freshSink}
-use Rattle.write_append.specs.declared.AppendAnswer.{AppendAnswer}
-use Rattle.write_append.specs.declared.AppendAnswer.the-variants.{Written, Refused as AppendRefused}
-use Rattle.write_append.specs.declared.Appended.{Appended}
+use Rattle.write_rules.specs.{declared.RawEventSink.RawEventSink, Rules.freshSink}
+use Rattle.write_append.specs.declared.{AppendAnswer.AppendAnswer, AppendAnswer.the-variants.Written}
+use Rattle.write_append.specs.declared.{AppendAnswer.the-variants.Refused as AppendRefused, Appended.Appended}
 use Rattle.write_append.specs.Append.{accepts, handedOver, sinkAfter, AppendOwed}
-use Rattle.read_rules.specs.declared.ReadAnswer.{ReadAnswer}
-use Rattle.read_rules.specs.declared.ReadAnswer.the-variants.{Read}
+use Rattle.read_rules.specs.declared.{ReadAnswer.ReadAnswer, ReadAnswer.the-variants.Read}
 use Rattle.header.specs.Header.{hasZero}
 use Rattle.read_rules.specs.Read.{DecodesWords, Handed, shortest, kept, widthOf, heightOf, sizeless}
-use Rattle.index_build.specs.declared.Checkpoint.{Checkpoint}
-use Rattle.index_build.specs.declared.RawSliceSource.{RawSliceSource}
-use Rattle.index_build.specs.declared.OpenAnswer.{OpenAnswer}
-use Rattle.index_build.specs.declared.OpenAnswer.the-variants.{Opened}
-use Rattle.index_build.specs.declared.Opening.{Opening}
-use Rattle.index_build.specs.Index.{OpensWords, recordCount, sourceOf, spacingOk}
-use Rattle.slice_rules.specs.declared.SliceAnswer.{SliceAnswer}
-use Rattle.slice_rules.specs.declared.SliceAnswer.the-variants.{Sliced}
+use Rattle.index_build.specs.declared.{Checkpoint.Checkpoint, OpenAnswer.OpenAnswer, OpenAnswer.the-variants.Opened, Opening.Opening}
+use Rattle.index_build.specs.{declared.RawSliceSource.RawSliceSource, Index.OpensWords, Index.recordCount, Index.sourceOf, Index.spacingOk}
+use Rattle.slice_rules.specs.declared.{SliceAnswer.SliceAnswer, SliceAnswer.the-variants.Sliced}
 use Rattle.slice_rules.specs.Slice.{SlicesIndex, SlicesTime, isDuring}
 
 -- ---- lists of appends
@@ -201,10 +186,12 @@ module _ (e : Encoding) (size : SensorSize) (bytes : List ℕ) (es : List Event)
       → DecodesWords bytes e size Unlimited r xs₀ ys₀ ts₀ ps₀ xs ys ts ps → length es ≤ shortest xs₀ ys₀ ts₀ ps₀
       → (r ≡ Read (record { encoding = e; width = widthOf size es; height = heightOf size es; count = length es })) × Handed es xs₀ ys₀ ts₀ ps₀ xs ys ts ps
 
-  -- an index built likewise from just these bytes at any allowed spacing, where the records suffice: opened, and both slices by the source told and the records made
+  -- an index built likewise from just these bytes at any allowed spacing, where the records suffice: opened, and both slices by the source told and the records
+  -- made
   abbrev pub Indexes : Type 0
   Indexes = (spacing : ℕ) → spacingOk e spacing ≡ true
-      → (r : OpenAnswer) (records₀ records : List Checkpoint) → OpensWords bytes (record { encoding = e; «sensor_size» = size; spacing = spacing }) r records₀ records
+      → (r : OpenAnswer) (records₀ records : List Checkpoint)
+      → OpensWords bytes (record { encoding = e; «sensor_size» = size; spacing = spacing }) r records₀ records
       → recordCount (length bytes) spacing ≤ length records₀
       → let source = sourceOf (length bytes) 0 e size spacing es in
       let made = recordCount (length bytes) spacing in
@@ -241,7 +228,8 @@ abbrev pub DemandThree : Type 0
 DemandThree = (e : Encoding) (calls : List Call) (cut : ℕ) → cut ≤ length (streamOf (fresh e) calls)
     → Claim e (streamOf (fresh e) calls) (streamWords (fresh e) calls) (acceptedEvents (fresh e) calls) cut
 
--- ---- THE SAME OF CALLS THAT RAN, at a sensor of 2048 by 2048: by the contracts of `append`, `decode_words`, `open_words`, `slice_index` and `slice_time` alone
+-- ---- THE SAME OF CALLS THAT RAN, at a sensor of 2048 by 2048: by the contracts of `append`, `decode_words`, `open_words`, `slice_index` and `slice_time`
+-- alone
 
 -- an append that ran: its call, the output that it was lent, what it returned, and the output that it left
 pub record Ran : Type 0 where

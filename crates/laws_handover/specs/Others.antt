@@ -1,4 +1,5 @@
--- A second list exists: events that can be said, with times that never fall, are all accepted by a fresh writer in one append whose output has 8 bytes for each.
+-- A second list exists: events that can be said, with times that never fall, are all accepted by a fresh writer in one append whose output has 8 bytes for
+-- each.
 use mathlib.Core.Path.{_≡_, refl, ap, _∙_}
 use mathlib.Core.Bool.{Bool, true, false}
 use mathlib.Core.List.{List, [], _∷_, map, append-nil}
@@ -7,23 +8,17 @@ use native.Mathlib.Omega.{arith}
 use lib.IntN.{pos}
 use lib.ListN.{length, length-map}
 use borrow.Author.Tests.{eq-eqb, le-leb, le-ltb, lt-ltb}
-use Rattle.laws_stream.specs.Machine.{All, all-map}
-use Rattle.laws_stream.specs.Order.{Rise, rise-suffix}
-use Rattle.evt_types.specs.Columns.{colX, colY, colT, colP}
-use Rattle.evt_types.specs.Event.{Event}
-use Rattle.evt_types.specs.declared.Encoding.{Encoding}
+use Rattle.laws_stream.specs.{Machine.All, Machine.all-map, Order.Rise, Order.rise-suffix}
+use Rattle.evt_types.specs.{Columns.colX, Columns.colY, Columns.colT, Columns.colP, Event.Event, declared.Encoding.Encoding}
 use Rattle.read_columns.specs.Inside.{clock}
-use Rattle.write_buffer.specs.Columns.{eventsIn}
-use Rattle.write_buffer.specs.Sent.{freshState}
-use Rattle.write_words.specs.Encode.{encodeBytes}
-use Rattle.write_words.specs.Laws.{encode-few}
+use Rattle.write_buffer.specs.{Columns.eventsIn, Sent.freshState}
+use Rattle.write_words.specs.{Encode.encodeBytes, Laws.encode-few}
 use Rattle.laws_formats.specs.Ready.{limit, sayable, Sayable, sayable-true}
 use Rattle.write_rules.specs.declared.LastTime.the-variants.{Never}
 use Rattle.write_rules.specs.Range.{timeInRange, every, atMost, eventsInRange, falls, fallsAfter, sameLengths}
 use Rattle.write_append.specs.Append.{appendOutcome}
 use Rattle.laws_handover.specs.Handover.{Call, isAccepted, acceptedEvents, streamOf, streamWords, fresh, whole, others, joined, Exact}
-use Rattle.laws_handover.specs.Calls.{bound-is}
-use Rattle.laws_handover.specs.Proof.{fresh-sent, claim}
+use Rattle.laws_handover.specs.{Calls.bound-is, Proof.fresh-sent, Proof.claim}
 
 -- all of them at once
 abbrev pub onceFor : List Event → (room : ℕ) → Call
@@ -71,7 +66,15 @@ module _ (e : Encoding) where
     once-accepted : isAccepted (fresh e) (onceFor es room) ≡ true
     unfolding appendOutcome
     once-accepted =
-        rw (lengths, length-map es colX, le-leb (length es) (2 ^ 28) few, rise-after es rise, in-range es (all-said 0 es rise), columns-are es, le-leb (length (encodeBytes e freshState es)) room bytes-few)
+        rw (
+          lengths,
+          length-map es colX,
+          le-leb (length es) (2 ^ 28) few,
+          rise-after es rise,
+          in-range es (all-said 0 es rise),
+          columns-are es,
+          le-leb (length (encodeBytes e freshState es)) room bytes-few,
+        )
 
     once-all : acceptedEvents (fresh e) (onceFor es room ∷ []) ≡ es
     once-all = rw once-accepted (append-nil _ ∙ columns-are es)

@@ -1,4 +1,5 @@
--- DEMAND 3, proved: what a fresh writer sends is a stream that a fresh decoder understands, so is what is left of such a stream and resumed, and all such streams are as claimed.
+-- DEMAND 3, proved: what a fresh writer sends is a stream that a fresh decoder understands, so is what is left of such a stream and resumed, and all such
+-- streams are as claimed.
 use mathlib.Core.Path.{_≡_, refl, ap, _∙_}
 use mathlib.Core.Bool.{true}
 use mathlib.Core.List.{List, [], _∷_, _++_}
@@ -8,12 +9,10 @@ use native.Mathlib.Nat.{div-add-mod'}
 use lib.ListN.{take, drop}
 use lib.Seq.{take-take}
 use Rattle.laws_stream.specs.Machine.{Machine, Note, Says, All, all-append, all-append-left, all-take, notes, notes-append, notes-split}
-use Rattle.laws_stream.specs.Order.{Rise}
-use Rattle.laws_stream.specs.Slice.{sift-all}
+use Rattle.laws_stream.specs.{Order.Rise, Slice.sift-all}
 use Rattle.evt_types.specs.Event.{Event}
 use Rattle.evt_codec.specs.Codec.{eventsFrom}
-use Rattle.evt_types.specs.declared.Encoding.{Encoding}
-use Rattle.evt_types.specs.declared.Encoding.the-variants.{Evt2, Evt3}
+use Rattle.evt_types.specs.declared.{Encoding.Encoding, Encoding.the-variants.Evt2, Encoding.the-variants.Evt3}
 use Rattle.evt2_decoder.specs.Evt2.{fresh2, reader2}
 use Rattle.evt3_decoder.specs.Evt3.{fresh3, reader3}
 use Rattle.header.specs.Header.{hasZero}
@@ -21,13 +20,12 @@ use Rattle.read_columns.specs.Inside.{clock, inside}
 use Rattle.read_window.specs.declared.Window.{Window}
 use Rattle.read_select.specs.Uses.{PastOver}
 use Rattle.write_words.specs.Encode.{encodeSize}
-use Rattle.laws_formats.specs.Ready.{limit, sayable}
-use Rattle.laws_formats.specs.Either.{codecOf, freshOf, lawfulOf, fresh-is}
+use Rattle.laws_formats.specs.{Ready.limit, Ready.sayable, Either.codecOf, Either.freshOf, Either.lawfulOf, Either.fresh-is}
 use Rattle.laws_formats.specs.Appends.{noteBytes, rise-inside, Understood, resumed-understood, resumed-bytes, whole-events, whole-past, cut-events, cut-past}
-use Rattle.laws_handover.specs.Handover.{Call, acceptedEvents, streamOf, streamWords, fresh, beforeCut, whole, others, joined, Typed, givenAlong, GivenAt, Suits, widest, Exact, Claim, DemandThree}
-use Rattle.laws_handover.specs.Cut.{whole-is, broken-is, cut-parts}
+use Rattle.laws_handover.specs.Handover.{Call, acceptedEvents, streamOf, streamWords, fresh, beforeCut, whole, others, joined, Typed, givenAlong, GivenAt}
+use Rattle.laws_handover.specs.{Handover.Suits, Handover.widest, Handover.Exact, Handover.Claim, Handover.DemandThree, Cut.whole-is}
+use Rattle.laws_handover.specs.{Cut.broken-is, Cut.cut-parts, Reading.exact}
 use Rattle.laws_handover.specs.Calls.{stream-words, stream-notes, stream-typed, groupsOf, groups-events, groups-words, fresh-rise, stream-understood}
-use Rattle.laws_handover.specs.Reading.{exact}
 
 -- a stream of these bytes and words that carries es
 pub record Sent (e : Encoding) (bytes : List ℕ) (ws : List (Note ℕ Event)) (es : List Event) : Type 0 where
@@ -71,7 +69,8 @@ module _ (e : Encoding) where
 
   module _ (bytes : List ℕ) (ws : List (Note ℕ Event)) (es : List Event) (sent : Sent e bytes ws es) (cut : ℕ) where
     -- resumed by a fresh writer
-    pub joined-sent : (second : List Call) → acceptedEvents (fresh e) second ≡ others e cut ws → Sent e (joined e cut bytes second) (joinedWords cut ws second) es
+    pub joined-sent : (second : List Call) → acceptedEvents (fresh e) second ≡ others e cut ws
+        → Sent e (joined e cut bytes second) (joinedWords cut ws second) es
     joined-sent second rest =
         let size = encodeSize e in
         let k = cut / size in
@@ -85,10 +84,12 @@ module _ (e : Encoding) where
           noted = rw (notes-append (take k ws) ms, stream-notes (fresh e) second, rest-is) (notes-split k ws ∙ sent .noted);
           typed = all-append (Typed e) (take k ws) ms (all-take (Typed e) k ws (sent .typed)) (stream-typed (fresh e) second);
           rises = sent .rises;
-          understood = rw (groups-words (fresh e) second) (resumed-understood e (freshOf e) k ws (groupsOf (fresh e) second) (sent .understood) (groups-events (fresh e) second ∙ rest-is));
+          understood = rw (groups-words (fresh e) second)
+              (resumed-understood e (freshOf e) k ws (groupsOf (fresh e) second) (sent .understood) (groups-events (fresh e) second ∙ rest-is));
         }
 
-  read : (bytes : List ℕ) (es : List Event) → eventsFrom (codecOf e (freshOf e)) bytes ≡ es → ((win : Window) → PastOver win (codecOf e (freshOf e)) bytes) → Exact e bytes es
+  read : (bytes : List ℕ) (es : List Event) → eventsFrom (codecOf e (freshOf e)) bytes ≡ es
+      → ((win : Window) → PastOver win (codecOf e (freshOf e)) bytes) → Exact e bytes es
   read bytes es h p = exact e bytes es (rw (fresh-is e) h) (rw (fresh-is e) p)
 
   -- all of it, and before a cut
@@ -96,10 +97,12 @@ module _ (e : Encoding) where
   exact-whole bytes ws es s =
       rw (s .worded) (read (noteBytes e ws) es (whole-events e (freshOf e) ws (s .understood) ∙ s .noted) (whole-past e (freshOf e) ws (s .understood)))
 
-  exact-before : (bytes : List ℕ) (ws : List (Note ℕ Event)) (es : List Event) → Sent e bytes ws es → (cut : ℕ) → Exact e (beforeCut e cut bytes) (whole e cut ws)
+  exact-before : (bytes : List ℕ) (ws : List (Note ℕ Event)) (es : List Event) → Sent e bytes ws es → (cut : ℕ)
+      → Exact e (beforeCut e cut bytes) (whole e cut ws)
   exact-before bytes ws es s cut =
       rw (s .worded, whole-is (encodeSize e) cut sized ws)
-      (read (take cut (noteBytes e ws)) (notes (take (cut / encodeSize e) ws)) (cut-events e (freshOf e) ws (s .understood) cut) (cut-past e (freshOf e) ws (s .understood) cut))
+      (read (take cut (noteBytes e ws)) (notes (take (cut / encodeSize e) ws)) (cut-events e (freshOf e) ws (s .understood) cut)
+      (cut-past e (freshOf e) ws (s .understood) cut))
 
   pub claim : (bytes : List ℕ) (ws : List (Note ℕ Event)) (es : List Event) → Sent e bytes ws es → (cut : ℕ) → Claim e bytes ws es cut
   claim bytes ws es s cut =

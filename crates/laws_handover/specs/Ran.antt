@@ -1,17 +1,14 @@
--- Appends as they ran: by their contract alone, the bytes that they told to have written are the stream of their calls, and the last writer is that of the list.
+-- Appends as they ran: by their contract alone, the bytes that they told to have written are the stream of their calls, and the last writer is that of the
+-- list.
 use mathlib.Core.Path.{_≡_, refl, ap, _∙_}
-use mathlib.Core.List.{List, [], _∷_, _++_, map}
+use mathlib.Core.List.{List, [], _∷_, _++_}
 use Prim.Native.Nat.{ℕ}
 use lib.ListN.{length, take}
 use lib.Seq.{take-at}
 use Rattle.evt_types.specs.Outcome.{Outcome, refuse, give}
 use Rattle.write_rules.specs.declared.RawEventSink.{RawEventSink}
-use Rattle.write_append.specs.declared.AppendAnswer.{AppendAnswer}
-use Rattle.write_append.specs.declared.AppendAnswer.the-variants.{Written, Refused}
-use Rattle.write_append.specs.declared.Appended.{Appended}
-use Rattle.write_rules.specs.Range.{eventsInRange, fallsAfter, sameLengths, sinkInRange}
-use Rattle.write_append.specs.Append.{appendAnswer, sends, AppendOwed}
-use Rattle.laws_handover.specs.Handover.{Call, isAccepted, next, callBytes, streamOf, Ran, Chained, bytesTold, allWritten, callsOf}
+use Rattle.write_append.specs.{declared.Appended.Appended, Append.appendAnswer, Append.AppendOwed}
+use Rattle.laws_handover.specs.Handover.{Call, next, callBytes, streamOf, Ran, Chained, bytesTold, allWritten, callsOf}
 
 -- the writer that a list leaves
 abbrev pub sinkOf : RawEventSink → List Call → RawEventSink
@@ -44,7 +41,8 @@ ran-written s [] h = refl
 ran-written s (a ∷ ran) h =
     ap (λ (l : List ℕ). l ++ allWritten ran) (one-written s (a .call) (a .out₀) (a .is-room) (a .result) (a .out) (h .0))
     ∙ ap (λ (l : List ℕ). callBytes s (a .call) ++ l)
-    (ran-written (a .result .sink) ran (h .1) ∙ ap (λ (u : RawEventSink). streamOf u (callsOf ran)) (one-sink s (a .call) (a .out₀) (a .is-room) (a .result) (a .out) (h .0)))
+    (ran-written (a .result .sink) ran (h .1)
+    ∙ ap (λ (u : RawEventSink). streamOf u (callsOf ran)) (one-sink s (a .call) (a .out₀) (a .is-room) (a .result) (a .out) (h .0)))
 
 -- the writer that the last one returned
 abbrev pub lastSink : RawEventSink → List Ran → RawEventSink
@@ -54,4 +52,5 @@ lastSink s (a ∷ ran) = lastSink (a .result .sink) ran
 pub ran-sink : (s : RawEventSink) (ran : List Ran) → Chained s ran → lastSink s ran ≡ sinkOf s (callsOf ran)
 ran-sink s [] h = refl
 ran-sink s (a ∷ ran) h =
-    ran-sink (a .result .sink) ran (h .1) ∙ ap (λ (u : RawEventSink). sinkOf u (callsOf ran)) (one-sink s (a .call) (a .out₀) (a .is-room) (a .result) (a .out) (h .0))
+    ran-sink (a .result .sink) ran (h .1)
+    ∙ ap (λ (u : RawEventSink). sinkOf u (callsOf ran)) (one-sink s (a .call) (a .out₀) (a .is-room) (a .result) (a .out) (h .0))

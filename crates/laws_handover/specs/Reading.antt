@@ -6,30 +6,23 @@ use Prim.Native.Nat.{ℕ, _^_, _≤_}
 use borrow.Author.Tests.{le-ltb}
 use lib.IntN.{ℤ}
 use lib.ListN.{length}
-use Rattle.evt_types.specs.Event.{Event}
-use Rattle.evt_types.specs.Outcome.{give}
+use Rattle.evt_types.specs.{Event.Event, Outcome.give, declared.Encoding.Encoding, declared.Limit.the-variants.Unlimited}
+use Rattle.evt_types.specs.{declared.SensorSize.SensorSize}
 use Rattle.evt_codec.specs.Codec.{freshC, eventsFrom}
-use Rattle.evt_types.specs.declared.Encoding.{Encoding}
-use Rattle.evt_types.specs.declared.Limit.the-variants.{Unlimited}
-use Rattle.evt_types.specs.declared.SensorSize.{SensorSize}
 use Rattle.header.specs.Header.{hasZero}
 use Rattle.read_window.specs.declared.Window.{Window}
 use Rattle.read_select.specs.Uses.{PastOver}
 use Rattle.read_rules.specs.Read.{wordsOutcome, bodyEvents, shortest, sizeless, widthOf, heightOf}
-use Rattle.index_build.specs.declared.Opening.{Opening}
-use Rattle.index_build.specs.declared.OpenAnswer.the-variants.{Opened}
-use Rattle.index_build.specs.declared.RawSliceSource.{RawSliceSource}
-use Rattle.index_build.specs.declared.WordsOptions.{WordsOptions}
+use Rattle.index_build.specs.declared.{OpenAnswer.the-variants.Opened, Opening.Opening, RawSliceSource.RawSliceSource, WordsOptions.WordsOptions}
 use Rattle.index_build.specs.Index.{keptEvents, recordCount}
-use Rattle.slice_rules.specs.declared.SliceAnswer.{SliceAnswer}
-use Rattle.slice_rules.specs.Slice.{sliceCheck, sliceOutcome}
-use Rattle.slice_rules.specs.From.{SlicesFrom}
+use Rattle.slice_rules.specs.{declared.SliceAnswer.SliceAnswer, Slice.sliceCheck, Slice.sliceOutcome, From.SlicesFrom}
 use Rattle.slice.specs.Own.{ownSource}
 use Rattle.slice.specs.Opened.{OpenedAs, opened-words, words-opened, opened-rules, opened-number, opened-time}
 use Rattle.laws_handover.specs.Handover.{Gives, Decodes, Indexes, Reads, Exact}
 
 -- a slice that no rule but 5 can refuse
-slice-gives : (bytes : List ℕ) (source : RawSliceSource) (ok : Bool) (passes : sliceCheck (length bytes) source ok ≡ give tt) (asked part : List Event) (are : asked ≡ part)
+slice-gives : (bytes : List ℕ) (source : RawSliceSource) (ok : Bool) (passes : sliceCheck (length bytes) source ok ≡ give tt)
+    (asked part : List Event) (are : asked ≡ part)
     (r : SliceAnswer) (xs₀ ys₀ : List ℕ) (ts₀ : List ℤ) (ps₀ xs ys : List ℕ) (ts : List ℤ) (ps : List ℕ)
     → SlicesFrom bytes source ok asked r xs₀ ys₀ ts₀ ps₀ xs ys ts ps → length part ≤ shortest xs₀ ys₀ ts₀ ps₀ → Gives part r xs₀ ys₀ ts₀ ps₀ xs ys ts ps
 unfolding sliceOutcome
@@ -66,7 +59,8 @@ module _ (e : Encoding) (size : SensorSize) (bytes : List ℕ) (few : length byt
             (λ t0 t1. slice-gives bytes (opening .source) _ passes _ _ (opened-time bytes 0 e size spacing opening records is t0 t1 (past _))),
           )
 
-pub exact : (e : Encoding) (bytes : List ℕ) (es : List Event) → eventsFrom (freshC e) bytes ≡ es → ((win : Window) → PastOver win (freshC e) bytes) → Exact e bytes es
+pub exact : (e : Encoding) (bytes : List ℕ) (es : List Event) → eventsFrom (freshC e) bytes ≡ es
+    → ((win : Window) → PastOver win (freshC e) bytes) → Exact e bytes es
 exact e bytes es are past few size suits =
     let kept-are : keptEvents size e bytes ≡ es = rw are (suits .keeps) in
     let is-sized : sizeless size (keptEvents size e bytes) ≡ false = rw kept-are (suits .is-sized) in

@@ -8,10 +8,9 @@ use lib.Dec.{ltb}
 use lib.ListN.{length, length-append}
 use borrow.Author.Tests.{lt-ltb, ltb-true, ltb-false, le-leb, lt-leb, leb-true, ne-eqb}
 use Rattle.laws_stream.specs.Machine.{and-both}
-use Rattle.header_text.specs.Cases.{by-bool}
-use Rattle.header_text.specs.Text.{isBlank, from, any, trimStart, trimEnd, trimOf}
-use Rattle.header_text.specs.declared.size.Number.the-variants.{Value}
-use Rattle.header_text.specs.Size.{isDigit, allDigits, digitsValue, numberFrom, digitsOf, numberOf}
+use Rattle.header_text.specs.{Cases.by-bool, Text.isBlank, Text.from, Text.any, Text.trimStart, Text.trimEnd, Text.trimOf}
+use Rattle.header_text.specs.{declared.size.Number.the-variants.Value, Size.isDigit, Size.allDigits, Size.digitsValue, Size.numberFrom, Size.digitsOf}
+use Rattle.header_text.specs.{Size.numberOf}
 use Rattle.write_text.specs.Text.{digit, decimal, decimal-one, decimal-more}
 use Rattle.laws_header.specs.Texts.{ends-dark}
 

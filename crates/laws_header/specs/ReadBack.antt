@@ -8,16 +8,13 @@ use native.Mathlib.Omega.{arith}
 use lib.ListN.{length}
 use lib.Dec.{eqb}
 use borrow.Author.Tests.{le-ltb, lt-leb, eq-eqb, ne-eqb}
-use Rattle.evt_types.specs.declared.SensorSize.{SensorSize}
-use Rattle.evt_types.specs.declared.SensorSize.the-variants.{Unknown, Known}
-use Rattle.evt_types.specs.declared.Encoding.{Encoding}
-use Rattle.evt_types.specs.declared.Encoding.the-variants.{Evt2, Evt3}
-use Rattle.evt_types.specs.declared.Refusal.the-variants.{InvalidSensorSize}
+use Rattle.evt_types.specs.declared.{Encoding.Encoding, Encoding.the-variants.Evt2, Encoding.the-variants.Evt3}
+use Rattle.evt_types.specs.declared.{Refusal.the-variants.InvalidSensorSize, SensorSize.SensorSize, SensorSize.the-variants.Unknown}
+use Rattle.evt_types.specs.declared.{SensorSize.the-variants.Known}
 use Rattle.header_text.specs.Text.{isBlank, isByte, notAscii, upTo, from, any, restOf, trimStart, trimEnd, trimOf, lowerOf, begins, same}
 use Rattle.header_text.specs.Size.{both, sizeAt, geometryOf}
 use Rattle.header_text.proofs.TextLaws.{trim-blank}
-use Rattle.header.specs.declared.HeaderAnswer.{HeaderAnswer}
-use Rattle.header.specs.declared.HeaderAnswer.the-variants.{Header, Refused}
+use Rattle.header.specs.declared.{HeaderAnswer.HeaderAnswer, HeaderAnswer.the-variants.Header, HeaderAnswer.the-variants.Refused}
 use Rattle.header.specs.Lines.{startsPercent, headerLines, joinedLines, headerBytes, bodyStart, bodyOf, keyOf, valueOf}
 use Rattle.header.specs.Header.{geometryName, Said, nothing, readLine, readAll, saidBy, encodingOf, sizeThatHolds, hasZero, withEncoding, headerOf}
 use Rattle.write_text.specs.Text.{ascii, decimal}

@@ -4,8 +4,7 @@ use mathlib.Core.Bool.{Bool, true, false, true≢false}
 use mathlib.Core.List.{List, [], _∷_, _++_, append-assoc}
 use Prim.Native.Nat.{ℕ}
 use lib.Dec.{eqb}
-use Rattle.header_text.specs.Cases.{by-bool}
-use Rattle.header_text.specs.Text.{isBlank, isByte, upTo, from, any, trimEnd}
+use Rattle.header_text.specs.{Cases.by-bool, Text.isBlank, Text.isByte, Text.upTo, Text.from, Text.any, Text.trimEnd}
 use Rattle.header_text.proofs.TextLaws.{trim-dark}
 use Rattle.header.specs.Lines.{joined, linesOf, startsPercent, leading, headerLines}
 

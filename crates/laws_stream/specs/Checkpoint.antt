@@ -4,12 +4,10 @@ use mathlib.Core.Bool.{Bool, true}
 use mathlib.Core.List.{List, []}
 use Prim.Native.Nat.{ℕ, _-_, _*_, _≤_, _<_}
 use lib.ListN.{length, take, drop}
-use Rattle.laws_stream.specs.Machine.{Machine, Note, All, all-none, emits, from-checkpoint}
-use Rattle.laws_stream.specs.Words.{wordsOf}
-use Rattle.laws_stream.specs.Format.{Format, Lawful, Good}
-use Rattle.laws_stream.specs.Stream.{decode, after, split-words, decode-slice, notedBytes, good-past}
-use Rattle.laws_stream.specs.Slice.{sift, until, Past, within, reached, over-time, all-early}
-use Rattle.laws_stream.specs.Order.{latest, greatest-lt}
+use Rattle.laws_stream.specs.{Machine.Machine, Machine.Note, Machine.All, Machine.all-none, Machine.emits, Machine.from-checkpoint}
+use Rattle.laws_stream.specs.{Words.wordsOf, Format.Format, Format.Lawful, Format.Good, Stream.decode, Stream.after, Stream.split-words}
+use Rattle.laws_stream.specs.{Stream.decode-slice, Stream.notedBytes, Stream.good-past, Slice.sift, Slice.until, Slice.Past, Slice.within}
+use Rattle.laws_stream.specs.{Slice.reached, Slice.over-time, Slice.all-early, Order.latest, Order.greatest-lt}
 
 module _ {S E : Type 0} (n : ℕ) (D : Machine S ℕ E) (start : S) (clock : E → ℕ) (l : List ℕ) where
   -- what is kept after the first `at` words

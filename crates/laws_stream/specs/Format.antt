@@ -3,8 +3,8 @@ use mathlib.Core.Path.{_≡_, refl, _∙_}
 use mathlib.Core.List.{List, [], _∷_, _++_, append-assoc}
 use Prim.Native.Nat.{ℕ, _<_}
 use lib.ListN.{take, drop}
-use Rattle.laws_stream.specs.Machine.{Machine, Note, All, run, emits, run-append, words, notes, words-append, notes-append, notes-split, Says, says-append, says-take, says-ready}
-use Rattle.laws_stream.specs.Words.{Fits}
+use Rattle.laws_stream.specs.Machine.{Machine, Note, All, run, emits, run-append, words, notes, words-append, notes-append, notes-split, Says}
+use Rattle.laws_stream.specs.{Machine.says-append, Machine.says-take, Machine.says-ready, Words.Fits}
 
 -- S: the reader's states. Q: the writer's. I: what the writer is given at a time. E: events
 pub record Format (S Q I E : Type 0) : Type 1 where
@@ -46,7 +46,8 @@ module _ {S Q I E : Type 0} (F : Format S Q I E) (L : Lawful F) where
   pub written-notes : (v : Q) (is : List I) → All (F .Valid) is → notes (emits (F .writer) v is) ≡ givens F is
   written-notes v [] va = refl
   written-notes v (i ∷ is) va =
-      notes-append (F .writer .emit v i) (emits (F .writer) (F .writer .step v i) is) ∙ rw (L .noted v i (va .0), written-notes (F .writer .step v i) is (va .1))
+      notes-append (F .writer .emit v i) (emits (F .writer) (F .writer .step v i) is)
+      ∙ rw (L .noted v i (va .0), written-notes (F .writer .step v i) is (va .1))
 
   -- a writer that agrees with the reader is understood, whatever it is given that the reader is ready for
   pub writes : (v : Q) (s : S) (is : List I) (more : List E) → All (F .Valid) is → F .Agree v s → F .Ready s (givens F is ++ more)
@@ -57,7 +58,8 @@ module _ {S Q I E : Type 0} (F : Format S Q I E) (L : Lawful F) where
       let g = L .group v s i (givens F is ++ more) (va .0) ag (rw append-assoc at rd) in
       let rd′ = says-ready (F .reader) (Fits (F .size)) (F .Ready) s (P .emit v i) (givens F is ++ more) (g .0) in
       let r = writes (P .step v i) (run (F .reader) s (words (P .emit v i))) is more (va .1) (g .1) rd′ in (
-        says-append (F .reader) (Fits (F .size)) (F .Ready) s (P .emit v i) (emits P (P .step v i) is) more (rw (written-notes (P .step v i) is (va .1)) (g .0)) (r .0),
+        says-append (F .reader) (Fits (F .size)) (F .Ready) s (P .emit v i) (emits P (P .step v i) is) more
+            (rw (written-notes (P .step v i) is (va .1)) (g .0)) (r .0),
         rw (words-append (P .emit v i) (emits P (P .step v i) is), run-append) (r .1),
       )
 
@@ -74,7 +76,8 @@ module _ {S Q I E : Type 0} (F : Format S Q I E) (L : Lawful F) where
       says-append (F .reader) (Fits (F .size)) (F .Ready) s (take k ns) (sent F is) more (rw (written-notes (F .fresh) is va, e) q) r
 
   -- and carries the same events
-  pub resumed-notes : (k : ℕ) (ns : List (Note ℕ E)) (is : List I) → All (F .Valid) is → givens F is ≡ notes (drop k ns) → notes (take k ns ++ sent F is) ≡ notes ns
+  pub resumed-notes : (k : ℕ) (ns : List (Note ℕ E)) (is : List I) → All (F .Valid) is → givens F is ≡ notes (drop k ns)
+      → notes (take k ns ++ sent F is) ≡ notes ns
   resumed-notes k ns is va e = rw (notes-append, written-notes (F .fresh) is va, e, notes-split)
 
 -- a writer that is given more at a time: `f` takes apart what it is given

@@ -28,11 +28,13 @@ module _ (period threshold : ℕ) where
   next-loop old loops raw h = rw le-leb
 
   loop-cases : (old loops raw : ℕ)
-      → ((old < raw + loops * period + threshold) × (loopsAfter old loops raw ≡ loops)) ⊎ ((raw + loops * period + threshold ≤ old) × (loopsAfter old loops raw ≡ suc loops))
+      → ((old < raw + loops * period + threshold) × (loopsAfter old loops raw ≡ loops))
+      ⊎ ((raw + loops * period + threshold ≤ old) × (loopsAfter old loops raw ≡ suc loops))
   loop-cases old loops raw = go (leb (raw + loops * period + threshold) old) refl
     where
       go : (b : Bool) → leb (raw + loops * period + threshold) old ≡ b
-          → ((old < raw + loops * period + threshold) × (loopsAfter old loops raw ≡ loops)) ⊎ ((raw + loops * period + threshold ≤ old) × (loopsAfter old loops raw ≡ suc loops))
+          → ((old < raw + loops * period + threshold) × (loopsAfter old loops raw ≡ loops))
+          ⊎ ((raw + loops * period + threshold ≤ old) × (loopsAfter old loops raw ≡ suc loops))
       go true q =
           let h = leb-true (raw + loops * period + threshold) old q in
           inr (h, next-loop old loops raw h)
@@ -42,7 +44,8 @@ module _ (period threshold : ℕ) where
 
   -- a time word counts at most one loop
   pub loops-one : (old loops raw : ℕ) → (loops ≤ loopsAfter old loops raw) × (loopsAfter old loops raw ≤ suc loops)
-  loops-one old loops raw = ⊎-elim (λ c. (omega (arith, c .1), omega (arith, c .1))) (λ c. (omega (arith, c .1), omega (arith, c .1))) (loop-cases old loops raw)
+  loops-one old loops raw =
+      ⊎-elim (λ c. (omega (arith, c .1), omega (arith, c .1))) (λ c. (omega (arith, c .1), omega (arith, c .1))) (loop-cases old loops raw)
 
   -- and leaves the time in the period that it counts
   pub in-period : (old loops raw : ℕ) → raw < period
@@ -64,7 +67,8 @@ module _ (period threshold : ℕ) where
       let l = same-loop old loops raw (omega arith) in
       (l, rw l (sym e))
 
-  pub tracks-next : (old loops raw t : ℕ) → t ≡ raw + suc loops * period → t + threshold ≤ old + period → (loopsAfter old loops raw ≡ suc loops) × (timeAfter old loops raw ≡ t)
+  pub tracks-next : (old loops raw t : ℕ) → t ≡ raw + suc loops * period → t + threshold ≤ old + period
+      → (loopsAfter old loops raw ≡ suc loops) × (timeAfter old loops raw ≡ t)
   unfolding timeAfter
   tracks-next old loops raw t e h =
       let l = next-loop old loops raw (omega arith) in
@@ -151,7 +155,8 @@ module _ (period threshold : ℕ) where
   module _ {S W E : Type 0} (M : Machine S W E) (coarse loops : S → ℕ) (Inv : S → Type 0) (keeps : (s : S) (w : W) → Inv s → Inv (M .step s w))
       (slow : (s : S) (w : W) → Inv s → charge (coarse (M .step s w)) (loops (M .step s w)) ≤ charge (coarse s) (loops s) + 1) where
     pub charge-run : (s : S) (ws : List W) → Inv s → 2 * loops (run M s ws) ≤ charge (coarse s) (loops s) + length ws
-    charge-run s ws i = omega (arith, charge-ge (coarse (run M s ws)) (loops (run M s ws)), run-bound M Inv keeps (λ u. charge (coarse u) (loops u)) slow s ws i)
+    charge-run s ws i =
+        omega (arith, charge-ge (coarse (run M s ws)) (loops (run M s ws)), run-bound M Inv keeps (λ u. charge (coarse u) (loops u)) slow s ws i)
 
     pub loops-run : (s : S) (ws : List W) → Inv s → loops (run M s ws) ≤ loops s + (length ws + 1) / 2
     loops-run s ws i = omega (arith, charge-run s ws i, charge-le (coarse s) (loops s))

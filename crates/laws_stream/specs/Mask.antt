@@ -12,9 +12,7 @@ use lib.Bits.{bitAnd, and-step, and-self, and-le-r}
 use lib.Count.{ones, ones-step, trailingZeros, leadingZeros, leading-top}
 use lib.Pow.{pow-pos}
 use borrow.Author.Tests.{eqb-true, eqb-false}
-use Rattle.laws_stream.specs.Machine.{All, all-map}
-use Rattle.laws_stream.specs.Slice.{onto}
-use Rattle.laws_stream.specs.Order.{greatest}
+use Rattle.laws_stream.specs.{Machine.All, Machine.all-map, Slice.onto, Order.greatest}
 
 -- rising numbers, from `at` up to below `to`
 abbrev pub Inc : ℕ → ℕ → List ℕ → Type 0

@@ -8,9 +8,9 @@ use native.Mathlib.Nat.{add-zero}
 use lib.Dec.{leb}
 use lib.ListN.{length, take, drop, length-append}
 use borrow.Author.Tests.{leb-true, leb-false, le-leb, lt-leb}
-use Rattle.laws_stream.specs.Machine.{Machine, run, emits}
-use Rattle.laws_stream.specs.Slice.{sift, sift-append}
-use Rattle.laws_stream.specs.Select.{Selection, Reading, numberedOf, numbered, isOver, chosen, isStopped, ended, handed, Calm, handed-on, handed-stop, handed-after, chosen-past}
+use Rattle.laws_stream.specs.{Machine.Machine, Machine.run, Machine.emits, Slice.sift, Slice.sift-append, Select.handed-after}
+use Rattle.laws_stream.specs.{Select.chosen-past}
+use Rattle.laws_stream.specs.Select.{Selection, Reading, numberedOf, numbered, isOver, chosen, isStopped, ended, handed, Calm, handed-on, handed-stop}
 
 -- how many words are passed over, how many numbered events they have, and the state behind them
 pub record Over (S : Type 0) : Type 0 where
@@ -65,7 +65,8 @@ module _ {S W E : Type 0} (M : Machine S W E) (inside : E → Bool) where
   over-passes most s [] = record { words = omega arith; few = omega arith; count = refl; state = refl }
   over-passes most s (w ∷ ws) = go (leb (numbersIn s w) most) refl (over-passes (most - numbersIn s w) (M .step s w) ws)
     where
-      go : (b : Bool) → leb (numbersIn s w) most ≡ b → {r : Over S} → Passes (most - numbersIn s w) (M .step s w) ws r → Passes most s (w ∷ ws) (overIf b s (numbersIn s w) r)
+      go : (b : Bool) → leb (numbersIn s w) most ≡ b → {r : Over S} → Passes (most - numbersIn s w) (M .step s w) ws r
+          → Passes most s (w ∷ ws) (overIf b s (numbersIn s w) r)
       go true e {r} p =
           let l = leb-true (numbersIn s w) most e in
           let behind = emits M (M .step s w) (take (r .words) ws) in
@@ -91,7 +92,8 @@ module _ {S W E : Type 0} (R : Reading S W E) (win : Selection) where
       → handed R win k s (w ∷ ws) ≡ handed R win (k + length (numberedOf R s w)) (R .machine .step s w) ws
   handed-skip k s w ws h c = go (leb (win .n1) (k + length (numberedOf R s w))) refl
     where
-      go : (b : Bool) → leb (win .n1) (k + length (numberedOf R s w)) ≡ b → handed R win k s (w ∷ ws) ≡ handed R win (k + length (numberedOf R s w)) (R .machine .step s w) ws
+      go : (b : Bool) → leb (win .n1) (k + length (numberedOf R s w)) ≡ b
+          → handed R win k s (w ∷ ws) ≡ handed R win (k + length (numberedOf R s w)) (R .machine .step s w) ws
       go true e =
           let st : isStopped R win (k + length (numberedOf R s w)) (R .machine .step s w) ≡ true = rw e in
           handed-stop R win k s w ws st ∙ chosen-before k (numberedOf R s w) h
@@ -105,9 +107,12 @@ module _ {S W E : Type 0} (R : Reading S W E) (win : Selection) where
   handedFrom k ws r = handed R win (k + r .count) (r .state) (drop (r .words) ws)
 
   -- THE LAW: what is passed over hands nothing over, and the pass doesn't stop there, where no number reaches n0 and no state t1
-  pub handed-over : (most k : ℕ) → most ≤ win .n0 - k → (s : S) (ws : List W) → Calm R win s ws → handed R win k s ws ≡ handedFrom k ws (over (R .machine) (R .inside) most s ws)
+  pub handed-over : (most k : ℕ) → most ≤ win .n0 - k → (s : S) (ws : List W) → Calm R win s ws
+      → handed R win k s ws ≡ handedFrom k ws (over (R .machine) (R .inside) most s ws)
   handed-over most k h s [] c = sym (ap (handedFrom k []) (over-nil (R .machine) (R .inside) most s) ∙ rw add-zero)
-  handed-over most k h s (w ∷ ws) c = go (leb (length (numberedOf R s w)) most) refl (λ l. handed-over (most - length (numberedOf R s w)) (k + length (numberedOf R s w)) l (R .machine .step s w) ws (c .1))
+  handed-over most k h s (w ∷ ws) c =
+      go (leb (length (numberedOf R s w)) most) refl
+      (λ l. handed-over (most - length (numberedOf R s w)) (k + length (numberedOf R s w)) l (R .machine .step s w) ws (c .1))
     where
       go : (b : Bool) → leb (length (numberedOf R s w)) most ≡ b
           → (most - length (numberedOf R s w) ≤ win .n0 - (k + length (numberedOf R s w))

@@ -74,7 +74,8 @@ module _ {S W E : Type 0} (M : Machine S W E) (time : S → ℕ) (carries : W �
   reach-state s [] = refl
   reach-state s (w ∷ ws) = go (ltb (time (M .step s w)) t₁) (strays w (M .step s w)) (reach (M .step s w) ws) (reach-state (M .step s w) ws)
     where
-      go : (b f : Bool) (r : Reach S) → r .state ≡ run M (M .step s w) (take (r .words) ws) → reachIf b s f r .state ≡ run M s (take (reachIf b s f r .words) (w ∷ ws))
+      go : (b f : Bool) (r : Reach S) → r .state ≡ run M (M .step s w) (take (r .words) ws)
+          → reachIf b s f r .state ≡ run M s (take (reachIf b s f r .words) (w ∷ ws))
       go true f r ih = ih
       go false f r ih = refl
 
@@ -109,7 +110,8 @@ module _ {S W E : Type 0} (R : Reading S W E) (carries : W → Bool)
 
   goes-on : (s : S) (w : W) (ws : List W) → R .time (R .machine .step s w) < win .t1
       → timely-until s (w ∷ ws) ≡ sift (inTime R win) (numberedOf R s w) ++ timely-until (R .machine .step s w) ws
-  goes-on s w ws h = rw (not-reached (R .live) (R .time) (win .t1) (R .machine .step s w) h) (timely-cons s w (until (R .machine) (isOver R win) (R .machine .step s w) ws))
+  goes-on s w ws h =
+      rw (not-reached (R .live) (R .time) (win .t1) (R .machine .step s w) h) (timely-cons s w (until (R .machine) (isOver R win) (R .machine .step s w) ws))
 
   -- FROM a time that is no later than the slice's first: nothing is lost
   module _ (t₀ t : ℕ) (first : t ≤ win .t0) (last : t ≤ win .t1) where
@@ -120,9 +122,11 @@ module _ {S W E : Type 0} (R : Reading S W E) (carries : W → Bool)
     unfolding reach
     timely-from s [] = refl
     timely-from s (w ∷ ws) =
-        go (ltb (R .time (R .machine .step s w)) t) refl (strays (R .machine) (R .time) carries t₀ t w (R .machine .step s w)) (from (R .machine .step s w) ws) (timely-from (R .machine .step s w) ws)
+        go (ltb (R .time (R .machine .step s w)) t) refl (strays (R .machine) (R .time) carries t₀ t w (R .machine .step s w))
+        (from (R .machine .step s w) ws) (timely-from (R .machine .step s w) ws)
       where
-        go : (b : Bool) → ltb (R .time (R .machine .step s w)) t ≡ b → (f : Bool) (r : Reach S) → timely-until (R .machine .step s w) ws ≡ timely-until (r .state) (drop (r .words) ws)
+        go : (b : Bool) → ltb (R .time (R .machine .step s w)) t ≡ b → (f : Bool) (r : Reach S)
+            → timely-until (R .machine .step s w) ws ≡ timely-until (r .state) (drop (r .words) ws)
             → timely-until s (w ∷ ws) ≡ timely-until (reachIf b s f r .state) (drop (reachIf b s f r .words) (w ∷ ws))
         go true q f r ih =
             let h = ltb-true (R .time (R .machine .step s w)) t q in
@@ -152,7 +156,8 @@ module _ {S W E : Type 0} (R : Reading S W E) (carries : W → Bool)
     unfolding reach
     timely-upto s [] i = refl
     timely-upto s (w ∷ ws) i =
-        go (ltb (R .time (R .machine .step s w)) (win .t1)) refl (strays (R .machine) (R .time) carries (win .t0) (win .t1) w (R .machine .step s w)) (upto (R .machine .step s w) ws)
+        go (ltb (R .time (R .machine .step s w)) (win .t1)) refl
+        (strays (R .machine) (R .time) carries (win .t0) (win .t1) w (R .machine .step s w)) (upto (R .machine .step s w) ws)
         (timely-upto (R .machine .step s w) ws (keeps s w i))
       where
         go : (b : Bool) → ltb (R .time (R .machine .step s w)) (win .t1) ≡ b → (f : Bool) (r : Reach S)
@@ -164,7 +169,8 @@ module _ {S W E : Type 0} (R : Reading S W E) (carries : W → Bool)
             rw (is-over (R .machine .step s w) (keeps s w i) h) (timely-cons s w [] ∙ rw (no-late s w h))
 
     -- none of a word that doesn't stray is too early
-    all-word : (s : S) (w : W) → R .time (R .machine .step s w) < win .t1 → strays (R .machine) (R .time) carries (win .t0) (win .t1) w (R .machine .step s w) ≡ false
+    all-word : (s : S) (w : W) → R .time (R .machine .step s w) < win .t1
+        → strays (R .machine) (R .time) carries (win .t0) (win .t1) w (R .machine .step s w) ≡ false
         → All (λ e. inTime R win e ≡ true) (numberedOf R s w)
     all-word s w h q = go (ltb (R .time (R .machine .step s w)) (win .t0)) refl q
       where
@@ -182,10 +188,12 @@ module _ {S W E : Type 0} (R : Reading S W E) (carries : W → Bool)
     unfolding reach
     all-upto s [] z = tt
     all-upto s (w ∷ ws) z =
-        go (ltb (R .time (R .machine .step s w)) (win .t1)) refl (strays (R .machine) (R .time) carries (win .t0) (win .t1) w (R .machine .step s w)) refl (upto (R .machine .step s w) ws)
+        go (ltb (R .time (R .machine .step s w)) (win .t1)) refl
+        (strays (R .machine) (R .time) carries (win .t0) (win .t1) w (R .machine .step s w)) refl (upto (R .machine .step s w) ws)
         (all-upto (R .machine .step s w) ws) z
       where
-        go : (b : Bool) → ltb (R .time (R .machine .step s w)) (win .t1) ≡ b → (f : Bool) → strays (R .machine) (R .time) carries (win .t0) (win .t1) w (R .machine .step s w) ≡ f → (r : Reach S)
+        go : (b : Bool) → ltb (R .time (R .machine .step s w)) (win .t1) ≡ b → (f : Bool)
+            → strays (R .machine) (R .time) carries (win .t0) (win .t1) w (R .machine .step s w) ≡ f → (r : Reach S)
             → (r .stray ≡ false → All (λ e. inTime R win e ≡ true) (numbered R (R .machine .step s w) (take (r .words) ws)))
             → reachIf b s f r .stray ≡ false → All (λ e. inTime R win e ≡ true) (numbered R s (take (reachIf b s f r .words) (w ∷ ws)))
         go true q f p r ih z =

@@ -10,7 +10,8 @@ use lib.ListN.{length, take, drop, length-append}
 use lib.Seq.{take-nil, drop-nil, drop-append-add}
 use borrow.Author.Tests.{leb-true, leb-false, ltb-true, ltb-false, le-leb, lt-leb, lt-ltb, le-ltb}
 use Rattle.laws_stream.specs.Machine.{Machine, All, run, emits, emits-append}
-use Rattle.laws_stream.specs.Slice.{onto, onto-append, sift, sift-append, sift-all, sift-sift, andThen, none-sifted, until, unless, within, reached, not-reached, Past, until-sift, sliced}
+use Rattle.laws_stream.specs.Slice.{onto, onto-append, sift, sift-append, sift-all, sift-sift, andThen, none-sifted, until, unless, within, reached}
+use Rattle.laws_stream.specs.Slice.{not-reached, Past, until-sift, sliced}
 
 -- numbers n0 to before n1, times t0 to before t1
 pub record Selection : Type 0 where
@@ -73,7 +74,8 @@ module _ {S W E : Type 0} (R : Reading S W E) where
 
   end-cons : (k : ℕ) (s : S) (w : W) (ws : List W) → oneMore (endAfter (k + length (numberedOf s w)) (R .machine .step s w) ws) ≡ endAfter k s (w ∷ ws)
   end-cons k s w ws =
-      let e : k + length (numberedOf s w) + length (numbered (R .machine .step s w) ws) ≡ k + length (numbered s (w ∷ ws)) = omega (arith, length-numbered s w ws) in
+      let e : k + length (numberedOf s w) + length (numbered (R .machine .step s w) ws) ≡ k + length (numbered s (w ∷ ws)) =
+      omega (arith, length-numbered s w ws) in
       ap (λ (n : ℕ). record { number = n; state = run (R .machine) (R .machine .step s w) ws; consumed = suc (length ws) }) e
 
   module _ (win : Selection) where
@@ -223,7 +225,8 @@ module _ {S W E : Type 0} (R : Reading S W E) where
       where
         go : (t : Bool) → leb (win .n1) (k + length (numberedOf s w)) ≡ t
             → handed (k + length (numberedOf s w)) (R .machine .step s w) ws ≡ chosen (k + length (numberedOf s w)) (numbered (R .machine .step s w) ws)
-            → unless t (handed (k + length (numberedOf s w)) (R .machine .step s w) ws) ≡ chosen (k + length (numberedOf s w)) (numbered (R .machine .step s w) ws)
+            → unless t (handed (k + length (numberedOf s w)) (R .machine .step s w) ws)
+            ≡ chosen (k + length (numberedOf s w)) (numbered (R .machine .step s w) ws)
         go true e ih = sym (chosen-past (k + length (numberedOf s w)) (numbered (R .machine .step s w) ws) (leb-true _ _ e))
         go false e ih = ih
 
@@ -256,8 +259,10 @@ module _ {S W E : Type 0} (R : Reading S W E) where
         ∙ sym (ap (sift inTime) (numbered-cons s w (unless (isOver u) vs)) ∙ sift-append inTime es (numbered u (unless (isOver u) vs)))
       where
         go : (t : Bool)
-            → handed (k + length (numberedOf s w)) (R .machine .step s w) ws ≡ sift inTime (numbered (R .machine .step s w) (until (R .machine) isOver (R .machine .step s w) ws))
-            → unless t (handed (k + length (numberedOf s w)) (R .machine .step s w) ws) ≡ sift inTime (numbered (R .machine .step s w) (unless t (until (R .machine) isOver (R .machine .step s w) ws)))
+            → handed (k + length (numberedOf s w)) (R .machine .step s w) ws
+            ≡ sift inTime (numbered (R .machine .step s w) (until (R .machine) isOver (R .machine .step s w) ws))
+            → unless t (handed (k + length (numberedOf s w)) (R .machine .step s w) ws)
+            ≡ sift inTime (numbered (R .machine .step s w) (unless t (until (R .machine) isOver (R .machine .step s w) ws)))
         go true ih = refl
         go false ih = ih
 
@@ -294,7 +299,8 @@ module _ {S W E : Type 0} (R : Reading S W E) where
         let u = R .machine .step s w in
         go (isStopped j u) j u (ended j u ws) (end-cons k s w) (ended-after j u ws)
       where
-        go : (t : Bool) (j : ℕ) (u : S) (e : End S) → ((vs : List W) → oneMore (endAfter j u vs) ≡ endAfter k s (w ∷ vs)) → e ≡ endAfter j u (take (e .consumed) ws)
+        go : (t : Bool) (j : ℕ) (u : S) (e : End S) → ((vs : List W) → oneMore (endAfter j u vs) ≡ endAfter k s (w ∷ vs))
+            → e ≡ endAfter j u (take (e .consumed) ws)
             → oneMore (endAt t j u e) ≡ endAfter k s (take (oneMore (endAt t j u e) .consumed) (w ∷ ws))
         go true j u e f ih = ap (λ (n : ℕ). record { number = n; state = u; consumed = 1 }) (sym (add-zero j)) ∙ f []
         go false j u e f ih = ap oneMore ih ∙ f (take (e .consumed) ws)
@@ -316,7 +322,8 @@ module _ {S W E : Type 0} (R : Reading S W E) where
     -- ---- from a record, the state and the number after the words a
 
     pub by-number-from : (s : S) (a b : List W) → length (numbered s a) ≤ win .n0
-        → byNumber (win .n0) (win .n1) (length (numbered s a)) (numbered (run (R .machine) s a) b) ≡ take (win .n1 - win .n0) (drop (win .n0) (numbered s (a ++ b)))
+        → byNumber (win .n0) (win .n1) (length (numbered s a)) (numbered (run (R .machine) s a) b)
+        ≡ take (win .n1 - win .n0) (drop (win .n0) (numbered s (a ++ b)))
     by-number-from s a b h =
         let k = length (numbered s a) in
         let m : max (win .n0) k ≡ win .n0 = omega arith in

@@ -6,7 +6,8 @@ use Prim.Native.Nat.{ℕ, _≤_, _<_}
 use native.Mathlib.Omega.{arith}
 use lib.Dec.{leb, ltb}
 use borrow.Author.Tests.{leb-true, le-leb, lt-leb, lt-ltb, le-ltb}
-use Rattle.laws_stream.specs.Machine.{and-both, Machine, Note, All, all-append, all-append-left, all-map, run, emits, emits-append, words, notes, Says, says-emits}
+use Rattle.laws_stream.specs.Machine.{and-both, Machine, Note, All, all-append, all-append-left, all-map, run, emits, emits-append, words, notes, Says}
+use Rattle.laws_stream.specs.Machine.{says-emits}
 
 module _ {E : Type 0} where
   abbrev pub onto : Bool → E → List E → List E
@@ -117,7 +118,8 @@ module _ {S W E : Type 0} (M : Machine S W E) (keep : E → Bool) (done : S → 
     says-past s [] more p = tt
     says-past s (a ∷ ns) more p =
         let t = M .step s (a .word) in (
-          (λ d. rw (says-emits M Fits Ready t ns more (p .rest)) (all-append-left _ (notes ns) more (over t (notes ns ++ more) (ready-now t ns more (p .rest)) d))),
+          (λ d. rw (says-emits M Fits Ready t ns more (p .rest))
+              (all-append-left _ (notes ns) more (over t (notes ns ++ more) (ready-now t ns more (p .rest)) d))),
           says-past t ns more (p .rest),
         )
 
@@ -163,7 +165,8 @@ module _ {S W E : Type 0} (M : Machine S W E) (live : S → Bool) (time : S → 
   Rising s [] = Unit
   Rising s (w ∷ ws) = (live s ≡ true → time s ≤ time (M .step s w)) × Rising (M .step s w) ws
 
-  module _ (stamped : (s : S) (w : W) → All (λ e. clock e ≡ time (M .step s w)) (M .emit s w)) (stays : (s : S) (w : W) → live s ≡ true → live (M .step s w) ≡ true) where
+  module _ (stamped : (s : S) (w : W) → All (λ e. clock e ≡ time (M .step s w)) (M .emit s w))
+      (stays : (s : S) (w : W) → live s ≡ true → live (M .step s w) ≡ true) where
     pub rising-all : (s : S) (ws : List W) (t : ℕ) → live s ≡ true → t ≤ time s → Rising s ws → All (λ e. t ≤ clock e) (emits M s ws)
     rising-all s [] t l h r = tt
     rising-all s (w ∷ ws) t l h r =

@@ -4,7 +4,8 @@ use mathlib.Core.List.{List, [], _++_, append-nil, append-cancel-left}
 use Prim.Native.Nat.{ℕ, _*_, _/_, _≤_, _<_}
 use lib.ListN.{length, take, drop, take-append-drop}
 use lib.Seq.{length-take-le}
-use Rattle.laws_stream.specs.Machine.{Machine, Note, All, run, emits, emits-append, run-append, checkpoint, words, notes, words-take, words-append, notes-split, says-emits, says-fits, cut}
+use Rattle.laws_stream.specs.Machine.{Machine, Note, All, run, emits, emits-append, run-append, checkpoint, words, notes, words-take, words-append}
+use Rattle.laws_stream.specs.Machine.{notes-split, says-emits, says-fits, cut}
 use mathlib.Core.Bool.{Bool, true, false}
 use Rattle.laws_stream.specs.Slice.{sift, until, Past, sliced, says-past}
 use Rattle.laws_stream.specs.Format.{Format, Lawful, Good, givens, sent, sent-good, written-notes, resumes, resumed-notes}
@@ -26,7 +27,8 @@ module _ {S E : Type 0} (n : ℕ) (D : Machine S ℕ E) where
   after-append pos s k a b h = rw (wordsOf-append n pos k a b h) (run-append D s (wordsOf n a) (wordsOf n b))
 
   pub split-words : 0 < n → (k : ℕ) (l : List ℕ) → k * n ≤ length l → wordsOf n (take (k * n) l) ++ wordsOf n (drop (k * n) l) ≡ wordsOf n l
-  split-words pos k l h = sym (wordsOf-append n pos k (take (k * n) l) (drop (k * n) l) (length-take-le (k * n) l h)) ∙ ap (wordsOf n) (take-append-drop (k * n) l)
+  split-words pos k l h =
+      sym (wordsOf-append n pos k (take (k * n) l) (drop (k * n) l) (length-take-le (k * n) l h)) ∙ ap (wordsOf n) (take-append-drop (k * n) l)
 
   -- THE CHECKPOINT
   pub decode-from : 0 < n → (s : S) (k : ℕ) (l : List ℕ) → k * n ≤ length l
@@ -72,7 +74,8 @@ module _ {S Q I E : Type 0} (F : Format S Q I E) (L : Lawful F) where
       ∙ rw (decode-whole (after (F .size) (F .reader) s l) (sent F is) g, written-notes F L (F .fresh) is va)
 
   -- the bytes of a stream that was cut and resumed
-  pub bytes-resumed : (c : ℕ) (ns ms : List (Note ℕ E)) → take (c / F .size * F .size) (notedBytes ns) ++ notedBytes ms ≡ notedBytes (take (c / F .size) ns ++ ms)
+  pub bytes-resumed : (c : ℕ) (ns ms : List (Note ℕ E))
+      → take (c / F .size * F .size) (notedBytes ns) ++ notedBytes ms ≡ notedBytes (take (c / F .size) ns ++ ms)
   bytes-resumed c ns ms = rw (take-stream-words (F .size), ← stream-append, words-append, words-take)
 
   -- what was missing, and no more, written by a fresh writer behind what is left

@@ -4,10 +4,12 @@ use mathlib.Core.Logic.{_↔_}
 use mathlib.Core.List.{List, [], _∷_, _++_, append-assoc, append-nil}
 use Prim.Native.Nat.{ℕ, zero, suc, _+_, _*_, _/_, _%_, _^_, _≤_, _<_}
 use native.Mathlib.Omega.{arith}
-use native.Mathlib.Nat.{pow-suc, zero-add, suc-add, suc-mul, zero-mul, mod-lt, div-add-mod', div-eq-of-eq-mul-left, div-eq-sub-div, mul-add-div-right, div-eq-of-lt, le-div-iff-mul-le}
+use native.Mathlib.Nat.{pow-suc, zero-add, suc-add, suc-mul, zero-mul, mod-lt, div-add-mod', div-eq-of-eq-mul-left, div-eq-sub-div, mul-add-div-right}
+use native.Mathlib.Nat.{div-eq-of-lt, le-div-iff-mul-le}
 use native.Mathlib.Numerals.{add-one}
 use lib.ListN.{length, take, drop, getD, length-append, length-take, length-drop, take-append-drop}
-use lib.Seq.{take-at, drop-at, take-append-add, drop-append-add, take-add, take-append-le, take-nil, drop-nil, drop-append-le, drop-cons, drop-drop, length-take-le}
+use lib.Seq.{take-at, drop-at, take-append-add, drop-append-add, take-add, take-append-le, take-nil, drop-nil, drop-append-le, drop-cons, drop-drop}
+use lib.Seq.{length-take-le}
 use Rattle.laws_stream.specs.Machine.{All, all-append, all-take, all-drop}
 
 abbrev pub bytes : ℕ → ℕ → List ℕ
@@ -104,7 +106,8 @@ module _ (n : ℕ) where
   take-stream-words zero ws = rw zero-mul
   take-stream-words (suc k) [] = take-nil (suc k * n)
   take-stream-words (suc k) (w ∷ ws) =
-      ap (λ (j : ℕ). take j (bytes n w ++ stream ws)) (skip k w) ∙ take-append-add (bytes n w) (stream ws) (k * n) ∙ ap (λ (l : List ℕ). bytes n w ++ l) (take-stream-words k ws)
+      ap (λ (j : ℕ). take j (bytes n w ++ stream ws)) (skip k w) ∙ take-append-add (bytes n w) (stream ws) (k * n)
+      ∙ ap (λ (l : List ℕ). bytes n w ++ l) (take-stream-words k ws)
 
   pub drop-stream-words : (k : ℕ) (ws : List ℕ) → drop (k * n) (stream ws) ≡ stream (drop k ws)
   drop-stream-words zero ws = rw zero-mul
@@ -128,7 +131,12 @@ module _ (n : ℕ) where
   pub parse-stream : (ws : List ℕ) → All Fits ws → parse (length ws) (stream ws) ≡ ws
   parse-stream [] h = refl
   parse-stream (w ∷ ws) h =
-      rw (take-at (bytes n w) (stream ws) n (length-bytes n w), drop-at (bytes n w) (stream ws) n (length-bytes n w), value-bytes n w (h .0), parse-stream ws (h .1))
+      rw (
+        take-at (bytes n w) (stream ws) n (length-bytes n w),
+        drop-at (bytes n w) (stream ws) n (length-bytes n w),
+        value-bytes n w (h .0),
+        parse-stream ws (h .1),
+      )
 
   module _ (pos : 0 < n) where
     -- word k is among the first c / n where its last byte is among the first c
@@ -184,4 +192,5 @@ module _ (n : ℕ) where
     -- THE RESUMPTION: less the broken word, with another stream behind
     pub wordsOf-resumed : (c : ℕ) (ws vs : List ℕ) → All Fits ws → All Fits vs → wordsOf (take (c / n * n) (stream ws) ++ stream vs) ≡ take (c / n) ws ++ vs
     wordsOf-resumed c ws vs h k =
-        rw (take-stream-words (c / n) ws, ← stream-append) (wordsOf-stream (take (c / n) ws ++ vs) (all-append Fits (take (c / n) ws) vs (all-take Fits (c / n) ws h) k))
+        rw (take-stream-words (c / n) ws, ← stream-append)
+        (wordsOf-stream (take (c / n) ws ++ vs) (all-append Fits (take (c / n) ws) vs (all-take Fits (c / n) ws h) k))

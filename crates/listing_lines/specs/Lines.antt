@@ -4,15 +4,10 @@ use mathlib.Core.List.{List}
 use Prim.Native.Nat.{ℕ, _+_}
 use native.Mathlib.Omega.{arith}
 use lib.ListN.{set}
-use Rattle.evt_types.specs.declared.Refusal.{Refusal}
-use Rattle.evt_types.specs.Told.{told}
-use Rattle.evt_types.specs.Num.{encodingNumber}
-use Rattle.read_rules.specs.declared.Reading.{Reading}
-use Rattle.read_rules.specs.declared.ReadAnswer.{ReadAnswer}
-use Rattle.read_rules.specs.declared.ReadAnswer.the-variants.{Read, Refused}
+use Rattle.evt_types.specs.{declared.Refusal.Refusal, Told.told, Num.encodingNumber}
+use Rattle.read_rules.specs.declared.{ReadAnswer.ReadAnswer, ReadAnswer.the-variants.Read, ReadAnswer.the-variants.Refused, Reading.Reading}
 use Rattle.write_buffer.specs.Columns.{event}
-use Rattle.write_text.specs.Text.{ascii, decimal}
-use Rattle.write_text.specs.Stored.{Stored, stored-byte, stored-then, stored-weaken}
+use Rattle.write_text.specs.{Text.ascii, Text.decimal, Stored.Stored, Stored.stored-byte, Stored.stored-then, Stored.stored-weaken}
 use Rattle.listing_lines.specs.Listing.{field, space, newline, refusedLine, readLine, eventLine}
 
 -- the first line

@@ -4,16 +4,9 @@ use mathlib.Core.List.{List, [], _∷_, _++_}
 use Prim.Native.Nat.{ℕ, _/_, _*_}
 use lib.Dec.{ltb}
 use lib.ListN.{length}
-use Rattle.evt_types.specs.declared.Limit.the-variants.{Unlimited}
-use Rattle.evt_types.specs.declared.SensorSize.the-variants.{Unknown}
-use Rattle.evt_types.specs.declared.Refusal.{Refusal}
-use Rattle.evt_types.specs.Event.{Event}
-use Rattle.evt_types.specs.Outcome.{Outcome, onOutcome}
-use Rattle.evt_types.specs.Told.{told}
-use Rattle.evt_types.specs.Num.{encodingNumber}
-use Rattle.read_rules.specs.declared.LoadOptions.{LoadOptions}
-use Rattle.read_rules.specs.declared.Reading.{Reading}
-use Rattle.read_rules.specs.Read.{ReadEvents, rawOutcome}
+use Rattle.evt_types.specs.declared.{Limit.the-variants.Unlimited, Refusal.Refusal, SensorSize.the-variants.Unknown}
+use Rattle.evt_types.specs.{Event.Event, Outcome.Outcome, Outcome.onOutcome, Told.told, Num.encodingNumber}
+use Rattle.read_rules.specs.{declared.LoadOptions.LoadOptions, declared.Reading.Reading, Read.ReadEvents, Read.rawOutcome}
 use Rattle.write_text.specs.Text.{ascii, decimal}
 
 -- ---- lines

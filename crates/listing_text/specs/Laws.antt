@@ -10,37 +10,24 @@ use borrow.Author.Tests.{lt-ltb, le-ltb}
 use lib.Dec.{ltb}
 use lib.IntN.{ℤ}
 use lib.ListN.{length, drop, length-append, length-drop}
-use Rattle.evt_types.specs.declared.Encoding.{Encoding}
-use Rattle.evt_types.specs.declared.Encoding.the-variants.{Evt2, Evt3}
-use Rattle.evt_types.specs.declared.Limit.the-variants.{Unlimited}
-use Rattle.evt_types.specs.declared.Refusal.{Refusal}
-use Rattle.evt_types.specs.declared.Refusal.the-variants.{InvalidSensorSize, HeaderNotAscii, TooLong}
-use Rattle.evt_types.specs.declared.SensorSize.{SensorSize}
-use Rattle.evt_types.specs.declared.SensorSize.the-variants.{Unknown}
-use Rattle.evt_types.specs.Event.{Event}
-use Rattle.evt_types.specs.Columns.{colX, colY, colT, colP}
-use Rattle.evt_types.specs.Outcome.{Outcome, refuse, give}
+use Rattle.evt_types.specs.declared.{Encoding.Encoding, Encoding.the-variants.Evt2, Encoding.the-variants.Evt3, Limit.the-variants.Unlimited}
+use Rattle.evt_types.specs.declared.{Refusal.Refusal, Refusal.the-variants.InvalidSensorSize, Refusal.the-variants.HeaderNotAscii}
+use Rattle.evt_types.specs.declared.{Refusal.the-variants.TooLong, SensorSize.SensorSize, SensorSize.the-variants.Unknown}
+use Rattle.evt_types.specs.{Event.Event, Columns.colX, Columns.colY, Columns.colT, Columns.colP, Outcome.Outcome, Outcome.refuse, Outcome.give}
+use Rattle.evt_types.specs.{Told.told}
 use Rattle.evt_types.specs.Num as Num
-use Rattle.evt_types.specs.Told.{told}
 use Rattle.laws_stream.specs.Columns.{sets-append}
 use lib.Seq.{sets, length-sets}
-use Rattle.header.specs.declared.HeaderAnswer.{HeaderAnswer}
-use Rattle.header.specs.declared.HeaderAnswer.the-variants.{Header, Refused as NoHeader}
-use Rattle.header.specs.declared.Named.{Named}
-use Rattle.header.specs.declared.Named.the-variants.{As, Nothing}
+use Rattle.header.specs.declared.{HeaderAnswer.HeaderAnswer, HeaderAnswer.the-variants.Header, HeaderAnswer.the-variants.Refused as NoHeader}
+use Rattle.header.specs.declared.{Named.Named, Named.the-variants.As, Named.the-variants.Nothing}
 use Rattle.header.specs.Header.{withEncoding, headerOutcome, answerBy, headerOf, toldHeader, encodingOf, saidBy, hasZero, sizeThatHolds}
-use Rattle.header_text.specs.Cases.{by-bool}
-use Rattle.header_text.specs.Text.{any, notAscii}
+use Rattle.header_text.specs.{Cases.by-bool, Text.any, Text.notAscii}
 use Rattle.header.specs.Lines.{headerBytes, bodyStart}
-use Rattle.read_rules.specs.declared.Reading.{Reading}
-use Rattle.read_rules.specs.declared.ReadAnswer.{ReadAnswer}
-use Rattle.read_rules.specs.declared.ReadAnswer.the-variants.{Read, Refused}
+use Rattle.read_rules.specs.declared.{ReadAnswer.ReadAnswer, ReadAnswer.the-variants.Read, ReadAnswer.the-variants.Refused, Reading.Reading}
 use Rattle.read_rules.specs.Read.{ReadEvents, toldRead, bodyEvents, sizeless, widthOf, heightOf, bodyOutcome, outcomeAfter, rawOutcome, readAnswer}
-use Rattle.read_rules.specs.Read.{handedEvents, shortest, Handed, Reads, ReadsRaw}
+use Rattle.read_rules.specs.{Read.handedEvents, Read.shortest, Read.Handed, Read.Reads, Read.ReadsRaw, Laws.sensorOf, Laws.body-all}
 use Rattle.evt_codec.specs.Codec.{freshC}
-use Rattle.read_capacity.specs.Deliver.{mostFrom}
-use Rattle.read_capacity.specs.Laws.{few-inside}
-use Rattle.read_rules.specs.Laws.{sensorOf, body-all}
+use Rattle.read_capacity.specs.{Deliver.mostFrom, Laws.few-inside}
 use Rattle.write_buffer.specs.Columns.{eventOf}
 use Rattle.listing_text.specs.declared.Begun.{Begun}
 use Rattle.listing_lines.specs.Listing.{tooLong, refusedLine, eventLine, eventLines, mostBytes, listOptions, listRoom, outcomeText, listingOf}

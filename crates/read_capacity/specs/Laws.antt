@@ -2,33 +2,23 @@
 use mathlib.Core.Path.{_≡_, refl, ap, _∙_}
 use mathlib.Core.Bool.{Bool, true, false, _&&_}
 use mathlib.Core.List.{List, [], _∷_, _++_, map}
-use Prim.Native.Nat.{ℕ, suc, _+_, _-_, _≤_, _<_, min, max}
+use Prim.Native.Nat.{ℕ, suc, _-_, _≤_, _<_, min, max}
 use native.Mathlib.Omega.{arith}
 use native.Mathlib.Nat.{zero-add}
 use lib.Dec.{leb, ltb}
 use lib.IntN.{ℤ}
 use lib.ListN.{length, take, drop, length-map}
 use borrow.Author.Tests.{leb-true, ltb-true, le-leb, lt-leb}
-use Rattle.evt_types.specs.Layout.{wordSize2, wordSize3}
-use Rattle.laws_stream.specs.Columns.{written}
-use Rattle.laws_stream.specs.Slice.{onto}
+use Rattle.evt_types.specs.{Layout.wordSize2, Layout.wordSize3, Columns.colX, Columns.colY, Columns.colT, Columns.colP, Columns.Wrote, Columns.Fits}
+use Rattle.evt_types.specs.{Event.Event}
+use Rattle.laws_stream.specs.{Columns.written, Slice.onto, Words.wordsOf}
 use Rattle.laws_stream.specs.Select as Select
-use Rattle.laws_stream.specs.Words.{wordsOf}
-use Rattle.evt_codec.specs.declared.codec.Codec.{Codec}
-use Rattle.evt_codec.specs.declared.codec.Codec.the-variants.{Evt2, Evt3}
-use Rattle.evt_types.specs.Columns.{colX, colY, colT, colP, Wrote, Fits}
-use Rattle.evt_types.specs.Event.{Event}
-use Rattle.read_count.specs.declared.CountedAll.{CountedAll}
-use Rattle.read_fill.specs.declared.FilledAll.{FilledAll}
-use Rattle.read_fill.specs.Decode.{insideEvents, filledAllOf}
-use Rattle.read_count.specs.Count.{countedAllOf}
-use Rattle.read_fill.specs.Loops.{few2, few3}
-use Rattle.read_window.specs.declared.Window.{Window}
-use Rattle.read_window.specs.Window.{selectionOf, reading2, reading3}
-use Rattle.read_select.specs.declared.SurveyTotals.{SurveyTotals}
-use Rattle.read_select.specs.declared.Filled.{Filled}
-use Rattle.read_select.specs.Pass.{handedOver, surveyed, filled}
-use Rattle.read_select.specs.Uses.{numberedOver, over-few}
+use Rattle.evt_codec.specs.declared.{codec.Codec.Codec, codec.Codec.the-variants.Evt2, codec.Codec.the-variants.Evt3}
+use Rattle.read_count.specs.{declared.CountedAll.CountedAll, Count.countedAllOf}
+use Rattle.read_fill.specs.{declared.FilledAll.FilledAll, Decode.insideEvents, Decode.filledAllOf, Loops.few2, Loops.few3}
+use Rattle.read_window.specs.{declared.Window.Window, Window.selectionOf, Window.reading2, Window.reading3}
+use Rattle.read_select.specs.{declared.Filled.Filled, declared.SurveyTotals.SurveyTotals, Pass.handedOver, Pass.surveyed, Pass.filled}
+use Rattle.read_select.specs.{Uses.numberedOver, Uses.over-few}
 use Rattle.read_capacity.specs.declared.Delivered.the-variants.{Written, Needed}
 use Rattle.read_capacity.specs.Deliver.{shortest, Handed, Delivers, mostFrom, mostOver, Enough}
 
@@ -107,7 +97,8 @@ module _ (width height : ℕ) (c : Codec) (bytes : List ℕ) where
 module _ {S : Type 0} (R : Select.Reading S ℕ Event) (span : Select.Selection) where
   chosen-span : (k : ℕ) (es : List Event) → length (Select.chosen R span k es) ≤ span .n1 - max (span .n0) k
   chosen-span k [] = omega arith
-  chosen-span k (e ∷ es) = go (leb (span .n0) k) refl (ltb k (span .n1)) refl (leb (span .t0) (R .clock e) && ltb (R .clock e) (span .t1)) (chosen-span (suc k) es)
+  chosen-span k (e ∷ es) =
+      go (leb (span .n0) k) refl (ltb k (span .n1)) refl (leb (span .t0) (R .clock e) && ltb (R .clock e) (span .t1)) (chosen-span (suc k) es)
     where
       go : (a : Bool) → leb (span .n0) k ≡ a → (b : Bool) → ltb k (span .n1) ≡ b → (c : Bool)
           → length (Select.chosen R span (suc k) es) ≤ span .n1 - max (span .n0) (suc k)

@@ -1,6 +1,6 @@
 -- The events of a word that lie inside a sensor of width x height: those with x < width and y < height.
 use mathlib.Core.Path.{_≡_, refl, ap, _∙_}
-use mathlib.Core.Bool.{Bool, true, false, _&&_, and-false}
+use mathlib.Core.Bool.{Bool, true, false, and-false}
 use mathlib.Core.List.{List, [], _∷_, map}
 use Prim.Native.Nat.{ℕ, zero, suc, _+_, _-_, _≤_, _<_, _^_, min, max}
 use native.Mathlib.Omega.{arith}
@@ -9,13 +9,9 @@ use lib.Bits.{bitAnd}
 use lib.Count.{trailingZeros}
 use lib.Dec.{ltb}
 use borrow.Author.Tests.{le-ltb}
-use Rattle.laws_stream.specs.Machine.{All, all-of}
-use Rattle.laws_stream.specs.Mask.{bits, bits-zero, bits-one, bits-few, low-bit, trailing-wide}
-use Rattle.laws_stream.specs.Order.{greatest}
-use Rattle.laws_stream.specs.Slice.{onto, sift, sift-none}
-use Rattle.evt_types.specs.declared.vector.Vector.{Vector}
-use Rattle.evt_types.specs.Num.{isInside}
-use Rattle.evt_types.specs.Event.{Event, eventAt, eventsOf}
+use Rattle.laws_stream.specs.{Machine.All, Machine.all-of, Mask.bits, Mask.bits-zero, Mask.bits-one, Mask.bits-few, Mask.low-bit, Mask.trailing-wide}
+use Rattle.laws_stream.specs.{Order.greatest, Slice.onto, Slice.sift, Slice.sift-none}
+use Rattle.evt_types.specs.{declared.vector.Vector.Vector, Num.isInside, Event.Event, Event.eventAt, Event.eventsOf}
 
 abbrev pub inside : (width height : ℕ) → Event → Bool
 inside width height e = isInside width height (e .x) (e .y)
@@ -55,7 +51,8 @@ module _ (width height : ℕ) (v : Vector) where
 
   pub inside-next : (m : ℕ) → 0 < m → m < 2 ^ 32
       → insideAt width height v m
-      ≡ onto (isInside width height (min (v .x + trailingZeros 64 m) 65535) (v .y)) (eventAt v (v .x + trailingZeros 64 m)) (insideAt width height v (bitAnd m (m - 1)))
+      ≡ onto (isInside width height (min (v .x + trailingZeros 64 m) 65535) (v .y)) (eventAt v (v .x + trailingZeros 64 m))
+      (insideAt width height v (bitAnd m (m - 1)))
   inside-next m h l = ap (sift (inside width height)) (events-next v m h l)
 
   pub inside-one : v .mask ≡ 1 → v .x < 65536 → insideOf width height v ≡ onto (isInside width height (v .x) (v .y)) (firstOf v) []

@@ -3,18 +3,14 @@ use mathlib.Core.List.{List}
 use Prim.Native.Nat.{ℕ, _*_}
 use lib.ListN.{length}
 use Rattle.evt_types.specs.Layout.{wordSize2, wordSize3}
-use Rattle.laws_stream.specs.Order.{greatest}
-use Rattle.laws_stream.specs.PassOver.{Over, over}
-use Rattle.laws_stream.specs.Words.{wordsOf}
-use Rattle.evt_codec.specs.declared.codec.Codec.{Codec}
-use Rattle.evt_codec.specs.declared.codec.Codec.the-variants.{Evt2, Evt3}
+use Rattle.laws_stream.specs.{Order.greatest, PassOver.Over, PassOver.over, Words.wordsOf}
+use Rattle.evt_codec.specs.declared.{codec.Codec.Codec, codec.Codec.the-variants.Evt2, codec.Codec.the-variants.Evt3}
 pub use Rattle.evt_codec.specs.Codec.{eventsFrom, codecAfter}
 use Rattle.evt2_decoder.specs.Evt2.{reader2}
 use Rattle.evt3_decoder.specs.Evt3.{reader3}
 use Rattle.read_columns.specs.Inside.{inside, clock}
 use Rattle.read_fill.specs.Decode.{insideEvents}
-use Rattle.read_count.specs.declared.CountedAll.{CountedAll}
-use Rattle.read_count.specs.declared.CountedTo.{CountedTo}
+use Rattle.read_count.specs.declared.{CountedAll.CountedAll, CountedTo.CountedTo}
 
 -- the maximum time of no event is 0
 abbrev pub countedAllOf : (width height : ℕ) → Codec → List ℕ → CountedAll

@@ -1,15 +1,12 @@
--- A loop that counts the events of some bytes and notes their maximum time, for every machine and every word size: what holds at index i, at the start, after an iteration, at the end.
+-- A loop that counts the events of some bytes and notes their maximum time, for every machine and every word size: what holds at index i, at the start, after
+-- an iteration, at the end.
 use mathlib.Core.Path.{_≡_, sym, ap, _∙_}
 use mathlib.Core.List.{List, _++_}
 use Prim.Native.Nat.{ℕ, suc, _+_, _≤_, _<_, max}
 use native.Mathlib.Omega.{arith}
 use lib.ListN.{length, length-append}
-use Rattle.laws_stream.specs.Machine.{Machine}
-use Rattle.laws_stream.specs.Words.{wordsOf}
-use Rattle.laws_stream.specs.Order.{greatest, greatest-append}
-use Rattle.laws_stream.specs.Stream.{after}
-use Rattle.evt_types.specs.declared.vector.Vector.{Vector}
-use Rattle.evt_types.specs.Event.{Event}
+use Rattle.laws_stream.specs.{Machine.Machine, Words.wordsOf, Order.greatest, Order.greatest-append, Stream.after}
+use Rattle.evt_types.specs.{declared.vector.Vector.Vector, Event.Event}
 use Rattle.read_columns.specs.Inside.{insideOf, clock, latestOf, inside-latest}
 use Rattle.read_fill.specs.Iteration.{insideAll, Standing, left, Iteration, none-left, at-end, stand-next, splits, stand-start}
 
@@ -39,7 +36,8 @@ module _ {S : Type 0} {n : ℕ} {M : Machine S ℕ Event} {Inv : ℕ → S → T
       -- the count never passes the whole
       pub counting-few : count + length (insideOf width height v) ≤ length (insideAll n M width height s₀ bytes)
       counting-few =
-          let c : count + length (insideOf width height v ++ behind) ≡ length (insideAll n M width height s₀ bytes) = rw (splits pos keeps (u .stand) t) at (u .counts) in
+          let c : count + length (insideOf width height v ++ behind) ≡ length (insideAll n M width height s₀ bytes) =
+          rw (splits pos keeps (u .stand) t) at (u .counts) in
           omega (arith, c, length-append (insideOf width height v) behind)
 
       pub counting-next : (m : ℕ) → m ≡ length (insideOf width height v) → (top′ : ℕ) → top′ ≡ max top (latestOf m (v .t))

@@ -9,11 +9,9 @@ use lib.ListN.{length}
 use borrow.Author.Tests.{ltb-true, ltb-false, lt-ltb, le-ltb}
 use Rattle.laws_stream.specs.Slice.{onto}
 use Rattle.evt2_decoder.specs.declared.Evt2Decoder.{Evt2Decoder}
-use Rattle.evt_types.specs.declared.vector.Vector.{Vector}
-use Rattle.evt_types.specs.Layout.{field, type2, timeLow2, x2, y2}
+use Rattle.evt_types.specs.{declared.vector.Vector.Vector, Layout.field, Layout.type2, Layout.timeLow2, Layout.x2, Layout.y2, Num.isInside}
 use Rattle.evt2_decoder.specs.Evt2.{event, stepAs, vectorAs, step2, vector2, event-word, by-kinds}
 use Rattle.read_columns.specs.Inside.{insideOf, insideAt, firstOf, inside-none, inside-one}
-use Rattle.evt_types.specs.Num.{isInside}
 
 -- a bound of the column with the row below it, for a decoder that has started
 abbrev pub keyBound : Bool → ℕ → ℕ

@@ -12,10 +12,8 @@ use lib.Dec.{ltb}
 use lib.ListN.{length, getD}
 use lib.Pow.{field, mod-mod-pow, pow-mono}
 use borrow.Author.Tests.{ltb-true, ltb-false, lt-ltb, le-ltb}
-use Rattle.laws_stream.specs.Mask.{bits, bits-zero, bits-even, bits-odd, bits-count, parity}
-use Rattle.laws_stream.specs.Slice.{onto, sift}
-use Rattle.evt_types.specs.declared.vector.Vector.{Vector}
-use Rattle.evt_types.specs.Event.{eventAt}
+use Rattle.laws_stream.specs.{Mask.bits, Mask.bits-zero, Mask.bits-even, Mask.bits-odd, Mask.bits-count, Mask.parity, Slice.onto, Slice.sift}
+use Rattle.evt_types.specs.{declared.vector.Vector.Vector, Event.eventAt}
 use Rattle.read_columns.specs.Inside.{inside, insideOf, inside-out}
 use Rattle.read_count.specs.Tables.{tableOf, table-at}
 
@@ -123,10 +121,14 @@ module _ (width height : ℕ) (v : Vector) (column : v .x < 65536) (small : v .m
       go : (b : Bool) → ltb width 65536 ≡ b → length (insideOf width height v) ≡ ones (v .mask % 2 ^ (cond b width 65548 - v .x))
       go true e =
           let l = ltb-true width 65536 e in
-          sift-mapped (inside width height) (eventAt v) (λ c. ltb c width) (λ c. rw (lt-ltb (v .y) height y, saturated c l) (and-true (ltb c width))) (bits 32 (v .x) (v .mask)) ∙ bits-below 32 (v .x) (v .mask) width (omega arith)
+          sift-mapped (inside width height) (eventAt v) (λ c. ltb c width)
+          (λ c. rw (lt-ltb (v .y) height y, saturated c l) (and-true (ltb c width))) (bits 32 (v .x) (v .mask))
+          ∙ bits-below 32 (v .x) (v .mask) width (omega arith)
       go false e =
           let l = ltb-false width 65536 e in
-          sift-mapped (inside width height) (eventAt v) (λ c. true) (λ c. rw (lt-ltb (v .y) height y, lt-ltb (min c 65535) width (omega arith))) (bits 32 (v .x) (v .mask)) ∙ ap length (sift-each (bits 32 (v .x) (v .mask)))
+          sift-mapped (inside width height) (eventAt v) (λ c. true)
+          (λ c. rw (lt-ltb (v .y) height y, lt-ltb (min c 65535) width (omega arith))) (bits 32 (v .x) (v .mask))
+          ∙ ap length (sift-each (bits 32 (v .x) (v .mask)))
           ∙ bits-count 32 (v .x) (v .mask) (omega arith) ∙ sym (ap ones (all-bits (v .mask) (65548 - v .x) small (omega arith)))
 
   pub inside-counted : length (insideOf width height v) ≡ insideCount (v .x) (v .y) (v .mask) (columnBound width) height

@@ -10,14 +10,10 @@ use lib.Dec.{eqb}
 use lib.ListN.{getD}
 use borrow.Author.Tests.{eqb-true, ne-eqb}
 use Rattle.laws_stream.specs.Mask.{bits-zero}
-use Rattle.evt_types.specs.declared.vector.Vector.{Vector}
-use Rattle.evt3_decoder.specs.declared.Decoder.{Decoder}
-use Rattle.evt3_decoder.specs.declared.WideDecoder.{WideDecoder}
-use Rattle.evt_types.specs.Event.{eventsOf}
-use Rattle.evt_types.specs.Layout.{type3, y3, x3, time3}
+use Rattle.evt_types.specs.{declared.vector.Vector.Vector, Event.eventsOf, Layout.type3, Layout.y3, Layout.x3, Layout.time3}
+use Rattle.evt3_decoder.specs.declared.{Decoder.Decoder, WideDecoder.WideDecoder}
 use Rattle.evt3_decoder.specs.Evt3.{Kind, vect12, vect8, kindOn, kindOf, stepAs, vectorAs, step3, vector3, widened, slimmed, by-kinds}
-use Rattle.read_count.specs.declared.evt3_step.CountingDecoder.{CountingDecoder}
-use Rattle.read_count.specs.declared.evt3_step.CountingStep.{CountingStep}
+use Rattle.read_count.specs.declared.{evt3_step.CountingDecoder.CountingDecoder, evt3_step.CountingStep.CountingStep}
 use Rattle.read_count.specs.Tables.{tableOf, table-at}
 
 -- the loop's decoder: its polarity is bit 11 of the last word of type 3
@@ -134,10 +130,13 @@ module _ (d : CountingDecoder) (w : ℕ) (column : d .«base_x» < 65536) where
   good3 = record { next = refl; mask = rw no-bits (omega arith); column = column; same = nil _ _ refl no-bits }
 
   good4 : Good 4
-  good4 = record { next = refl; mask = rw (and-mask w 12) (omega arith); column = column; same = masked (vectorAs vect12 (slimmed (decoderOf d)) w) _ (low-bits w 12) }
+  good4 =
+      record
+      { next = refl; mask = rw (and-mask w 12) (omega arith); column = column; same = masked (vectorAs vect12 (slimmed (decoderOf d)) w) _ (low-bits w 12) }
 
   good5 : Good 5
-  good5 = record { next = refl; mask = rw (and-mask w 8) (omega arith); column = column; same = masked (vectorAs vect8 (slimmed (decoderOf d)) w) _ (low-bits w 8) }
+  good5 =
+      record { next = refl; mask = rw (and-mask w 8) (omega arith); column = column; same = masked (vectorAs vect8 (slimmed (decoderOf d)) w) _ (low-bits w 8) }
 
   good6 : Good 6
   good6 = record { next = rw still; mask = rw no-bits (omega arith); column = column; same = nil _ _ refl no-bits }
@@ -178,4 +177,5 @@ quiet3 d w (inr e) = rw e (go (d .initialised))
 
 pub quiet-agrees : (d : Decoder) (w : ℕ) → (d .initialised ≡ false) ⊎ (type3 w ≡ 8) → (r : CountingStep) → decoderOf (r .next) ≡ widened (step3 d w)
     → r .x ≡ 0 → r .mask ≡ 0 → AgreesWithStep d w r
-quiet-agrees d w e r is-next is-x is-mask = record { next = is-next; mask = rw is-mask (omega arith); column = rw is-x (omega arith); same = nil _ _ (quiet3 d w e) is-mask }
+quiet-agrees d w e r is-next is-x is-mask =
+    record { next = is-next; mask = rw is-mask (omega arith); column = rw is-x (omega arith); same = nil _ _ (quiet3 d w e) is-mask }

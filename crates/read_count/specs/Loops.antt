@@ -6,27 +6,17 @@ use Prim.Native.Nat.{ℕ, _+_, _-_, _/_, _≤_, _<_, max}
 use native.Mathlib.Omega.{arith}
 use native.Mathlib.Nat.{add-zero}
 use lib.ListN.{length}
-use Rattle.laws_stream.specs.Words.{wordsOf}
-use Rattle.laws_stream.specs.Order.{greatest}
-use Rattle.laws_stream.specs.Stream.{after}
-use Rattle.evt_types.specs.Ahead.{ahead, ahead-some}
-use Rattle.evt_types.specs.declared.vector.Vector.{Vector}
-use Rattle.evt2_decoder.specs.declared.Evt2Decoder.{Evt2Decoder}
-use Rattle.evt3_decoder.specs.declared.Decoder.{Decoder}
-use Rattle.evt_types.specs.Layout.{timeLow2, wordSize3, wordSize2}
-use Rattle.evt2_decoder.specs.Evt2.{step2, vector2, reader2}
-use Rattle.evt3_decoder.specs.Evt3.{vector3, reader3, slimmed}
-use Rattle.evt2_decoder.specs.Range.{Bounded2, bounded-step2}
-use Rattle.evt3_decoder.specs.Range.{Bounded3, bounded-step3}
+use Rattle.laws_stream.specs.{Words.wordsOf, Order.greatest, Stream.after}
+use Rattle.evt_types.specs.{Ahead.ahead, Ahead.ahead-some, declared.vector.Vector.Vector, Layout.timeLow2, Layout.wordSize3, Layout.wordSize2}
+use Rattle.evt2_decoder.specs.{declared.Evt2Decoder.Evt2Decoder, Evt2.step2, Evt2.vector2, Evt2.reader2, Range.Bounded2, Range.bounded-step2}
+use Rattle.evt3_decoder.specs.{declared.Decoder.Decoder, Evt3.vector3, Evt3.reader3, Evt3.slimmed, Range.Bounded3, Range.bounded-step3}
 use Rattle.read_columns.specs.Inside.{insideOf, clock, latestOf}
-use Rattle.read_fill.specs.Iteration.{Iteration, insideAll}
-use Rattle.read_fill.specs.Loops.{start3}
-use Rattle.read_count.specs.declared.evt3_step.CountingStep.{CountingStep}
-use Rattle.read_count.specs.Counting.{Counting, counting-few, counting-next, counting-end}
-use Rattle.read_count.specs.Passing.{Passing, Reached, passing-stop, passing-next}
-use Rattle.read_count.specs.Evt2Inside.{keyBound, isEventInside, oneIf, event-count, event-step}
-use Rattle.read_count.specs.Evt3Inside.{columnBound, insideCount, inside-counted}
-use Rattle.read_count.specs.Evt3Step.{AgreesWithStep, decoderOf, countedVector}
+use Rattle.read_fill.specs.{Iteration.Iteration, Iteration.insideAll, Loops.start3}
+use Rattle.read_count.specs.{declared.evt3_step.CountingStep.CountingStep, Counting.Counting, Counting.counting-few, Counting.counting-next}
+use Rattle.read_count.specs.{Counting.counting-end, Passing.Passing, Passing.Reached, Passing.passing-stop, Passing.passing-next}
+use Rattle.read_count.specs.{Evt2Inside.keyBound, Evt2Inside.isEventInside, Evt2Inside.oneIf, Evt2Inside.event-count, Evt2Inside.event-step}
+use Rattle.read_count.specs.{Evt3Inside.columnBound, Evt3Inside.insideCount, Evt3Inside.inside-counted, Evt3Step.AgreesWithStep}
+use Rattle.read_count.specs.{Evt3Step.decoderOf, Evt3Step.countedVector}
 
 -- ---- EVT2
 
@@ -39,7 +29,9 @@ pub record Word2 (width height : ℕ) (bytes : List ℕ) (s : Evt2Decoder) (boun
 -- it is an event inside the sensor, or adds nothing
 module _ {width height : ℕ} {bytes : List ℕ} {s : Evt2Decoder} {bound i w : ℕ} (a : Word2 width height bytes s bound i w) where
   iteration : (s′ : Evt2Decoder) → s′ ≡ step2 s w → Iteration wordSize2 reader2 bytes s i s′ (vector2 s w)
-  iteration s′ is = record { word = w; more = omega (arith, a .more); is-word = a .is-word ∙ ahead-some wordSize2 bytes i (omega (arith, a .more)); is-next = is; is-events = refl }
+  iteration s′ is =
+      record
+      { word = w; more = omega (arith, a .more); is-word = a .is-word ∙ ahead-some wordSize2 bytes i (omega (arith, a .more)); is-next = is; is-events = refl }
 
   found : {b : Bool} → isEventInside bound height w ≡ b → oneIf b ≡ length (insideOf width height (vector2 s w))
   found e = sym (event-count width height s w ∙ ap oneIf (rw (a .is-bound) at e))
@@ -62,7 +54,8 @@ module _ {width height : ℕ} {bytes : List ℕ} {s : Evt2Decoder} {bound i w : 
 
     pub event-next : (e : isEventInside bound height w ≡ true) (t : ℕ) (is-t : t ≡ s .«time_high» + timeLow2 w) {top′ : ℕ} → top′ ≡ max top (latestOf 1 t)
         → Counting wordSize2 reader2 Bounded2 width height s₀ bytes (stamped e t is-t) (n + 1) top′ (i + wordSize2)
-    event-next e t is-t {top′} is-top = counting-next (omega arith) bounded-step2 u (iteration (stamped e t is-t) (is-timed e t is-t)) 1 (found e) top′ (rw (its-time e t is-t) at is-top)
+    event-next e t is-t {top′} is-top =
+        counting-next (omega arith) bounded-step2 u (iteration (stamped e t is-t) (is-timed e t is-t)) 1 (found e) top′ (rw (its-time e t is-t) at is-top)
 
     pub other-next : isEventInside bound height w ≡ false → {s′ : Evt2Decoder} → s′ ≡ step2 s w
         → Counting wordSize2 reader2 Bounded2 width height s₀ bytes s′ n top (i + wordSize2)
@@ -90,7 +83,8 @@ started3 l is b = rw is (start3 l b)
 pub ended3 : {width height : ℕ} {bytes : List ℕ} {d e s : Decoder} {n top i : ℕ} → e ≡ d → Counting wordSize3 reader3 Bounded3 width height e bytes s n top i
     → length bytes < i + wordSize3
     → (r : Decoder) → r ≡ s
-    → (n ≡ length (insideAll wordSize3 reader3 width height d bytes)) × (top ≡ greatest clock (insideAll wordSize3 reader3 width height d bytes)) × (r ≡ after wordSize3 reader3 d bytes)
+    → (n ≡ length (insideAll wordSize3 reader3 width height d bytes))
+    × (top ≡ greatest clock (insideAll wordSize3 reader3 width height d bytes)) × (r ≡ after wordSize3 reader3 d bytes)
 ended3 is u h r is-r = rw (← is, is-r) (counting-end (omega arith) bounded-step3 u h)
 
 pub reached3 : {width height most : ℕ} {bytes : List ℕ} {d e s : Decoder} {n i : ℕ} → e ≡ d

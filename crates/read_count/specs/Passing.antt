@@ -5,11 +5,9 @@ use Prim.Native.Nat.{ℕ, suc, _+_, _-_, _*_, _/_, _≤_, _<_}
 use native.Mathlib.Omega.{arith}
 use native.Mathlib.Nat.{zero-add}
 use lib.ListN.{length, drop}
-use Rattle.laws_stream.specs.Machine.{Machine}
-use Rattle.laws_stream.specs.Words.{wordsOf, words-end, length-words}
-use Rattle.laws_stream.specs.PassOver.{Over, here, oneOver, over, numbersIn, over-nil, over-on, over-stop}
-use Rattle.evt_types.specs.declared.vector.Vector.{Vector}
-use Rattle.evt_types.specs.Event.{Event}
+use Rattle.laws_stream.specs.{Machine.Machine, Words.wordsOf, Words.words-end, Words.length-words, PassOver.Over, PassOver.here, PassOver.oneOver}
+use Rattle.laws_stream.specs.{PassOver.over, PassOver.numbersIn, PassOver.over-nil, PassOver.over-on, PassOver.over-stop}
+use Rattle.evt_types.specs.{declared.vector.Vector.Vector, Event.Event}
 use Rattle.read_columns.specs.Inside.{inside, insideOf}
 use Rattle.read_fill.specs.Iteration.{Iteration, iteration-words}
 
@@ -50,10 +48,16 @@ module _ {S : Type 0} {n : ℕ} {M : Machine S ℕ Event} {Inv : ℕ → S → T
     reached : further n M Inv width height most s₀ bytes s count i ≡ here s → Reached n M Inv width height most s₀ bytes i count s
     reached e =
         let all = overAll n M Inv width height most s₀ bytes in
-        let f : record { words = u .words + 0; count = count + 0; state = s } ≡ all = ap (plus n M Inv width height most s₀ bytes (u .words) count) (sym e) ∙ u .ends in
+        let f : record { words = u .words + 0; count = count + 0; state = s } ≡ all =
+        ap (plus n M Inv width height most s₀ bytes (u .words) count) (sym e) ∙ u .ends in
         let w : u .words + 0 ≡ all .words = ap (λ (r : Over S). r .words) f in
         let c : count + 0 ≡ all .count = ap (λ (r : Over S). r .count) f in
-        record { is-at = rw (← w) (omega (arith, u .is-at)); is-count = omega arith; is-state = ap (λ (r : Over S). r .state) f; inv = rw (length-words n (drop i bytes)) at (u .inv) }
+        record {
+          is-at = rw (← w) (omega (arith, u .is-at));
+          is-count = omega arith;
+          is-state = ap (λ (r : Over S). r .state) f;
+          inv = rw (length-words n (drop i bytes)) at (u .inv);
+        }
 
     -- no word is left
     pub passing-end : length bytes < i + n → Reached n M Inv width height most s₀ bytes i count s
@@ -65,7 +69,9 @@ module _ {S : Type 0} {n : ℕ} {M : Machine S ℕ Event} {Inv : ℕ → S → T
       has = rw (t .is-events) (sym is-m)
 
       pub passing-stop : most - count < m → Reached n M Inv width height most s₀ bytes i count s
-      passing-stop h = reached (rw (iteration-words pos t) (over-stop M (inside width height) (most - count) s (t .word) (wordsOf n (drop (i + n) bytes)) (omega (arith, has))))
+      passing-stop h =
+          reached
+          (rw (iteration-words pos t) (over-stop M (inside width height) (most - count) s (t .word) (wordsOf n (drop (i + n) bytes)) (omega (arith, has))))
 
       pub passing-next : m ≤ most - count → Passing n M Inv width height most s₀ bytes s′ (count + m) (i + n)
       passing-next h =

@@ -5,25 +5,17 @@ use Prim.Native.Nat.{ℕ, _+_, _-_, _≤_, _^_}
 use native.Mathlib.Omega.{arith}
 use lib.ListN.{length, take, drop, length-take, length-drop}
 use Rattle.evt_types.specs.Layout.{wordSize2, wordSize3}
-use Rattle.laws_stream.specs.Words.{wordsOf, length-words, words-taken, words-dropped}
-use Rattle.laws_stream.specs.Select.{handed}
-use Rattle.laws_stream.specs.PassOver.{Passes, over, over-passes, handed-over}
-use Rattle.evt2_decoder.specs.declared.Evt2Decoder.{Evt2Decoder}
-use Rattle.evt3_decoder.specs.declared.Decoder.{Decoder}
-use Rattle.evt_codec.specs.declared.codec.Codec.{Codec}
-use Rattle.evt_codec.specs.declared.codec.Codec.the-variants.{Evt2, Evt3}
-use Rattle.evt2_decoder.specs.Evt2.{reader2}
-use Rattle.evt3_decoder.specs.Evt3.{reader3}
+use Rattle.laws_stream.specs.{Words.wordsOf, Words.length-words, Words.words-taken, Words.words-dropped, Select.handed, PassOver.Passes}
+use Rattle.laws_stream.specs.{PassOver.over, PassOver.over-passes, PassOver.handed-over}
+use Rattle.evt2_decoder.specs.{declared.Evt2Decoder.Evt2Decoder, Evt2.reader2}
+use Rattle.evt3_decoder.specs.{declared.Decoder.Decoder, Evt3.reader3}
+use Rattle.evt_codec.specs.declared.{codec.Codec.Codec, codec.Codec.the-variants.Evt2, codec.Codec.the-variants.Evt3}
 use Rattle.evt_codec.specs.Codec.{codecAfter}
 use Rattle.read_columns.specs.Inside.{inside}
-use Rattle.read_fill.specs.Decode.{insideEvents, Bounded, Steady}
-use Rattle.read_fill.specs.Laws.{inside-bytes}
-use Rattle.read_count.specs.declared.CountedTo.{CountedTo}
-use Rattle.read_count.specs.Count.{countedToOf}
-use Rattle.read_window.specs.declared.Window.{Window}
-use Rattle.read_window.specs.Window.{selectionOf, reading2, reading3}
-use Rattle.read_select.specs.Pass.{handedOver, Able, Ready}
-use Rattle.read_select.specs.Uses.{calm2, calm3, able-bounded3}
+use Rattle.read_fill.specs.{Decode.insideEvents, Decode.Bounded, Decode.Steady, Laws.inside-bytes}
+use Rattle.read_count.specs.{declared.CountedTo.CountedTo, Count.countedToOf}
+use Rattle.read_window.specs.{declared.Window.Window, Window.selectionOf, Window.reading2, Window.reading3}
+use Rattle.read_select.specs.{Pass.handedOver, Pass.Able, Pass.Ready, Uses.calm2, Uses.calm3, Uses.able-bounded3}
 
 -- what a pass asks for is what passing over asks for, and comes back behind it
 pub steady-able : (c : Codec) (n : ℕ) → Able n c → Steady n c
@@ -54,12 +46,18 @@ module _ (width height most : ℕ) (l : List ℕ) where
 
   pub passed-count : (c : Codec)
       → countedToOf width height most c l .count ≡ length (insideEvents width height c (take (countedToOf width height most c l .at) l))
-  passed-count (Evt2 d) = rw (words-taken 4 (omega arith) (over reader2 (inside width height) most d (wordsOf wordSize2 l) .words) l (passed-within (Evt2 d))) (passes2 d .count)
-  passed-count (Evt3 d) = rw (words-taken 2 (omega arith) (over reader3 (inside width height) most d (wordsOf wordSize3 l) .words) l (passed-within (Evt3 d))) (passes3 d .count)
+  passed-count (Evt2 d) =
+      rw (words-taken 4 (omega arith) (over reader2 (inside width height) most d (wordsOf wordSize2 l) .words) l (passed-within (Evt2 d))) (passes2 d .count)
+  passed-count (Evt3 d) =
+      rw (words-taken 2 (omega arith) (over reader3 (inside width height) most d (wordsOf wordSize3 l) .words) l (passed-within (Evt3 d))) (passes3 d .count)
 
   pub passed-codec : (c : Codec) → countedToOf width height most c l .codec ≡ codecAfter c (take (countedToOf width height most c l .at) l)
-  passed-codec (Evt2 d) = ap Evt2 (rw (words-taken 4 (omega arith) (over reader2 (inside width height) most d (wordsOf wordSize2 l) .words) l (passed-within (Evt2 d))) (passes2 d .state))
-  passed-codec (Evt3 d) = ap Evt3 (rw (words-taken 2 (omega arith) (over reader3 (inside width height) most d (wordsOf wordSize3 l) .words) l (passed-within (Evt3 d))) (passes3 d .state))
+  passed-codec (Evt2 d) =
+      ap Evt2
+      (rw (words-taken 4 (omega arith) (over reader2 (inside width height) most d (wordsOf wordSize2 l) .words) l (passed-within (Evt2 d))) (passes2 d .state))
+  passed-codec (Evt3 d) =
+      ap Evt3
+      (rw (words-taken 2 (omega arith) (over reader3 (inside width height) most d (wordsOf wordSize3 l) .words) l (passed-within (Evt3 d))) (passes3 d .state))
 
 -- ---- the pass from there
 
@@ -70,15 +68,18 @@ module _ (win : Window) (no-end : 2 ^ 63 ≤ win .t1) (k most : ℕ) (few : most
   handed-passed c able r is = rw is (go c able)
     where
       go : (c : Codec) → Able (length l) c
-          → handedOver win k c l ≡ handedOver win (k + countedToOf (win .width) (win .height) most c l .count) (countedToOf (win .width) (win .height) most c l .codec) (drop (countedToOf (win .width) (win .height) most c l .at) l)
+          → handedOver win k c l ≡ handedOver win (k + countedToOf (win .width) (win .height) most c l .count)
+          (countedToOf (win .width) (win .height) most c l .codec) (drop (countedToOf (win .width) (win .height) most c l .at) l)
       go (Evt2 d) able =
           let r = over reader2 (inside (win .width) (win .height)) most d (wordsOf wordSize2 l) in
           handed-over (reading2 win) (selectionOf win) most k few d (wordsOf wordSize2 l) (calm2 win no-end d l able)
-          ∙ ap (handed (reading2 win) (selectionOf win) (k + r .count) (r .state)) (sym (words-dropped 4 (omega arith) (r .words) l (passed-within (win .width) (win .height) most l (Evt2 d))))
+          ∙ ap (handed (reading2 win) (selectionOf win) (k + r .count) (r .state))
+          (sym (words-dropped 4 (omega arith) (r .words) l (passed-within (win .width) (win .height) most l (Evt2 d))))
       go (Evt3 d) able =
           let r = over reader3 (inside (win .width) (win .height)) most d (wordsOf wordSize3 l) in
           handed-over (reading3 win) (selectionOf win) most k few d (wordsOf wordSize3 l) (calm3 win no-end d l able)
-          ∙ ap (handed (reading3 win) (selectionOf win) (k + r .count) (r .state)) (sym (words-dropped 2 (omega arith) (r .words) l (passed-within (win .width) (win .height) most l (Evt3 d))))
+          ∙ ap (handed (reading3 win) (selectionOf win) (k + r .count) (r .state))
+          (sym (words-dropped 2 (omega arith) (r .words) l (passed-within (win .width) (win .height) most l (Evt3 d))))
 
 -- and it can go on there
 pub ready-passed : (width height most k : ℕ) (c : Codec) (l : List ℕ) → length l ≤ 2 ^ 30 → k ≤ 2 ^ 33 → (r : CountedTo) → r ≡ countedToOf width height most c l

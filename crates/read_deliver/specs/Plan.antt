@@ -1,4 +1,5 @@
--- Which bytes are decoded for a window, and why nothing is lost: a window of everything has all events inside the sensor; what lies before its first time or number is passed over, and the plain loops decode up to its last time.
+-- Which bytes are decoded for a window, and why nothing is lost: a window of everything has all events inside the sensor; what lies before its first time or
+-- number is passed over, and the plain loops decode up to its last time.
 use mathlib.Core.Path.{_≡_, refl, sym, _∙_}
 use mathlib.Core.Bool.{Bool, true, false, _&&_, true≢false}
 use mathlib.Core.List.{List}
@@ -9,26 +10,18 @@ use lib.Dec.{eqb, leb, ltb}
 use lib.IntN.{ℤ}
 use borrow.Author.Tests.{eqb-true, leb-true, ltb-true}
 use lib.ListN.{length, take, drop, length-take, length-drop}
-use Rattle.laws_stream.specs.Machine.{and-both}
-use Rattle.laws_stream.specs.Part.{between, rest-of}
-use Rattle.evt_codec.specs.declared.codec.Codec.{Codec}
-use Rattle.evt_codec.specs.declared.codec.Codec.the-variants.{Evt2, Evt3}
+use Rattle.laws_stream.specs.{Machine.and-both, Part.between, Part.rest-of}
+use Rattle.evt_codec.specs.declared.{codec.Codec.Codec, codec.Codec.the-variants.Evt2, codec.Codec.the-variants.Evt3}
 use Rattle.evt_codec.specs.Codec.{inRangeC}
 use Rattle.evt_types.specs.Event.{Event}
-use Rattle.read_count.specs.declared.CountedTo.{CountedTo}
-use Rattle.read_fill.specs.Decode.{insideEvents, Bounded, Fitting}
-use Rattle.read_count.specs.Count.{countedToOf}
-use Rattle.read_fill.specs.Laws.{bounded-less, inside-bytes}
+use Rattle.read_count.specs.{declared.CountedTo.CountedTo, Count.countedToOf}
+use Rattle.read_fill.specs.{Decode.insideEvents, Decode.Bounded, Decode.Fitting, Laws.bounded-less, Laws.inside-bytes}
 use Rattle.read_window.specs.declared.Window.{Window}
-use Rattle.read_select.specs.Pass.{Able, Ready, handedOver}
-use Rattle.read_select.specs.Uses.{numberedOver, over-all}
-use Rattle.read_seek.specs.declared.Sought.{Sought}
-use Rattle.read_seek.specs.Seek.{soughtOf}
-use Rattle.read_seek.specs.Laws.{sought-within, sought-from, sought-upto, ready-there}
+use Rattle.read_select.specs.{Pass.Able, Pass.Ready, Pass.handedOver, Uses.numberedOver, Uses.over-all}
+use Rattle.read_seek.specs.{declared.Sought.Sought, Seek.soughtOf, Laws.sought-within, Laws.sought-from, Laws.sought-upto, Laws.ready-there}
 use Rattle.read_deliver.specs.PassOver.{passed-within, passed-few, handed-passed, ready-passed}
-use Rattle.read_capacity.specs.declared.Delivered.{Delivered}
+use Rattle.read_capacity.specs.{declared.Delivered.Delivered, Deliver.Delivers}
 use Rattle.read_deliver.specs.declared.plan.Plan.{Plan}
-use Rattle.read_capacity.specs.Deliver.{Delivers}
 
 -- ---- windows that can be decoded otherwise than word by word
 
@@ -139,7 +132,8 @@ module _ (win : Window) (k : ℕ) (c : Codec) (l : List ℕ) (ready : Ready c k 
   pub plainly-whole : Whole win → Fitting c → Plainly (handedOver win k c l) (win .width) (win .height) c l
   plainly-whole whole fit = record {
     same =
-        over-all win c l (ready .able) (whole .no-start) (whole .no-end) k (omega (arith, whole .timed .first)) (rw (numbered-inside win c l) (omega (arith, inside-bytes (win .width) (win .height) c l, ready .long, ready .low, whole .timed .last)))
+        over-all win c l (ready .able) (whole .no-start) (whole .no-end) k (omega (arith, whole .timed .first))
+        (rw (numbered-inside win c l) (omega (arith, inside-bytes (win .width) (win .height) c l, ready .long, ready .low, whole .timed .last)))
         ∙ numbered-inside win c l;
     long = ready .long;
     able = able-fitting c (length l) (ready .able) fit;
@@ -154,7 +148,8 @@ module _ (win : Window) (k : ℕ) (c : Codec) (l : List ℕ) (ready : Ready c k 
     ready-time = ready-there (s .codec) k (s .at) l b (ready .long) (ready .low)
 
     from-time : handedOver win k c l ≡ handedOver win k (s .codec) (drop (s .at) l)
-    from-time = rw is (sought-from win k (omega (arith, timed .first)) 0 c l (omega (arith, timed .order)) (omega (arith, ready .long, ready .low, timed .last)))
+    from-time =
+        rw is (sought-from win k (omega (arith, timed .first)) 0 c l (omega (arith, timed .order)) (omega (arith, ready .long, ready .low, timed .last)))
 
     pub planned-stray : Planned win k c l (record { plain = false; from = s .at; to = length l; codec = s .codec; number = k })
     planned-stray = to-the-end win k c l (s .at) k (s .codec) within-time from-time ready-time
@@ -173,7 +168,9 @@ module _ (win : Window) (k : ℕ) (c : Codec) (l : List ℕ) (ready : Ready c k 
 
       upto-time : e .stray ≡ false
           → handedOver win k (s .codec) (drop (s .at) l) ≡ insideEvents (win .width) (win .height) (s .codec) (take (e .at) (drop (s .at) l))
-      upto-time z = rw ends (sought-upto win k (omega (arith, timed .first)) (s .codec) (drop (s .at) l) (omega (arith, ready-time .long, ready .low, timed .last)) (ready-time .able) (omega (arith, timed .order)) (rw ends at z))
+      upto-time z =
+          rw ends (sought-upto win k (omega (arith, timed .first)) (s .codec) (drop (s .at) l)
+          (omega (arith, ready-time .long, ready .low, timed .last)) (ready-time .able) (omega (arith, timed .order)) (rw ends at z))
 
       pub planned-upto : e .stray ≡ false → Planned win k c l (record { plain = true; from = s .at; to = s .at + e .at; codec = s .codec; number = k })
       planned-upto z = record {

@@ -1,12 +1,11 @@
--- What the bytes of a part of a recording yield from a decoder of either encoding: the events, the decoder after them, and what the loop that fills columns tells.
+-- What the bytes of a part of a recording yield from a decoder of either encoding: the events, the decoder after them, and what the loop that fills columns
+-- tells.
 use mathlib.Core.List.{List}
 use Prim.Native.Nat.{ℕ, _+_, _*_, _/_, _≤_, _<_, _^_}
 use lib.ListN.{length}
 use Rattle.laws_stream.specs.Slice.{sift}
-use Rattle.evt_codec.specs.declared.codec.Codec.{Codec}
-use Rattle.evt_codec.specs.declared.codec.Codec.the-variants.{Evt2, Evt3}
-use Rattle.evt_types.specs.Event.{Event}
-use Rattle.evt_types.specs.Layout.{wordSize2, wordSize3}
+use Rattle.evt_codec.specs.declared.{codec.Codec.Codec, codec.Codec.the-variants.Evt2, codec.Codec.the-variants.Evt3}
+use Rattle.evt_types.specs.{Event.Event, Layout.wordSize2, Layout.wordSize3}
 pub use Rattle.evt_codec.specs.Codec.{eventsFrom, codecAfter}
 use Rattle.evt2_decoder.specs.Range.{Bounded2}
 use Rattle.evt3_decoder.specs.Range.{Bounded3, Regular3}

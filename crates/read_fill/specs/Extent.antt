@@ -6,9 +6,7 @@ use native.Mathlib.Omega.{arith}
 use native.Mathlib.Numerals.{add-one}
 use lib.ListN.{length, take, drop, getD, length-map, drop-of-length-le}
 use lib.Seq.{drop-cons, take-at}
-use Rattle.laws_stream.specs.Mask.{top}
-use Rattle.laws_stream.specs.Order.{greatest, greatest-map}
-use Rattle.laws_stream.specs.Columns.{written}
+use Rattle.laws_stream.specs.{Mask.top, Order.greatest, Order.greatest-map, Columns.written}
 
 pub top-next : (l : List ℕ) (i most next : ℕ) → i < length l → max most (top (drop i l)) ≡ top l → next ≡ max most (getD l i 0)
     → max next (top (drop (i + 1) l)) ≡ top l

@@ -7,14 +7,11 @@ use native.Mathlib.Omega.{arith}
 use native.Mathlib.Nat.{mul-suc}
 use lib.ListN.{length, take, drop, length-append}
 use lib.IntN.{ℤ}
-use Rattle.laws_stream.specs.Machine.{Machine, run, emits}
-use Rattle.laws_stream.specs.Words.{wordsOf, value, words-next, words-end}
-use Rattle.laws_stream.specs.Slice.{sift, sift-append}
-use Rattle.laws_stream.specs.Stream.{decode, after}
-use Rattle.evt_types.specs.declared.vector.Vector.{Vector}
-use Rattle.evt_types.specs.Event.{Event, eventsOf, Narrow}
+use Rattle.laws_stream.specs.{Machine.Machine, Machine.run, Machine.emits, Words.wordsOf, Words.value, Words.words-next, Words.words-end, Slice.sift}
+use Rattle.laws_stream.specs.{Slice.sift-append, Stream.decode, Stream.after}
+use Rattle.evt_types.specs.{declared.vector.Vector.Vector, Event.Event, Event.eventsOf, Event.Narrow, Columns.Going, Columns.Room, Columns.Wrote}
+use Rattle.evt_types.specs.{Columns.going-start, Columns.going-run, Columns.going-end}
 pub use Rattle.evt_types.specs.Columns.{Fits}
-use Rattle.evt_types.specs.Columns.{Going, Room, Wrote, going-start, going-run, going-end}
 use Rattle.read_columns.specs.Inside.{inside, insideOf}
 
 module _ {S : Type 0} (n : ℕ) (M : Machine S ℕ Event) where
@@ -75,11 +72,14 @@ module _ {S : Type 0} {n : ℕ} {M : Machine S ℕ Event} {Inv : ℕ → S → T
       pub stand-next : Standing n M Inv width height s₀ bytes s′ (i + n)
       stand-next =
           let inv : Inv (suc (length (wordsOf n (drop (i + n) bytes)))) s = rw (iteration-words pos t) at (u .inv) in
-          rw (t .is-next) (record { within = t .more; inv = keeps (length (wordsOf n (drop (i + n) bytes))) s (t .word) inv; ends = rw (iteration-words pos t) at (u .ends) })
+          rw (t .is-next) (record
+          { within = t .more; inv = keeps (length (wordsOf n (drop (i + n) bytes))) s (t .word) inv; ends = rw (iteration-words pos t) at (u .ends) })
 
       -- the word's events come first
       pub splits : left n M Inv width height s₀ bytes s i ≡ insideOf width height v ++ left n M Inv width height s₀ bytes s′ (i + n)
-      splits = rw (iteration-words pos t, t .is-events, t .is-next) (sift-append (inside width height) (eventsOf v) (emits M (M .step s (t .word)) (wordsOf n (drop (i + n) bytes))))
+      splits =
+          rw (iteration-words pos t, t .is-events, t .is-next)
+          (sift-append (inside width height) (eventsOf v) (emits M (M .step s (t .word)) (wordsOf n (drop (i + n) bytes))))
 
   pub stand-start : Inv (length (wordsOf n bytes)) s₀ → Standing n M Inv width height s₀ bytes s₀ 0
   stand-start b = record { within = omega arith; inv = b; ends = refl }
@@ -90,10 +90,12 @@ module _ {S : Type 0} {n : ℕ} {M : Machine S ℕ Event} {Inv : ℕ → S → T
     pub filling-start : Inv (length (wordsOf n bytes)) s₀ → Filling n M Inv width height s₀ bytes xs₀ ys₀ ts₀ ps₀ xs₀ ys₀ ts₀ ps₀ s₀ 0 0
     filling-start b = record { stand = stand-start b; going = going-start }
 
-    module _ (fits : Fits (length (insideAll n M width height s₀ bytes)) (length xs₀) (length ys₀) (length ts₀) (length ps₀)) {xs ys : List ℕ} {ts : List ℤ} {ps : List ℕ} {s : S} {count i : ℕ}
+    module _ (fits : Fits (length (insideAll n M width height s₀ bytes)) (length xs₀) (length ys₀) (length ts₀) (length ps₀))
+        {xs ys : List ℕ} {ts : List ℤ} {ps : List ℕ} {s : S} {count i : ℕ}
         (u : Filling n M Inv width height s₀ bytes xs₀ ys₀ ts₀ ps₀ xs ys ts ps s count i) where
       pub filling-end : length bytes < i + n
-          → (count ≡ length (insideAll n M width height s₀ bytes)) × (s ≡ after n M s₀ bytes) × Wrote (insideAll n M width height s₀ bytes) 0 xs₀ ys₀ ts₀ ps₀ xs ys ts ps
+          → (count ≡ length (insideAll n M width height s₀ bytes)) × (s ≡ after n M s₀ bytes)
+          × Wrote (insideAll n M width height s₀ bytes) 0 xs₀ ys₀ ts₀ ps₀ xs ys ts ps
       filling-end h =
           let g : Going (insideAll n M width height s₀ bytes) 0 xs₀ ys₀ ts₀ ps₀ [] count xs ys ts ps = rw (none-left (u .stand) h) at (u .going) in (
             omega (arith, g .count),
@@ -128,4 +130,7 @@ module _ {S : Type 0} {n : ℕ} {M : Machine S ℕ Event} {Inv : ℕ → S → T
             → Filling n M Inv width height s₀ bytes xs₀ ys₀ ts₀ ps₀ xs′ ys′ ts′ ps′ s′ (count + length (insideOf width height v)) (i + n)
         filling-next small wrote =
             let r = filling-room small in
-            record { stand = stand-next (u .stand) t; going = going-run (insideOf width height v) (r .room-x) (r .room-y) (r .room-t) (r .room-p) wrote going-now }
+            record {
+              stand = stand-next (u .stand) t;
+              going = going-run (insideOf width height v) (r .room-x) (r .room-y) (r .room-t) (r .room-p) wrote going-now;
+            }

@@ -7,28 +7,21 @@ use native.Mathlib.Omega.{arith}
 use native.Mathlib.Nat.{suc-add, zero-add}
 use lib.ListN.{length, length-append}
 use borrow.Author.Tests.{lt-ltb}
-use Rattle.evt_types.specs.Layout.{wordSize2, wordSize3}
-use Rattle.laws_stream.specs.Machine.{Machine, All, all-of, all-map, run, emits-all}
-use Rattle.laws_stream.specs.Words.{wordsOf, length-words}
-use Rattle.laws_stream.specs.Mask.{bits}
-use Rattle.laws_stream.specs.Order.{greatest, greatest-append, greatest-le}
-use Rattle.laws_stream.specs.Slice.{sift, sift-append, sift-all, all-sift}
-use Rattle.laws_stream.specs.Stream.{decode-append, after-append}
-use Rattle.evt_types.specs.declared.Encoding.{Encoding}
+use Rattle.evt_types.specs.{Layout.wordSize2, Layout.wordSize3, declared.Encoding.Encoding, declared.vector.Vector.Vector, Event.Event, Event.eventAt}
+use Rattle.evt_types.specs.{Event.eventsOf, Event.Narrow}
+use Rattle.laws_stream.specs.{Machine.Machine, Machine.All, Machine.all-of, Machine.all-map, Machine.run, Machine.emits-all, Words.wordsOf}
+use Rattle.laws_stream.specs.{Words.length-words, Mask.bits, Order.greatest, Order.greatest-append, Order.greatest-le, Slice.sift, Slice.sift-append}
+use Rattle.laws_stream.specs.{Slice.sift-all, Slice.all-sift, Stream.decode-append, Stream.after-append}
 use Rattle.evt_types.specs.declared.Encoding.the-variants as E
-use Rattle.evt_codec.specs.declared.codec.Codec.{Codec}
-use Rattle.evt_codec.specs.declared.codec.Codec.the-variants.{Evt2, Evt3}
-use Rattle.evt_types.specs.declared.vector.Vector.{Vector}
-use Rattle.evt_types.specs.Event.{Event, eventAt, eventsOf, Narrow}
+use Rattle.evt_codec.specs.declared.{codec.Codec.Codec, codec.Codec.the-variants.Evt2, codec.Codec.the-variants.Evt3}
 use Rattle.evt_codec.specs.Codec.{freshC, wordSize, inRangeC}
 use Rattle.evt2_decoder.specs.Evt2.{vector2, reader2}
 use Rattle.evt3_decoder.specs.Evt3.{vector3, reader3}
 use Rattle.evt2_decoder.specs.Range.{Bounded2, bounded-step2, bounded-narrow2, bounded-range2, fresh-range2}
 use Rattle.evt3_decoder.specs.Range.{Bounded3, bounded-step3, bounded-narrow3, bounded-range3, fresh-range3}
 use Rattle.read_columns.specs.Inside.{inside, clock, all-mapped, events-few, sift-few}
-use Rattle.read_fill.specs.Decode.{eventsFrom, codecAfter, insideEvents, Bounded, Fitting}
-use Rattle.read_fill.specs.Iteration.{decode-few}
-use Rattle.read_fill.specs.Loops.{small-mask2, small-mask3}
+use Rattle.read_fill.specs.{Decode.eventsFrom, Decode.codecAfter, Decode.insideEvents, Decode.Bounded, Decode.Fitting, Iteration.decode-few}
+use Rattle.read_fill.specs.{Loops.small-mask2, Loops.small-mask3}
 
 -- ---- in chunks of 4 bytes, whatever the encoding
 
@@ -51,7 +44,8 @@ module _ (c : Codec) (k : ℕ) (a b : List ℕ) (h : length a ≡ k * 4) where
     pub inside-append : insideEvents width height c (a ++ b) ≡ insideEvents width height c a ++ insideEvents width height (codecAfter c a) b
     inside-append = ap (sift (inside width height)) events-append ∙ sift-append (inside width height) (eventsFrom c a) (eventsFrom (codecAfter c a) b)
 
-    pub count-append : length (insideEvents width height c (a ++ b)) ≡ length (insideEvents width height c a) + length (insideEvents width height (codecAfter c a) b)
+    pub count-append : length (insideEvents width height c (a ++ b)) ≡ length (insideEvents width height c a)
+        + length (insideEvents width height (codecAfter c a) b)
     count-append = ap length inside-append ∙ length-append (insideEvents width height c a) (insideEvents width height (codecAfter c a) b)
 
     pub latest-append : greatest clock (insideEvents width height c (a ++ b))
@@ -81,7 +75,11 @@ most (Evt3 d) = 12
 
 pub all-few : (c : Codec) (l : List ℕ) → length (eventsFrom c l) ≤ most c * (length l / wordSize c)
 all-few (Evt2 d) l =
-    omega (arith, decode-few wordSize2 reader2 1 (λ s w. events-few (vector2 s w) 1 (omega (arith, small-mask2 s w))) d (wordsOf wordSize2 l), length-words wordSize2 l)
+    omega (
+      arith,
+      decode-few wordSize2 reader2 1 (λ s w. events-few (vector2 s w) 1 (omega (arith, small-mask2 s w))) d (wordsOf wordSize2 l),
+      length-words wordSize2 l,
+    )
 all-few (Evt3 d) l =
     omega (arith, decode-few wordSize3 reader3 12 (λ s w. events-few (vector3 s w) 12 (small-mask3 s w)) d (wordsOf wordSize3 l), length-words wordSize3 l)
 
@@ -149,7 +147,8 @@ pub record Small (e : Event) : Type 0 where
 
 vector-small : (v : Vector) → Narrow v → All Small (eventsOf v)
 vector-small v n =
-    all-mapped Small (eventAt v) (bits 32 (v .x) (v .mask)) (all-of _ (λ c. record { x< = omega arith; y< = n .y<; t< = n .t<; p< = n .p< }) (bits 32 (v .x) (v .mask)))
+    all-mapped Small (eventAt v) (bits 32 (v .x) (v .mask))
+    (all-of _ (λ c. record { x< = omega arith; y< = n .y<; t< = n .t<; p< = n .p< }) (bits 32 (v .x) (v .mask)))
 
 pub events-small : (c : Codec) (l : List ℕ) → Bounded (length l) c → All Small (eventsFrom c l)
 events-small (Evt2 d) l b =
@@ -171,5 +170,6 @@ module _ (c : Codec) (l : List ℕ) (b : Bounded (length l) c) where
   pub latest-small : (width height : ℕ) → greatest clock (insideEvents width height c l) < 2 ^ 63
   latest-small width height =
       let le : (e : Event) → Small e → clock e ≤ 9223372036854775807 = λ e s. omega (arith, s .t<) in
-      let g = greatest-le clock 9223372036854775807 (insideEvents width height c l) (all-map Small _ le (insideEvents width height c l) (inside-small width height)) in
+      let g = greatest-le clock 9223372036854775807 (insideEvents width height c l)
+      (all-map Small _ le (insideEvents width height c l) (inside-small width height)) in
       omega arith

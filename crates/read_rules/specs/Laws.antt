@@ -10,43 +10,24 @@ use lib.ListN.{length, take, drop, length-map, length-append}
 use lib.Seq.{take-at, take-all}
 use native.Mathlib.Numerals.{add-one}
 use borrow.Author.Tests.{le-ltb, lt-ltb, leb-true, leb-false, ltb-false, ne-eqb}
-use Rattle.laws_stream.specs.Mask.{top}
-use Rattle.laws_stream.specs.Order.{greatest, greatest-map}
-use Rattle.laws_stream.specs.Slice.{sift}
-use Rattle.evt_types.specs.declared.Encoding.{Encoding}
-use Rattle.evt_types.specs.declared.Encoding.the-variants.{Evt2, Evt3}
-use Rattle.evt_types.specs.declared.Refusal.{Refusal}
-use Rattle.evt_types.specs.declared.Refusal.the-variants.{InvalidSensorSize, TooLong, ColumnsTooShort}
-use Rattle.evt_types.specs.declared.Limit.{Limit}
-use Rattle.evt_types.specs.declared.Limit.the-variants.{Unlimited, AtMost}
-use Rattle.evt_types.specs.declared.SensorSize.{SensorSize}
-use Rattle.evt_types.specs.declared.SensorSize.the-variants.{Unknown, Known}
-use Rattle.evt_codec.specs.declared.codec.Codec.{Codec}
-use Rattle.evt_codec.specs.Codec.{freshC, eventsFrom}
-use Rattle.evt_types.specs.Columns.{colX, colY}
-use Rattle.evt_types.specs.Event.{Event}
-use Rattle.evt_types.specs.Outcome.{Outcome, refuse, give, onOutcome, given-unless}
-use Rattle.read_fill.specs.Decode.{insideEvents}
-use Rattle.read_rules.specs.declared.Sensor.{Sensor}
-use Rattle.read_capacity.specs.declared.Delivered.{Delivered}
-use Rattle.read_capacity.specs.declared.Delivered.the-variants.{Written, Needed}
-use Rattle.read_capacity.specs.Deliver.{Delivers}
-use Rattle.read_capacity.specs.Laws.{handed-none}
-use Rattle.read_rules.specs.declared.Judged.{Judged}
-use Rattle.read_rules.specs.declared.Judged.the-variants.{Fit, Unfit}
-use Rattle.read_rules.specs.declared.ReadAnswer.{ReadAnswer}
-use Rattle.read_rules.specs.declared.ReadAnswer.the-variants.{Read, Refused}
-use Rattle.header.specs.declared.HeaderAnswer.{HeaderAnswer}
-use Rattle.header.specs.declared.HeaderAnswer.the-variants.{Header, Refused as NoHeader}
-use Rattle.read_fill.specs.Laws.{bounded-fresh, range-fresh, all-inside, inside-bytes}
+use Rattle.laws_stream.specs.{Mask.top, Order.greatest, Order.greatest-map, Slice.sift}
+use Rattle.evt_types.specs.declared.{Encoding.Encoding, Encoding.the-variants.Evt2, Encoding.the-variants.Evt3, Limit.Limit}
+use Rattle.evt_types.specs.declared.{Limit.the-variants.Unlimited, Limit.the-variants.AtMost, Refusal.Refusal, Refusal.the-variants.InvalidSensorSize}
+use Rattle.evt_types.specs.declared.{Refusal.the-variants.TooLong, Refusal.the-variants.ColumnsTooShort, SensorSize.SensorSize}
+use Rattle.evt_types.specs.{declared.SensorSize.the-variants.Unknown, declared.SensorSize.the-variants.Known, Columns.colX, Columns.colY, Event.Event}
+use Rattle.evt_types.specs.{Outcome.Outcome, Outcome.refuse, Outcome.give, Outcome.onOutcome, Outcome.given-unless, Num.mostBytes}
+use Rattle.evt_codec.specs.{declared.codec.Codec.Codec, Codec.freshC, Codec.eventsFrom}
+use Rattle.read_fill.specs.{Decode.insideEvents, Laws.bounded-fresh, Laws.range-fresh, Laws.all-inside, Laws.inside-bytes}
+use Rattle.read_rules.specs.declared.{Judged.Judged, Judged.the-variants.Fit, Judged.the-variants.Unfit, LoadOptions.LoadOptions}
+use Rattle.read_rules.specs.declared.{ReadAnswer.ReadAnswer, ReadAnswer.the-variants.Read, ReadAnswer.the-variants.Refused, Sensor.Sensor}
+use Rattle.read_capacity.specs.declared.{Delivered.Delivered, Delivered.the-variants.Written, Delivered.the-variants.Needed}
+use Rattle.read_capacity.specs.{Deliver.Delivers, Laws.handed-none}
+use Rattle.header.specs.declared.{HeaderAnswer.HeaderAnswer, HeaderAnswer.the-variants.Header, HeaderAnswer.the-variants.Refused as NoHeader}
 use Rattle.read_columns.specs.Inside.{inside}
 use Rattle.read_window.specs.declared.Window.{Window}
-use Rattle.read_select.specs.Pass.{Ready, handedOver}
-use Rattle.read_select.specs.Uses.{able-range, numberedOver, over-limit}
+use Rattle.read_select.specs.{Pass.Ready, Pass.handedOver, Uses.able-range, Uses.numberedOver, Uses.over-limit}
 use Rattle.header.specs.declared.Header as header
 use Rattle.header.specs.Header.{hasZero, headerOf}
-use Rattle.evt_types.specs.Num.{mostBytes}
-use Rattle.read_rules.specs.declared.LoadOptions.{LoadOptions}
 use Rattle.read_rules.specs.Read.{kept, bodyEvents, shortest, Handed, toldRead, ReadEvents, bodyOutcome, wordsCheck, wordsOutcome, rawOutcome}
 use Rattle.read_rules.specs.Read.{readAnswer, readVerdict, handedEvents, Reads, ReadsBody, DecodesWords, ReadsRaw}
 

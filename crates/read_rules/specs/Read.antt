@@ -6,29 +6,19 @@ use Prim.Native.Nat.{ℕ, suc}
 use lib.Dec.{ltb}
 use lib.IntN.{ℤ}
 use lib.ListN.{length, take, drop}
-use Rattle.laws_stream.specs.Order.{greatest}
-use Rattle.laws_stream.specs.Slice.{sift}
-use Rattle.evt_types.specs.declared.Encoding.{Encoding}
-use Rattle.evt_types.specs.declared.Limit.{Limit}
-use Rattle.evt_types.specs.declared.Limit.the-variants.{Unlimited, AtMost}
-use Rattle.evt_types.specs.declared.Refusal.the-variants.{InvalidSensorSize, TooLong, ColumnsTooShort}
-use Rattle.evt_types.specs.declared.SensorSize.{SensorSize}
-use Rattle.evt_types.specs.declared.SensorSize.the-variants.{Unknown, Known}
+use Rattle.laws_stream.specs.{Order.greatest, Slice.sift}
+use Rattle.evt_types.specs.declared.{Encoding.Encoding, Limit.Limit, Limit.the-variants.Unlimited, Limit.the-variants.AtMost}
+use Rattle.evt_types.specs.declared.{Refusal.the-variants.InvalidSensorSize, Refusal.the-variants.TooLong, Refusal.the-variants.ColumnsTooShort}
+use Rattle.evt_types.specs.declared.{SensorSize.SensorSize, SensorSize.the-variants.Unknown, SensorSize.the-variants.Known}
 use Rattle.evt_codec.specs.Codec.{freshC, eventsFrom}
-use Rattle.evt_types.specs.Columns.{colX, colY}
-use Rattle.evt_types.specs.Event.{Event}
-use Rattle.evt_types.specs.Outcome.{Outcome, refuse, give, onOutcome, verdict, handedBy}
-use Rattle.evt_types.specs.Told.{Told, told, accepted}
+use Rattle.evt_types.specs.{Columns.colX, Columns.colY, Event.Event, Outcome.Outcome, Outcome.refuse, Outcome.give, Outcome.onOutcome}
+use Rattle.evt_types.specs.{Outcome.verdict, Outcome.handedBy, Told.Told, Told.told, Told.accepted, Num.mostBytes, Num.encodingNumber}
 use Rattle.read_columns.specs.Inside.{inside}
 pub use Rattle.read_capacity.specs.Deliver.{shortest, Handed}
-use Rattle.header.specs.declared.HeaderAnswer.{HeaderAnswer}
-use Rattle.header.specs.declared.HeaderAnswer.the-variants.{Header, Refused as NoHeader}
+use Rattle.header.specs.declared.{HeaderAnswer.HeaderAnswer, HeaderAnswer.the-variants.Header, HeaderAnswer.the-variants.Refused as NoHeader}
 use Rattle.header.specs.Header.{hasZero, headerOf}
-use Rattle.evt_types.specs.Num.{mostBytes, encodingNumber}
-use Rattle.read_rules.specs.declared.LoadOptions.{LoadOptions}
-use Rattle.read_rules.specs.declared.Reading.{Reading}
-use Rattle.read_rules.specs.declared.ReadAnswer.{ReadAnswer}
-use Rattle.read_rules.specs.declared.ReadAnswer.the-variants.{Read, Refused}
+use Rattle.read_rules.specs.declared.{LoadOptions.LoadOptions, ReadAnswer.ReadAnswer, ReadAnswer.the-variants.Read}
+use Rattle.read_rules.specs.declared.{ReadAnswer.the-variants.Refused, Reading.Reading}
 
 -- ---- the events of a body
 

@@ -7,15 +7,10 @@ use native.Mathlib.Omega.{arith}
 use lib.Dec.{eqb}
 use lib.ListN.{length, take, drop}
 use borrow.Author.Tests.{eq-eqb, ne-eqb}
-use Rattle.laws_stream.specs.Machine.{run}
-use Rattle.laws_stream.specs.Words.{wordsOf, words-next, words-end}
-use Rattle.evt_types.specs.Ahead.{ahead, ahead-some}
-use Rattle.laws_stream.specs.Stream.{split-words}
-use Rattle.evt3_decoder.specs.declared.Decoder.{Decoder}
-use Rattle.evt_types.specs.Layout.{type3, y3, x3, polarity3, wordSize3}
-use Rattle.evt3_decoder.specs.Evt3.{kindOn, stepAs, step3, reader3}
-use Rattle.read_seek.specs.declared.back.Column.{Column}
-use Rattle.read_seek.specs.declared.times.Times.{Times}
+use Rattle.laws_stream.specs.{Machine.run, Words.wordsOf, Words.words-next, Words.words-end, Stream.split-words}
+use Rattle.evt_types.specs.{Ahead.ahead, Ahead.ahead-some, Layout.type3, Layout.y3, Layout.x3, Layout.polarity3, Layout.wordSize3}
+use Rattle.evt3_decoder.specs.{declared.Decoder.Decoder, Evt3.kindOn, Evt3.stepAs, Evt3.step3, Evt3.reader3}
+use Rattle.read_seek.specs.declared.{back.Column.Column, times.Times.Times}
 use Rattle.read_seek.specs.Times.{timesOf, by-type, started-step, step-on}
 
 -- ---- the row
@@ -80,11 +75,15 @@ base-append c (w ∷ a) b = base-append (baseAs (type3 w) c w) a b
 module _ (c : Column) (w : ℕ) (ws : List ℕ) where
   base-set : type3 w ≡ 3 → baseAfter c (w ∷ ws) ≡ baseAfter (record { x = x3 w; p = eqb (polarity3 w) 1 }) ws
   unfolding baseAfter
-  base-set h = ap (λ (b : Bool). baseAfter (cond b (record { x = x3 w; p = eqb (polarity3 w) 1 }) (record { x = min (c .x + width (type3 w)) 65535; p = c .p })) ws) (eq-eqb (type3 w) 3 h)
+  base-set h =
+      ap (λ (b : Bool). baseAfter (cond b (record { x = x3 w; p = eqb (polarity3 w) 1 }) (record { x = min (c .x + width (type3 w)) 65535; p = c .p })) ws)
+      (eq-eqb (type3 w) 3 h)
 
   base-moved : (type3 w ≡ 3 → ⊥) → baseAfter c (w ∷ ws) ≡ baseAfter (record { x = min (c .x + width (type3 w)) 65535; p = c .p }) ws
   unfolding baseAfter
-  base-moved h = ap (λ (b : Bool). baseAfter (cond b (record { x = x3 w; p = eqb (polarity3 w) 1 }) (record { x = min (c .x + width (type3 w)) 65535; p = c .p })) ws) (ne-eqb (type3 w) 3 h)
+  base-moved h =
+      ap (λ (b : Bool). baseAfter (cond b (record { x = x3 w; p = eqb (polarity3 w) 1 }) (record { x = min (c .x + width (type3 w)) 65535; p = c .p })) ws)
+      (ne-eqb (type3 w) 3 h)
 
 abbrev pub baseOf : Decoder → Column
 baseOf d = record { x = d .«base_x»; p = d .polarity }
@@ -98,11 +97,14 @@ module _ (d : Decoder) (w : ℕ) (small : d .«base_x» < 2 ^ 16) where
   still = let e : d .«base_x» ≡ min (d .«base_x» + 0) 65535 = omega arith in ap (λ (x : ℕ). record { x = x; p = d .polarity }) e
 
   base-step : d .initialised ≡ true → baseOf (step3 d w) ≡ baseAs (type3 w) (baseOf d) w
-  base-step on = rw (started-step d w on) (by-type (λ k. baseOf (stepAs (kindOn k) d w) ≡ baseAs k (baseOf d) w) (type3 w) still still refl refl refl still still
+  base-step on =
+      rw (started-step d w on) (by-type (λ k. baseOf (stepAs (kindOn k) d w) ≡ baseAs k (baseOf d) w) (type3 w) still still refl refl refl still still
       (λ e0 e2 e3 e4 e5 e6 e8. rw (e0, e2, e3, e4, e5, e6, e8) still))
 
   small-step : d .initialised ≡ true → step3 d w .«base_x» < 2 ^ 16
-  small-step on = rw (started-step d w on) (by-type (λ k. stepAs (kindOn k) d w .«base_x» < 2 ^ 16) (type3 w) small small (omega arith) (omega arith) (omega arith) small small
+  small-step on =
+      rw (started-step d w on)
+      (by-type (λ k. stepAs (kindOn k) d w .«base_x» < 2 ^ 16) (type3 w) small small (omega arith) (omega arith) (omega arith) small small
       (λ e0 e2 e3 e4 e5 e6 e8. rw (e0, e2, e3, e4, e5, e6, e8) small))
 
 pub base-run : (d : Decoder) (ws : List ℕ) → d .initialised ≡ true → d .«base_x» < 2 ^ 16 → baseOf (run reader3 d ws) ≡ baseAfter (baseOf d) ws
@@ -172,7 +174,8 @@ module _ (front : List ℕ) where
     pub row-found : (y : ℕ) → Rowless k → t ≡ 0 → y3 w ≡ rowAfter y (wordsOf wordSize3 front)
     row-found y u e =
         let a = wordsOf wordSize3 (take (j * wordSize3) front) in
-        sym (ap (rowAfter y) (parted k j next (u .within) w is-word) ∙ row-append y a (w ∷ behind k) ∙ row-set (rowAfter y a) w (behind k) (sym is-type ∙ e) ∙ u .same (y3 w))
+        sym (ap (rowAfter y) (parted k j next (u .within) w is-word) ∙ row-append y a (w ∷ behind k)
+        ∙ row-set (rowAfter y a) w (behind k) (sym is-type ∙ e) ∙ u .same (y3 w))
 
     pub baseless-next : {by : ℕ} → Baseless by k → (t ≡ 3 → ⊥) → (more : ℕ) → more ≡ min (by + width t) 65535 → Baseless more j
     baseless-next {by} u other more is-more = record {

@@ -5,9 +5,7 @@ use Prim.Native.Nat.{ℕ, _*_, _≤_, _<_}
 use native.Mathlib.Nat.{div-eq-of-eq-mul-left}
 use lib.ListN.{length, take, drop}
 use lib.Seq.{take-at, drop-at, length-take-le}
-use Rattle.laws_stream.specs.Machine.{Machine}
-use Rattle.laws_stream.specs.Words.{wordsOf, length-words}
-use Rattle.laws_stream.specs.Stream.{split-words}
+use Rattle.laws_stream.specs.{Machine.Machine, Words.wordsOf, Words.length-words, Stream.split-words}
 
 module _ {S E : Type 0} (M : Machine S ℕ E) (n : ℕ) (pos : 0 < n) (k : ℕ) (l : List ℕ) (h : k * n ≤ length l) where
   first : length (wordsOf n (take (k * n) l)) ≡ k

@@ -12,8 +12,7 @@ use Rattle.laws_stream.specs.Words.{wordsOf, value, words-next, words-end, leng
 use Rattle.laws_stream.specs.Seek.{Reach, reach, behind, behind-none, behind-stay, behind-more, strays, reach-nil, reach-on, reach-stop}
 use Rattle.evt_codec.specs.declared.codec.Codec.{Codec}
 use Rattle.evt_types.specs.Event.{Event}
-use Rattle.read_seek.specs.Seek.{soughtAs, further}
-use Rattle.read_seek.specs.Cut.{drop-words}
+use Rattle.read_seek.specs.{Seek.soughtAs, Seek.further, Cut.drop-words}
 
 module _ {S : Type 0} (n : ℕ) (M : Machine S ℕ Event) (time : S → ℕ) (carries : ℕ → Bool) (Inv : ℕ → S → Type 0) (t₀ t₁ : ℕ) (s₀ : S) (bytes : List ℕ) where
   -- the words left at index i, and how far a seek goes over them
@@ -43,15 +42,19 @@ module _ {S : Type 0} (n : ℕ) (M : Machine S ℕ Event) (time : S → ℕ) (ca
     pub inv : Inv (length (rest i)) s
     pub ends : record { words = words; stray = stray; state = s } ≡ all
 
-module _ {S : Type 0} {n : ℕ} {M : Machine S ℕ Event} {time : S → ℕ} {carries : ℕ → Bool} {Inv : ℕ → S → Type 0} {t₀ t₁ : ℕ} {s₀ : S} {bytes : List ℕ} (pos : 0 < n)
+module _ {S : Type 0} {n : ℕ} {M : Machine S ℕ Event} {time : S → ℕ} {carries : ℕ → Bool} {Inv : ℕ → S → Type 0} {t₀ t₁ : ℕ} {s₀ : S}
+    {bytes : List ℕ} (pos : 0 < n)
     (keeps : (k : ℕ) (s : S) (w : ℕ) → Inv (suc k) s → Inv k (M .step s w)) where
   pub seeking-start : Inv (length (wordsOf n bytes)) s₀ → Seeking n M time carries Inv t₀ t₁ s₀ bytes s₀ false 0
-  seeking-start b = record { words = 0; is-at = omega arith; within = omega arith; inv = b; came = refl; ends = behind-none (all n M time carries Inv t₀ t₁ s₀ bytes) }
+  seeking-start b =
+      record { words = 0; is-at = omega arith; within = omega arith; inv = b; came = refl; ends = behind-none (all n M time carries Inv t₀ t₁ s₀ bytes) }
 
   pub found-is : {s : S} {f : Bool} {i : ℕ} → (codec : S → Codec) → Found n M time carries Inv t₀ t₁ s₀ bytes s f i
       → (record { at = i; stray = f; codec = codec s } ≡ soughtAs n codec (all n M time carries Inv t₀ t₁ s₀ bytes)) × Inv (length (drop i bytes) / n) s
-  found-is {s} {f} {i} codec p =
-      (ap (λ (k : ℕ). record { at = k; stray = f; codec = codec s }) (p .is-at) ∙ ap (soughtAs n codec) (p .ends), rw (length-words n (drop i bytes)) at (p .inv))
+  found-is {s} {f} {i} codec p = (
+    ap (λ (k : ℕ). record { at = k; stray = f; codec = codec s }) (p .is-at) ∙ ap (soughtAs n codec) (p .ends),
+    rw (length-words n (drop i bytes)) at (p .inv),
+  )
 
   module _ {s : S} {f : Bool} {i : ℕ} (u : Seeking n M time carries Inv t₀ t₁ s₀ bytes s f i) where
     ended : onward n M time carries Inv t₀ t₁ s₀ bytes s i ≡ record { words = 0; stray = false; state = s } → Found n M time carries Inv t₀ t₁ s₀ bytes s f i

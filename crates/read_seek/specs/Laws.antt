@@ -1,4 +1,5 @@
--- What a seek leaves of a slice by time: nothing that it passes over before the first time of the slice is lost, and what it passes over up to the last is the slice itself, unless a word strays.
+-- What a seek leaves of a slice by time: nothing that it passes over before the first time of the slice is lost, and what it passes over up to the last is the
+-- slice itself, unless a word strays.
 use mathlib.Core.Path.{_≡_, refl, sym, ap, _∙_}
 use mathlib.Core.Bool.{Bool, true, false, true≢false}
 use mathlib.Core.List.{List, []}
@@ -8,36 +9,22 @@ use lib.Dec.{ltb}
 use lib.ListN.{length, take, drop, length-drop}
 use lib.Seq.{drop-drop}
 use borrow.Author.Tests.{lt-ltb, ltb-true, ltb-false}
-use Rattle.laws_stream.specs.Machine.{All, all-of}
-use Rattle.laws_stream.specs.Words.{wordsOf, length-words}
-use Rattle.laws_stream.specs.Mask.{bits, bits-zero}
-use Rattle.laws_stream.specs.Slice.{sift-none, early, late}
+use Rattle.laws_stream.specs.{Machine.All, Machine.all-of, Words.wordsOf, Words.length-words, Mask.bits, Mask.bits-zero, Slice.sift-none, Slice.early}
+use Rattle.laws_stream.specs.{Slice.late, Seek.reach-most, Seek.handed-from, Seek.handed-upto}
 use Rattle.laws_stream.specs.Select as Select
-use Rattle.laws_stream.specs.Seek.{reach-most, handed-from, handed-upto}
-use Rattle.evt2_decoder.specs.declared.Evt2Decoder.{Evt2Decoder}
-use Rattle.evt3_decoder.specs.declared.Decoder.{Decoder}
-use Rattle.evt_codec.specs.declared.codec.Codec.{Codec}
-use Rattle.evt_codec.specs.declared.codec.Codec.the-variants.{Evt2, Evt3}
-use Rattle.evt_types.specs.declared.vector.Vector.{Vector}
-use Rattle.evt_types.specs.Event.{Event, eventAt, eventsOf}
-use Rattle.evt_types.specs.Layout.{type2, type3, wordSize2, wordSize3}
+use Rattle.evt2_decoder.specs.{declared.Evt2Decoder.Evt2Decoder, Evt2.step2, Evt2.vector2, Evt2.reader2, Range.Regular2, Range.regular-step2}
+use Rattle.evt3_decoder.specs.{declared.Decoder.Decoder, Evt3.step3, Evt3.vector3, Evt3.reader3, Range.Regular3, Range.regular-step3}
+use Rattle.evt_codec.specs.declared.{codec.Codec.Codec, codec.Codec.the-variants.Evt2, codec.Codec.the-variants.Evt3}
+use Rattle.evt_types.specs.{declared.vector.Vector.Vector, Event.Event, Event.eventAt, Event.eventsOf, Layout.type2, Layout.type3, Layout.wordSize2}
+use Rattle.evt_types.specs.{Layout.wordSize3}
 use Rattle.evt2_decoder.specs.Evt2 as Evt2
-use Rattle.evt2_decoder.specs.Evt2.{step2, vector2, reader2}
 use Rattle.evt3_decoder.specs.Evt3 as Evt3
-use Rattle.evt3_decoder.specs.Evt3.{step3, vector3, reader3}
-use Rattle.evt2_decoder.specs.Range.{Regular2, regular-step2}
-use Rattle.evt3_decoder.specs.Range.{Regular3, regular-step3}
 use Rattle.read_columns.specs.Inside.{clock, all-mapped}
-use Rattle.read_fill.specs.Decode.{insideEvents, Bounded}
-use Rattle.read_fill.specs.Laws.{inside-bytes}
-use Rattle.read_window.specs.declared.Window.{Window}
-use Rattle.read_window.specs.Window.{selectionOf, reading2, reading3}
-use Rattle.read_select.specs.Pass.{handedOver, Able, Ready}
-use Rattle.read_select.specs.Uses.{isTimely, untilOver, over-by-time, able-bounded3}
-use Rattle.read_seek.specs.declared.Sought.{Sought}
+use Rattle.read_fill.specs.{Decode.insideEvents, Decode.Bounded, Laws.inside-bytes}
+use Rattle.read_window.specs.{declared.Window.Window, Window.selectionOf, Window.reading2, Window.reading3}
+use Rattle.read_select.specs.{Pass.handedOver, Pass.Able, Pass.Ready, Uses.isTimely, Uses.untilOver, Uses.over-by-time, Uses.able-bounded3}
+use Rattle.read_seek.specs.{declared.Sought.Sought, Times.by-type, Cut.take-words, Cut.drop-words}
 use Rattle.read_seek.specs.Seek.{carries2, carriesAs, carries3, reach2, reach3, soughtOf, further, Midway}
-use Rattle.read_seek.specs.Times.{by-type}
-use Rattle.read_seek.specs.Cut.{take-words, drop-words}
 
 -- ---- an event's time is the decoder's after its word; a word that can't carry events has none
 
@@ -84,7 +71,8 @@ silent3 d w = go (d .initialised)
     go : (b : Bool) → carries3 w ≡ false → eventsOf (Evt3.vectorAs (Evt3.kindOf (type3 w) b) d w) ≡ []
     go true z = started z
     go false z = Evt3.by-kinds (λ k. eventsOf (Evt3.vectorAs k d w) ≡ []) (type3 w) false
-        (λ o. nothing _ refl) (λ o. no (sym o)) (λ o. no (sym o)) (λ o. no (sym o)) (λ o. no (sym o)) (λ o. no (sym o)) (λ o. no (sym o)) (λ o. no (sym o)) (nothing _ refl)
+        (λ o. nothing _ refl) (λ o. no (sym o)) (λ o. no (sym o)) (λ o. no (sym o)) (λ o. no (sym o)) (λ o. no (sym o)) (λ o. no (sym o))
+        (λ o. no (sym o)) (nothing _ refl)
 
 wakes3 : (d : Decoder) → Regular3 d → d .initialised ≡ false → d .time ≡ 0
 wakes3 d r off = ap (λ (d : Decoder). d .time) (r .unstarted off)
@@ -112,16 +100,20 @@ module _ (win : Window) (k : ℕ) (low : win .n0 ≤ k) where
       let cut = drop-words reader2 wordSize2 (omega arith) (r .words) l (within2 t₀ (win .t0) d l) in
       let all = inside-bytes (win .width) (win .height) (Evt2 d) l in
       let left = inside-bytes (win .width) (win .height) (Evt2 (r .state)) (drop (r .words * wordSize2) l) in
-      let fewer : k + length (Select.numbered (reading2 win) (r .state) (drop (r .words) (wordsOf wordSize2 l))) < win .n1 = rw (← cut) (omega (arith, left, length-drop (r .words * wordSize2) l)) in
-      handed-from (reading2 win) carries2 stamped2 (selectionOf win) t₀ (win .t0) (omega arith) order k k d (wordsOf wordSize2 l) low (omega (arith, all)) low fewer
+      let fewer : k + length (Select.numbered (reading2 win) (r .state) (drop (r .words) (wordsOf wordSize2 l))) < win .n1 =
+      rw (← cut) (omega (arith, left, length-drop (r .words * wordSize2) l)) in
+      handed-from (reading2 win) carries2 stamped2 (selectionOf win) t₀ (win .t0) (omega arith) order k k d (wordsOf wordSize2 l) low
+      (omega (arith, all)) low fewer
       ∙ ap (Select.handed (reading2 win) (selectionOf win) k (r .state)) (sym cut)
   sought-from t₀ (Evt3 d) l order high =
       let r = reach3 t₀ (win .t0) d l in
       let cut = drop-words reader3 wordSize3 (omega arith) (r .words) l (within3 t₀ (win .t0) d l) in
       let all = inside-bytes (win .width) (win .height) (Evt3 d) l in
       let left = inside-bytes (win .width) (win .height) (Evt3 (r .state)) (drop (r .words * wordSize3) l) in
-      let fewer : k + length (Select.numbered (reading3 win) (r .state) (drop (r .words) (wordsOf wordSize3 l))) < win .n1 = rw (← cut) (omega (arith, left, length-drop (r .words * wordSize3) l)) in
-      handed-from (reading3 win) carries3 stamped3 (selectionOf win) t₀ (win .t0) (omega arith) order k k d (wordsOf wordSize3 l) low (omega (arith, all)) low fewer
+      let fewer : k + length (Select.numbered (reading3 win) (r .state) (drop (r .words) (wordsOf wordSize3 l))) < win .n1 =
+      rw (← cut) (omega (arith, left, length-drop (r .words * wordSize3) l)) in
+      handed-from (reading3 win) carries3 stamped3 (selectionOf win) t₀ (win .t0) (omega arith) order k k d (wordsOf wordSize3 l) low
+      (omega (arith, all)) low fewer
       ∙ ap (Select.handed (reading3 win) (selectionOf win) k (r .state)) (sym cut)
 
   module _ (c : Codec) (l : List ℕ) (high : k + 6 * length l < win .n1) where
@@ -135,11 +127,13 @@ module _ (win : Window) (k : ℕ) (low : win .n0 ≤ k) where
             → handedOver win k c l ≡ insideEvents (win .width) (win .height) c (take (soughtOf (win .t0) (win .t1) c l .at) l)
         go (Evt2 d) few able some z =
             let r = reach2 (win .t0) (win .t1) d l in
-            handed-upto (reading2 win) carries2 stamped2 (selectionOf win) Regular2 regular-step2 wakes2 silent2 some k d (wordsOf wordSize2 l) (able .regular) low (omega arith) z
+            handed-upto (reading2 win) carries2 stamped2 (selectionOf win) Regular2 regular-step2 wakes2 silent2 some k d
+            (wordsOf wordSize2 l) (able .regular) low (omega arith) z
             ∙ ap (Select.numbered (reading2 win) d) (sym (take-words reader2 wordSize2 (omega arith) (r .words) l (within2 (win .t0) (win .t1) d l)))
         go (Evt3 d) few able some z =
             let r = reach3 (win .t0) (win .t1) d l in
-            handed-upto (reading3 win) carries3 stamped3 (selectionOf win) Regular3 regular-step3 wakes3 silent3 some k d (wordsOf wordSize3 l) (able .regular) low (omega arith) z
+            handed-upto (reading3 win) carries3 stamped3 (selectionOf win) Regular3 regular-step3 wakes3 silent3 some k d
+            (wordsOf wordSize3 l) (able .regular) low (omega arith) z
             ∙ ap (Select.numbered (reading3 win) d) (sym (take-words reader3 wordSize3 (omega arith) (r .words) l (within3 (win .t0) (win .t1) d l)))
 
     -- EMPTY, where the last time isn't past the first

@@ -6,21 +6,14 @@ use Prim.Native.Nat.{ℕ, _+_, _/_, _≤_, _<_}
 use native.Mathlib.Omega.{arith}
 use lib.Dec.{ltb}
 use lib.ListN.{length, drop}
-use Rattle.laws_stream.specs.Words.{length-words}
-use Rattle.evt_types.specs.Ahead.{ahead, ahead-some}
-use Rattle.laws_stream.specs.Seek.{Reach}
-use Rattle.evt2_decoder.specs.declared.Evt2Decoder.{Evt2Decoder}
-use Rattle.evt3_decoder.specs.declared.Decoder.{Decoder}
+use Rattle.laws_stream.specs.{Words.length-words, Seek.Reach}
+use Rattle.evt_types.specs.{Ahead.ahead, Ahead.ahead-some, Layout.type2, Layout.type3, Layout.wordSize2, Layout.wordSize3}
+use Rattle.evt2_decoder.specs.{declared.Evt2Decoder.Evt2Decoder, Evt2.step2, Evt2.reader2, Range.Bounded2, Range.bounded-step2}
+use Rattle.evt3_decoder.specs.{declared.Decoder.Decoder, Evt3.step3, Evt3.reader3, Range.Bounded3, Range.bounded-step3, Range.bounded-sane3}
 use Rattle.evt_codec.specs.declared.codec.Codec.the-variants.{Evt2, Evt3}
-use Rattle.evt_types.specs.Layout.{type2, type3, wordSize2, wordSize3}
-use Rattle.evt2_decoder.specs.Evt2.{step2, reader2}
-use Rattle.evt3_decoder.specs.Evt3.{step3, reader3}
-use Rattle.evt2_decoder.specs.Range.{Bounded2, bounded-step2}
-use Rattle.evt3_decoder.specs.Range.{Bounded3, bounded-step3, bounded-sane3}
-use Rattle.read_seek.specs.declared.times.Times.{Times}
-use Rattle.read_seek.specs.Seek.{carries2, carriesAs, carries3, soughtOf, reach3}
+use Rattle.read_seek.specs.{declared.times.Times.Times, Seek.carries2, Seek.carriesAs, Seek.carries3, Seek.soughtOf, Seek.reach3, Times.timesOf}
+use Rattle.read_seek.specs.{Times.Slow, Times.ticked, Times.spannedOf, Times.step-on, Times.step-times}
 use Rattle.read_seek.specs.Iteration.{Seeking, Found, seeking-start, seeking-end, seeking-stop, seeking-next, found-is}
-use Rattle.read_seek.specs.Times.{timesOf, Slow, ticked, spannedOf, step-on, step-times}
 
 -- ---- EVT2
 
@@ -42,7 +35,9 @@ module _ (t₀ t₁ : ℕ) (d : Evt2Decoder) (bytes : List ℕ) where
     module _ (h : i + wordSize2 ≤ length bytes) (w : ℕ) (is-word : w ≡ ahead wordSize2 bytes i)
         (s′ : Evt2Decoder) (is-next : s′ ≡ step2 s w) where
       pub stop2 : t₁ ≤ s′ .time → Ends2 s f i
-      stop2 l = found-is (omega arith) bounded-step2 Evt2 (seeking-stop (omega arith) bounded-step2 u (omega arith) w (is-word ∙ ahead-some wordSize2 bytes i (omega arith)) s′ is-next l)
+      stop2 l =
+          found-is (omega arith) bounded-step2 Evt2
+          (seeking-stop (omega arith) bounded-step2 u (omega arith) w (is-word ∙ ahead-some wordSize2 bytes i (omega arith)) s′ is-next l)
 
       pub iteration2 : s′ .time < t₁ → (k : ℕ) → k ≡ type2 w → (g : Bool) → g ≡ (f || (ltb (s′ .time) t₀ && ltb k 2)) → Seeking2 s′ g (i + wordSize2)
       iteration2 l k is-type g is-stray =
@@ -69,7 +64,8 @@ module _ (t₀ t₁ : ℕ) (d : Decoder) (bytes : List ℕ) where
     pub seeking : Seeking3 state f i
 
   abbrev pub Passes : Times → Bool → ℕ → Type 0
-  Passes c f i = (record { at = i; stray = f; times = c } ≡ spannedOf (reach3 t₀ t₁ d bytes)) × Bounded3 (length (drop i bytes) / wordSize3) (reach3 t₀ t₁ d bytes .state)
+  Passes c f i =
+      (record { at = i; stray = f; times = c } ≡ spannedOf (reach3 t₀ t₁ d bytes)) × Bounded3 (length (drop i bytes) / wordSize3) (reach3 t₀ t₁ d bytes .state)
 
   pub passing-start : d .initialised ≡ true → Bounded3 (length bytes / wordSize3) d → Passing (timesOf d) false 0
   passing-start on b = record { state = d; on = on; is = refl; seeking = start3 b }

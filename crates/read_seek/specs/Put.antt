@@ -6,18 +6,11 @@ use Prim.Native.Nat.{ℕ, _*_, _/_, _≤_, _<_, _^_}
 use native.Mathlib.Omega.{arith}
 use lib.ListN.{length, take, drop}
 use Rattle.evt_types.specs.Layout.{wordSize3}
-use Rattle.laws_stream.specs.Machine.{run}
-use Rattle.laws_stream.specs.Words.{wordsOf, length-words}
-use Rattle.laws_stream.specs.Seek.{Reach, reach-state, reach-most}
-use Rattle.evt3_decoder.specs.declared.Decoder.{Decoder}
+use Rattle.laws_stream.specs.{Machine.run, Words.wordsOf, Words.length-words, Seek.Reach, Seek.reach-state, Seek.reach-most}
+use Rattle.evt3_decoder.specs.{declared.Decoder.Decoder, Evt3.reader3, Range.Bounded3}
 use Rattle.evt_codec.specs.declared.codec.Codec.the-variants.{Evt3}
-use Rattle.evt3_decoder.specs.Evt3.{reader3}
-use Rattle.evt3_decoder.specs.Range.{Bounded3}
-use Rattle.read_seek.specs.declared.evt3.Spanned.{Spanned}
-use Rattle.read_seek.specs.Seek.{carries3, reach3, soughtOf}
-use Rattle.read_seek.specs.Times.{timesOf, spannedOf}
-use Rattle.read_seek.specs.Back.{putBehind, put-is}
-use Rattle.read_seek.specs.Cut.{take-words}
+use Rattle.read_seek.specs.{declared.evt3.Spanned.Spanned, Seek.carries3, Seek.reach3, Seek.soughtOf, Times.timesOf, Times.spannedOf}
+use Rattle.read_seek.specs.{Back.putBehind, Back.put-is, Cut.take-words}
 
 module _ (t₀ t₁ : ℕ) (d : Decoder) (bytes : List ℕ) where
   abbrev end : Reach Decoder
@@ -34,11 +27,13 @@ module _ (t₀ t₁ : ℕ) (d : Decoder) (bytes : List ℕ) where
   state-is = reach-state reader3 (λ d. d .time) carries3 t₀ t₁ d (wordsOf wordSize3 bytes)
       ∙ ap (run reader3 d) (sym (take-words reader3 wordSize3 (omega arith) (end .words) bytes within))
 
-  module _ (on : d .initialised ≡ true) (column : d .«base_x» < 2 ^ 16) (r : Spanned) (is : r ≡ spannedOf end) (left : Bounded3 (length (drop (r .at) bytes) / wordSize3) (end .state))
+  module _ (on : d .initialised ≡ true) (column : d .«base_x» < 2 ^ 16) (r : Spanned) (is : r ≡ spannedOf end)
+      (left : Bounded3 (length (drop (r .at) bytes) / wordSize3) (end .state))
       (e : Decoder) (is-put : e ≡ putBehind d (take (r .at) bytes) (r .times)) where
     whole : e ≡ end .state
     whole = is-put ∙ ap (λ (r : Spanned). putBehind d (take (r .at) bytes) (r .times)) is
         ∙ put-is d (take (end .words * wordSize3) bytes) (end .state) on column state-is (timesOf (end .state)) refl
 
-    pub put-found : (record { at = r .at; stray = r .stray; codec = Evt3 e } ≡ soughtOf t₀ t₁ (Evt3 d) bytes) × Bounded3 (length (drop (r .at) bytes) / wordSize3) e
+    pub put-found : (record { at = r .at; stray = r .stray; codec = Evt3 e } ≡ soughtOf t₀ t₁ (Evt3 d) bytes)
+        × Bounded3 (length (drop (r .at) bytes) / wordSize3) e
     put-found = (λ i. record { at = is i .at; stray = is i .stray; codec = Evt3 (whole i) }, rw whole left)

@@ -5,15 +5,11 @@ use mathlib.Core.List.{List}
 use Prim.Native.Nat.{ℕ, _+_, _*_, _≤_}
 use lib.Dec.{eqb, ltb}
 use lib.ListN.{length, drop}
-use Rattle.laws_stream.specs.Words.{wordsOf}
-use Rattle.laws_stream.specs.Seek.{Reach, reach}
-use Rattle.evt2_decoder.specs.declared.Evt2Decoder.{Evt2Decoder}
-use Rattle.evt3_decoder.specs.declared.Decoder.{Decoder}
-use Rattle.evt_codec.specs.declared.codec.Codec.{Codec}
-use Rattle.evt_codec.specs.declared.codec.Codec.the-variants.{Evt2, Evt3}
+use Rattle.laws_stream.specs.{Words.wordsOf, Seek.Reach, Seek.reach}
+use Rattle.evt2_decoder.specs.{declared.Evt2Decoder.Evt2Decoder, Evt2.reader2}
+use Rattle.evt3_decoder.specs.{declared.Decoder.Decoder, Evt3.reader3}
+use Rattle.evt_codec.specs.declared.{codec.Codec.Codec, codec.Codec.the-variants.Evt2, codec.Codec.the-variants.Evt3}
 use Rattle.evt_types.specs.Layout.{type2, type3, wordSize2, wordSize3}
-use Rattle.evt2_decoder.specs.Evt2.{reader2}
-use Rattle.evt3_decoder.specs.Evt3.{reader3}
 use Rattle.read_fill.specs.Decode.{Bounded}
 use Rattle.read_seek.specs.declared.Sought.{Sought}
 

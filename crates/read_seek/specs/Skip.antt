@@ -7,24 +7,16 @@ use native.Mathlib.Omega.{arith}
 use lib.Dec.{ltb}
 use lib.ListN.{length, take, drop}
 use borrow.Author.Tests.{ne-eqb, le-ltb}
-use Rattle.laws_stream.specs.Machine.{run}
-use Rattle.laws_stream.specs.Words.{wordsOf, length-words}
-use Rattle.evt_types.specs.Ahead.{ahead}
-use Rattle.evt2_decoder.specs.declared.Evt2Decoder.{Evt2Decoder}
-use Rattle.evt3_decoder.specs.declared.Decoder.{Decoder}
+use Rattle.laws_stream.specs.{Machine.run, Words.wordsOf, Words.length-words}
+use Rattle.evt_types.specs.{Ahead.ahead, Layout.type2, Layout.type3, Layout.wordSize2, Layout.wordSize3, Layout.grain2, Layout.grain3}
+use Rattle.evt2_decoder.specs.{declared.Evt2Decoder.Evt2Decoder, Evt2.step2, Range.Bounded2, Range.Regular2, Range.bounded-step2, Range.bounded-sane2}
+use Rattle.evt2_decoder.specs.{Range.regular-step2}
+use Rattle.evt3_decoder.specs.{declared.Decoder.Decoder, Evt3.step3, Evt3.reader3, Range.Bounded3, Range.bounded-step3, Range.regular-step3}
 use Rattle.evt_codec.specs.declared.codec.Codec.the-variants.{Evt2, Evt3}
-use Rattle.evt_types.specs.Layout.{type2, type3, wordSize2, wordSize3, grain2, grain3}
 use Rattle.evt2_decoder.specs.Evt2 as Evt2
-use Rattle.evt2_decoder.specs.Evt2.{step2}
-use Rattle.evt3_decoder.specs.Evt3.{step3, reader3}
-use Rattle.evt2_decoder.specs.Range.{Bounded2, Regular2, bounded-step2, bounded-sane2, regular-step2}
-use Rattle.evt3_decoder.specs.Range.{Bounded3, bounded-step3, regular-step3}
-use Rattle.read_seek.specs.declared.times.Times.{Times}
-use Rattle.read_seek.specs.Seek.{carriesAs, Midway}
-use Rattle.read_seek.specs.Iteration.{seeking-start, seeking-same}
-use Rattle.read_seek.specs.Times.{timesOf, ticked, tickedAs, step-on, step-times}
-use Rattle.read_seek.specs.Back.{putBehind, put-is}
-use Rattle.read_seek.specs.Cut.{take-words}
+use Rattle.read_seek.specs.{declared.times.Times.Times, Seek.carriesAs, Seek.Midway, Iteration.seeking-start, Iteration.seeking-same}
+use Rattle.read_seek.specs.{Times.timesOf, Times.ticked, Times.tickedAs, Times.step-on, Times.step-times, Back.putBehind, Back.put-is}
+use Rattle.read_seek.specs.{Cut.take-words}
 use Rattle.read_seek.specs.Loops.{Seeking2, start2, iteration2, Seeking3, Passing, passing-start, passing-next, passing-slow}
 
 -- no time is before 0
@@ -71,7 +63,8 @@ module _ (t : ℕ) (d : Evt2Decoder) (bytes : List ℕ) where
     pub room : s .«time_high» + grain2 ≤ t
 
   pub midway2 : {s : Evt2Decoder} {at : ℕ} → Seeking2 0 t d bytes s false at → Midway t (Evt2 d) bytes at (Evt2 s)
-  midway2 {s} {at} u = record { within = u .within; able = rw (length-words wordSize2 (drop at bytes)) at (u .inv); same = seeking-same (omega arith) bounded-step2 u refl Evt2 }
+  midway2 {s} {at} u =
+      record { within = u .within; able = rw (length-words wordSize2 (drop at bytes)) at (u .inv); same = seeking-same (omega arith) bounded-step2 u refl Evt2 }
 
   pub skip-start2 : Bounded2 (length bytes / wordSize2) d → d .«time_high» + grain2 ≤ t → Skipping2 d 0 0
   skip-start2 b room = record { marked = start2 0 t d bytes b; u = d; here = start2 0 t d bytes b; like = record { high = refl; loops = refl }; room = room }
@@ -139,7 +132,8 @@ module _ (t : ℕ) (d : Decoder) (bytes : List ℕ) where
       let p = passing-start 0 t d bytes on b in
       record { marked = p; e = timesOf d; here = p; like = record { base = refl; loops = refl }; room = room }
 
-  module _ {c : Times} {at i : ℕ} (p : Skipping3 c at i) (h : i + wordSize3 ≤ length bytes) (w : ℕ) (is-word : w ≡ ahead wordSize3 bytes i) (k : ℕ) (is-type : k ≡ type3 w) where
+  module _ {c : Times} {at i : ℕ} (p : Skipping3 c at i) (h : i + wordSize3 ≤ length bytes) (w : ℕ) (is-word : w ≡ ahead wordSize3 bytes i)
+      (k : ℕ) (is-type : k ≡ type3 w) where
     on3 : ticked (p .e) w .time < t → Passing 0 t d bytes (ticked (p .e) w) false (i + wordSize3)
     on3 l = passing-next 0 t d bytes h w is-word (p .here) (ticked (p .e) w) refl l k is-type false (sym (none-early (ticked (p .e) w .time) (carriesAs k)))
 
@@ -184,9 +178,13 @@ module _ (t : ℕ) (d : Decoder) (bytes : List ℕ) where
   midway3 {c} {at} on column u e is-put =
       let q = u .seeking in
       let came : u .state ≡ run reader3 d (wordsOf wordSize3 (take at bytes))
-      = q .came ∙ ap (run reader3 d) (sym (take-words reader3 wordSize3 (omega arith) (q .words) bytes (omega (arith, q .is-at, q .within))) ∙ ap (λ (k : ℕ). wordsOf wordSize3 (take k bytes)) (sym (q .is-at))) in
+      =
+      q .came ∙ ap (run reader3 d)
+      (sym (take-words reader3 wordSize3 (omega arith) (q .words) bytes (omega (arith, q .is-at, q .within)))
+      ∙ ap (λ (k : ℕ). wordsOf wordSize3 (take k bytes)) (sym (q .is-at))) in
       let is : e ≡ u .state = is-put ∙ put-is d (take at bytes) (u .state) on column came c (u .is) in
-      rw is (record { within = q .within; able = rw (length-words wordSize3 (drop at bytes)) at (q .inv); same = seeking-same (omega arith) bounded-step3 q refl Evt3 })
+      rw is (record
+      { within = q .within; able = rw (length-words wordSize3 (drop at bytes)) at (q .inv); same = seeking-same (omega arith) bounded-step3 q refl Evt3 })
 
   -- none
   pub midway-none3 : Bounded3 (length bytes / wordSize3) d → Midway t (Evt3 d) bytes 0 (Evt3 d)

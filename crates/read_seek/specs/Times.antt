@@ -4,14 +4,11 @@ use mathlib.Core.Bool.{Bool, true, false, cond}
 use Prim.Native.Nat.{ℕ, _+_, _*_, _<_, _^_}
 use lib.Dec.{eqb}
 use borrow.Author.Tests.{eqb-true}
-use Rattle.laws_stream.specs.Loop.{loopsAfter, timeAfter}
-use Rattle.laws_stream.specs.Seek.{Reach}
-use Rattle.evt3_decoder.specs.declared.Decoder.{Decoder}
+use Rattle.laws_stream.specs.{Loop.loopsAfter, Loop.timeAfter, Seek.Reach}
+use Rattle.evt3_decoder.specs.{declared.Decoder.Decoder, Evt3.kindOn, Evt3.kindOf, Evt3.stepAs, Evt3.step3, Evt3.period3, Evt3.threshold3}
 use Rattle.evt_types.specs.Layout.{type3, time3, wordSize3, grain3}
-use Rattle.evt3_decoder.specs.Evt3.{kindOn, kindOf, stepAs, step3, period3, threshold3}
 pub use Rattle.read_seek.specs.Seek.{carriesAs}
-use Rattle.read_seek.specs.declared.times.Times.{Times}
-use Rattle.read_seek.specs.declared.evt3.Spanned.{Spanned}
+use Rattle.read_seek.specs.declared.{evt3.Spanned.Spanned, times.Times.Times}
 
 abbrev pub timesOf : Decoder → Times
 timesOf d = record { base = d .«time_base»; time = d .time; loops = d .«high_loops» }

@@ -6,19 +6,14 @@ use Prim.Native.Nat.{ℕ, _+_, _/_, _≤_, _<_, _^_}
 use native.Mathlib.Omega.{arith}
 use lib.ListN.{length}
 use lib.Count.{ones}
-use Rattle.laws_stream.specs.Words.{wordsOf}
-use Rattle.laws_stream.specs.Select.{End}
-use Rattle.evt_types.specs.declared.vector.Vector.{Vector}
-use Rattle.evt_types.specs.Event.{Event, eventsOf}
-use Rattle.read_window.specs.declared.Window.{Window}
-use Rattle.read_window.specs.declared.trim.Trimmed.{Trimmed}
-use Rattle.read_window.specs.declared.extent.Extent.{Extent}
+use Rattle.laws_stream.specs.{Words.wordsOf, Select.End}
+use Rattle.evt_types.specs.{declared.vector.Vector.Vector, Event.Event, Event.eventsOf}
+use Rattle.read_window.specs.declared.{Window.Window, extent.Extent.Extent, trim.Trimmed.Trimmed}
 use Rattle.read_window.specs.Trim.{Picked, picked-few, masked, masked-count}
 use Rattle.read_window.specs.Extent.{extentOf, extentWith, extent-none, extent-start, extent-append}
-use Rattle.read_select.specs.declared.word.Notes.{Notes}
-use Rattle.read_select.specs.Word.{Notable, noted, seenIn}
-use Rattle.read_select.specs.Pass.{endOf, surveyOf}
-use Rattle.read_select.specs.Iteration.{Source, Laws, Iteration, At, all, left, last, leftIf, lastIf, stops, stand-start, stand-end, none-left, narrow-here, number-here, given-left, pend-next, done-end, done-count}
+use Rattle.read_select.specs.{declared.word.Notes.Notes, Word.Notable, Word.noted, Word.seenIn, Pass.endOf, Pass.surveyOf}
+use Rattle.read_select.specs.Iteration.{Source, Laws, Iteration, At, all, left, last, leftIf, lastIf, stops, stand-start, stand-end, none-left}
+use Rattle.read_select.specs.Iteration.{narrow-here, number-here, given-left, pend-next, done-end, done-count}
 
 module _ (Q : Source) (win : Window) (number : ℕ) (s₀ : Q .State) (bytes : List ℕ) where
   -- `seen` is noted, and `es` are still to be handed over
@@ -30,7 +25,9 @@ module _ (Q : Source) (win : Window) (number : ℕ) (s₀ : Q .State) (bytes : L
   Counts s t i = Counting (left Q win number s₀ bytes (t .number) s i) (last Q win number s₀ bytes (t .number) s i) s (t .number) (t .count) (seenIn t) i
 
   abbrev pub CountsIf : (s : Q .State) (t : Notes) (i : ℕ) → Type 0
-  CountsIf s t i = Counting (leftIf Q win number s₀ bytes (stops Q win number s₀ bytes (t .number) s) (t .number) s i) (lastIf Q win number s₀ bytes (stops Q win number s₀ bytes (t .number) s) (t .number) s i) s (t .number) (t .count) (seenIn t) i
+  CountsIf s t i =
+      Counting (leftIf Q win number s₀ bytes (stops Q win number s₀ bytes (t .number) s) (t .number) s i)
+      (lastIf Q win number s₀ bytes (stops Q win number s₀ bytes (t .number) s) (t .number) s i) s (t .number) (t .count) (seenIn t) i
 
   abbrev pub Counted : (s : Q .State) (t : Notes) (i : ℕ) → Type 0
   Counted s t i = Counting [] (record { number = t .number; state = s; consumed = 0 }) s (t .number) (t .count) (seenIn t) i
@@ -52,8 +49,18 @@ module _ {Q : Source} (L : Laws Q) {win : Window} {number : ℕ} {s₀ : Q .Stat
         ≡ surveyOf (endOf (Q .codec) (last Q win number s₀ bytes number s₀ 0)) (all Q win number s₀ bytes)
     counted p =
         let is-seen : seenIn t ≡ extentOf (all Q win number s₀ bytes) = sym (extent-none (seenIn t)) ∙ p .notes in
-        ap (λ (m : ℕ). record { number = t .number; count = m; latest = t .latest; width = t .width; height = t .height; consumed = i / Q .size; codec = Q .codec s }) (done-count L (p .at))
-        ∙ ap (λ (x : Extent). record { number = t .number; count = length (all Q win number s₀ bytes); latest = x .latest; width = x .width; height = x .height; consumed = i / Q .size; codec = Q .codec s }) is-seen
+        ap (λ (m : ℕ).
+        record { number = t .number; count = m; latest = t .latest; width = t .width; height = t .height; consumed = i / Q .size; codec = Q .codec s })
+        (done-count L (p .at))
+        ∙ ap (λ (x : Extent). record {
+          number = t .number;
+          count = length (all Q win number s₀ bytes);
+          latest = x .latest;
+          width = x .width;
+          height = x .height;
+          consumed = i / Q .size;
+          codec = Q .codec s;
+        }) is-seen
         ∙ ap (λ (e : End (Q .State)). surveyOf (endOf (Q .codec) e) (all Q win number s₀ bytes)) (done-end L (p .at))
 
     module _ (u : Counts Q win number s₀ bytes s t i) where
@@ -63,7 +70,14 @@ module _ {Q : Source} (L : Laws Q) {win : Window} {number : ℕ} {s₀ : Q .Stat
       -- a word, of whose events r leaves some
       module _ {s′ : Q .State} {v : Vector} (o : Iteration Q bytes i s s′ v) (r : Trimmed) (q : Picked v win (t .number) r) where
         pub notable-here : Notable t v r
-        notable-here = record { narrow = narrow-here L (u .at) o; small = q .small; few = picked-few (narrow-here L (u .at) o .mask<) q; number = number-here L (u .at); count = omega (arith, u .at .few, u .at .within, u .at .long) }
+        notable-here =
+            record {
+              narrow = narrow-here L (u .at) o;
+              small = q .small;
+              few = picked-few (narrow-here L (u .at) o .mask<) q;
+              number = number-here L (u .at);
+              count = omega (arith, u .at .few, u .at .within, u .at .long);
+            }
 
         pub counts-next : CountsIf Q win number s₀ bytes s′ (noted t v r) (i + Q .size)
         counts-next =

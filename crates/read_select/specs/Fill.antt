@@ -6,17 +6,14 @@ use Prim.Native.Nat.{ℕ, _+_, _-_, _/_, _≤_, _<_, _^_}
 use native.Mathlib.Omega.{arith}
 use lib.ListN.{length, length-append}
 use lib.IntN.{ℤ}
-use Rattle.laws_stream.specs.Words.{wordsOf}
-use Rattle.laws_stream.specs.Select.{End}
-use Rattle.evt_types.specs.declared.vector.Vector.{Vector}
-use Rattle.evt_types.specs.Event.{Event, eventsOf}
-use Rattle.evt_types.specs.Columns.{Going, Room, Wrote, going-start, going-run, going-end}
+use Rattle.laws_stream.specs.{Words.wordsOf, Select.End}
+use Rattle.evt_types.specs.{declared.vector.Vector.Vector, Event.Event, Event.eventsOf, Columns.Going, Columns.Room, Columns.Wrote}
+use Rattle.evt_types.specs.{Columns.going-start, Columns.going-run, Columns.going-end}
 use Rattle.read_columns.specs.Inside.{events-few}
-use Rattle.read_window.specs.declared.Window.{Window}
-use Rattle.read_window.specs.declared.trim.Trimmed.{Trimmed}
-use Rattle.read_window.specs.Trim.{Picked, picked-few, masked}
+use Rattle.read_window.specs.{declared.Window.Window, declared.trim.Trimmed.Trimmed, Trim.Picked, Trim.picked-few, Trim.masked}
 use Rattle.read_select.specs.Pass.{Fits, endOf, filledOf}
-use Rattle.read_select.specs.Iteration.{Source, Laws, Iteration, At, all, left, last, leftIf, lastIf, stops, stand-start, stand-end, none-left, narrow-here, number-here, given-left, pend-next, done-end, done-count}
+use Rattle.read_select.specs.Iteration.{Source, Laws, Iteration, At, all, left, last, leftIf, lastIf, stops, stand-start, stand-end, none-left}
+use Rattle.read_select.specs.Iteration.{narrow-here, number-here, given-left, pend-next, done-end, done-count}
 
 module _ (Q : Source) (win : Window) (number : ℕ) (s₀ : Q .State) (bytes : List ℕ) (xs₀ ys₀ : List ℕ) (ts₀ : List ℤ) (ps₀ : List ℕ) where
   -- n events are in the columns, and `es` are still to be written
@@ -28,7 +25,9 @@ module _ (Q : Source) (win : Window) (number : ℕ) (s₀ : Q .State) (bytes : L
   Fills xs ys ts ps s k n i = Filling (left Q win number s₀ bytes k s i) (last Q win number s₀ bytes k s i) xs ys ts ps s k n i
 
   abbrev pub FillsIf : (xs ys : List ℕ) (ts : List ℤ) (ps : List ℕ) (s : Q .State) (k n i : ℕ) → Type 0
-  FillsIf xs ys ts ps s k n i = Filling (leftIf Q win number s₀ bytes (stops Q win number s₀ bytes k s) k s i) (lastIf Q win number s₀ bytes (stops Q win number s₀ bytes k s) k s i) xs ys ts ps s k n i
+  FillsIf xs ys ts ps s k n i =
+      Filling (leftIf Q win number s₀ bytes (stops Q win number s₀ bytes k s) k s i)
+      (lastIf Q win number s₀ bytes (stops Q win number s₀ bytes k s) k s i) xs ys ts ps s k n i
 
   abbrev pub Full : (xs ys : List ℕ) (ts : List ℤ) (ps : List ℕ) (s : Q .State) (k n i : ℕ) → Type 0
   Full xs ys ts ps s k n i = Filling [] (record { number = k; state = s; consumed = 0 }) xs ys ts ps s k n i
@@ -48,7 +47,8 @@ module _ {Q : Source} (L : Laws Q) {win : Window} {number : ℕ} {s₀ : Q .Stat
     fills-stop e p = rw e at p
 
     pub full : Full Q win number s₀ bytes xs₀ ys₀ ts₀ ps₀ xs ys ts ps s k n i
-        → record { number = k; count = n; consumed = i / Q .size; codec = Q .codec s } ≡ filledOf (endOf (Q .codec) (last Q win number s₀ bytes number s₀ 0)) (all Q win number s₀ bytes)
+        → record { number = k; count = n; consumed = i / Q .size; codec = Q .codec s }
+        ≡ filledOf (endOf (Q .codec) (last Q win number s₀ bytes number s₀ 0)) (all Q win number s₀ bytes)
     full p =
         ap (λ (m : ℕ). record { number = k; count = m; consumed = i / Q .size; codec = Q .codec s }) (done-count L (p .at))
         ∙ ap (λ (e : End (Q .State)). filledOf (endOf (Q .codec) e) (all Q win number s₀ bytes)) (done-end L (p .at))
@@ -63,7 +63,8 @@ module _ {Q : Source} (L : Laws Q) {win : Window} {number : ℕ} {s₀ : Q .Stat
       fills-end h = record { at = stand-end L (u .at) h; going = rw (none-left L (u .at) h) at (u .going) }
 
       -- a word, of whose events r leaves those of `kept`
-      module _ {s′ : Q .State} {v : Vector} (o : Iteration Q bytes i s s′ v) (fits : Fits (length (all Q win number s₀ bytes)) (length xs₀) (length ys₀) (length ts₀) (length ps₀))
+      module _ {s′ : Q .State} {v : Vector} (o : Iteration Q bytes i s s′ v)
+          (fits : Fits (length (all Q win number s₀ bytes)) (length xs₀) (length ys₀) (length ts₀) (length ps₀))
           (r : Trimmed) (q : Picked v win k r) {kept : Vector} (is-kept : kept ≡ masked v (r .mask)) where
         abbrev given : List Event
         given = eventsOf kept
@@ -73,14 +74,17 @@ module _ {Q : Source} (L : Laws Q) {win : Window} {number : ℕ} {s₀ : Q .Stat
         count-of m e = rw is-kept at e
 
         going-here : (m : ℕ) → m ≡ length given
-            → Going (all Q win number s₀ bytes) 0 xs₀ ys₀ ts₀ ps₀ (given ++ leftIf Q win number s₀ bytes (stops Q win number s₀ bytes (k + m + r .extra) s′) (k + m + r .extra) s′ (i + Q .size)) n xs ys ts ps
+            → Going (all Q win number s₀ bytes) 0 xs₀ ys₀ ts₀ ps₀
+            (given ++ leftIf Q win number s₀ bytes (stops Q win number s₀ bytes (k + m + r .extra) s′) (k + m + r .extra) s′ (i + Q .size))
+            n xs ys ts ps
         going-here m e = rw is-kept (rw (given-left L (u .at) o r q m (count-of m e)) at (u .going))
 
         pub room-here : Room (length given) kept n (length xs) (length ys) (length ts) (length ps)
         room-here =
             let b = narrow-here L (u .at) o in
             let g = going-here (length given) refl in
-            let cut = length-append given (leftIf Q win number s₀ bytes (stops Q win number s₀ bytes (k + length given + r .extra) s′) (k + length given + r .extra) s′ (i + Q .size)) in
+            let cut = length-append given
+            (leftIf Q win number s₀ bytes (stops Q win number s₀ bytes (k + length given + r .extra) s′) (k + length given + r .extra) s′ (i + Q .size)) in
             record {
               mask = rw is-kept (q .small);
               column = rw is-kept (omega (arith, b .x<));

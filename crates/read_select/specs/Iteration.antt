@@ -6,19 +6,14 @@ use Prim.Native.Nat.{ℕ, suc, _+_, _*_, _/_, _≤_, _<_, _^_}
 use native.Mathlib.Omega.{arith}
 use native.Mathlib.Nat.{add-zero, zero-div, add-div-right}
 use lib.ListN.{length, take, drop, length-append}
-use Rattle.laws_stream.specs.Machine.{Machine}
-use Rattle.laws_stream.specs.Words.{wordsOf, value, words-next, words-end}
-use Rattle.laws_stream.specs.Slice.{sift, unless}
+use Rattle.laws_stream.specs.{Machine.Machine, Words.wordsOf, Words.value, Words.words-next, Words.words-end, Slice.sift, Slice.unless, Select.End}
+use Rattle.laws_stream.specs.{Select.endAt, Select.oneMore, Select.handed, Select.ended}
 use Rattle.laws_stream.specs.Select as Select
-use Rattle.laws_stream.specs.Select.{End, endAt, oneMore, handed, ended}
-use Rattle.evt_types.specs.declared.vector.Vector.{Vector}
+use Rattle.evt_types.specs.{declared.vector.Vector.Vector, Event.Event, Event.eventsOf, Event.Narrow}
 use Rattle.evt_codec.specs.declared.codec.Codec.{Codec}
-use Rattle.evt_types.specs.Event.{Event, eventsOf, Narrow}
 use Rattle.read_columns.specs.Inside.{inside}
-use Rattle.read_window.specs.declared.Window.{Window}
-use Rattle.read_window.specs.declared.trim.Trimmed.{Trimmed}
-use Rattle.read_window.specs.Window.{selectionOf, reading, choose, chosen-choose}
-use Rattle.read_window.specs.Trim.{Picked, masked, numbered, numbered-few}
+use Rattle.read_window.specs.{declared.Window.Window, declared.trim.Trimmed.Trimmed, Window.selectionOf, Window.reading, Window.choose}
+use Rattle.read_window.specs.{Window.chosen-choose, Trim.Picked, Trim.masked, Trim.numbered, Trim.numbered-few}
 
 -- a decoder: its machine over words of `size` bytes, the vector that a word carries, and what holds of a state that takes n words more
 pub record Source : Type 1 where
@@ -186,7 +181,8 @@ module _ {Q : Source} (L : Laws Q) {win : Window} {number : ℕ} {s₀ : Q .Stat
             ap (handed (source Q win number s₀ bytes) (selectionOf win) k s) words-here
             ∙ ap (λ (l : List Event). l ++ leftIf Q win number s₀ bytes (stops Q win number s₀ bytes (k + length told) t) (k + length told) t j)
             (chosen-choose (Q .machine) (Q .live) (Q .time) win k told ∙ ap (choose win k) here-is)
-            ∙ ap (λ (x : ℕ). choose win k here ++ leftIf Q win number s₀ bytes (stops Q win number s₀ bytes x t) x t j) (ap (λ (l : List Event). k + length l) here-is ∙ sym e)
+            ∙ ap (λ (x : ℕ). choose win k here ++ leftIf Q win number s₀ bytes (stops Q win number s₀ bytes x t) x t j)
+            (ap (λ (l : List Event). k + length l) here-is ∙ sym e)
             ∙ ap (λ (x : Q .State). choose win k here ++ leftIf Q win number s₀ bytes (stops Q win number s₀ bytes k′ x) k′ x j) (sym (o .is-next))
 
         finishes : (k′ : ℕ) → k′ ≡ k + length here
@@ -195,7 +191,8 @@ module _ {Q : Source} (L : Laws Q) {win : Window} {number : ℕ} {s₀ : Q .Stat
         finishes k′ e =
             let t = Q .machine .step s w in
             ap (ended (source Q win number s₀ bytes) (selectionOf win) k s) words-here
-            ∙ ap (λ (x : ℕ). oneMore (lastIf Q win number s₀ bytes (stops Q win number s₀ bytes x t) x t j)) (ap (λ (l : List Event). k + length l) here-is ∙ sym e)
+            ∙ ap (λ (x : ℕ). oneMore (lastIf Q win number s₀ bytes (stops Q win number s₀ bytes x t) x t j))
+            (ap (λ (l : List Event). k + length l) here-is ∙ sym e)
             ∙ ap (λ (x : Q .State). oneMore (lastIf Q win number s₀ bytes (stops Q win number s₀ bytes k′ x) k′ x j)) (sym (o .is-next))
 
         -- m of them are handed over, as v with the mask of r
@@ -206,7 +203,8 @@ module _ {Q : Source} (L : Laws Q) {win : Window} {number : ℕ} {s₀ : Q .Stat
           number-is : k′ ≡ k + length here
           number-is = omega (arith, q .counts, is-m)
 
-          pub given-left : left Q win number s₀ bytes k s i ≡ eventsOf (masked v (r .mask)) ++ leftIf Q win number s₀ bytes (stops Q win number s₀ bytes k′ s′) k′ s′ j
+          pub given-left : left Q win number s₀ bytes k s i ≡ eventsOf (masked v (r .mask))
+              ++ leftIf Q win number s₀ bytes (stops Q win number s₀ bytes k′ s′) k′ s′ j
           given-left = splits k′ number-is
               ∙ ap (λ (l : List Event). l ++ leftIf Q win number s₀ bytes (stops Q win number s₀ bytes k′ s′) k′ s′ j) (sym (q .hands))
 
@@ -218,8 +216,15 @@ module _ {Q : Source} (L : Laws Q) {win : Window} {number : ℕ} {s₀ : Q .Stat
             high = omega (arith, number-is, few-here, u .high, L .some);
             few = omega (arith, number-is, few-here, u .few, L .some);
             inv = inv-next;
-            counts = omega (arith, u .counts, is-m, ap length given-left, length-append (eventsOf (masked v (r .mask))) (leftIf Q win number s₀ bytes (stops Q win number s₀ bytes k′ s′) k′ s′ j));
+            counts = omega (
+              arith,
+              u .counts,
+              is-m,
+              ap length given-left,
+              length-append (eventsOf (masked v (r .mask))) (leftIf Q win number s₀ bytes (stops Q win number s₀ bytes k′ s′) k′ s′ j),
+            );
             ends =
-                sym (after-more (i / Q .size) (j / Q .size) (lastIf Q win number s₀ bytes (stops Q win number s₀ bytes k′ s′) k′ s′ j) (add-div-right i (L .some)))
+                sym (after-more (i / Q .size) (j / Q .size) (lastIf Q win number s₀ bytes (stops Q win number s₀ bytes k′ s′) k′ s′ j)
+                (add-div-right i (L .some)))
                 ∙ ap (after (i / Q .size)) (sym (finishes k′ number-is)) ∙ u .ends;
           }

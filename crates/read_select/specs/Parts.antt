@@ -6,16 +6,11 @@ use Prim.Native.Nat.{ℕ, _+_, _-_, _*_, _^_, _≤_, _<_}
 use native.Mathlib.Omega.{arith}
 use lib.ListN.{length, take, drop}
 use Rattle.evt_types.specs.Layout.{wordSize2, wordSize3}
-use Rattle.laws_stream.specs.Machine.{All}
-use Rattle.laws_stream.specs.Words.{wordsOf, wordsOf-append}
-use Rattle.laws_stream.specs.Slice.{sift}
+use Rattle.laws_stream.specs.{Machine.All, Words.wordsOf, Words.wordsOf-append, Slice.sift, Select.byNumber}
 use Rattle.laws_stream.specs.Select as Select
-use Rattle.laws_stream.specs.Select.{byNumber}
-use Rattle.evt_codec.specs.declared.codec.Codec.{Codec}
-use Rattle.evt_codec.specs.declared.codec.Codec.the-variants.{Evt2, Evt3}
+use Rattle.evt_codec.specs.declared.{codec.Codec.Codec, codec.Codec.the-variants.Evt2, codec.Codec.the-variants.Evt3}
 use Rattle.evt_codec.specs.Codec.{wordSize, codecAfter}
-use Rattle.read_window.specs.declared.Window.{Window}
-use Rattle.read_window.specs.Window.{selectionOf, reading2, reading3}
+use Rattle.read_window.specs.{declared.Window.Window, Window.selectionOf, Window.reading2, Window.reading3}
 use Rattle.read_select.specs.Pass.{handedOver, Able}
 use Rattle.read_select.specs.Uses.{numberedOver, isTimely, untilOver, PastOver, over-by-number, over-by-time}
 
@@ -27,13 +22,16 @@ module _ (a b : List ℕ) (j : ℕ) where
   module _ (win : Window) where
     -- BY NUMBER: no event of the first part has a number from n0 on
     number-from : (c : Codec) → Whole c → length (numberedOver win c a) ≤ win .n0
-        → byNumber (win .n0) (win .n1) (length (numberedOver win c a)) (numberedOver win (codecAfter c a) b) ≡ take (win .n1 - win .n0) (drop (win .n0) (numberedOver win c (a ++ b)))
+        → byNumber (win .n0) (win .n1) (length (numberedOver win c a)) (numberedOver win (codecAfter c a) b)
+        ≡ take (win .n1 - win .n0) (drop (win .n0) (numberedOver win c (a ++ b)))
     number-from (Evt2 d) h l =
         Select.by-number-from (reading2 win) (selectionOf win) d (wordsOf wordSize2 a) (wordsOf wordSize2 b) l
-        ∙ ap (λ (ws : List ℕ). take (win .n1 - win .n0) (drop (win .n0) (Select.numbered (reading2 win) d ws))) (sym (wordsOf-append wordSize2 (omega arith) j a b h))
+        ∙ ap (λ (ws : List ℕ). take (win .n1 - win .n0) (drop (win .n0) (Select.numbered (reading2 win) d ws)))
+        (sym (wordsOf-append wordSize2 (omega arith) j a b h))
     number-from (Evt3 d) h l =
         Select.by-number-from (reading3 win) (selectionOf win) d (wordsOf wordSize3 a) (wordsOf wordSize3 b) l
-        ∙ ap (λ (ws : List ℕ). take (win .n1 - win .n0) (drop (win .n0) (Select.numbered (reading3 win) d ws))) (sym (wordsOf-append wordSize3 (omega arith) j a b h))
+        ∙ ap (λ (ws : List ℕ). take (win .n1 - win .n0) (drop (win .n0) (Select.numbered (reading3 win) d ws)))
+        (sym (wordsOf-append wordSize3 (omega arith) j a b h))
 
     pub handed-number-from : (c : Codec) → Whole c → Able (length b) (codecAfter c a) → win .t0 ≡ 0 → 2 ^ 63 ≤ win .t1 → length (numberedOver win c a) ≤ win .n0
         → handedOver win (length (numberedOver win c a)) (codecAfter c a) b ≡ take (win .n1 - win .n0) (drop (win .n0) (numberedOver win c (a ++ b)))

@@ -2,21 +2,14 @@
 use mathlib.Core.List.{List}
 use Prim.Native.Nat.{ℕ, _+_, _*_, _/_, _^_, _≤_}
 use lib.ListN.{length}
-use Rattle.evt_types.specs.Layout.{wordSize2, wordSize3}
-use Rattle.laws_stream.specs.Words.{wordsOf}
-use Rattle.laws_stream.specs.Select.{End, handed, ended}
-use Rattle.evt3_decoder.specs.declared.Decoder.{Decoder}
-use Rattle.evt_codec.specs.declared.codec.Codec.{Codec}
-use Rattle.evt_codec.specs.declared.codec.Codec.the-variants.{Evt2, Evt3}
+use Rattle.evt_types.specs.{Layout.wordSize2, Layout.wordSize3, Event.Event}
+use Rattle.laws_stream.specs.{Words.wordsOf, Select.End, Select.handed, Select.ended}
+use Rattle.evt3_decoder.specs.{declared.Decoder.Decoder, Range.Regular3}
+use Rattle.evt_codec.specs.declared.{codec.Codec.Codec, codec.Codec.the-variants.Evt2, codec.Codec.the-variants.Evt3}
 pub use Rattle.evt_types.specs.Columns.{Fits}
-use Rattle.evt_types.specs.Event.{Event}
 use Rattle.evt2_decoder.specs.Range.{Bounded2}
-use Rattle.evt3_decoder.specs.Range.{Regular3}
-use Rattle.read_window.specs.declared.Window.{Window}
-use Rattle.read_select.specs.declared.SurveyTotals.{SurveyTotals}
-use Rattle.read_select.specs.declared.Filled.{Filled}
-use Rattle.read_window.specs.Window.{selectionOf, reading2, reading3}
-use Rattle.read_window.specs.Extent.{extentOf}
+use Rattle.read_window.specs.{declared.Window.Window, Window.selectionOf, Window.reading2, Window.reading3, Extent.extentOf}
+use Rattle.read_select.specs.declared.{Filled.Filled, SurveyTotals.SurveyTotals}
 
 -- the events handed over, where the next event has the number k
 abbrev pub handedOver : Window → ℕ → Codec → List ℕ → List Event

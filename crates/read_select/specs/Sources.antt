@@ -5,18 +5,13 @@ use Prim.Native.Nat.{ℕ, _+_, _-_, _≤_, _<_, _^_}
 use native.Mathlib.Omega.{arith}
 use lib.ListN.{length}
 use Rattle.laws_stream.specs.Words.{wordsOf, length-words}
-use Rattle.evt2_decoder.specs.declared.Evt2Decoder.{Evt2Decoder}
-use Rattle.evt3_decoder.specs.declared.Decoder.{Decoder}
+use Rattle.evt2_decoder.specs.{declared.Evt2Decoder.Evt2Decoder, Evt2.step2, Evt2.reader2, Evt2.vector2, Evt2.vectorAs, Evt2.by-kinds, Range.Bounded2}
+use Rattle.evt2_decoder.specs.{Range.bounded-step2, Range.bounded-narrow2}
+use Rattle.evt3_decoder.specs.{declared.Decoder.Decoder, Evt3.step3, Evt3.reader3, Evt3.vector3, Range.Bounded3, Range.bounded-step3}
+use Rattle.evt3_decoder.specs.{Range.bounded-narrow3}
 use Rattle.evt_codec.specs.declared.codec.Codec.the-variants.{Evt2, Evt3}
-use Rattle.evt_types.specs.Layout.{type2, wordSize2, wordSize3}
-use Rattle.evt_types.specs.declared.vector.Vector.{Vector}
-use Rattle.evt2_decoder.specs.Evt2.{step2, reader2, vector2, vectorAs, by-kinds}
-use Rattle.evt3_decoder.specs.Evt3.{step3, reader3, vector3}
-use Rattle.evt2_decoder.specs.Range.{Bounded2, bounded-step2, bounded-narrow2}
-use Rattle.evt3_decoder.specs.Range.{Bounded3, bounded-step3, bounded-narrow3}
-use Rattle.evt_types.specs.Ahead.{ahead, ahead-some}
-use Rattle.read_select.specs.Pass.{Ready}
-use Rattle.read_select.specs.Iteration.{Source, Laws, Iteration}
+use Rattle.evt_types.specs.{Layout.type2, Layout.wordSize2, Layout.wordSize3, declared.vector.Vector.Vector, Ahead.ahead, Ahead.ahead-some}
+use Rattle.read_select.specs.{Pass.Ready, Iteration.Source, Iteration.Laws, Iteration.Iteration}
 
 abbrev pub source2 : Source
 source2 = record {

@@ -5,29 +5,21 @@ use mathlib.Core.List.{List, [], _∷_, _++_}
 use Prim.Native.Nat.{ℕ, suc, _+_, _*_, _/_, _^_, _≤_, _<_}
 use native.Mathlib.Omega.{arith}
 use lib.ListN.{length, take, drop, length-append, take-append-drop}
-use Rattle.laws_stream.specs.Machine.{Machine, All, all-of, run, emits, emits-all}
-use Rattle.laws_stream.specs.Words.{wordsOf, length-words}
-use Rattle.laws_stream.specs.Loop.{loops-one}
-use Rattle.laws_stream.specs.Mask.{bits}
-use Rattle.laws_stream.specs.Slice.{sift, all-sift, andThen, until, Past, within, timely}
+use Rattle.laws_stream.specs.{Machine.Machine, Machine.All, Machine.all-of, Machine.run, Machine.emits, Machine.emits-all, Words.wordsOf}
+use Rattle.laws_stream.specs.{Words.length-words, Loop.loops-one, Mask.bits, Slice.sift, Slice.all-sift, Slice.andThen, Slice.until, Slice.Past}
+use Rattle.laws_stream.specs.{Slice.within, Slice.timely, Select.End, Select.byNumber}
 use Rattle.laws_stream.specs.Select as Select
-use Rattle.laws_stream.specs.Select.{End, byNumber}
-use Rattle.evt2_decoder.specs.declared.Evt2Decoder.{Evt2Decoder}
-use Rattle.evt3_decoder.specs.declared.Decoder.{Decoder}
-use Rattle.evt_codec.specs.declared.codec.Codec.{Codec}
-use Rattle.evt_codec.specs.declared.codec.Codec.the-variants.{Evt2, Evt3}
-use Rattle.evt_types.specs.declared.vector.Vector.{Vector}
-use Rattle.evt_types.specs.Event.{Event, eventAt, eventsOf}
-use Rattle.evt_types.specs.Layout.{type3, time3, wordSize2, wordSize3, grain3}
-use Rattle.evt2_decoder.specs.Evt2.{reader2, vector2}
+use Rattle.evt2_decoder.specs.{declared.Evt2Decoder.Evt2Decoder, Evt2.reader2, Evt2.vector2, Range.Bounded2, Range.bounded-range2}
+use Rattle.evt2_decoder.specs.{Range.bounded-step2, Range.bounded-narrow2}
+use Rattle.evt3_decoder.specs.{declared.Decoder.Decoder, Evt3.reader3, Evt3.step3, Evt3.vector3, Evt3.period3, Evt3.threshold3, Range.Bounded3}
+use Rattle.evt3_decoder.specs.{Range.regular-range3, Range.regular-step3}
+use Rattle.evt_codec.specs.declared.{codec.Codec.Codec, codec.Codec.the-variants.Evt2, codec.Codec.the-variants.Evt3}
+use Rattle.evt_types.specs.{declared.vector.Vector.Vector, Event.Event, Event.eventAt, Event.eventsOf, Layout.type3, Layout.time3, Layout.wordSize2}
+use Rattle.evt_types.specs.{Layout.wordSize3, Layout.grain3}
 use Rattle.evt3_decoder.specs.Evt3 as Evt3
-use Rattle.evt3_decoder.specs.Evt3.{reader3, step3, vector3, period3, threshold3}
 use Rattle.evt_codec.specs.Codec.{inRangeC, wordSize, eventsFrom, codecAfter}
-use Rattle.evt2_decoder.specs.Range.{Bounded2, bounded-range2, bounded-step2, bounded-narrow2}
-use Rattle.evt3_decoder.specs.Range.{Bounded3, regular-range3, regular-step3}
 use Rattle.read_columns.specs.Inside.{inside, clock, all-mapped}
-use Rattle.read_window.specs.declared.Window.{Window}
-use Rattle.read_window.specs.Window.{selectionOf, reading, reading2, reading3}
+use Rattle.read_window.specs.{declared.Window.Window, Window.selectionOf, Window.reading, Window.reading2, Window.reading3}
 use Rattle.read_select.specs.Pass.{handedOver, endOver, endOf, Paced3, Able}
 
 -- ---- a decoder in range is able
@@ -89,7 +81,8 @@ timed3 = record {
   events = λ n d w b. stamped (vector3 d w) (stamp3 d w (time3-lt _ d b));
 }
 
-module _ {S : Type 0} {M : Machine S ℕ Event} {time : S → ℕ} {Inv : ℕ → S → Type 0} (T : Timed M time Inv) (live : S → Bool) (win : Window) (no-end : 2 ^ 63 ≤ win .t1)
+module _ {S : Type 0} {M : Machine S ℕ Event} {time : S → ℕ} {Inv : ℕ → S → Type 0} (T : Timed M time Inv) (live : S → Bool) (win : Window)
+    (no-end : 2 ^ 63 ≤ win .t1)
     (s : S) (ws : List ℕ) (inv : Inv (length ws) s) where
   calm : Select.Calm (reading M live time win) (selectionOf win) s ws
   calm = Select.calm-bounded (reading M live time win) (selectionOf win) Inv (T .keeps) (λ n u i. omega (arith, T .state n u i)) s ws inv
@@ -119,8 +112,10 @@ untilOver win (Evt3 d) l = Select.numbered (reading3 win) d (until reader3 (Sele
 
 -- after that word no event inside is in time
 abbrev pub PastOver : Window → Codec → List ℕ → Type 0
-PastOver win (Evt2 d) l = Past reader2 (andThen (inside (win .width) (win .height)) (isTimely win)) (Select.isOver (reading2 win) (selectionOf win)) d (wordsOf wordSize2 l)
-PastOver win (Evt3 d) l = Past reader3 (andThen (inside (win .width) (win .height)) (isTimely win)) (Select.isOver (reading3 win) (selectionOf win)) d (wordsOf wordSize3 l)
+PastOver win (Evt2 d) l =
+    Past reader2 (andThen (inside (win .width) (win .height)) (isTimely win)) (Select.isOver (reading2 win) (selectionOf win)) d (wordsOf wordSize2 l)
+PastOver win (Evt3 d) l =
+    Past reader3 (andThen (inside (win .width) (win .height)) (isTimely win)) (Select.isOver (reading3 win) (selectionOf win)) d (wordsOf wordSize3 l)
 
 -- after all words
 abbrev pub endAfterAll : Window → ℕ → Codec → List ℕ → End Codec

@@ -1,12 +1,8 @@
 -- What one word adds to what a survey has noted.
 use Prim.Native.Nat.{_+_, _≤_, _<_, _^_}
 use lib.Count.{ones}
-use Rattle.evt_types.specs.declared.vector.Vector.{Vector}
-use Rattle.evt_types.specs.Event.{Narrow, eventsOf}
-use Rattle.read_window.specs.declared.trim.Trimmed.{Trimmed}
-use Rattle.read_window.specs.declared.extent.Extent.{Extent}
-use Rattle.read_window.specs.Trim.{masked}
-use Rattle.read_window.specs.Extent.{extentWith}
+use Rattle.evt_types.specs.{declared.vector.Vector.Vector, Event.Narrow, Event.eventsOf}
+use Rattle.read_window.specs.{declared.extent.Extent.Extent, declared.trim.Trimmed.Trimmed, Trim.masked, Extent.extentWith}
 use Rattle.read_select.specs.declared.word.Notes.{Notes}
 
 abbrev pub seenIn : Notes → Extent

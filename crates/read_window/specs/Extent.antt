@@ -4,10 +4,8 @@ use mathlib.Core.List.{List, [], _++_, map}
 use Prim.Native.Nat.{ℕ, _+_, _-_, _≤_, _<_, _^_, max, min}
 use native.Mathlib.Omega.{arith}
 use lib.Count.{leadingZeros, leading-top}
-use Rattle.laws_stream.specs.Order.{greatest, greatest-append, greatest-map}
-use Rattle.laws_stream.specs.Mask.{bits, bits-zero, greatest-leading}
-use Rattle.evt_types.specs.declared.vector.Vector.{Vector}
-use Rattle.evt_types.specs.Event.{Event, eventAt, eventsOf}
+use Rattle.laws_stream.specs.{Order.greatest, Order.greatest-append, Order.greatest-map, Mask.bits, Mask.bits-zero, Mask.greatest-leading}
+use Rattle.evt_types.specs.{declared.vector.Vector.Vector, Event.Event, Event.eventAt, Event.eventsOf}
 use Rattle.read_window.specs.declared.extent.Extent.{Extent}
 
 -- of events: the maximum time, the maximum column plus 1, the maximum row plus 1, each 0 of none
@@ -44,7 +42,9 @@ extent-append n a b = extent-is
 
 -- of a word without events
 pub extent-quiet : (n : Extent) (v : Vector) → v .mask ≡ 0 → n ≡ extentWith n (eventsOf v)
-extent-quiet n v z = sym (ap (λ (m : ℕ). extentWith n (map (eventAt v) (bits 32 (v .x) m))) z ∙ ap (λ (l : List ℕ). extentWith n (map (eventAt v) l)) (bits-zero 32 (v .x)) ∙ extent-none n)
+extent-quiet n v z =
+    sym (ap (λ (m : ℕ). extentWith n (map (eventAt v) (bits 32 (v .x) m))) z
+    ∙ ap (λ (l : List ℕ). extentWith n (map (eventAt v) l)) (bits-zero 32 (v .x)) ∙ extent-none n)
 
 -- of one with events, by the highest bit
 module _ (v : Vector) (some : v .mask ≡ 0 → ⊥) (h : v .mask < 2 ^ 32) where
@@ -59,4 +59,6 @@ module _ (v : Vector) (some : v .mask ≡ 0 → ⊥) (h : v .mask < 2 ^ 32) wher
 
   pub extent-top : (n : Extent)
       → extentWith n (eventsOf v) ≡ joined n (record { latest = v .t; width = min (v .x + (63 - leadingZeros 64 (v .mask))) 65535 + 1; height = v .y + 1 })
-  extent-top n = ap (joined n) (extent-is (by-top (λ e. e .t) (λ a b l. omega arith)) (by-top (λ e. e .x + 1) (λ a b l. omega arith)) (by-top (λ e. e .y + 1) (λ a b l. omega arith)))
+  extent-top n =
+      ap (joined n)
+      (extent-is (by-top (λ e. e .t) (λ a b l. omega arith)) (by-top (λ e. e .x + 1) (λ a b l. omega arith)) (by-top (λ e. e .y + 1) (λ a b l. omega arith)))

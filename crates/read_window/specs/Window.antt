@@ -4,14 +4,11 @@ use mathlib.Core.Bool.{Bool, false, _&&_, _||_}
 use mathlib.Core.List.{List, [], _∷_}
 use Prim.Native.Nat.{ℕ, suc}
 use lib.Dec.{leb, ltb}
-use Rattle.laws_stream.specs.Machine.{Machine}
-use Rattle.laws_stream.specs.Slice.{onto}
+use Rattle.laws_stream.specs.{Machine.Machine, Slice.onto}
 use Rattle.laws_stream.specs.Select as Select
 use Rattle.evt_types.specs.Event.{Event}
-use Rattle.evt2_decoder.specs.declared.Evt2Decoder.{Evt2Decoder}
-use Rattle.evt3_decoder.specs.declared.Decoder.{Decoder}
-use Rattle.evt2_decoder.specs.Evt2.{reader2}
-use Rattle.evt3_decoder.specs.Evt3.{reader3}
+use Rattle.evt2_decoder.specs.{declared.Evt2Decoder.Evt2Decoder, Evt2.reader2}
+use Rattle.evt3_decoder.specs.{declared.Decoder.Decoder, Evt3.reader3}
 use Rattle.read_columns.specs.Inside.{inside, clock}
 use Rattle.read_window.specs.declared.Window.{Window}
 

@@ -50,16 +50,13 @@ use denote.Triple.Walked.{says, Stay, Stays, stay-dropped, gave-slice, walkOf, S
 use denote.Triple.Walked.{ends-at, walked, walk-meets}
 use Rattle.evt_types.proofs.Lent.{fits}
 use Rattle.read_window.specs.declared.Window.{Window}
-use Rattle.index_build.specs.declared.Checkpoint.{Checkpoint}
-use Rattle.index_records.specs.declared.Choice.{Choice}
-use Rattle.index_records.specs.declared.Judging.{Judging}
-use Rattle.index_build.specs.declared.RawSliceSource.{RawSliceSource}
+use Rattle.index_build.specs.declared.{Checkpoint.Checkpoint, RawSliceSource.RawSliceSource}
+use Rattle.index_records.specs.declared.{Choice.Choice, Judging.Judging}
 use Rattle.index_records.specs.BinarySearch.{chosenOf}
 use Rattle.index_records.specs.Choose.{Chose}
 use Rattle.index_records.specs.Judge.{judgedAll}
 use Rattle.index_records.specs.Search.{chosen}
-use Rattle.slice_rules.specs.declared.Asked.{Asked}
-use Rattle.slice_rules.specs.declared.SliceAnswer.{SliceAnswer}
+use Rattle.slice_rules.specs.declared.{Asked.Asked, SliceAnswer.SliceAnswer}
 use Rattle.slice_rules.specs.From.{passedFrom, SlicesFrom, Startable}
 use Rattle.slice_rules.specs.Laws.{Began, startable}
 use Rattle.index_build.proofs.RawSliceSource as R

@@ -4,12 +4,8 @@ use mathlib.Core.Path.{_≡_, refl}
 use mathlib.Core.List.{List, [], _∷_}
 use Prim.Native.Nat.{ℕ}
 use lib.IntN.{pos}
-use Rattle.laws_stream.specs.Loop.{loopsAfter, timeAfter}
-use Rattle.laws_stream.specs.Mask.{bits}
-use Rattle.laws_stream.specs.Words.{stream}
-use Rattle.evt_types.specs.declared.Encoding.the-variants.{Evt3}
-use Rattle.evt_types.specs.declared.SensorSize.the-variants.{Known}
-use Rattle.evt_types.specs.Event.{Event}
+use Rattle.laws_stream.specs.{Loop.loopsAfter, Loop.timeAfter, Mask.bits, Words.stream}
+use Rattle.evt_types.specs.{declared.Encoding.the-variants.Evt3, declared.SensorSize.the-variants.Known, Event.Event}
 use Rattle.evt3_decoder.specs.Evt3.{step3, vector3}
 use Rattle.index_build.specs.Index.{recordAt, recordsOf}
 use Rattle.slice_rules.specs.Slice.{timeEvents}

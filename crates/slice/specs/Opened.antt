@@ -9,33 +9,20 @@ use lib.IntN.{ℤ}
 use lib.ListN.{length, take, drop}
 use lib.Seq.{take-at}
 use borrow.Author.Tests.{ltb-false, le-ltb}
-use Rattle.laws_stream.specs.Slice.{sift}
-use Rattle.laws_stream.specs.Order.{greatest}
-use Rattle.evt_types.specs.declared.Encoding.{Encoding}
-use Rattle.evt_types.specs.declared.Refusal.{Refusal}
-use Rattle.evt_types.specs.declared.Refusal.the-variants.{InvalidSensorSize, TooLong, InvalidSpacing, TooFewRecords}
-use Rattle.evt_types.specs.declared.SensorSize.{SensorSize}
-use Rattle.evt_types.specs.declared.SensorSize.the-variants.{Unknown, Known}
-use Rattle.evt_types.specs.Columns.{colX, colY}
-use Rattle.evt_types.specs.Event.{Event}
-use Rattle.evt_types.specs.Num.{mostBytes}
-use Rattle.evt_types.specs.Outcome.{Outcome, refuse, give}
+use Rattle.laws_stream.specs.{Slice.sift, Order.greatest}
+use Rattle.evt_types.specs.declared.{Encoding.Encoding, Refusal.Refusal, Refusal.the-variants.InvalidSensorSize, Refusal.the-variants.TooLong}
+use Rattle.evt_types.specs.declared.{Refusal.the-variants.InvalidSpacing, Refusal.the-variants.TooFewRecords, SensorSize.SensorSize}
+use Rattle.evt_types.specs.{declared.SensorSize.the-variants.Unknown, declared.SensorSize.the-variants.Known, Columns.colX, Columns.colY, Event.Event}
+use Rattle.evt_types.specs.{Num.mostBytes, Outcome.Outcome, Outcome.refuse, Outcome.give}
 use Rattle.header.specs.declared.Header as header
-use Rattle.header.specs.declared.HeaderAnswer.{HeaderAnswer}
-use Rattle.header.specs.declared.HeaderAnswer.the-variants.{Header, Refused as NoHeader}
-use Rattle.header.specs.Header.{hasZero, headerOf}
-use Rattle.header.specs.Laws.{of-accepted}
+use Rattle.header.specs.declared.{HeaderAnswer.HeaderAnswer, HeaderAnswer.the-variants.Header, HeaderAnswer.the-variants.Refused as NoHeader}
+use Rattle.header.specs.{Header.hasZero, Header.headerOf, Laws.of-accepted}
 use Rattle.read_rules.specs.Read.{widthOf, heightOf, sizeless}
-use Rattle.index_build.specs.declared.Checkpoint.{Checkpoint}
-use Rattle.index_build.specs.declared.Opening.{Opening}
-use Rattle.index_build.specs.declared.OpenAnswer.{OpenAnswer}
-use Rattle.index_build.specs.declared.OpenAnswer.the-variants.{Opened, Refused}
-use Rattle.index_build.specs.declared.OpenOptions.{OpenOptions}
-use Rattle.index_build.specs.declared.WordsOptions.{WordsOptions}
+use Rattle.index_build.specs.declared.{Checkpoint.Checkpoint, OpenAnswer.OpenAnswer, OpenAnswer.the-variants.Opened, OpenAnswer.the-variants.Refused}
+use Rattle.index_build.specs.{declared.OpenOptions.OpenOptions, declared.Opening.Opening, declared.WordsOptions.WordsOptions, Index.openAnswer}
+use Rattle.index_build.specs.{Index.openRecords, Index.OpensRaw, Index.OpensWords, Laws.length-firsts}
 use Rattle.index_build.specs.Index.{keptEvents, recordCount, recordsOf, spacingOk, Body, bodyAt, bodyOutcome, outcomeAfter, rawOutcome, wordsBody, wordsOutcome}
-use Rattle.index_build.specs.Index.{openAnswer, openRecords, OpensRaw, OpensWords}
 use Rattle.index_records.specs.InRange.{indexInRange}
-use Rattle.index_build.specs.Laws.{length-firsts}
 use Rattle.slice_rules.specs.Slice.{sizeOf, firstOf, endOf, indexEvents, isDuring, timeEvents, sliceCheck}
 use Rattle.slice.specs.Own.{ownEvents, ownSource, ownRecords, OwnPast, own-in-range, own-number, own-time, own-rules}
 
@@ -80,13 +67,16 @@ module _ (l : List ℕ) (start : ℕ) (e : Encoding) (size : SensorSize) (spacin
   unfolding recordsOf
   length-own = length-firsts _ need
 
-  opened-body : (room : ℕ) → start ≤ length l → length l ≤ mostBytes → hasZero size ≡ false → Gives o records₀ records (bodyOutcome (bodyAt l start e size spacing) room)
+  opened-body : (room : ℕ) → start ≤ length l → length l ≤ mostBytes → hasZero size ≡ false
+      → Gives o records₀ records (bodyOutcome (bodyAt l start e size spacing) room)
       → OpenedAs l start e size spacing o records
   unfolding bodyOutcome
   opened-body room within long positive = go (spacingOk e spacing) refl (ltb room need) (sizeless size (keptEvents size e body))
     where
       go : (a : Bool) → spacingOk e spacing ≡ a → (b c : Bool)
-          → Gives o records₀ records (cond a (cond b (refuse (TooFewRecords need)) (cond c (refuse InvalidSensorSize) (give (bodyAt l start e size spacing)))) (refuse InvalidSpacing))
+          → Gives o records₀ records (cond a
+          (cond b (refuse (TooFewRecords need)) (cond c (refuse InvalidSensorSize) (give (bodyAt l start e size spacing))))
+          (refuse InvalidSpacing))
           → OpenedAs l start e size spacing o records
       go false p b c u = never o records₀ records InvalidSpacing u
       go true p true c u = never o records₀ records (TooFewRecords need) u
@@ -144,7 +134,10 @@ pub words-opened : (words : List ℕ) (options : WordsOptions) (room : ℕ) → 
     → spacingOk (options .encoding) (options .spacing) ≡ true → recordCount (length words) (options .spacing) ≤ room
     → sizeless (options .«sensor_size») (ownEvents (options .«sensor_size») (options .encoding) 0 words) ≡ false
     → openAnswer (wordsOutcome words options room)
-    ≡ Opened (record { source = ownSource (options .«sensor_size») (options .encoding) 0 (options .spacing) words; records = recordCount (length words) (options .spacing) })
+    ≡ Opened (record {
+      source = ownSource (options .«sensor_size») (options .encoding) 0 (options .spacing) words;
+      records = recordCount (length words) (options .spacing);
+    })
 unfolding wordsOutcome bodyOutcome
 words-opened words options room long positive allowed enough sized =
     rw (le-ltb mostBytes (length words) long, positive, allowed, le-ltb room (recordCount (length words) (options .spacing)) enough, sized)

@@ -11,32 +11,22 @@ use lib.ListN.{length, take, drop, length-append, length-drop, take-append-drop}
 use lib.Seq.{take-add, drop-drop, drop-append-seam, drop-append-add, length-take-le}
 use lib.Signed.{leZ, ltZ}
 use borrow.Author.Tests.{leb-true, ltb-true, lt-ltb, le-ltb, le-leb, eq-eqb}
-use Rattle.laws_stream.specs.Machine.{All, all-append-left, all-drop}
-use Rattle.laws_stream.specs.Order.{greatest, greatest-append, greatest-lt}
-use Rattle.laws_stream.specs.Select.{byNumber}
-use Rattle.laws_stream.specs.Slice.{sift, sift-all, sift-append, all-early}
-use Rattle.evt_types.specs.declared.Encoding.{Encoding}
-use Rattle.evt_types.specs.declared.Encoding.the-variants.{Evt2, Evt3}
-use Rattle.evt_types.specs.declared.SensorSize.{SensorSize}
-use Rattle.evt_types.specs.declared.SensorSize.the-variants.{Unknown, Known}
+use Rattle.laws_stream.specs.{Machine.All, Machine.all-append-left, Machine.all-drop, Order.greatest, Order.greatest-append, Order.greatest-lt}
+use Rattle.laws_stream.specs.{Select.byNumber, Slice.sift, Slice.sift-all, Slice.sift-append, Slice.all-early}
+use Rattle.evt_types.specs.declared.{Encoding.Encoding, Encoding.the-variants.Evt2, Encoding.the-variants.Evt3, SensorSize.SensorSize}
+use Rattle.evt_types.specs.{declared.SensorSize.the-variants.Unknown, declared.SensorSize.the-variants.Known, Columns.colX, Columns.colY, Event.Event}
+use Rattle.evt_types.specs.{Outcome.give}
 use Rattle.evt_codec.specs.Codec.{freshC, inRangeC, eventsFrom, codecAfter}
-use Rattle.evt_types.specs.Columns.{colX, colY}
-use Rattle.evt_types.specs.Event.{Event}
-use Rattle.evt_types.specs.Outcome.{give}
 use Rattle.read_columns.specs.Inside.{inside, clock}
 use Rattle.read_fill.specs.Laws.{events-append, events-nil, fresh-range, inside-bytes}
 use Rattle.header.specs.Header.{hasZero}
 use Rattle.read_window.specs.declared.Window.{Window}
-use Rattle.read_select.specs.Uses.{isTimely, numberedOver, PastOver}
-use Rattle.read_select.specs.Parts.{Whole, time-from}
+use Rattle.read_select.specs.{Uses.isTimely, Uses.numberedOver, Uses.PastOver, Parts.Whole, Parts.time-from}
 use Rattle.read_rules.specs.Read.{kept, widthOf, heightOf}
-use Rattle.index_build.specs.declared.Checkpoint.{Checkpoint}
-use Rattle.index_build.specs.declared.RawSliceSource.{RawSliceSource}
+use Rattle.index_build.specs.declared.{Checkpoint.Checkpoint, RawSliceSource.RawSliceSource}
 use Rattle.index_build.specs.Index.{keptEvents, recordAt, firsts, recordCount, recordsOf, spacingOk, sourceOf}
-use Rattle.index_records.specs.InRange.{recordInRange, recordsInRange, indexInRange}
-use Rattle.index_records.specs.Judge.{isOther}
+use Rattle.index_records.specs.{InRange.recordInRange, InRange.recordsInRange, InRange.indexInRange, Judge.isOther, JudgeLaws.last-passes}
 use Rattle.index_build.specs.Open.{spaced, count-within, kept-inside}
-use Rattle.index_records.specs.JudgeLaws.{last-passes}
 use Rattle.slice_rules.specs.Slice.{startingAt, sizeOf, firstOf, endOf, indexEvents, isDuring, eventsUntil, timeEvents, sliceCheck}
 use Rattle.slice_rules.specs.Times.{natural, before-natural, during-natural, timeWindow, time-over}
 

@@ -5,26 +5,17 @@ use mathlib.Core.List.{List}
 use Prim.Native.Nat.{ℕ, _≤_, _^_, min}
 use lib.IntN.{ℤ, pos}
 use lib.ListN.{drop}
-use Rattle.evt_types.specs.declared.Refusal.the-variants.{ColumnsTooShort}
+use Rattle.evt_types.specs.{declared.Refusal.the-variants.ColumnsTooShort, Event.Event, Outcome.onOutcome}
 use Rattle.evt_codec.specs.Codec.{inRangeC}
-use Rattle.evt_types.specs.Event.{Event}
-use Rattle.evt_types.specs.Outcome.{onOutcome}
 use Rattle.read_window.specs.declared.Window.{Window}
 use Rattle.read_select.specs.Pass.{handedOver}
-use Rattle.read_capacity.specs.declared.Delivered.{Delivered}
-use Rattle.read_capacity.specs.declared.Delivered.the-variants.{Written, Needed}
-use Rattle.index_build.specs.declared.Checkpoint.{Checkpoint}
-use Rattle.index_build.specs.declared.RawSliceSource.{RawSliceSource}
-use Rattle.index_build.specs.Index.{spacingOk}
+use Rattle.read_capacity.specs.declared.{Delivered.Delivered, Delivered.the-variants.Written, Delivered.the-variants.Needed}
+use Rattle.index_build.specs.{declared.Checkpoint.Checkpoint, declared.RawSliceSource.RawSliceSource, Index.spacingOk}
 use Rattle.index_records.specs.Judge.{firstJudging}
-use Rattle.slice_rules.specs.declared.Asked.{Asked}
-use Rattle.slice_rules.specs.declared.Start.{Start}
-use Rattle.slice_rules.specs.declared.Start.the-variants.{At, Not}
-use Rattle.slice_rules.specs.declared.SliceAnswer.{SliceAnswer}
-use Rattle.slice_rules.specs.declared.SliceAnswer.the-variants.{Sliced, Refused}
-use Rattle.slice_rules.specs.Slice.{firstOf, endOf, sliceCheck}
+use Rattle.slice_rules.specs.declared.{Asked.Asked, SliceAnswer.SliceAnswer, SliceAnswer.the-variants.Sliced, SliceAnswer.the-variants.Refused}
+use Rattle.slice_rules.specs.{declared.Start.Start, declared.Start.the-variants.At, declared.Start.the-variants.Not, Slice.firstOf, Slice.endOf}
+use Rattle.slice_rules.specs.{Slice.sliceCheck, Times.timeWindow}
 pub use Rattle.slice_rules.specs.Slice.{SlicesFrom}
-use Rattle.slice_rules.specs.Times.{timeWindow}
 
 -- ---- what is asked for
 

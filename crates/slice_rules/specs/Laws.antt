@@ -9,45 +9,26 @@ use lib.IntN.{ℤ}
 use lib.Signed.{ltZ}
 use lib.ListN.{length, take, drop, length-drop, drop-of-length-le}
 use borrow.Author.Tests.{leb-true, leb-false, ltb-false, lt-ltb, le-ltb}
-use Rattle.laws_stream.specs.Slice.{sift}
+use Rattle.laws_stream.specs.{Slice.sift, Select.byNumber, Part.rest-of}
 use Rattle.laws_stream.specs.Select as Select
-use Rattle.laws_stream.specs.Select.{byNumber}
 use Rattle.evt_types.specs.declared.Refusal.the-variants.{InvalidSensorSize, TooLong, ColumnsTooShort, InvalidSpacing, StateOutOfRange}
-use Rattle.evt_codec.specs.declared.codec.Codec.{Codec}
-use Rattle.evt_codec.specs.declared.codec.Codec.the-variants.{Evt2, Evt3}
+use Rattle.evt_codec.specs.declared.{codec.Codec.Codec, codec.Codec.the-variants.Evt2, codec.Codec.the-variants.Evt3}
 use Rattle.evt_codec.specs.Codec.{eventsFrom}
-use Rattle.evt_types.specs.Event.{Event}
-use Rattle.evt_types.specs.Num.{mostBytes}
-use Rattle.evt_types.specs.Outcome.{Outcome, refuse, give, onOutcome, given-if, given-unless}
+use Rattle.evt_types.specs.{Event.Event, Num.mostBytes, Outcome.Outcome, Outcome.refuse, Outcome.give, Outcome.onOutcome, Outcome.given-if}
+use Rattle.evt_types.specs.{Outcome.given-unless, declared.Refusal.Refusal}
 use Rattle.header.specs.Header.{hasZero}
 use Rattle.read_window.specs.declared.Window.{Window}
-use Rattle.read_select.specs.Pass.{Ready, Able}
-use Rattle.read_select.specs.Uses.{able-range, numberedOver, over-by-number, over-by-time}
+use Rattle.read_select.specs.{Pass.Ready, Pass.Able, Uses.able-range, Uses.numberedOver, Uses.over-by-number, Uses.over-by-time}
 use Rattle.read_rules.specs.Read.{kept}
-use Rattle.read_capacity.specs.declared.Delivered.{Delivered}
-use Rattle.read_capacity.specs.declared.Delivered.the-variants.{Written, Needed}
-use Rattle.read_capacity.specs.Deliver.{shortest, Handed, Delivers, mostFrom}
-use Rattle.read_capacity.specs.Laws.{numbered-most, handed-none}
-use Rattle.laws_stream.specs.Part.{rest-of}
-use Rattle.index_build.specs.declared.Checkpoint.{Checkpoint}
-use Rattle.index_records.specs.declared.Judging.{Judging}
-use Rattle.index_build.specs.declared.RawSliceSource.{RawSliceSource}
-use Rattle.index_build.specs.Index.{spacingOk}
-use Rattle.index_records.specs.InRange.{indexInRange}
-use Rattle.index_records.specs.Choose.{passesOf, Chose}
-use Rattle.index_records.specs.Judge.{firstJudging, judgedAll}
-use Rattle.index_records.specs.JudgeLaws.{judged-in-range, Good, parted-passes, last-good}
-use Rattle.index_build.specs.Open.{spaced}
-use Rattle.index_records.specs.Start.{lastPassing}
-use Rattle.evt_types.specs.declared.Refusal.{Refusal}
-use Rattle.slice_rules.specs.declared.Start.the-variants.{At, Not}
-use Rattle.slice_rules.specs.declared.SliceAnswer.{SliceAnswer}
-use Rattle.slice_rules.specs.declared.SliceAnswer.the-variants.{Refused}
-use Rattle.slice_rules.specs.declared.Asked.{Asked}
+use Rattle.read_capacity.specs.declared.{Delivered.Delivered, Delivered.the-variants.Written, Delivered.the-variants.Needed}
+use Rattle.read_capacity.specs.{Deliver.shortest, Deliver.Handed, Deliver.Delivers, Deliver.mostFrom, Laws.numbered-most, Laws.handed-none}
+use Rattle.index_build.specs.{declared.Checkpoint.Checkpoint, declared.RawSliceSource.RawSliceSource, Index.spacingOk, Open.spaced}
+use Rattle.index_records.specs.{declared.Judging.Judging, InRange.indexInRange, Choose.passesOf, Choose.Chose, Judge.firstJudging, Judge.judgedAll}
+use Rattle.index_records.specs.{JudgeLaws.judged-in-range, JudgeLaws.Good, JudgeLaws.parted-passes, JudgeLaws.last-good, Start.lastPassing}
+use Rattle.slice_rules.specs.declared.{Asked.Asked, SliceAnswer.SliceAnswer, SliceAnswer.the-variants.Refused, Start.the-variants.At}
+use Rattle.slice_rules.specs.{declared.Start.the-variants.Not, Slice.SlicesIndex, Slice.SlicesTime, Times.timeWindow, Times.time-over}
 use Rattle.slice_rules.specs.Slice.{startingAt, sizeOf, firstOf, endOf, indexEvents, isDuring, eventsUntil, timeEvents}
 use Rattle.slice_rules.specs.Slice.{sliceCheck, roomOutcome, sliceOutcome, toldSlice, sliceVerdict, sliceHanded, sliceAnswer, Slices}
-use Rattle.slice_rules.specs.Slice.{SlicesIndex, SlicesTime}
-use Rattle.slice_rules.specs.Times.{timeWindow, time-over}
 use Rattle.slice_rules.specs.From.{numberWindow, askedByNumber, askedByTime, passedFrom, answerOf, startOf, SlicesFrom, Startable}
 
 most-small : (c : Codec) (n : ℕ) → mostFrom c n ≤ 6 * n

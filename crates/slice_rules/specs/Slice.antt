@@ -7,32 +7,20 @@ use lib.Dec.{leb, ltb}
 use lib.IntN.{ℤ, pos}
 use lib.ListN.{length, drop}
 use lib.Signed.{leZ, ltZ}
-use Rattle.evt_types.specs.Layout.{wordSize2, wordSize3}
-use Rattle.laws_stream.specs.Machine.{emits}
-use Rattle.laws_stream.specs.Select.{byNumber}
-use Rattle.laws_stream.specs.Slice.{sift, until}
-use Rattle.laws_stream.specs.Words.{wordsOf}
+use Rattle.evt_types.specs.{Layout.wordSize2, Layout.wordSize3, declared.SensorSize.SensorSize, declared.SensorSize.the-variants.Known, Event.Event}
+use Rattle.evt_types.specs.{Num.mostBytes, Outcome.Outcome, Outcome.refuse, Outcome.give, Outcome.onOutcome, Outcome.verdict, Outcome.handedBy}
+use Rattle.evt_types.specs.{Told.Told, Told.told, Told.accepted}
+use Rattle.laws_stream.specs.{Machine.emits, Select.byNumber, Slice.sift, Slice.until, Words.wordsOf}
 use Rattle.evt_types.specs.declared.Refusal.the-variants.{InvalidSensorSize, TooLong, ColumnsTooShort, InvalidSpacing, StateOutOfRange}
-use Rattle.evt_types.specs.declared.SensorSize.{SensorSize}
-use Rattle.evt_types.specs.declared.SensorSize.the-variants.{Known}
-use Rattle.evt_codec.specs.declared.codec.Codec.{Codec}
-use Rattle.evt_codec.specs.declared.codec.Codec.the-variants.{Evt2, Evt3}
+use Rattle.evt_codec.specs.declared.{codec.Codec.Codec, codec.Codec.the-variants.Evt2, codec.Codec.the-variants.Evt3}
 use Rattle.evt_codec.specs.Codec.{eventsFrom}
-use Rattle.evt_types.specs.Event.{Event}
 use Rattle.evt2_decoder.specs.Evt2.{reader2}
 use Rattle.evt3_decoder.specs.Evt3.{reader3}
-use Rattle.evt_types.specs.Num.{mostBytes}
-use Rattle.evt_types.specs.Outcome.{Outcome, refuse, give, onOutcome, verdict, handedBy}
-use Rattle.evt_types.specs.Told.{Told, told, accepted}
 use Rattle.header.specs.Header.{hasZero}
 use Rattle.read_rules.specs.Read.{kept, shortest, Handed}
-use Rattle.index_build.specs.declared.Checkpoint.{Checkpoint}
-use Rattle.index_build.specs.declared.RawSliceSource.{RawSliceSource}
-use Rattle.index_build.specs.Index.{spacingOk}
-use Rattle.index_records.specs.InRange.{indexInRange}
-use Rattle.index_records.specs.Start.{lastPassing}
-use Rattle.slice_rules.specs.declared.SliceAnswer.{SliceAnswer}
-use Rattle.slice_rules.specs.declared.SliceAnswer.the-variants.{Sliced, Refused}
+use Rattle.index_build.specs.{declared.Checkpoint.Checkpoint, declared.RawSliceSource.RawSliceSource, Index.spacingOk}
+use Rattle.index_records.specs.{InRange.indexInRange, Start.lastPassing}
+use Rattle.slice_rules.specs.declared.{SliceAnswer.SliceAnswer, SliceAnswer.the-variants.Sliced, SliceAnswer.the-variants.Refused}
 
 -- ---- the record to start at
 

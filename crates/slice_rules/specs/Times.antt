@@ -8,13 +8,9 @@ use lib.Dec.{leb, ltb, leb·zero}
 use lib.IntN.{ℤ, pos, negsuc}
 use lib.Signed.{leZ, ltZ}
 use borrow.Author.Tests.{le-ltb}
-use Rattle.evt_types.specs.Layout.{wordSize2, wordSize3}
-use Rattle.laws_stream.specs.Machine.{emits}
-use Rattle.laws_stream.specs.Slice.{sift, until, within}
-use Rattle.laws_stream.specs.Words.{wordsOf}
-use Rattle.evt_types.specs.declared.SensorSize.the-variants.{Known}
-use Rattle.evt_codec.specs.declared.codec.Codec.{Codec}
-use Rattle.evt_codec.specs.declared.codec.Codec.the-variants.{Evt2, Evt3}
+use Rattle.evt_types.specs.{Layout.wordSize2, Layout.wordSize3, declared.SensorSize.the-variants.Known}
+use Rattle.laws_stream.specs.{Machine.emits, Slice.sift, Slice.until, Slice.within, Words.wordsOf}
+use Rattle.evt_codec.specs.declared.{codec.Codec.Codec, codec.Codec.the-variants.Evt2, codec.Codec.the-variants.Evt3}
 use Rattle.evt2_decoder.specs.Evt2.{reader2}
 use Rattle.evt3_decoder.specs.Evt3.{reader3}
 use Rattle.read_columns.specs.Inside.{inside, clock}

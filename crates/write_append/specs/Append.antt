@@ -6,17 +6,13 @@ use Prim.Native.Nat.{ℕ, _+_}
 use lib.Dec.{leb}
 use lib.ListN.{length, drop}
 use lib.IntN.{ℤ}
-use Rattle.evt_types.specs.Outcome.{Outcome, refuse, give, onOutcome, verdict, handedBy}
-use Rattle.evt_types.specs.Told.{Told, told, accepted}
-use Rattle.evt_types.specs.declared.Refusal.the-variants.{OutputTooShort}
+use Rattle.evt_types.specs.{Outcome.Outcome, Outcome.refuse, Outcome.give, Outcome.onOutcome, Outcome.verdict, Outcome.handedBy, Told.Told, Told.told}
+use Rattle.evt_types.specs.{Told.accepted, declared.Refusal.the-variants.OutputTooShort}
 use Rattle.write_buffer.specs.Columns.{eventsIn}
 use Rattle.write_words.specs.Encode.{encodeState, encodeBytes}
-use Rattle.write_rules.specs.declared.LastTime.{LastTime}
-use Rattle.write_rules.specs.declared.LastTime.the-variants.{At}
-use Rattle.write_rules.specs.declared.RawEventSink.{RawEventSink}
-use Rattle.write_append.specs.declared.AppendAnswer.{AppendAnswer}
-use Rattle.write_append.specs.declared.AppendAnswer.the-variants.{Written, Refused}
-use Rattle.write_append.specs.declared.Appended.{Appended}
+use Rattle.write_rules.specs.declared.{LastTime.LastTime, LastTime.the-variants.At, RawEventSink.RawEventSink}
+use Rattle.write_append.specs.declared.{AppendAnswer.AppendAnswer, AppendAnswer.the-variants.Written, AppendAnswer.the-variants.Refused}
+use Rattle.write_append.specs.declared.{Appended.Appended}
 use Rattle.write_header.specs.Header.{headerText}
 use Rattle.write_rules.specs.Rules.{checkOutcome}
 

@@ -11,25 +11,16 @@ use lib.ListN.{length, getD, length-append}
 use lib.Seq.{sets, sets-eq}
 use lib.IntN.{ℤ, pos}
 use Rattle.evt_types.specs.Outcome.{Outcome, refuse, give, onOutcome, given-if, given-then}
-use Rattle.evt_types.specs.declared.Refusal.{Refusal}
-use Rattle.evt_types.specs.declared.Refusal.the-variants.{OutputTooShort}
-use Rattle.write_buffer.specs.declared.EncoderState.{EncoderState}
-use Rattle.write_buffer.specs.declared.Put.{Put}
-use Rattle.write_buffer.specs.Columns.{eventsIn, Sized, events-length}
-use Rattle.write_words.specs.Laws.{encode-few}
-use Rattle.write_buffer.specs.Storing.{Roomy, roomy-rest, stored-both}
-use Rattle.write_words.specs.Encode.{encodeState, passed, Fitting}
-use Rattle.evt_types.specs.declared.Encoding.{Encoding}
-use Rattle.evt_types.specs.declared.Encoding.the-variants.{Evt2, Evt3}
+use Rattle.evt_types.specs.declared.{Encoding.Encoding, Encoding.the-variants.Evt2, Encoding.the-variants.Evt3, Refusal.Refusal}
+use Rattle.evt_types.specs.declared.{Refusal.the-variants.OutputTooShort}
+use Rattle.write_buffer.specs.{declared.EncoderState.EncoderState, declared.Put.Put, Columns.eventsIn, Columns.Sized, Columns.events-length}
+use Rattle.write_buffer.specs.{Storing.Roomy, Storing.roomy-rest, Storing.stored-both}
+use Rattle.write_words.specs.{Laws.encode-few, Encode.encodeState, Encode.passed, Encode.Fitting}
 use Rattle.write_header.specs.Header.{headerText, header-few}
-use Rattle.write_rules.specs.declared.Check.the-variants.{Passed, Failed}
-use Rattle.write_rules.specs.declared.LastTime.{LastTime}
-use Rattle.write_rules.specs.declared.LastTime.the-variants.{At}
-use Rattle.write_rules.specs.declared.RawEventSink.{RawEventSink}
+use Rattle.write_rules.specs.declared.{Check.the-variants.Passed, Check.the-variants.Failed, LastTime.LastTime, LastTime.the-variants.At}
+use Rattle.write_rules.specs.{declared.RawEventSink.RawEventSink, Range.eventsInRange, Rules.checkOutcome, Rules.checkOf, Checks.event-fine}
+use Rattle.write_rules.specs.{Checks.check-given, Checks.check-refused}
 use Rattle.write_append.specs.declared.AppendAnswer.the-variants.{Written, Refused}
-use Rattle.write_rules.specs.Range.{eventsInRange}
-use Rattle.write_rules.specs.Rules.{checkOutcome, checkOf}
-use Rattle.write_rules.specs.Checks.{event-fine, check-given, check-refused}
 use Rattle.write_append.specs.Append.{some, headerDue, headerBytes, wordBytes, lastAfter, sends, nextSink, AppendedBytes, appendOutcome}
 use Rattle.write_append.specs.Append.{accepts, handedOver, sinkAfter, Appends, AppendOwed}
 

@@ -10,21 +10,14 @@ use lib.ListN.{length, drop}
 use lib.IntN.{ℤ}
 use borrow.Author.Tests.{eq-eqb, le-leb}
 use Rattle.laws_stream.specs.Machine.{run, and-both}
-use Rattle.evt_types.specs.Event.{Event}
-use Rattle.evt_types.specs.Outcome.{give}
-use Rattle.evt_types.specs.declared.Encoding.{Encoding}
-use Rattle.evt_types.specs.declared.Encoding.the-variants.{Evt2, Evt3}
-use Rattle.evt_types.specs.declared.Sent.the-variants.{Value}
-use Rattle.write_buffer.specs.declared.EncoderState.{EncoderState}
-use Rattle.write_buffer.specs.Columns.{event, eventsIn}
-use Rattle.evt_types.specs.Num.{natural}
+use Rattle.evt_types.specs.{Event.Event, Outcome.give, Num.natural}
+use Rattle.evt_types.specs.declared.{Encoding.Encoding, Encoding.the-variants.Evt2, Encoding.the-variants.Evt3, Sent.the-variants.Value}
+use Rattle.write_buffer.specs.{declared.EncoderState.EncoderState, Columns.event, Columns.eventsIn}
 use Rattle.write_words.specs.Encode.{encodeState, encodeBytes}
 use Rattle.evt2_encoder.specs.Evt2.{writer2}
 use Rattle.evt3_run_rules.specs.Runs.{Run, goes, goes-true, firstOf, single, prepend, glue, runs, runAt, runs-at, follow}
 use Rattle.evt3_lead_words.specs.Evt3.{writer3}
-use Rattle.write_rules.specs.declared.LastTime.{LastTime}
-use Rattle.write_rules.specs.declared.LastTime.the-variants.{Never, At}
-use Rattle.write_rules.specs.declared.RawEventSink.{RawEventSink}
+use Rattle.write_rules.specs.declared.{LastTime.LastTime, LastTime.the-variants.Never, LastTime.the-variants.At, RawEventSink.RawEventSink}
 use Rattle.write_rules.specs.Range.{timeInRange, every, atMost, falls, fallsAfter, isNothing, belongs, lastInRange, sinkInRange}
 use Rattle.write_append.specs.Append.{lastAfter, nextSink, sends, appendOutcome, accepts, sinkAfter}
 use Rattle.write_append.specs.Ends.{accepts-checked, by-acceptance}

@@ -9,9 +9,7 @@ use lib.ListN.{length, getD, drop, length-drop, drop-of-length-le, length-map}
 use lib.Seq.{drop-cons, drop-drop}
 use lib.IntN.{ℤ, pos}
 use lib.Signed.{nonNeg}
-use Rattle.evt_types.specs.Num.{natural}
-use Rattle.evt_types.specs.Event.{Event}
-use Rattle.evt_types.specs.Columns.{colX}
+use Rattle.evt_types.specs.{Num.natural, Event.Event, Columns.colX}
 
 abbrev pub event : (x y t p : ℕ) → Event
 event x y t p = record { t = t; x = x; y = y; p = p }

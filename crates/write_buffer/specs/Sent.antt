@@ -7,9 +7,7 @@ use native.Mathlib.Omega.{arith}
 use borrow.Author.Tests.{ne-eqb}
 use lib.Dec.{eqb}
 use Rattle.laws_stream.specs.Machine.{Note}
-use Rattle.evt_types.specs.Event.{Event}
-use Rattle.evt_types.specs.declared.Sent.{Sent}
-use Rattle.evt_types.specs.declared.Sent.the-variants.{Nothing, Value}
+use Rattle.evt_types.specs.{Event.Event, declared.Sent.Sent, declared.Sent.the-variants.Nothing, declared.Sent.the-variants.Value}
 use Rattle.write_buffer.specs.declared.EncoderState.{EncoderState}
 
 -- a fresh writer has sent no half and no row

@@ -8,9 +8,8 @@ use native.Mathlib.Numerals.{add-one, add-two, add-three}
 use lib.ListN.{length, set, length-append}
 use lib.Pow.{shr-shr}
 use lib.Seq.{sets, length-sets, set-out, set-set, set-comm}
-use Rattle.laws_stream.specs.Columns.{sets-append}
-use Rattle.laws_stream.specs.Machine.{Machine, Note, run, emits, words, words-append}
-use Rattle.laws_stream.specs.Words.{stream, bytes, stream-append}
+use Rattle.laws_stream.specs.{Columns.sets-append, Machine.Machine, Machine.Note, Machine.run, Machine.emits, Machine.words, Machine.words-append}
+use Rattle.laws_stream.specs.{Words.stream, Words.bytes, Words.stream-append}
 
 -- nothing is stored past the end
 pub sets-out : (l : List ℕ) (i : ℕ) (vs : List ℕ) → length l ≤ i → sets l i vs ≡ l

@@ -10,8 +10,7 @@ use lib.IntN.{ℤ, pos}
 use lib.Signed.{ltZ}
 use Rattle.laws_stream.specs.Part.{between, between-rest, between-getD, length-between}
 use Rattle.evt_types.specs.declared.Encoding.{Encoding}
-use Rattle.write_rules.specs.declared.LastTime.the-variants.{Never}
-use Rattle.write_rules.specs.declared.columns.Looked.{Looked}
+use Rattle.write_rules.specs.declared.{LastTime.the-variants.Never, columns.Looked.Looked}
 use Rattle.write_rules.specs.Range.{timeInRange, every, atMost, eventsInRange, falls, fallsAfter}
 use Rattle.write_rules.specs.Checks.{lastOf, falls-first, falls-end, every-none}
 

@@ -1,6 +1,6 @@
 -- What the loops of a check keep, and what a check that is passed says.
 use mathlib.Core.Path.{_≡_, refl, sym, ap, _∙_}
-use mathlib.Core.Bool.{Bool, true, false, _&&_, _||_, true≢false, and-true, and-assoc}
+use mathlib.Core.Bool.{Bool, true, false, _&&_, _||_, true≢false}
 use mathlib.Core.List.{List, [], _∷_}
 use Prim.Native.Nat.{ℕ, zero, suc, _+_, _-_, _^_, _≤_, _<_}
 use native.Mathlib.Omega.{arith}
@@ -14,19 +14,12 @@ use lib.IntN.{ℤ, pos, negsuc}
 use lib.Signed.{ltZ, nonNeg}
 use borrow.Author.Tests.{eqb-true, leb-true, ltb-true, ltb-false, lt-ltb, le-ltb}
 use Rattle.laws_stream.specs.Machine.{and-both}
-use Rattle.evt_types.specs.declared.Encoding.{Encoding}
-use Rattle.evt_types.specs.declared.Encoding.the-variants.{Evt2, Evt3}
-use Rattle.evt_types.specs.declared.Refusal.{Refusal}
-use Rattle.evt_types.specs.Outcome.{Outcome, refuse, give, given-if, given-unless, given-then}
-use Rattle.write_buffer.specs.declared.EncoderState.{EncoderState}
-use Rattle.write_buffer.specs.Columns.{Sized, Whole}
-use Rattle.write_buffer.specs.Every.{everyFrom, Gathered, gathered-iteration, gathered-end}
-use Rattle.evt_types.specs.Num.{natural}
-use Rattle.write_rules.specs.declared.Check.{Check}
-use Rattle.write_rules.specs.declared.Check.the-variants.{Passed, Failed}
-use Rattle.write_rules.specs.declared.LastTime.{LastTime}
-use Rattle.write_rules.specs.declared.LastTime.the-variants.{Never, At}
-use Rattle.write_rules.specs.declared.RawEventSink.{RawEventSink}
+use Rattle.evt_types.specs.declared.{Encoding.Encoding, Encoding.the-variants.Evt2, Encoding.the-variants.Evt3, Refusal.Refusal}
+use Rattle.evt_types.specs.{Outcome.Outcome, Outcome.refuse, Outcome.give, Outcome.given-if, Outcome.given-unless, Outcome.given-then, Num.natural}
+use Rattle.write_buffer.specs.{declared.EncoderState.EncoderState, Columns.Sized, Columns.Whole, Every.everyFrom, Every.Gathered}
+use Rattle.write_buffer.specs.{Every.gathered-iteration, Every.gathered-end}
+use Rattle.write_rules.specs.declared.{Check.Check, Check.the-variants.Passed, Check.the-variants.Failed, LastTime.LastTime}
+use Rattle.write_rules.specs.declared.{LastTime.the-variants.Never, LastTime.the-variants.At, RawEventSink.RawEventSink}
 use Rattle.write_rules.specs.Range.{timeBound, timeInRange, every, atMost, eventsInRange, falls, fallsAfter, sameLengths, isNothing, sentInRange, lastInRange, sinkInRange}
 use Rattle.write_rules.specs.Rules.{lengthsOutcome, checkOutcome, checkOf}
 

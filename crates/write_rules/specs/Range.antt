@@ -5,15 +5,10 @@ use Prim.Native.Nat.{ℕ, _/_, _%_, _^_}
 use lib.Dec.{eqb, ltb, leb}
 use lib.IntN.{ℤ}
 use lib.Signed.{ltZ, nonNeg}
-use Rattle.evt_types.specs.declared.Encoding.{Encoding}
-use Rattle.evt_types.specs.declared.Encoding.the-variants.{Evt2, Evt3}
-use Rattle.evt_types.specs.declared.Sent.{Sent}
-use Rattle.evt_types.specs.declared.Sent.the-variants.{Nothing, Value}
+use Rattle.evt_types.specs.declared.{Encoding.Encoding, Encoding.the-variants.Evt2, Encoding.the-variants.Evt3, Sent.Sent, Sent.the-variants.Nothing}
+use Rattle.evt_types.specs.{declared.Sent.the-variants.Value, Num.natural}
 use Rattle.write_buffer.specs.declared.EncoderState.{EncoderState}
-use Rattle.evt_types.specs.Num.{natural}
-use Rattle.write_rules.specs.declared.LastTime.{LastTime}
-use Rattle.write_rules.specs.declared.LastTime.the-variants.{Never, At}
-use Rattle.write_rules.specs.declared.RawEventSink.{RawEventSink}
+use Rattle.write_rules.specs.declared.{LastTime.LastTime, LastTime.the-variants.Never, LastTime.the-variants.At, RawEventSink.RawEventSink}
 
 -- ---- 7: x or y > 2047, p > 1, t < 0, or t not below the encoding's bound
 

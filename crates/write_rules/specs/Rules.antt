@@ -5,15 +5,11 @@ use Prim.Native.Nat.{ℕ, _^_}
 use lib.Dec.{leb}
 use lib.ListN.{length}
 use lib.IntN.{ℤ}
-use Rattle.evt_types.specs.declared.Encoding.{Encoding}
+use Rattle.evt_types.specs.{declared.Encoding.Encoding, Outcome.Outcome, Outcome.refuse, Outcome.give, Outcome.onOutcome}
 use Rattle.evt_types.specs.declared.Refusal.the-variants.{TooLong, TimeOrder, EventOutOfRange, StateOutOfRange, ColumnLengths}
-use Rattle.evt_types.specs.Outcome.{Outcome, refuse, give, onOutcome}
 use Rattle.write_buffer.specs.Sent.{freshState}
-use Rattle.write_rules.specs.declared.Check.{Check}
-use Rattle.write_rules.specs.declared.Check.the-variants.{Passed, Failed}
-use Rattle.write_rules.specs.declared.LastTime.the-variants.{Never}
-use Rattle.write_rules.specs.declared.RawEventSink.{RawEventSink}
-use Rattle.write_rules.specs.Range.{eventsInRange, fallsAfter, sameLengths, sinkInRange}
+use Rattle.write_rules.specs.declared.{Check.Check, Check.the-variants.Passed, Check.the-variants.Failed, LastTime.the-variants.Never}
+use Rattle.write_rules.specs.{declared.RawEventSink.RawEventSink, Range.eventsInRange, Range.fallsAfter, Range.sameLengths, Range.sinkInRange}
 
 abbrev pub freshSink : Encoding → (header : Bool) → RawEventSink
 freshSink e header = record { version = e; «header_written» = not header; «n_events» = 0; «last_t» = Never; state = freshState }

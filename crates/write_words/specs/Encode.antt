@@ -3,16 +3,11 @@ use mathlib.Core.List.{List}
 use Prim.Native.Nat.{ℕ, _+_}
 use lib.IntN.{ℤ}
 use lib.ListN.{length}
-use Rattle.laws_stream.specs.Machine.{Note, run, emits, words}
-use Rattle.laws_stream.specs.Words.{stream}
-use Rattle.evt_types.specs.Event.{Event}
-use Rattle.evt_types.specs.Layout.{wordSize2, wordSize3}
-use Rattle.evt_types.specs.declared.Encoding.{Encoding}
-use Rattle.evt_types.specs.declared.Encoding.the-variants.{Evt2, Evt3}
-use Rattle.write_buffer.specs.declared.EncoderState.{EncoderState}
-use Rattle.write_buffer.specs.declared.Put.{Put}
-use Rattle.evt2_encoder.specs.Evt2.{writer2}
-use Rattle.evt2_encoder.specs.Pass2.{Fitting2}
+use Rattle.laws_stream.specs.{Machine.Note, Machine.run, Machine.emits, Machine.words, Words.stream}
+use Rattle.evt_types.specs.{Event.Event, Layout.wordSize2, Layout.wordSize3}
+use Rattle.evt_types.specs.declared.{Encoding.Encoding, Encoding.the-variants.Evt2, Encoding.the-variants.Evt3}
+use Rattle.write_buffer.specs.declared.{EncoderState.EncoderState, Put.Put}
+use Rattle.evt2_encoder.specs.{Evt2.writer2, Pass2.Fitting2}
 use Rattle.evt3_run_rules.specs.Runs.{runs}
 use Rattle.evt3_lead_words.specs.Evt3.{writer3}
 

@@ -7,25 +7,17 @@ use native.Mathlib.Omega.{arith}
 use lib.Dec.{ltb}
 use lib.ListN.{length, length-map}
 use Rattle.laws_stream.specs.Machine.{Note, All, all-of, all-append, words, words-append, notes, notes-append}
-use Rattle.laws_stream.specs.Mask.{Inc, mask}
-use Rattle.laws_stream.specs.Words.{Fits}
-use Rattle.evt_types.specs.Event.{Event}
-use Rattle.evt_types.specs.Layout.{wordSize2, wordSize3}
-use Rattle.evt_types.specs.declared.Encoding.{Encoding}
-use Rattle.evt_types.specs.declared.Encoding.the-variants.{Evt2, Evt3}
-use Rattle.write_buffer.specs.declared.EncoderState.{EncoderState}
-use Rattle.write_buffer.specs.Columns.{event}
-use Rattle.write_buffer.specs.Sent.{due}
-use Rattle.evt2_encoder.specs.Evt2.{writer2, encode-notes2, encode-fits2}
+use Rattle.laws_stream.specs.{Mask.Inc, Mask.mask, Words.Fits}
+use Rattle.evt_types.specs.{Event.Event, Layout.wordSize2, Layout.wordSize3}
+use Rattle.evt_types.specs.declared.{Encoding.Encoding, Encoding.the-variants.Evt2, Encoding.the-variants.Evt3}
+use Rattle.write_buffer.specs.{declared.EncoderState.EncoderState, Columns.event, Sent.due, Emits.events-single, Emits.emits-fit, Emits.emits-notes}
+use Rattle.write_buffer.specs.{Emits.emits-few, Storing.bytesFrom}
+use Rattle.evt2_encoder.specs.{Evt2.writer2, Evt2.encode-notes2, Evt2.encode-fits2, Pass2.few2}
 use Rattle.evt3_run_rules.specs.Runs.{Run, runs, runs-are, given, spread, Rising, Valid, firstX, lastX}
 use Rattle.evt3_lead_words.specs.Evt3.{highWord3, lowWord3, rowWord3, highSent3, lowSent3, rowSent3, leads3, nearby}
 use Rattle.evt3_lead_words.specs.Evt3.{beyond, maskCount, vectored, singles, masks, vectors, body3, encode3, writer3}
 use Rattle.write_words.specs.Encode.{encodeNotes, encodeSize, encodeBytes}
-use Rattle.write_buffer.specs.Emits.{events-single, emits-fit, emits-notes, emits-few}
-use Rattle.write_buffer.specs.Storing.{bytesFrom}
-use Rattle.evt2_encoder.specs.Pass2.{few2}
-use Rattle.evt3_run_words.specs.Parts.{bytes3, few3}
-use Rattle.evt3_run_words.specs.Masks.{near-inc, inc-to}
+use Rattle.evt3_run_words.specs.{Parts.bytes3, Parts.few3, Masks.near-inc, Masks.inc-to}
 
 -- ---- the masks of a run hold all of it
 

@@ -6,19 +6,13 @@ use native.Mathlib.Omega.{arith}
 use lib.ListN.{length, take, drop, length-drop}
 use lib.Seq.{sets}
 use lib.IntN.{ℤ}
-use Rattle.laws_stream.specs.Part.{between, between-at, length-between}
-use Rattle.evt_types.specs.Event.{Event}
-use Rattle.evt_types.specs.Layout.{wordSize3, grain3}
-use Rattle.laws_stream.specs.Machine.{run}
-use Rattle.write_buffer.specs.Sent.{stateAt, state-some, sentNumber}
-use Rattle.write_buffer.specs.declared.EncoderState.{EncoderState}
-use Rattle.write_buffer.specs.declared.Put.{Put}
-use Rattle.evt_types.specs.Columns.{colX}
+use Rattle.laws_stream.specs.{Part.between, Part.between-at, Part.length-between, Machine.run}
+use Rattle.evt_types.specs.{Event.Event, Layout.wordSize3, Layout.grain3, Columns.colX}
+use Rattle.write_buffer.specs.{Sent.stateAt, Sent.state-some, Sent.sentNumber, declared.EncoderState.EncoderState, declared.Put.Put}
 use Rattle.write_buffer.specs.Columns.{Sized, eventsIn, eventsPast, eventOf, events-at, events-end, events-x, events-drop, events-length}
 use Rattle.write_buffer.specs.Storing.{Roomy, bytesFrom, Going, going-start, going-iteration, going-room, going-end}
 use Rattle.evt3_run_rules.specs.Runs.{Run, Rising, runs, runs-are, runOf, runs-at, follow-le}
-use Rattle.evt3_lead_words.specs.Evt3.{stateOf3, writer3}
-use Rattle.evt3_lead_words.specs.Leads.{leadsBytes, leads-number}
+use Rattle.evt3_lead_words.specs.{Evt3.stateOf3, Evt3.writer3, Leads.leadsBytes, Leads.leads-number}
 use Rattle.evt3_run_words.specs.Parts.{bytes3, few3, bytes-parts, bodyBytes, Part}
 use Rattle.evt3_run_rules.specs.Marks.{goOn, Marked, marks-start}
 

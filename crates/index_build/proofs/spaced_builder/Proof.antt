@@ -35,7 +35,8 @@ returns-2 c =
     let s = c .before .before .before .before .before .before .before .before .before .before .before in
     let a = s .args in
     ready-none (a .recording .now) (a .start) (a .encoding) (a .size) (a .spacing) (a .room) (s .pre .0) (s .pre .1 .1)
-    (need .result) (need .ensures) (c .before .before .before .before .before .before .before .before .if1 .left) (c .before .before .before .before .before .before .enum-told .given .1) (fresh .result) (fresh .ensures)
+    (need .result) (need .ensures) (c .before .before .before .before .before .before .before .before .if1 .left)
+    (c .before .before .before .before .before .before .enum-told .given .1) (fresh .result) (fresh .ensures)
     (window .result) (window .ensures) (tally .result) (tally .ensures) (c .if2 .taken)
 
 returns-3 : tie.Need-returns-3

@@ -48,12 +48,9 @@ use denote.Triple.Spec.{Meets, tripleOf}
 use denote.Triple.Table.{entered, cited}
 use denote.Triple.Walked.{says, needs, Stays, stay-dropped, stay-slice, walkOf, goes-dropped, goes-slice, Walks, ends-at, walked, walk-meets}
 use denote.Exit.{yes}
-use Rattle.index_build.specs.declared.Checkpoint.{Checkpoint}
-use Rattle.index_build.specs.declared.OpenAnswer.{OpenAnswer}
-use Rattle.index_build.specs.declared.Builder.{Builder}
-use Rattle.index_build.specs.declared.BuildStep.{BuildStep}
+use Rattle.index_build.specs.declared.{BuildStep.BuildStep, Builder.Builder, Checkpoint.Checkpoint, OpenAnswer.OpenAnswer}
+use Rattle.index_build.specs.declared.{OpenAnswer.the-variants.Opened}
 use Rattle.index_build.specs.Nth.{blank}
-use Rattle.index_build.specs.declared.OpenAnswer.the-variants.{Opened}
 use Rattle.index_build.specs.Build.{Fit, Advanced, Begun, concluded}
 use Rattle.index_build.specs.Stage.{Stage, Ended, stage-start, stage-fit, stage-place, stage-next, stage-stops, stage-end}
 use Rattle.index_open.specs.Made.{Made}

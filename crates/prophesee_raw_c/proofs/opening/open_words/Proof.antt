@@ -25,7 +25,8 @@ returns c =
     let room = roomOf (a .records .now) in
     let o = wordsOptionsOf (a .encoding) (a .options) in
     c .before .before .open-entries .ensures (wordsOutcome l o room) (accepted-words l o room)
-    (c .before .before .before .before .prepare-words .ensures ∙ ap (λ (x : WordsOptions). preparedBy (wordsOutcome l x room)) (c .before .before .before .before .before .words-options-of .ensures))
+    (c .before .before .before .before .prepare-words .ensures
+    ∙ ap (λ (x : WordsOptions). preparedBy (wordsOutcome l x room)) (c .before .before .before .before .before .words-options-of .ensures))
 
 pub open-words-spec : {M : Type 1} → statement M
 open-words-spec =

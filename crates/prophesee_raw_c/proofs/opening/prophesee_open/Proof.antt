@@ -25,7 +25,8 @@ returns c =
     let room = roomOf (a .records .now) in
     let o = optionsOf (a .options) in
     c .before .before .open-entries .ensures (rawOutcome l o room) (accepted-raw l o room)
-    (c .before .before .before .before .prepare .ensures ∙ ap (λ (x : OpenOptions). preparedBy (rawOutcome l x room)) (c .before .before .before .before .before .options-of .ensures))
+    (c .before .before .before .before .prepare .ensures
+    ∙ ap (λ (x : OpenOptions). preparedBy (rawOutcome l x room)) (c .before .before .before .before .before .options-of .ensures))
 
 pub prophesee-open-spec : {M : Type 1} → statement M
 prophesee-open-spec =

@@ -13,7 +13,8 @@ use Rattle.read_fill.proofs.fill.evt2.Statement.{statement}
 use Rattle.read_fill.proofs.fill.evt2.Tie as tie
 
 abbrev Inv-loop : tie.InvT-loop
-Inv-loop bytes width height xs₀ ys₀ ts₀ ps₀ s₀ n₀ i₀ xs ys ts ps s n i = Filling wordSize2 reader2 Bounded2 width height s₀ bytes xs₀ ys₀ ts₀ ps₀ xs ys ts ps s n i
+Inv-loop bytes width height xs₀ ys₀ ts₀ ps₀ s₀ n₀ i₀ xs ys ts ps s n i =
+    Filling wordSize2 reader2 Bounded2 width height s₀ bytes xs₀ ys₀ ts₀ ps₀ xs ys ts ps s n i
 
 abbrev μ-loop : tie.MeasureT-loop
 μ-loop bytes width height xs₀ ys₀ ts₀ ps₀ s₀ n₀ i₀ xs ys ts ps s n i = length bytes - i

@@ -66,7 +66,8 @@ cut2-requires : tie.Need-cut2-requires Inv-loop μ-loop
 cut2-requires c κs = (mask-here (iteration c), narrow-here laws2 (c .before .before .before .before .before .loop .inv .at) (iteration c) .x<)
 
 note-requires : tie.Need-note-requires Inv-loop μ-loop
-note-requires c κs = notable-here laws2 (c .before .before .before .before .before .before .loop .inv) (iteration (c .before)) (c .cut2 .result) (c .cut2 .ensures)
+note-requires c κs =
+    notable-here laws2 (c .before .before .before .before .before .before .loop .inv) (iteration (c .before)) (c .cut2 .result) (c .cut2 .ensures)
 
 loop-again : tie.Need-loop-again Inv-loop μ-loop
 loop-again c = counts-on laws2 (sym (c .before .stopped .ensures) ∙ c .if1 .left) (pend (c .before .before))

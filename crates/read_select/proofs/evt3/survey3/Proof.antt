@@ -74,7 +74,8 @@ cut3-requires c κs =
     (narrow-here laws3 at′ (iteration c), number-here laws3 at′)
 
 note-requires : tie.Need-note-requires Inv-loop μ-loop
-note-requires c κs = notable-here laws3 (c .before .before .before .before .before .before .loop .inv) (iteration (c .before)) (c .cut3 .result) (c .cut3 .ensures)
+note-requires c κs =
+    notable-here laws3 (c .before .before .before .before .before .before .loop .inv) (iteration (c .before)) (c .cut3 .result) (c .cut3 .ensures)
 
 loop-again : tie.Need-loop-again Inv-loop μ-loop
 loop-again c = counts-on laws3 (sym (c .before .stopped .ensures) ∙ c .if1 .left) (pend (c .before .before))

@@ -1,7 +1,6 @@
 -- `see` notes the events of a word by its highest bit.
 use mathlib.Core.Path.{sym}
 use native.Mathlib.Omega.{arith}
-use Prim.Native.Nat.{_<_}
 use lib.Count.{leading-le}
 use Rattle.read_window.specs.Extent.{extent-quiet, zeros-lt, extent-top}
 use borrow.Author.Needs.{needs}

@@ -84,7 +84,8 @@ module _ (t : ℕ) where
   out c =
       let s = c .before .before .before .before .before .before .before .before .before .before .before in
       picked-out-bit (s .args .v) (s .args .win) (s .args .k) (omega arith) (s .pre .1 .0 .mask<) (c .pick .result)
-      (omega (arith, c .before .before .before .saturating-add .ensures, c .before .if4 .taken)) (rw (c .before .before .before .before .clear-lowest .ensures) at (c .pick .ensures))
+      (omega (arith, c .before .before .before .saturating-add .ensures, c .before .if4 .taken))
+      (rw (c .before .before .before .before .clear-lowest .ensures) at (c .pick .ensures))
 
   shl : lts.Need-shl-t16 (claims t) (at t) pick.Post
   shl c =
@@ -104,16 +105,22 @@ module _ (t : ℕ) where
       let b = c .before .before .before .before .before .before .before .before .before .before .before .before .before in
       let s = b .before in
       picked-keep-bit (s .args .v) (s .args .win) (s .args .k) (omega (arith, b .if1 .left)) (s .pre .1 .0 .mask<) (c .before .before .before .pick2 .result)
-      (omega (arith, c .before .before .before .before .before .before .saturating-add .ensures, c .before .before .before .before .if4 .left)) (c .before .before .before .before .before .before .before .before .before .before .if2 .left)
-      (rw (c .before .before .before .before .before .before .before .clear-lowest .ensures) at (c .before .before .before .pick2 .ensures)) (sym (c .before .before .spans .ensures) ∙ c .before .if5 .taken)
+      (omega
+      (arith, c .before .before .before .before .before .before .saturating-add .ensures, c .before .before .before .before .if4 .left))
+      (c .before .before .before .before .before .before .before .before .before .before .if2 .left)
+      (rw (c .before .before .before .before .before .before .before .clear-lowest .ensures) at (c .before .before .before .pick2 .ensures))
+      (sym (c .before .before .spans .ensures) ∙ c .before .if5 .taken)
 
   passes : lts.Need-returns-6 (claims t) (at t) pick.Post
   passes c =
       let b = c .before .before .before .before .before .before .before .before .before .before .before .before .before in
       let s = b .before in
       picked-pass-bit (s .args .v) (s .args .win) (s .args .k) (omega (arith, b .if1 .left)) (s .pre .1 .0 .mask<) (c .before .before .before .pick2 .result)
-      (omega (arith, c .before .before .before .before .before .before .saturating-add .ensures, c .before .before .before .before .if4 .left)) (c .before .before .before .before .before .before .before .before .before .before .if2 .left)
-      (rw (c .before .before .before .before .before .before .before .clear-lowest .ensures) at (c .before .before .before .pick2 .ensures)) (sym (c .before .before .spans .ensures) ∙ c .before .if5 .left)
+      (omega
+      (arith, c .before .before .before .before .before .before .saturating-add .ensures, c .before .before .before .before .if4 .left))
+      (c .before .before .before .before .before .before .before .before .before .before .if2 .left)
+      (rw (c .before .before .before .before .before .before .before .clear-lowest .ensures) at (c .before .before .before .pick2 .ensures))
+      (sym (c .before .before .spans .ensures) ∙ c .before .if5 .left)
 
 pub +pick-spec : {M : Type 1} → statement M
 +pick-spec =
@@ -124,7 +131,8 @@ pub +pick-spec : {M : Type 1} → statement M
     (cast t)
     (skipped t)
     (λ c κs. omega arith)
-    (λ c. omega (arith, trailing-le 64 (c .before .before .before .before .before .before .before .args .v .mask))) (λ c κs. omega (arith, trailing-le 64 (c .before .before .before .before .before .before .before .args .v .mask)))
+    (λ c. omega (arith, trailing-le 64 (c .before .before .before .before .before .before .before .args .v .mask)))
+    (λ c κs. omega (arith, trailing-le 64 (c .before .before .before .before .before .before .before .args .v .mask)))
     (out-requires t)
     (out t)
     (λ c. omega arith)

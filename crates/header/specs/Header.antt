@@ -130,28 +130,6 @@ abbrev pub IsRefused : HeaderAnswer → Type 0
 IsRefused (Header h) = ⊥
 IsRefused (Refused r) = Unit
 
--- 4 over 2^30 bytes, 3 a header byte from 128, 2 no known encoding, 1 a zero in the size that holds: the first of them that applies
-unfoldable pub headerVerdict : List ℕ → SensorSize → Told
-headerVerdict s given =
-    cond (ltb (2 ^ 30) (length s)) (refused 4)
-    (cond (any notAscii (headerBytes s)) (refused 3)
-    (cond (eqb (namedNumber (encodingOf (saidBy s))) 0) (refused 2)
-    (cond (hasZero (sizeThatHolds given (saidBy s .size))) (refused 1)
-    (accepted (bodyStart s ∷ namedNumber (encodingOf (saidBy s)) ∷ sizeValues (sizeThatHolds given (saidBy s .size)))))))
-
--- ---- the answer itself, for callers
-
-unfoldable pub withEncoding : ℕ → SensorSize → Named → HeaderAnswer
-withEncoding at size Nothing = Refused UnknownEncoding
-withEncoding at size (As e) =
-    cond (hasZero size) (Refused InvalidSensorSize) (Header (record { «data_offset» = at; «sensor_size» = size; encoding = e }))
-
-unfoldable pub headerOf : List ℕ → SensorSize → HeaderAnswer
-headerOf s given =
-    cond (ltb (2 ^ 30) (length s)) (Refused TooLong)
-    (cond (any notAscii (headerBytes s)) (Refused HeaderNotAscii)
-    (withEncoding (bodyStart s) (sizeThatHolds given (saidBy s .size)) (encodingOf (saidBy s))))
-
 -- what `parse_header` promises of its answer r
 pub record Parsed (s : List ℕ) (given : SensorSize) (r : HeaderAnswer) : Type 0 where
   pub is-told : toldHeader r ≡ headerVerdict s given

@@ -3,13 +3,14 @@
 use Prim.Native.Nat.{ℕ, _≤_}
 use mathlib.Core.Path.{_≡_, refl, sym, _∙_, ap}
 use mathlib.Core.List.{List, [], _∷_, _++_, append-assoc}
-use mathlib.Core.Bool.{false, cond}
+use mathlib.Core.Bool.{Bool, true, false, cond}
 use native.Mathlib.Omega.{arith}
 use lib.ListN.{length, take, getD, length-take}
 use lib.Seq.{take-at}
 use lib.Dec.{ltb, eqb}
 use borrow.Author.Tests.{ltb-false}
 use Rattle.evt_types.specs.declared.{Encoding.Encoding, Encoding.the-variants.Evt2, Encoding.the-variants.Evt3, Refusal.the-variants.UnknownEncoding}
+use Rattle.evt_types.specs.declared.Refusal.the-variants.{HeaderNotAscii, TooLong}
 use Rattle.evt_types.specs.declared.{SensorSize.SensorSize, SensorSize.the-variants.Unknown, SensorSize.the-variants.Known}
 use Rattle.evt_types.specs.Told.{Told, told, told-apart, told-numbered, naturals, accepted-naturals}
 use Rattle.header.specs.declared.{HeaderAnswer.HeaderAnswer, HeaderAnswer.the-variants.Header, HeaderAnswer.the-variants.Refused, Named.Named}
@@ -137,3 +138,16 @@ of-accepted s given h e =
       size = sym (k .1 .1);
       positive = ap hasZero (sym (k .1 .1)) ∙ k .0;
     }
+
+-- a header is refused by 1 to 4
+pub header-four : (s : List ℕ) (given : SensorSize) → toldHeader (headerOf s given) .number ≤ 4
+unfolding headerOf headerOutcome withEncoding
+header-four s given =
+    go (ltb mostBytes (length s)) (any notAscii (headerBytes s)) (bodyStart s) (sizeThatHolds given (saidBy s .size)) (encodingOf (saidBy s))
+  where
+    go : (long high : Bool) (at : ℕ) (size : SensorSize) (n : Named)
+        → toldHeader (answerBy (cond long (refuse TooLong) (cond high (refuse HeaderNotAscii) (withEncoding at size n)))) .number ≤ 4
+    go true high at size n = omega arith
+    go false true at size n = omega arith
+    go false false at size Nothing = omega arith
+    go false false at size (As e) = by-bool (hasZero size) (λ z. rw z (omega arith)) (λ z. rw z (omega arith))

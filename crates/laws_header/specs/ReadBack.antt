@@ -16,7 +16,8 @@ use Rattle.header_text.specs.Size.{both, sizeAt, geometryOf}
 use Rattle.header_text.proofs.TextLaws.{trim-blank}
 use Rattle.header.specs.declared.{HeaderAnswer.HeaderAnswer, HeaderAnswer.the-variants.Header, HeaderAnswer.the-variants.Refused}
 use Rattle.header.specs.Lines.{startsPercent, headerLines, joinedLines, headerBytes, bodyStart, bodyOf, keyOf, valueOf}
-use Rattle.header.specs.Header.{geometryName, Said, nothing, readLine, readAll, saidBy, encodingOf, sizeThatHolds, hasZero, withEncoding, headerOf}
+use Rattle.header.specs.Header.{geometryName, Said, nothing, readLine, readAll, saidBy, encodingOf, sizeThatHolds, hasZero, withEncoding, headerOutcome, answerBy, headerOf}
+use Rattle.evt_types.specs.Outcome.{refuse, give}
 use Rattle.write_text.specs.Text.{ascii, decimal}
 use Rattle.write_header.specs.Header.{formatLine, headerText}
 use Rattle.laws_header.specs.Texts.{none-append, parted, header-line, header-over}
@@ -110,10 +111,10 @@ others-read said = refl
 -- a header with the size that holds, or a refusal where that has a zero
 abbrev pub answer : ℕ → SensorSize → Encoding → HeaderAnswer
 answer at size e =
-    cond (hasZero size) (Refused InvalidSensorSize) (Header (record { «data_offset» = at; «sensor_size» = size; encoding = e }))
+    answerBy (cond (hasZero size) (refuse InvalidSensorSize) (give (record { «data_offset» = at; «sensor_size» = size; encoding = e })))
 
 encoding-read : (at : ℕ) (size read : SensorSize) (e : Encoding)
-    → withEncoding at size (encodingOf (record { format = encodingText e; evt = []; size = read })) ≡ answer at size e
+    → answerBy (withEncoding at size (encodingOf (record { format = encodingText e; evt = []; size = read }))) ≡ answer at size e
 unfolding withEncoding encodingOf begins lowerOf
 encoding-read at size read Evt2 = refl
 encoding-read at size read Evt3 = refl
@@ -160,7 +161,7 @@ module _ (e : Encoding) (w h : ℕ) (body : List ℕ) (plain : startsPercent bod
       -- the size that holds is the caller's, or without one the header's
       pub read-back-given : (given : SensorSize)
           → headerOf (headerText e w h ++ body) given ≡ answer (length (headerText e w h)) (sizeThatHolds given (Known w h)) e
-      unfolding headerOf bodyStart
+      unfolding headerOf headerOutcome bodyStart
       read-back-given given = rw (le-ltb (2 ^ 30) _ fits, bytes-are, text-ascii e w h, said-is) (encoding-read _ _ _ e)
 
       -- a written header names its encoding and its size, and the body starts where it ends

@@ -11,18 +11,16 @@ use lib.Dec.{ltb}
 use lib.IntN.{ℤ}
 use lib.ListN.{length, drop, length-append, length-drop}
 use Rattle.evt_types.specs.declared.{Encoding.Encoding, Encoding.the-variants.Evt2, Encoding.the-variants.Evt3, Limit.the-variants.Unlimited}
-use Rattle.evt_types.specs.declared.{Refusal.Refusal, Refusal.the-variants.InvalidSensorSize, Refusal.the-variants.HeaderNotAscii}
-use Rattle.evt_types.specs.declared.{Refusal.the-variants.TooLong, SensorSize.SensorSize, SensorSize.the-variants.Unknown}
+use Rattle.evt_types.specs.declared.{Refusal.Refusal, Refusal.the-variants.InvalidSensorSize}
+use Rattle.evt_types.specs.declared.{SensorSize.SensorSize, SensorSize.the-variants.Unknown}
 use Rattle.evt_types.specs.{Event.Event, Columns.colX, Columns.colY, Columns.colT, Columns.colP, Outcome.Outcome, Outcome.refuse, Outcome.give}
 use Rattle.evt_types.specs.{Told.told}
 use Rattle.evt_types.specs.Num as Num
 use Rattle.laws_stream.specs.Columns.{sets-append}
 use lib.Seq.{sets, length-sets}
 use Rattle.header.specs.declared.{HeaderAnswer.HeaderAnswer, HeaderAnswer.the-variants.Header, HeaderAnswer.the-variants.Refused as NoHeader}
-use Rattle.header.specs.declared.{Named.Named, Named.the-variants.As, Named.the-variants.Nothing}
-use Rattle.header.specs.Header.{withEncoding, headerOutcome, answerBy, headerOf, toldHeader, encodingOf, saidBy, hasZero, sizeThatHolds}
-use Rattle.header_text.specs.{Cases.by-bool, Text.any, Text.notAscii}
-use Rattle.header.specs.Lines.{headerBytes, bodyStart}
+use Rattle.header.specs.Header.{headerOf, toldHeader}
+use Rattle.header.specs.Laws.{header-four}
 use Rattle.read_rules.specs.declared.{ReadAnswer.ReadAnswer, ReadAnswer.the-variants.Read, ReadAnswer.the-variants.Refused, Reading.Reading}
 use Rattle.read_rules.specs.Read.{ReadEvents, toldRead, bodyEvents, sizeless, widthOf, heightOf, bodyOutcome, outcomeAfter, rawOutcome, readAnswer}
 use Rattle.read_rules.specs.{Read.handedEvents, Read.shortest, Read.Handed, Read.Reads, Read.ReadsRaw, Laws.sensorOf, Laws.body-all}
@@ -136,19 +134,6 @@ lists-after (NoHeader r) recording h k = lists-refused r h
 lists-after (Header g) recording h k =
     lists-body (g .encoding) (g .«sensor_size») (bodyEvents (g .encoding) (g .«sensor_size») Unlimited (drop (g .«data_offset») recording))
     (body-few (g .«sensor_size») (g .encoding) (drop (g .«data_offset») recording) (rw length-drop (omega arith)))
-
--- a header is refused by 1 to 4
-header-four : (s : List ℕ) (given : SensorSize) → toldHeader (headerOf s given) .number ≤ 4
-unfolding headerOf headerOutcome withEncoding
-header-four s given =
-    go (ltb Num.mostBytes (length s)) (any notAscii (headerBytes s)) (bodyStart s) (sizeThatHolds given (saidBy s .size)) (encodingOf (saidBy s))
-  where
-    go : (long high : Bool) (at : ℕ) (size : SensorSize) (n : Named)
-        → toldHeader (answerBy (cond long (refuse TooLong) (cond high (refuse HeaderNotAscii) (withEncoding at size n)))) .number ≤ 4
-    go true high at size n = omega arith
-    go false true at size n = omega arith
-    go false false at size Nothing = omega arith
-    go false false at size (As e) = by-bool (hasZero size) (λ z. rw z (omega arith)) (λ z. rw z (omega arith))
 
 pub lists-raw : (recording : List ℕ) → length recording ≤ mostBytes → Lists (rawOutcome recording listOptions listRoom)
 unfolding rawOutcome

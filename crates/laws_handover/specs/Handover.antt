@@ -31,7 +31,7 @@ use Rattle.write_words.specs.Encode.{encodeNotes, encodeSize}
 use Rattle.write_rules.specs.{declared.RawEventSink.RawEventSink, Rules.freshSink}
 use Rattle.write_append.specs.declared.{AppendAnswer.AppendAnswer, AppendAnswer.the-variants.Written}
 use Rattle.write_append.specs.declared.{AppendAnswer.the-variants.Refused as AppendRefused, Appended.Appended}
-use Rattle.write_append.specs.Append.{accepts, handedOver, sinkAfter, AppendOwed}
+use Rattle.write_append.specs.Append.{AppendedBytes, appendOutcome, accepts, handedOver, sinkAfter, AppendOwed}
 use Rattle.read_rules.specs.declared.{ReadAnswer.ReadAnswer, ReadAnswer.the-variants.Read}
 use Rattle.header.specs.Header.{hasZero}
 use Rattle.read_rules.specs.Read.{DecodesWords, Handed, shortest, kept, widthOf, heightOf, sizeless}

@@ -7,8 +7,9 @@ use lib.ListN.{length, take}
 use lib.Seq.{take-at}
 use Rattle.evt_types.specs.Outcome.{Outcome, refuse, give}
 use Rattle.write_rules.specs.declared.RawEventSink.{RawEventSink}
-use Rattle.write_append.specs.{declared.Appended.Appended, Append.appendAnswer, Append.AppendOwed}
-use Rattle.laws_handover.specs.Handover.{Call, next, callBytes, streamOf, Ran, Chained, bytesTold, allWritten, callsOf}
+use Rattle.write_append.specs.declared.Appended.{Appended}
+use Rattle.write_append.specs.Append.{AppendedBytes, appendAnswer, handedOver, Appends, AppendOwed}
+use Rattle.laws_handover.specs.Handover.{Call, callOutcome, next, callBytes, streamOf, Ran, Chained, bytesTold, allWritten, callsOf}
 
 -- the writer that a list leaves
 abbrev pub sinkOf : RawEventSink → List Call → RawEventSink

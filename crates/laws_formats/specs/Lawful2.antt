@@ -7,7 +7,7 @@ use native.Mathlib.Omega.{arith}
 use Rattle.laws_stream.specs.{Machine.run, Machine.words, Format.Format, Format.Lawful, Format.Good, Loop.tracks-same, Order.rise-first}
 use Rattle.evt_types.specs.{declared.Encoding.the-variants.Evt2, Event.Event, Event.eventsOf}
 use Rattle.evt2_decoder.specs.declared.Evt2Decoder.{Evt2Decoder}
-use Rattle.evt_types.specs.Layout.{type2, timeLow2, x2, y2, event-type2, event-low2, event-x2, event-y2, event-fits2, time-type2, time-high2, time-fits2}
+use Rattle.evt_types.specs.Layout.{type2, timeLow2, x2, y2, event-type2, event-low2, event-x2, event-y2, event-fits2, time-type2, time-high2, time-fits2, grain2}
 use Rattle.evt2_decoder.specs.Evt2 as Reader
 use Rattle.evt2_decoder.specs.Evt2.{fresh2, period2, threshold2, step2, vector2, reader2, time-word, event-word}
 use Rattle.read_columns.specs.Inside.{clock}
@@ -20,7 +20,7 @@ Ready2 d es = Ready period2 (limit Evt2) (d .«time_high») (d .time) (d .«high
 
 -- the decoder has the coarse time of the half h
 abbrev pub High2 : Evt2Decoder → (h : ℕ) → Type 0
-High2 d h = (d .initialised ≡ true) × (d .«time_high» ≡ h * 64)
+High2 d h = (d .initialised ≡ true) × (d .«time_high» ≡ h * grain2)
 
 abbrev pub format2 : Format Evt2Decoder EncoderState Event Event
 format2 = record {
@@ -37,14 +37,14 @@ format2 = record {
 
 -- ---- an event's word, at the coarse time that the event has
 
-module _ (d : Evt2Decoder) (e : Event) (f : Sayable (limit Evt2) e) (on : d .initialised ≡ true) (at : d .«time_high» ≡ e .t / 64 * 64) where
+module _ (d : Evt2Decoder) (e : Event) (f : Sayable (limit Evt2) e) (on : d .initialised ≡ true) (at : d .«time_high» ≡ e .t / grain2 * grain2) where
   abbrev w : ℕ
   w = wordOf2 e
 
   p<2 : e .p % 2 < 2
   p<2 = omega arith
 
-  low< : e .t % 64 < 64
+  low< : e .t % grain2 < 64
   low< = omega arith
 
   x<2048 : e .x % 2048 < 2048
@@ -54,16 +54,16 @@ module _ (d : Evt2Decoder) (e : Event) (f : Sayable (limit Evt2) e) (on : d .ini
   y<2048 = omega arith
 
   is-p : type2 w ≡ e .p
-  is-p = event-type2 (e .p % 2) (e .t % 64) (e .x % 2048) (e .y % 2048) p<2 low< x<2048 y<2048 ∙ omega (arith, f .p<)
+  is-p = event-type2 (e .p % 2) (e .t % grain2) (e .x % 2048) (e .y % 2048) p<2 low< x<2048 y<2048 ∙ omega (arith, f .p<)
 
   is-x : x2 w ≡ e .x
-  is-x = event-x2 (e .p % 2) (e .t % 64) (e .x % 2048) (e .y % 2048) p<2 low< x<2048 y<2048 ∙ omega (arith, f .x<)
+  is-x = event-x2 (e .p % 2) (e .t % grain2) (e .x % 2048) (e .y % 2048) p<2 low< x<2048 y<2048 ∙ omega (arith, f .x<)
 
   is-y : y2 w ≡ e .y
-  is-y = event-y2 (e .p % 2) (e .t % 64) (e .x % 2048) (e .y % 2048) p<2 low< x<2048 y<2048 ∙ omega (arith, f .y<)
+  is-y = event-y2 (e .p % 2) (e .t % grain2) (e .x % 2048) (e .y % 2048) p<2 low< x<2048 y<2048 ∙ omega (arith, f .y<)
 
   is-t : d .«time_high» + timeLow2 w ≡ e .t
-  is-t = rw (event-low2 (e .p % 2) (e .t % 64) (e .x % 2048) (e .y % 2048) p<2 low< x<2048 y<2048, at) (omega arith)
+  is-t = rw (event-low2 (e .p % 2) (e .t % grain2) (e .x % 2048) (e .y % 2048) p<2 low< x<2048 y<2048, at) (omega arith)
 
   by-event : (step2 d w ≡ Reader.stepAs Reader.event d w) × (vector2 d w ≡ Reader.vectorAs Reader.event d w)
   by-event = event-word d w (type2 w) refl (omega (arith, is-p, f .p<)) on
@@ -75,11 +75,11 @@ module _ (d : Evt2Decoder) (e : Event) (f : Sayable (limit Evt2) e) (on : d .ini
   pub event-steps : step2 d w ≡ record { initialised = d .initialised; «time_high» = d .«time_high»; time = e .t; «high_loops» = d .«high_loops» }
   event-steps = by-event .0 ∙ rw is-t
 
-  pub said-event : (more : List Event) → Ready2 d (e ∷ more) → Good format2 d (carries w e ∷ []) more × High2 (step2 d w) (e .t / 64)
+  pub said-event : (more : List Event) → Ready2 d (e ∷ more) → Good format2 d (carries w e ∷ []) more × High2 (step2 d w) (e .t / grain2)
   said-event more rd = (
     record {
       ready = rd;
-      fits = event-fits2 (e .p % 2) (e .t % 64) (e .x % 2048) (e .y % 2048) p<2 low< x<2048 y<2048;
+      fits = event-fits2 (e .p % 2) (e .t % grain2) (e .x % 2048) (e .y % 2048) p<2 low< x<2048 y<2048;
       says = event-emits;
       rest = rw event-steps (record { counted = rd .counted; past = omega (arith, at); rises = rd .rises .1 });
     },
@@ -90,7 +90,7 @@ module _ (d : Evt2Decoder) (e : Event) (f : Sayable (limit Evt2) e) (on : d .ini
 
 module _ (d : Evt2Decoder) (t : ℕ) (low : d .«high_loops» * period2 ≤ t) (high : t < d .«high_loops» * period2 + period2) (le : d .«time_high» ≤ t) where
   abbrev q : ℕ
-  q = t / 64 % 2 ^ 28
+  q = t / grain2 % 2 ^ 28
 
   q< : q < 2 ^ 28
   q< = omega arith
@@ -105,27 +105,27 @@ module _ (d : Evt2Decoder) (t : ℕ) (low : d .«high_loops» * period2 ≤ t) (
   pub high-emits : eventsOf (vector2 d (highWord2 t)) ≡ []
   high-emits = ap eventsOf (by-time .1) ∙ no-event
 
-  pub high-steps : step2 d (highWord2 t) ≡ record { initialised = true; «time_high» = t / 64 * 64; time = t / 64 * 64; «high_loops» = d .«high_loops» }
+  pub high-steps : step2 d (highWord2 t) ≡ record { initialised = true; «time_high» = t / grain2 * grain2; time = t / grain2 * grain2; «high_loops» = d .«high_loops» }
   high-steps =
-      let k = tracks-same period2 threshold2 (d .«time_high») (d .«high_loops») (q * 64) (t / 64 * 64) (omega arith) (omega arith) in
+      let k = tracks-same period2 threshold2 (d .«time_high») (d .«high_loops») (q * 64) (t / grain2 * grain2) (omega arith) (omega arith) in
       by-time .0 ∙ rw (time-high2 q q<, k .0, k .1)
 
 -- ---- the law
 
-group-as : (b : Bool) (d : Evt2Decoder) (e : Event) (more : List Event) → (b ≡ true → High2 d (e .t / 64)) → Ready2 d (e ∷ more)
-    → let ns = due b (highWord2 (e .t)) ++ (carries (wordOf2 e) e ∷ []) in Good format2 d ns more × High2 (run reader2 d (words ns)) (e .t / 64)
+group-as : (b : Bool) (d : Evt2Decoder) (e : Event) (more : List Event) → (b ≡ true → High2 d (e .t / grain2)) → Ready2 d (e ∷ more)
+    → let ns = due b (highWord2 (e .t)) ++ (carries (wordOf2 e) e ∷ []) in Good format2 d ns more × High2 (run reader2 d (words ns)) (e .t / grain2)
 group-as true d e more h rd = said-event d e (sayable-true (limit Evt2) e (rd .rises .0 .fine)) (h refl .0) (h refl .1) more rd
 group-as false d e more h rd =
     let f = sayable-true (limit Evt2) e (rd .rises .0 .fine) in
     let le : d .«time_high» ≤ e .t = omega (arith, rd .past, rd .rises .0 .rises) in
     let low : d .«high_loops» * period2 ≤ e .t = omega (arith, rd .counted) in
     let high : e .t < d .«high_loops» * period2 + period2 = omega (arith, f .t<) in
-    let next : Evt2Decoder = record { initialised = true; «time_high» = e .t / 64 * 64; time = e .t / 64 * 64; «high_loops» = d .«high_loops» } in
+    let next : Evt2Decoder = record { initialised = true; «time_high» = e .t / grain2 * grain2; time = e .t / grain2 * grain2; «high_loops» = d .«high_loops» } in
     let up : step2 d (highWord2 (e .t)) ≡ next = high-steps d (e .t) low high le in
     let r = said-event next e f refl refl more (record {
       counted = omega arith;
       past = omega arith;
-      rises = rise-first clock (sayable (limit Evt2)) (d .time) (e .t / 64 * 64) e more (omega arith) (rd .rises);
+      rises = rise-first clock (sayable (limit Evt2)) (d .time) (e .t / grain2 * grain2) e more (omega arith) (rd .rises);
     }) in
     (record { ready = rd; fits = high-fits d (e .t) low high le; says = high-emits d (e .t) low high le; rest = rw up (r .0) }, rw up (r .1))
 
@@ -135,5 +135,5 @@ lawful2 = record {
   sized = omega arith;
   noted = λ v e va. encode-notes2 v e;
   starts = λ d. tt;
-  group = λ v d e more va ag rd. group-as (highSent2 v e) d e more (holds-sent (v .«time_high») (High2 d) (e .t / 64) ag) rd;
+  group = λ v d e more va ag rd. group-as (highSent2 v e) d e more (holds-sent (v .«time_high») (High2 d) (e .t / grain2) ag) rd;
 }

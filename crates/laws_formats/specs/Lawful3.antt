@@ -12,7 +12,7 @@ use Rattle.laws_stream.specs.{Mask.Inc, Mask.mask, Mask.bits, Mask.bits-mask, M
 use Rattle.evt_types.specs.{declared.Encoding.the-variants.Evt3, declared.Sent.Sent, declared.vector.Vector.Vector, Event.Event, Event.eventAt}
 use Rattle.evt_types.specs.{Event.eventsOf, Layout.column-polarity3, Layout.column-x3, Layout.column-fits3}
 use Rattle.evt3_decoder.specs.{declared.Decoder.Decoder, Evt3.first-word}
-use Rattle.evt_types.specs.Layout.{type3, x3, polarity3, mask12, time3, word-type3, word-time3, word-mask12, word-y3, word-fits3, column-type3}
+use Rattle.evt_types.specs.Layout.{type3, x3, polarity3, mask12, time3, word-type3, word-time3, word-mask12, word-y3, word-fits3, column-type3, grain3}
 use Rattle.evt3_decoder.specs.Evt3.{fresh3, period3, threshold3, atCoarse, past, number, step3, vector3, reader3, stepAs, vectorAs, kindOn, started-word}
 use Rattle.read_columns.specs.Inside.{clock}
 use Rattle.write_buffer.specs.{declared.EncoderState.EncoderState, Columns.event, Sent.freshState, Sent.sentIs, Sent.due}
@@ -28,7 +28,7 @@ Ready3 d es = Ready period3 (limit Evt3) (d .«time_base») (d .time) (d .«high
 
 -- the decoder has the coarse time of the half h
 abbrev pub High3 : Decoder → (h : ℕ) → Type 0
-High3 d h = (d .initialised ≡ true) × (d .«time_base» ≡ h * 4096)
+High3 d h = (d .initialised ≡ true) × (d .«time_base» ≡ h * grain3)
 
 -- what the writer takes for sent is what the decoder has
 pub record Agree3 (v : EncoderState) (d : Decoder) : Type 0 where
@@ -56,7 +56,7 @@ Rises = Rise clock (sayable (limit Evt3))
 record Fixed (t y : ℕ) (d : Decoder) : Type 0 where
   on : d .initialised ≡ true
   counted : d .«high_loops» * period3 ≤ d .«time_base»
-  at-coarse : d .«time_base» ≡ t / 4096 * 4096
+  at-coarse : d .«time_base» ≡ t / grain3 * grain3
   at-time : d .time ≡ t
   at-row : d .y ≡ y
 
@@ -209,58 +209,58 @@ module _ (t y p : ℕ) (xs : List ℕ) (v : Rising xs) (more : List Event) (r : 
         at-row = word-y3 0 (y % 2048) (omega arith) y< .0 ∙ omega (arith, fine .y<);
       }))
 
-  said-low : (lo ro : Bool) (d : Decoder) → d .initialised ≡ true → d .«time_base» ≡ t / 4096 * 4096 → Ready3 d (spread t y p xs ++ more)
+  said-low : (lo ro : Bool) (d : Decoder) → d .initialised ≡ true → d .«time_base» ≡ t / grain3 * grain3 → Ready3 d (spread t y p xs ++ more)
       → (lo ≡ true → d .time ≡ t) → (ro ≡ true → d .y ≡ y) → Reads t y d (due lo (lowWord3 t) ++ (due ro (rowWord3 y) ++ here)) more
   said-low true ro d o k rd ht hr = said-row ro d (record { on = o; counted = rd .counted; at-coarse = k; at-time = ht refl; at-row = refl }) hr
   said-low false ro d o k rd ht hr =
       let w = lowWord3 t in
-      let l< : t % 4096 < 4096 = omega arith in
-      let by = started-word d w (type3 w) refl 6 (word-type3 6 (t % 4096) (omega arith) l<) o in
-      let is-t : d .«time_base» + time3 w ≡ t = rw (word-time3 6 (t % 4096) (omega arith) l<, k) (omega arith) in
+      let l< : t % grain3 < 4096 = omega arith in
+      let by = started-word d w (type3 w) refl 6 (word-type3 6 (t % grain3) (omega arith) l<) o in
+      let is-t : d .«time_base» + time3 w ≡ t = rw (word-time3 6 (t % grain3) (omega arith) l<, k) (omega arith) in
       said-word t y d (stepAs (kindOn 6) d w) w [] (spread t y p xs) (due ro (rowWord3 y) ++ here) more (by .0) (ap eventsOf (by .1) ∙ no-event)
-      (word-fits3 6 (t % 4096) (omega arith) l<) (due-notes ro (rowWord3 y) here ∙ body-notes t y p xs v) rd
+      (word-fits3 6 (t % grain3) (omega arith) l<) (due-notes ro (rowWord3 y) here ∙ body-notes t y p xs v) rd
       (said-row ro (stepAs (kindOn 6) d w) (record { on = o; counted = rd .counted; at-coarse = k; at-time = is-t; at-row = refl }) hr)
 
   -- the first type 8, and each later one, takes the decoder to the coarse time of t
   high-word : (on : Bool) (d : Decoder) → d .initialised ≡ on → d .«high_loops» * period3 ≤ t → d .«time_base» ≤ t
-      → (step3 d (highWord3 t) ≡ atCoarse d (t / 4096 * 4096) (d .«high_loops»)) × (eventsOf (vector3 d (highWord3 t)) ≡ [])
+      → (step3 d (highWord3 t) ≡ atCoarse d (t / grain3 * grain3) (d .«high_loops»)) × (eventsOf (vector3 d (highWord3 t)) ≡ [])
   high-word on d o low le =
       let w = highWord3 t in
       let t< = fine .t< in
-      let q< : t / 4096 % 4096 < 4096 = omega arith in
-      let is-raw : time3 w * 4096 ≡ t / 4096 * 4096 = rw (word-time3 8 (t / 4096 % 4096) (omega arith) q<) (omega arith) in
-      go on o (word-type3 8 (t / 4096 % 4096) (omega arith) q<) is-raw
+      let q< : t / grain3 % 4096 < 4096 = omega arith in
+      let is-raw : time3 w * grain3 ≡ t / grain3 * grain3 = rw (word-time3 8 (t / grain3 % 4096) (omega arith) q<) (omega arith) in
+      go on o (word-type3 8 (t / grain3 % 4096) (omega arith) q<) is-raw
     where
-      go : (on : Bool) → d .initialised ≡ on → type3 (highWord3 t) ≡ 8 → time3 (highWord3 t) * 4096 ≡ t / 4096 * 4096
-          → (step3 d (highWord3 t) ≡ atCoarse d (t / 4096 * 4096) (d .«high_loops»)) × (eventsOf (vector3 d (highWord3 t)) ≡ [])
+      go : (on : Bool) → d .initialised ≡ on → type3 (highWord3 t) ≡ 8 → time3 (highWord3 t) * 4096 ≡ t / grain3 * grain3
+          → (step3 d (highWord3 t) ≡ atCoarse d (t / grain3 * grain3) (d .«high_loops»)) × (eventsOf (vector3 d (highWord3 t)) ≡ [])
       go true o is-8 is-raw =
           let w = highWord3 t in
           let by = started-word d w (type3 w) refl 8 is-8 o in
           let t< = fine .t< in
-          let q = tracks-same period3 threshold3 (d .«time_base») (d .«high_loops») (t / 4096 * 4096) (t / 4096 * 4096) (omega arith) (omega arith) in
+          let q = tracks-same period3 threshold3 (d .«time_base») (d .«high_loops») (t / grain3 * grain3) (t / grain3 * grain3) (omega arith) (omega arith) in
           (by .0 ∙ rw (is-raw, q .0, q .1), ap eventsOf (by .1) ∙ no-event)
       go false o is-8 is-raw =
           let w = highWord3 t in
           let by = first-word d w (type3 w) refl is-8 o in
           (by .0 ∙ rw is-raw, ap eventsOf (by .1) ∙ no-event)
 
-  said-high : (hi lo ro : Bool) (d : Decoder) → Ready3 d (spread t y p xs ++ more) → d .time ≤ t → (hi ≡ true → High3 d (t / 4096))
-      → (lo ≡ true → (hi ≡ true → d .time ≡ t) × (hi ≡ false → t % 4096 ≡ 0)) → (ro ≡ true → d .y ≡ y)
+  said-high : (hi lo ro : Bool) (d : Decoder) → Ready3 d (spread t y p xs ++ more) → d .time ≤ t → (hi ≡ true → High3 d (t / grain3))
+      → (lo ≡ true → (hi ≡ true → d .time ≡ t) × (hi ≡ false → t % grain3 ≡ 0)) → (ro ≡ true → d .y ≡ y)
       → Reads t y d (due hi (highWord3 t) ++ (due lo (lowWord3 t) ++ (due ro (rowWord3 y) ++ here))) more
   said-high true lo ro d rd le hh ht hr = said-low lo ro d (hh refl .0) (hh refl .1) rd (λ e. ht e .0 refl) hr
   said-high false lo ro d rd le hh ht hr =
       let w = highWord3 t in
-      let d′ = atCoarse d (t / 4096 * 4096) (d .«high_loops») in
+      let d′ = atCoarse d (t / grain3 * grain3) (d .«high_loops») in
       let low : d .«high_loops» * period3 ≤ t = omega (arith, rd .counted, rd .past) in
       let q = high-word (d .initialised) d refl low (omega (arith, rd .past)) in
       said-word t y d d′ w [] (spread t y p xs) (due lo (lowWord3 t) ++ (due ro (rowWord3 y) ++ here)) more (q .0) (q .1)
-      (word-fits3 8 (t / 4096 % 4096) (omega arith) (omega arith))
+      (word-fits3 8 (t / grain3 % 4096) (omega arith) (omega arith))
       (due-notes lo (lowWord3 t) (due ro (rowWord3 y) ++ here) ∙ due-notes ro (rowWord3 y) here ∙ body-notes t y p xs v) rd
       (said-low lo ro d′ refl refl
       (record {
         counted = omega arith;
         past = omega arith;
-        rises = rise-from clock (sayable (limit Evt3)) (t / 4096 * 4096) t (spread t y p xs ++ more) (omega arith) r;
+        rises = rise-from clock (sayable (limit Evt3)) (t / grain3 * grain3) t (spread t y p xs ++ more) (omega arith) r;
       })
       (λ e. omega (arith, ht e .1 refl)) hr)
 
@@ -286,10 +286,10 @@ group3 : (v : EncoderState) (d : Decoder) (r : Run) (more : List Event) → Vali
 group3 v d r more va ag rd =
     let rr = rise-run (r .t) (r .y) (r .p) (d .time) (r .xs) more (va .some) (rd .rises) in
     let hi = highSent3 v (r .t) in
-    let high-held = holds-sent (v .«time_high») (High3 d) (r .t / 4096) (ag .highs) in
+    let high-held = holds-sent (v .«time_high») (High3 d) (r .t / grain3) (ag .highs) in
     let g = said-high (r .t) (r .y) (r .p) (r .xs) va more (rr .0) hi (lowSent3 v (r .t)) (rowSent3 v (r .y)) d rd (rr .1) high-held
-    (λ e. let q = low-sent hi (v .«time_low») (r .t % 4096) e in
-    ((λ f. omega (arith, high-held f .1, holds-sent (v .«time_low») (λ l. d .time ≡ d .«time_base» + l) (r .t % 4096) (ag .lows) (q .0 f))), q .1))
+    (λ e. let q = low-sent hi (v .«time_low») (r .t % grain3) e in
+    ((λ f. omega (arith, high-held f .1, holds-sent (v .«time_low») (λ l. d .time ≡ d .«time_base» + l) (r .t % grain3) (ag .lows) (q .0 f))), q .1))
     (holds-sent (v .y) (λ y. d .y ≡ y) (r .y) (ag .rows)) in
     rw (encode-is v r) (g .0, record { highs = (g .1 .on, g .1 .at-coarse); lows = omega (arith, g .1 .at-coarse, g .1 .at-time); rows = g .1 .at-row })
 

@@ -5,6 +5,7 @@ use Prim.Native.Nat.{ℕ, _/_, _%_, _^_}
 use lib.Dec.{eqb, ltb, leb}
 use lib.IntN.{ℤ}
 use lib.Signed.{ltZ, nonNeg}
+use Rattle.evt_types.specs.Layout.{grain2, grain3}
 use Rattle.evt_types.specs.declared.{Encoding.Encoding, Encoding.the-variants.Evt2, Encoding.the-variants.Evt3, Sent.Sent, Sent.the-variants.Nothing}
 use Rattle.evt_types.specs.{declared.Sent.the-variants.Value, Num.natural}
 use Rattle.write_buffer.specs.declared.EncoderState.{EncoderState}
@@ -62,8 +63,8 @@ sentAtMost (Value g) most = leb g most
 
 -- the halves are those of the last time; EVT3 alone has a low half and a row
 abbrev pub sentInRange : Encoding → EncoderState → (last : ℕ) → Bool
-sentInRange Evt2 v t = belongs (v .«time_high») (t / 64) && (isNothing (v .«time_low») && isNothing (v .y))
-sentInRange Evt3 v t = belongs (v .«time_high») (t / 4096) && (belongs (v .«time_low») (t % 4096) && sentAtMost (v .y) 2047)
+sentInRange Evt2 v t = belongs (v .«time_high») (t / grain2) && (isNothing (v .«time_low») && isNothing (v .y))
+sentInRange Evt3 v t = belongs (v .«time_high») (t / grain3) && (belongs (v .«time_low») (t % grain3) && sentAtMost (v .y) 2047)
 
 -- without a last time nothing was sent and none counted
 abbrev pub lastInRange : Encoding → EncoderState → (count : ℕ) → LastTime → Bool

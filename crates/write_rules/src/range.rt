@@ -6,6 +6,8 @@ use crate::LastTime;
 use evt_types::Encoding;
 use evt_types::Sent;
 use evt_types::num::natural_time;
+use evt2_decoder::Evt2Decoder;
+use evt3_decoder::Decoder;
 use write_buffer::EncoderState;
 
 fn is_nothing(s: Sent) -> bool
@@ -76,13 +78,13 @@ fn sent(version: Encoding, state: EncoderState, t: u64) -> bool
     let row = state.y;
     match version {
         Encoding::Evt2 => and3(
-            is_or_nothing(high, t / 64),
+            is_or_nothing(high, t / Evt2Decoder::GRAIN),
             is_nothing(low),
             is_nothing(row),
         ),
         Encoding::Evt3 => and3(
-            is_or_nothing(high, t / 4096),
-            is_or_nothing(low, t % 4096),
+            is_or_nothing(high, t / Decoder::GRAIN),
+            is_or_nothing(low, t % Decoder::GRAIN),
             at_most(row, 2047),
         ),
     }

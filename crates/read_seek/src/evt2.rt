@@ -16,6 +16,9 @@ use evt_types::words;
 use evt2_decoder::Evt2Decoder;
 use evt2_decoder::advance;
 
+// A loop tests for a word's last byte as `words::four_at` does, whose test then falls away.
+const LAST_BYTE: usize = Evt2Decoder::WORD_SIZE - 1;
+
 pub fn span2(bytes: &[u8], d: Evt2Decoder, t0: u64, t1: u64) -> Sought
     requires { ⌜ Bounded2 (length (now bytes) / wordSize2) d ⌝ ∗ ⌜ length (now bytes) ≤ 2 ^ 30 ⌝ }
     ensures { λ r. ⌜ (r ≡ soughtOf t0 t1 (Evt2 d) (now (bytes .entry))) × Bounded (length (drop (r .at) (now (bytes .entry)))) (r .codec) ⌝ }
@@ -23,7 +26,7 @@ pub fn span2(bytes: &[u8], d: Evt2Decoder, t0: u64, t1: u64) -> Sought
     let mut s = d;
     let mut stray = false;
     let mut i: usize = 0;
-    while i + Evt2Decoder::WORD_SIZE <= bytes.len() {
+    while i + LAST_BYTE < bytes.len() {
         let w = words::four_at(bytes, i);
         let step = advance(s, w);
         let next = step.next;
@@ -57,7 +60,7 @@ pub fn skip2(bytes: &[u8], d: Evt2Decoder, t: u64) -> Marked
             codec: Codec::Evt2(d),
         };
     }
-    while i + Evt2Decoder::WORD_SIZE <= bytes.len() {
+    while i + LAST_BYTE < bytes.len() {
         let w = words::four_at(bytes, i);
         i += Evt2Decoder::WORD_SIZE;
         let kind = bits(w, 28, 4);

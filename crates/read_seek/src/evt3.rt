@@ -24,6 +24,9 @@ use evt_types::words;
 use evt3_decoder::Decoder;
 use evt3_decoder::widen;
 
+// A loop tests for a word's last byte as `words::two_at` does, whose test then falls away.
+const LAST_BYTE: usize = Decoder::WORD_SIZE - 1;
+
 // Behind the words that were passed over.
 pub struct Spanned {
     pub at: usize,
@@ -40,7 +43,7 @@ fn pass(bytes: &[u8], d: Decoder, t0: u64, t1: u64) -> Spanned
     let mut c = times::of(d);
     let mut stray = false;
     let mut i: usize = 0;
-    while i + Decoder::WORD_SIZE <= bytes.len() {
+    while i + LAST_BYTE < bytes.len() {
         let w = words::two_at(bytes, i);
         let next = times::tick(c, w);
         if t1 <= next.time {
@@ -67,7 +70,7 @@ fn walk(bytes: &[u8], d: Decoder, t0: u64, t1: u64) -> Sought
     let mut s = widen(d);
     let mut stray = false;
     let mut i: usize = 0;
-    while i + Decoder::WORD_SIZE <= bytes.len() {
+    while i + LAST_BYTE < bytes.len() {
         let w = words::two_at(bytes, i);
         let step = s.advance(w);
         let next = step.next;
@@ -140,7 +143,7 @@ fn stride(bytes: &[u8], d: Decoder, t: u64) -> Stood
     if t < d.time_base + Decoder::GRAIN {
         return Stood { at, times: c };
     }
-    while i + Decoder::WORD_SIZE <= bytes.len() {
+    while i + LAST_BYTE < bytes.len() {
         let w = words::two_at(bytes, i);
         i += Decoder::WORD_SIZE;
         let kind = bits(w, 12, 4);

@@ -40,7 +40,7 @@ add-if4 c =
     omega (
       arith,
       skip-small2 (a .t) (a .d) (now (a .bytes)) (c .before .before .before .before .before .before .before .before .before .loop .inv)
-          (c .before .before .before .before .before .before .before .before .loop-test .taken) (four-at .result) (four-at .ensures)
+          (omega (arith, c .before .before .before .before .before .before .before .before .loop-test .taken)) (four-at .result) (four-at .ensures)
           (bits .result) (bits .ensures) (c .before .before .before .before .before .if2 .taken) (advance .result .next)
           (advance .ensures .0) (c .before .if3 .left),
     )
@@ -50,14 +50,14 @@ loop-again c =
     let b′ = c .before .before .before .before .before in
     let b = b′ .before .before in
     let a = b .before .before .before .before .before .before .before .args in
-    skip-on2 (a .t) (a .d) (now (a .bytes)) (b .before .before .before .loop .inv) (b .before .before .loop-test .taken)
+    skip-on2 (a .t) (a .d) (now (a .bytes)) (b .before .before .before .loop .inv) (omega (arith, b .before .before .loop-test .taken))
     (b .before .four-at .result) (b .before .four-at .ensures) (b .bits .result) (b .bits .ensures) (b′ .before .if2 .taken)
     (b′ .advance .result .next) (b′ .advance .ensures .0) (c .before .before .if3 .left) (c .if4 .left)
 
 loop-again-2 : tie.Need-loop-again-2 Inv-loop μ-loop
 loop-again-2 c =
     let a = c .before .before .before .before .before .before .before .before .args in
-    skip-other2 (a .t) (a .d) (now (a .bytes)) (c .before .before .before .before .loop .inv) (c .before .before .before .loop-test .taken)
+    skip-other2 (a .t) (a .d) (now (a .bytes)) (c .before .before .before .before .loop .inv) (omega (arith, c .before .before .before .loop-test .taken))
     (c .before .before .four-at .result) (c .before .before .four-at .ensures) (c .before .bits .result) (c .before .bits .ensures)
     (c .if2 .left)
 
@@ -77,7 +77,7 @@ returns-4 c =
     let b = b′ .before .before in
     let a = b .before .before .before .before .before .before .before .args in
     midway2 (a .t) (a .d) (now (a .bytes)) (skip-time2 (a .t) (a .d) (now (a .bytes)) (b .before .before .before .loop .inv)
-    (b .before .before .loop-test .taken) (b .before .four-at .result) (b .before .four-at .ensures) (b .bits .result)
+    (omega (arith, b .before .before .loop-test .taken)) (b .before .four-at .result) (b .before .four-at .ensures) (b .bits .result)
     (b .bits .ensures) (b′ .before .if2 .taken) (b′ .advance .result .next) (b′ .advance .ensures .0) (c .before .before .if3 .left))
 
 pub skip2-spec : {M : Type 1} → statement M

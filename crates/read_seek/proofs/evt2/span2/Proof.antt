@@ -21,20 +21,20 @@ loop-again : tie.Need-loop-again Inv-loop μ-loop
 loop-again c =
     let b = c .before .before .before .before .before in
     let a = b .before .before .before .before .before .args in
-    iteration2 (a .t0) (a .t1) (a .d) (now (a .bytes)) (b .before .before .before .loop .inv) (b .before .before .loop-test .taken)
+    iteration2 (a .t0) (a .t1) (a .d) (now (a .bytes)) (b .before .before .before .loop .inv) (omega (arith, b .before .before .loop-test .taken))
     (b .before .four-at .result) (b .before .four-at .ensures) (b .advance .result .next) (b .advance .ensures .0)
     (c .before .before .if1 .left) (c .before .bits .result) (c .before .bits .ensures) (c .strays .result) (c .strays .ensures)
 
 returns : tie.Need-returns Inv-loop μ-loop
 returns c =
     let a = c .before .before .before .args in
-    end2 (a .t0) (a .t1) (a .d) (now (a .bytes)) (c .before .loop .inv) (c .loop-test .left)
+    end2 (a .t0) (a .t1) (a .d) (now (a .bytes)) (c .before .loop .inv) (omega (arith, c .loop-test .left))
 
 returns-2 : tie.Need-returns-2 Inv-loop μ-loop
 returns-2 c =
     let b = c .before .before .before .before in
     let a = b .before .before .before .before .args in
-    stop2 (a .t0) (a .t1) (a .d) (now (a .bytes)) (b .before .before .loop .inv) (b .before .loop-test .taken) (b .four-at .result)
+    stop2 (a .t0) (a .t1) (a .d) (now (a .bytes)) (b .before .before .loop .inv) (omega (arith, b .before .loop-test .taken)) (b .four-at .result)
     (b .four-at .ensures) (c .before .before .before .advance .result .next) (c .before .before .before .advance .ensures .0)
     (c .if1 .taken)
 

@@ -42,7 +42,7 @@ loop-again : tie.Need-loop-again Inv-loop μ-loop
 loop-again c =
     let b′ = c .before .before .before .before .before in
     let a = b′ .before .before .before .before .before .before .args in
-    λ d on is b. passing-next (a .t0) (a .t1) d (now (a .bytes)) (b′ .before .before .loop-test .taken) (b′ .before .two-at .result)
+    λ d on is b. passing-next (a .t0) (a .t1) d (now (a .bytes)) (omega (arith, b′ .before .before .loop-test .taken)) (b′ .before .two-at .result)
     (b′ .before .two-at .ensures) (b′ .before .before .before .loop .inv d on is b) (b′ .tick .result) (b′ .tick .ensures)
     (c .before .before .before .if1 .left) (c .before .before .bits .result) (c .before .before .bits .ensures) (c .strays .result)
     (c .strays .ensures ∙ rw (c .before .carries .ensures))
@@ -52,14 +52,14 @@ returns c =
     let s = c .before .before .before .before in
     let a = s .args in
     passing-end (a .t0) (a .t1) (a .d) (now (a .bytes))
-    (c .before .loop .inv (a .d) (s .pre .0) (c .before .before .of .ensures) (s .pre .1 .0)) (c .loop-test .left)
+    (c .before .loop .inv (a .d) (s .pre .0) (c .before .before .of .ensures) (s .pre .1 .0)) (omega (arith, c .loop-test .left))
 
 returns-2 : tie.Need-returns-2 Inv-loop μ-loop
 returns-2 c =
     let b = c .before .before .before in
     let s = b .before .before .before .before .before in
     let a = s .args in
-    passing-stop (a .t0) (a .t1) (a .d) (now (a .bytes)) (b .before .loop-test .taken) (b .two-at .result) (b .two-at .ensures)
+    passing-stop (a .t0) (a .t1) (a .d) (now (a .bytes)) (omega (arith, b .before .loop-test .taken)) (b .two-at .result) (b .two-at .ensures)
     (b .before .before .loop .inv (a .d) (s .pre .0) (b .before .before .before .of .ensures) (s .pre .1 .0))
     (c .before .before .tick .result) (c .before .before .tick .ensures) (c .if1 .taken)
 

@@ -58,7 +58,7 @@ add-if4 c =
       arith,
       skip-small3 (a .t) (a .d) (now (a .bytes)) (c .before .before .before .before .before .before .before .before .loop .inv (a .d)
           (s .pre .0) (c .before .before .before .before .before .before .before .before .before .before .before .of .ensures)
-          (s .pre .1 .0)) (c .before .before .before .before .before .before .before .loop-test .taken) (two-at .result) (two-at .ensures)
+          (s .pre .1 .0)) (omega (arith, c .before .before .before .before .before .before .before .loop-test .taken)) (two-at .result) (two-at .ensures)
           (bits .result) (bits .ensures) (c .before .before .before .before .if2 .taken) (c .before .before .before .tick .result)
           (c .before .before .before .tick .ensures) (c .before .if3 .left),
     )
@@ -67,7 +67,7 @@ loop-again : tie.Need-loop-again Inv-loop μ-loop
 loop-again c =
     let b′ = c .before .before .before .before .before .before in
     let a = b′ .before .before .before .before .before .before .before .before .args in
-    λ d on is b. skip-on3 (a .t) d (now (a .bytes)) (b′ .before .before .before .loop .inv d on is b) (b′ .before .before .loop-test .taken)
+    λ d on is b. skip-on3 (a .t) d (now (a .bytes)) (b′ .before .before .before .loop .inv d on is b) (omega (arith, b′ .before .before .loop-test .taken))
     (b′ .before .two-at .result) (b′ .before .two-at .ensures) (b′ .bits .result) (b′ .bits .ensures)
     (c .before .before .before .before .before .if2 .taken) (c .before .before .before .before .tick .result)
     (c .before .before .before .before .tick .ensures) (c .before .before .if3 .left) (c .if4 .left)
@@ -76,7 +76,7 @@ loop-again-2 : tie.Need-loop-again-2 Inv-loop μ-loop
 loop-again-2 c =
     let a = c .before .before .before .before .before .before .before .before .before .args in
     λ d on is b. skip-other3 (a .t) d (now (a .bytes)) (c .before .before .before .before .loop .inv d on is b)
-    (c .before .before .before .loop-test .taken) (c .before .before .two-at .result) (c .before .before .two-at .ensures)
+    (omega (arith, c .before .before .before .loop-test .taken)) (c .before .before .two-at .result) (c .before .before .two-at .ensures)
     (c .before .bits .result) (c .before .bits .ensures) (c .if2 .left)
 
 returns-2 : tie.Need-returns-2 Inv-loop μ-loop
@@ -97,7 +97,7 @@ returns-4 c =
     let a = s .args in
     skip-time3 (a .t) (a .d) (now (a .bytes))
     (b .before .before .before .loop .inv (a .d) (s .pre .0) (b .before .before .before .before .before .before .of .ensures) (s .pre .1 .0))
-    (b .before .before .loop-test .taken) (b .before .two-at .result) (b .before .two-at .ensures) (b .bits .result) (b .bits .ensures)
+    (omega (arith, b .before .before .loop-test .taken)) (b .before .two-at .result) (b .before .two-at .ensures) (b .bits .result) (b .bits .ensures)
     (c .before .before .before .before .before .if2 .taken) (c .before .before .before .before .tick .result)
     (c .before .before .before .before .tick .ensures) (c .before .before .if3 .left)
 

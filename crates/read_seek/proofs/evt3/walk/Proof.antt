@@ -27,7 +27,7 @@ loop-again c =
     let b = c .before .before .before .before .before .before in
     let a = b .before .before .before .before .before .before .args in
     iteration3 (a .t0) (a .t1) (slimmed (b .before .before .before .before .widen .result)) (now (a .bytes))
-    (b .before .before .loop-test .taken) (b .before .two-at .result) (b .before .two-at .ensures)
+    (omega (arith, b .before .before .loop-test .taken)) (b .before .two-at .result) (b .before .two-at .ensures)
     (b .before .before .before .loop .inv) (slimmed (b .advance .result .next)) (ap slimmed (b .advance .ensures .0))
     (c .before .before .before .if1 .left) (c .before .before .bits .result) (c .before .before .bits .ensures) (c .strays .result)
     (c .strays .ensures ∙ rw (c .before .carries .ensures))
@@ -40,8 +40,8 @@ done : (c : tie.Left-loop Inv-loop μ-loop) →
 done c =
     let a = c .before .before .before .before .args in
     ⊎-elim
-    (λ w. end3 (a .t0) (a .t1) (slimmed (c .before .before .widen .result)) (now (a .bytes)) (c .before .loop .inv) (w .left))
-    (λ w. stop3 (a .t0) (a .t1) (slimmed (c .before .before .widen .result)) (now (a .bytes)) (w .0 .taken) (w .1 .result) (w .1 .ensures)
+    (λ w. end3 (a .t0) (a .t1) (slimmed (c .before .before .widen .result)) (now (a .bytes)) (c .before .loop .inv) (omega (arith, w .left)))
+    (λ w. stop3 (a .t0) (a .t1) (slimmed (c .before .before .widen .result)) (now (a .bytes)) (omega (arith, w .0 .taken)) (w .1 .result) (w .1 .ensures)
     (c .before .loop .inv) (slimmed (w .2 .result .next)) (ap slimmed (w .2 .ensures .0)) (w .5 .taken))
     (c .loop-test .came)
 

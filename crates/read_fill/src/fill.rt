@@ -14,6 +14,11 @@ use evt3_decoder::Decoder;
 use evt3_decoder::WideDecoder;
 use evt3_decoder::widen;
 
+// A loop tests for a word's last byte as `words::four_at` and `two_at` do, whose tests then fall away.
+const LAST_BYTE2: usize = Evt2Decoder::WORD_SIZE - 1;
+
+const LAST_BYTE3: usize = Decoder::WORD_SIZE - 1;
+
 pub fn evt2(
     bytes: &[u8],
     d: Evt2Decoder,
@@ -34,7 +39,7 @@ pub fn evt2(
     let mut s = d;
     let mut n: usize = 0;
     let mut i: usize = 0;
-    while i + Evt2Decoder::WORD_SIZE <= bytes.len() {
+    while i + LAST_BYTE2 < bytes.len() {
         let w = words::four_at(bytes, i);
         let step = advance(s, w);
         let v = step.events;
@@ -68,7 +73,7 @@ pub fn evt3(
     let mut s = widen(d);
     let mut n: usize = 0;
     let mut i: usize = 0;
-    while i + Decoder::WORD_SIZE <= bytes.len() {
+    while i + LAST_BYTE3 < bytes.len() {
         let w = words::two_at(bytes, i);
         let step = s.advance(w);
         let v = step.events;

@@ -25,7 +25,7 @@ iteration : (c : tie.After-s Inv-loop μ-loop) →
     Iteration wordSize2 reader2 (now (c .before .before .before .before .before .before .before .before .before .before .args .bytes)) (k .s) (k .i)
     (c .before .before .advance .result .next) (c .before .before .advance .result .events)
 iteration c =
-    iteration2 (c .before .before .before .before .loop-test .taken) (c .before .before .before .four-at .result)
+    iteration2 (omega (arith, c .before .before .before .before .loop-test .taken)) (c .before .before .before .four-at .result)
     (c .before .before .before .four-at .ensures) (c .before .before .advance .result) (c .before .before .advance .ensures)
 
 small : (c : tie.After-s Inv-loop μ-loop) →

@@ -33,7 +33,7 @@ iteration : (c : tie.After-clean Inv-loop μ-loop) →
     Iteration wordSize3 reader3 (now (c .before .before .before .before .before .before .before .before .before .before .before .args .bytes))
     (slimmed (k .s)) (k .i) (slimmed (c .before .before .advance .result .next)) (c .before .before .advance .result .events)
 iteration c =
-    iteration3 (c .before .before .before .before .loop-test .taken) (c .before .before .before .two-at .result)
+    iteration3 (omega (arith, c .before .before .before .before .loop-test .taken)) (c .before .before .before .two-at .result)
     (c .before .before .before .two-at .ensures) (c .before .before .advance .result) (c .before .before .advance .ensures)
 
 small : (c : tie.After-clean Inv-loop μ-loop) → Narrow (c .before .before .advance .result .events)

@@ -21,28 +21,27 @@ mod plan;
 pub fn deliver_all(
     bytes: &[u8],
     codec: Codec,
-    width: u64,
-    height: u64,
+    window: Window,
     xs: &mut [u16],
     ys: &mut [u16],
     ts: &mut [i64],
     ps: &mut [u8],
 ) -> Delivered
     requires { ⌜ length (now bytes) ≤ 2 ^ 30 ⌝ ∗ ⌜ Bounded (length (now bytes)) codec ⌝ }
-    ensures { λ r. ⌜ Delivers (insideEvents width height codec (now (bytes .entry))) r
+    ensures { λ r. ⌜ Delivers (insideEvents (window .width) (window .height) codec (now (bytes .entry))) r
         (now (xs .entry)) (now (ys .entry)) (now (ts .entry)) (now (ps .entry))
         (now (xs .exit)) (now (ys .exit)) (now (ts .exit)) (now (ps .exit)) ⌝ }
 {
     let room = shortest(xs.len(), ys.len(), ts.len(), ps.len());
-    let n = need_all(bytes, codec, width, height, room);
+    let n = need_all(bytes, codec, window.width, window.height, room);
     if room < n {
         return Delivered::Needed(n);
     }
     let t = read_fill::fill_all(
         bytes,
         codec,
-        width,
-        height,
+        window.width,
+        window.height,
         &mut *xs,
         &mut *ys,
         &mut *ts,
@@ -85,53 +84,9 @@ fn deliver_window(
     Delivered::Written(t.count)
 }
 
-// Writes what a pass hands over, if the columns hold it, from those bytes that the plan leaves.
-fn deliver_planned(
-    bytes: &[u8],
-    codec: Codec,
-    window: Window,
-    number: u64,
-    xs: &mut [u16],
-    ys: &mut [u16],
-    ts: &mut [i64],
-    ps: &mut [u8],
-) -> Delivered
-    requires { ⌜ Ready codec number (length (now bytes)) ⌝ }
-    ensures { λ r. ⌜ Delivers (handedOver window number codec (now (bytes .entry))) r
-        (now (xs .entry)) (now (ys .entry)) (now (ts .entry)) (now (ps .entry))
-        (now (xs .exit)) (now (ys .exit)) (now (ts .exit)) (now (ps .exit)) ⌝ }
-{
-    let p = plan::plan_window(bytes, codec, window, number);
-    let from = p.from;
-    let to = p.to;
-    let there = p.codec;
-    if p.plain {
-        return deliver_all(
-            &bytes[from..to],
-            there,
-            window.width,
-            window.height,
-            &mut *xs,
-            &mut *ys,
-            &mut *ts,
-            &mut *ps,
-        );
-    }
-    deliver_window(
-        &bytes[from..to],
-        there,
-        window,
-        p.number,
-        &mut *xs,
-        &mut *ys,
-        &mut *ts,
-        &mut *ps,
-    )
-}
-
-// The same, with a call of its own for everything: with two callers the plain loops are compiled as a
-// function of their own, which measured faster. `requires`: every caller has refused longer recordings
-// (4) and a decoder out of range (10).
+// Writes what a pass hands over, if the columns hold it. Everything goes by a call of its own: with two
+// callers the plain loops are compiled as a function of their own, which measured faster. `requires`:
+// every caller has refused longer recordings (4) and a decoder out of range (10).
 pub fn deliver(
     bytes: &[u8],
     codec: Codec,
@@ -148,22 +103,21 @@ pub fn deliver(
         (now (xs .exit)) (now (ys .exit)) (now (ts .exit)) (now (ps .exit)) ⌝ }
 {
     if plan::is_everything(window, codec) {
-        return deliver_all(
-            bytes,
-            codec,
-            window.width,
-            window.height,
-            &mut *xs,
-            &mut *ys,
-            &mut *ts,
-            &mut *ps,
-        );
+        return deliver_all(bytes, codec, window, &mut *xs, &mut *ys, &mut *ts, &mut *ps);
     }
-    deliver_planned(
-        bytes,
-        codec,
+    let p = plan::plan_window(bytes, codec, window, number);
+    let from = p.from;
+    let to = p.to;
+    let there = p.codec;
+    let part = &bytes[from..to];
+    if p.plain {
+        return deliver_all(part, there, window, &mut *xs, &mut *ys, &mut *ts, &mut *ps);
+    }
+    deliver_window(
+        part,
+        there,
         window,
-        number,
+        p.number,
         &mut *xs,
         &mut *ys,
         &mut *ts,

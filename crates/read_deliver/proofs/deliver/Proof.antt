@@ -1,5 +1,5 @@
--- `read_deliver::deliver` meets its contract: everything by the plain loops, else by a plan.
-use Rattle.read_deliver.specs.Plan.{whole-in-range, plainly-whole, delivers-plainly}
+-- `read_deliver::deliver` meets its contract: what is delivered of the part is delivered of the whole.
+use Rattle.read_deliver.specs.Plan.{whole-in-range, plainly-whole, delivers-plainly, delivers-under}
 use borrow.Author.Needs.{needs}
 use Rattle.read_deliver.proofs.deliver.Statement.{statement}
 use Rattle.read_deliver.proofs.deliver.Tie as tie
@@ -21,6 +21,29 @@ returns c =
     delivers-plainly (plainly-whole (s .args .window) (s .args .number) (s .args .codec) (s .args .bytes .now) (s .pre) w (e .1))
     (c .before .before .before .before .before .before .before .deliver-all .ensures)
 
+deliver-all-requires-2 : tie.Need-deliver-all-requires-2
+deliver-all-requires-2 c κs =
+    let p = c .before .before .before .before .before .before .plan-window .ensures .plainly (c .before .before .before .before .if2 .taken) in
+    (p .long, p .able)
+
+returns-2 : tie.Need-returns-2
+returns-2 c =
+    delivers-plainly (c .before .before .before .before .before .before .before .before .before .before .before .before .before .before
+    .plan-window .ensures .plainly
+    (c .before .before .before .before .before .before .before .before .before .before .before .before .if2 .taken))
+    (c .before .before .before .before .before .before .before .deliver-all2 .ensures)
+
+deliver-window-requires : tie.Need-deliver-window-requires
+deliver-window-requires c κs =
+    c .before .before .before .before .before .before .plan-window .ensures .under (c .before .before .before .before .if2 .left) .ready
+
+returns-3 : tie.Need-returns-3
+returns-3 c =
+    delivers-under (c .before .before .before .before .before .before .before .before .before .before .before .before .before .before
+    .plan-window .ensures .under
+    (c .before .before .before .before .before .before .before .before .before .before .before .before .if2 .left))
+    (c .before .before .before .before .before .before .before .deliver-window .ensures)
+
 pub deliver-spec : {M : Type 1} → statement M
 deliver-spec =
     tie.close
@@ -29,5 +52,10 @@ deliver-spec =
     deliver-all-requires
     (λ c. search needs) (λ c. search needs) (λ c. search needs) (λ c. search needs)
     returns
-    (λ c κs. search needs) (λ c. search needs) (λ c. search needs) (λ c. search needs) (λ c. search needs)
-    (λ c. search needs))
+    (λ c κs. search needs) (λ c. search needs) (λ c. search needs) (λ c. search needs)
+    deliver-all-requires-2
+    (λ c. search needs) (λ c. search needs) (λ c. search needs) (λ c. search needs)
+    returns-2
+    deliver-window-requires
+    (λ c. search needs) (λ c. search needs) (λ c. search needs) (λ c. search needs)
+    returns-3)

@@ -8,7 +8,7 @@ use Rattle.read_deliver.proofs.deliver_all.Tie as tie
 returns : tie.Need-returns
 returns c =
     let a = c .before .before .before .before .before .before .before .args in
-    delivers-none (insideEvents (a .width) (a .height) (a .codec) (a .bytes .now)) (c .before .before .shortest .result)
+    delivers-none (insideEvents (a .window .width) (a .window .height) (a .codec) (a .bytes .now)) (c .before .before .shortest .result)
     (c .before .need-all .result) (c .before .before .shortest .ensures) (c .before .need-all .ensures) (c .if1 .taken)
 
 fill-all-requires : tie.Need-fill-all-requires
@@ -17,7 +17,7 @@ fill-all-requires c κs =
     let s = b .before .before .before .before .before .before .before in
     let a = s .args in (
       s .pre .1,
-      enough-fits (insideEvents (a .width) (a .height) (a .codec) (a .bytes .now)) (b .before .before .shortest .result)
+      enough-fits (insideEvents (a .window .width) (a .window .height) (a .codec) (a .bytes .now)) (b .before .before .shortest .result)
           (b .before .need-all .result) (length (a .xs .now)) (length (a .ys .now)) (length (a .ts .now)) (length (a .ps .now))
           (b .before .before .shortest .ensures) (b .before .need-all .ensures) (b .if1 .left),
     )
@@ -27,7 +27,7 @@ returns-2 c =
     let b′ = c .before .before .before .before .before .before .before in
     let b = b′ .before .before .before .before .before in
     let a = b .before .before .before .before .before .before .before .args in
-    delivers-inside (a .width) (a .height) (a .codec) (a .bytes .now) (b .before .before .shortest .result) (b .before .need-all .result)
+    delivers-inside (a .window .width) (a .window .height) (a .codec) (a .bytes .now) (b .before .before .shortest .result) (b .before .need-all .result)
     (b′ .fill-all .result) (b .before .before .shortest .ensures) (b .before .need-all .ensures) (b .if1 .left)
     (b′ .fill-all .ensures .0) (b′ .fill-all .ensures .1)
 

@@ -2,7 +2,7 @@
 use mathlib.Core.Path.{_≡_, refl}
 use mathlib.Core.List.{List, [], _∷_}
 use Prim.Native.Nat.{ℕ}
-use lib.ListN.{take}
+use lib.ListN.{take, drop}
 use Rattle.laws_stream.specs.{Loop.loopsAfter, Loop.timeAfter, Machine.All, Mask.bits, Words.stream}
 use Rattle.evt_types.specs.declared.{Encoding.Encoding, Encoding.the-variants.Evt2, Encoding.the-variants.Evt3}
 use Rattle.evt_codec.specs.Codec.{freshC, eventsFrom, codecAfter, timeC, loopsC}
@@ -81,4 +81,6 @@ values =
 pub bench : All Right values
 unfolding Right step2 vector2 step3 vector3 loopsAfter timeAfter bits encodeBytes encode2 encode3 leads3 body3 maskCount vectored nearby beyond
 bench =
-    (refl, (refl, (refl, (refl, (refl, (refl, (refl, ((refl, refl, refl), ((refl, refl, refl), ((refl, refl, refl), ((refl, refl, refl), ((refl, refl, refl), ((refl, refl, refl), ((refl, refl, refl), ((refl, refl, refl), ((refl, refl, refl), ((refl, refl, refl), ((refl, refl, refl), tt))))))))))))))))))
+    let last : All Right (drop 12 values) = ((refl, refl, refl), ((refl, refl, refl), ((refl, refl, refl), ((refl, refl, refl), ((refl, refl, refl), ((refl, refl, refl), tt)))))) in
+    let more : All Right (drop 7 values) = ((refl, refl, refl), ((refl, refl, refl), ((refl, refl, refl), ((refl, refl, refl), ((refl, refl, refl), last))))) in
+    (refl, (refl, (refl, (refl, (refl, (refl, (refl, more)))))))

@@ -7,7 +7,8 @@ use native.Mathlib.Omega.{arith}
 use Rattle.laws_stream.specs.{Machine.run, Machine.words, Format.Format, Format.Lawful, Format.Good, Loop.tracks-same, Order.rise-first}
 use Rattle.evt_types.specs.{declared.Encoding.the-variants.Evt2, Event.Event, Event.eventsOf}
 use Rattle.evt2_decoder.specs.declared.Evt2Decoder.{Evt2Decoder}
-use Rattle.evt_types.specs.Layout.{type2, timeLow2, x2, y2, event-type2, event-low2, event-x2, event-y2, event-fits2, time-type2, time-high2, time-fits2, grain2}
+use Rattle.evt_types.specs.Layout.{type2, timeLow2, x2, y2, event-type2, event-low2, event-x2, event-y2, event-fits2, time-type2, time-high2, time-fits2}
+use Rattle.evt_types.specs.Layout.{grain2}
 use Rattle.evt2_decoder.specs.Evt2 as Reader
 use Rattle.evt2_decoder.specs.Evt2.{fresh2, period2, threshold2, step2, vector2, reader2, time-word, event-word}
 use Rattle.read_columns.specs.Inside.{clock}
@@ -105,7 +106,8 @@ module _ (d : Evt2Decoder) (t : ℕ) (low : d .«high_loops» * period2 ≤ t) (
   pub high-emits : eventsOf (vector2 d (highWord2 t)) ≡ []
   high-emits = ap eventsOf (by-time .1) ∙ no-event
 
-  pub high-steps : step2 d (highWord2 t) ≡ record { initialised = true; «time_high» = t / grain2 * grain2; time = t / grain2 * grain2; «high_loops» = d .«high_loops» }
+  pub high-steps : step2 d (highWord2 t)
+      ≡ record { initialised = true; «time_high» = t / grain2 * grain2; time = t / grain2 * grain2; «high_loops» = d .«high_loops» }
   high-steps =
       let k = tracks-same period2 threshold2 (d .«time_high») (d .«high_loops») (q * 64) (t / grain2 * grain2) (omega arith) (omega arith) in
       by-time .0 ∙ rw (time-high2 q q<, k .0, k .1)
@@ -120,7 +122,8 @@ group-as false d e more h rd =
     let le : d .«time_high» ≤ e .t = omega (arith, rd .past, rd .rises .0 .rises) in
     let low : d .«high_loops» * period2 ≤ e .t = omega (arith, rd .counted) in
     let high : e .t < d .«high_loops» * period2 + period2 = omega (arith, f .t<) in
-    let next : Evt2Decoder = record { initialised = true; «time_high» = e .t / grain2 * grain2; time = e .t / grain2 * grain2; «high_loops» = d .«high_loops» } in
+    let next : Evt2Decoder =
+    record { initialised = true; «time_high» = e .t / grain2 * grain2; time = e .t / grain2 * grain2; «high_loops» = d .«high_loops» } in
     let up : step2 d (highWord2 (e .t)) ≡ next = high-steps d (e .t) low high le in
     let r = said-event next e f refl refl more (record {
       counted = omega arith;

@@ -16,7 +16,8 @@ use Rattle.header_text.specs.Size.{both, sizeAt, geometryOf}
 use Rattle.header_text.proofs.TextLaws.{trim-blank}
 use Rattle.header.specs.declared.{HeaderAnswer.HeaderAnswer, HeaderAnswer.the-variants.Header, HeaderAnswer.the-variants.Refused}
 use Rattle.header.specs.Lines.{startsPercent, headerLines, joinedLines, headerBytes, bodyStart, bodyOf, keyOf, valueOf}
-use Rattle.header.specs.Header.{geometryName, Said, nothing, readLine, readAll, saidBy, encodingOf, sizeThatHolds, hasZero, withEncoding, headerOutcome, answerBy, headerOf}
+use Rattle.header.specs.Header.{geometryName, Said, nothing, readLine, readAll, saidBy, encodingOf, sizeThatHolds, hasZero, withEncoding, headerOutcome}
+use Rattle.header.specs.Header.{answerBy, headerOf}
 use Rattle.evt_types.specs.Outcome.{refuse, give}
 use Rattle.write_text.specs.Text.{ascii, decimal}
 use Rattle.write_header.specs.Header.{formatLine, headerText}

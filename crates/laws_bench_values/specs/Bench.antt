@@ -81,6 +81,7 @@ values =
 pub bench : All Right values
 unfolding Right step2 vector2 step3 vector3 loopsAfter timeAfter bits encodeBytes encode2 encode3 leads3 body3 maskCount vectored nearby beyond
 bench =
-    let last : All Right (drop 12 values) = ((refl, refl, refl), ((refl, refl, refl), ((refl, refl, refl), ((refl, refl, refl), ((refl, refl, refl), ((refl, refl, refl), tt)))))) in
-    let more : All Right (drop 7 values) = ((refl, refl, refl), ((refl, refl, refl), ((refl, refl, refl), ((refl, refl, refl), ((refl, refl, refl), last))))) in
+    let last : All Right (drop 15 values) = ((refl, refl, refl), ((refl, refl, refl), ((refl, refl, refl), tt))) in
+    let late : All Right (drop 12 values) = ((refl, refl, refl), ((refl, refl, refl), ((refl, refl, refl), last))) in
+    let more : All Right (drop 7 values) = ((refl, refl, refl), ((refl, refl, refl), ((refl, refl, refl), ((refl, refl, refl), ((refl, refl, refl), late))))) in
     (refl, (refl, (refl, (refl, (refl, (refl, (refl, more)))))))

@@ -1,6 +1,7 @@
 // Slices of a recording by number and by time, over an index whose records are lent: each meets what
 // specs/Slice.antt of the crate `slice_rules` defines. specs/Own.antt and specs/Opened.antt say what
-// that is over an index that opening made.
+// that is over an index that opening made, specs/During.antt that a slice by time is then all events
+// with t0 <= t < t1 if times never fall, specs/Example.antt that it may be fewer if they do.
 ghost use Rattle.slice_rules.specs.Slice.{SlicesIndex, SlicesTime};
 ghost use Rattle.slice_rules.specs.From.{passedFrom, SlicesFrom, Startable};
 use index_build::Checkpoint;
@@ -80,7 +81,7 @@ pub fn slice_index(
     )
 }
 
-// The events with t0 <= t < t1.
+// The events with t0 <= t < t1, up to the first word that brings the time to t1 or more.
 pub fn slice_time(
     recording: &[u8],
     source: RawSliceSource,

@@ -20,7 +20,8 @@ use Rattle.write_buffer.specs.{declared.EncoderState.EncoderState, Columns.Size
 use Rattle.write_buffer.specs.{Every.gathered-iteration, Every.gathered-end}
 use Rattle.write_rules.specs.declared.{Check.Check, Check.the-variants.Passed, Check.the-variants.Failed, LastTime.LastTime}
 use Rattle.write_rules.specs.declared.{LastTime.the-variants.Never, LastTime.the-variants.At, RawEventSink.RawEventSink}
-use Rattle.write_rules.specs.Range.{timeBound, timeInRange, every, atMost, eventsInRange, falls, fallsAfter, sameLengths, isNothing, sentInRange, lastInRange, sinkInRange}
+use Rattle.write_rules.specs.Range.{timeBound, timeInRange, every, atMost, eventsInRange, falls, fallsAfter, sameLengths, isNothing, sentInRange}
+use Rattle.write_rules.specs.Range.{lastInRange, sinkInRange}
 use Rattle.write_rules.specs.Rules.{lengthsOutcome, checkOutcome, checkOf}
 
 pub or-neither : (a b : Bool) → (a || b) ≡ false → (a ≡ false) × (b ≡ false)
@@ -61,7 +62,8 @@ module _ (ts : List ℤ) where
   pub falls-yes : (from : ℤ) (i : ℕ) → i < length ts → ltZ (getD ts i (pos 0)) from ≡ true → falls from (drop i ts) ≡ true
   falls-yes from i h e = falls-at from i h ∙ rw e
 
-  pub falls-no : (from : ℤ) (i : ℕ) → i < length ts → ltZ (getD ts i (pos 0)) from ≡ false → falls from (drop i ts) ≡ falls (getD ts i (pos 0)) (drop (i + 1) ts)
+  pub falls-no : (from : ℤ) (i : ℕ) → i < length ts → ltZ (getD ts i (pos 0)) from ≡ false
+      → falls from (drop i ts) ≡ falls (getD ts i (pos 0)) (drop (i + 1) ts)
   falls-no from i h e = falls-at from i h ∙ rw e
 
   pub falls-end : (from : ℤ) (i : ℕ) → length ts ≤ i → falls from (drop i ts) ≡ false
@@ -97,7 +99,8 @@ last-late b (pos m ∷ ts) h =
 last-late b (negsuc m ∷ ts) h = absurd (true≢false h)
 
 module _ (e : Encoding) where
-  between-fine : (t u : ℤ) (ts : List ℤ) → ltZ u t ≡ false → falls u ts ≡ false → timeInRange e t ≡ true → timeInRange e (lastOf u ts) ≡ true → timeInRange e u ≡ true
+  between-fine : (t u : ℤ) (ts : List ℤ) → ltZ u t ≡ false → falls u ts ≡ false → timeInRange e t ≡ true → timeInRange e (lastOf u ts) ≡ true
+      → timeInRange e u ≡ true
   between-fine (negsuc a) u ts h f p q = absurd (true≢false (sym p))
   between-fine (pos a) (negsuc b) ts h f p q = absurd (true≢false h)
   between-fine (pos a) (pos b) ts h f p q =
@@ -151,7 +154,8 @@ pub record EventFine (e : Encoding) (x y : ℕ) (t : ℤ) (p : ℕ) : Type 0 whe
   pub whole : nonNeg t ≡ true
   pub fine-t : natural t < timeBound e
 
-pub event-fine : (e : Encoding) (xs ys : List ℕ) (ts : List ℤ) (ps : List ℕ) → eventsInRange e xs ys ts ps ≡ true → (i : ℕ) → EventFine e (getD xs i 0) (getD ys i 0) (getD ts i (pos 0)) (getD ps i 0)
+pub event-fine : (e : Encoding) (xs ys : List ℕ) (ts : List ℤ) (ps : List ℕ) → eventsInRange e xs ys ts ps ≡ true → (i : ℕ)
+    → EventFine e (getD xs i 0) (getD ys i 0) (getD ts i (pos 0)) (getD ps i 0)
 event-fine e xs ys ts ps h i =
     let a = and-both (every (atMost 2047) xs) _ h in
     let b = and-both (every (atMost 2047) ys) _ (a .1) in
@@ -193,11 +197,17 @@ module _ (xs ys : List ℕ) (ts : List ℤ) (ps : List ℕ) (c : Check) (is : c 
 
 -- ---- what a check that is passed says
 
-pub sized-of : (xs ys : List ℕ) (ts : List ℤ) (ps : List ℕ) → sameLengths (length xs) (length ys) (length ts) (length ps) ≡ true → length xs ≤ 2 ^ 28 → Sized xs ys ts ps
+pub sized-of : (xs ys : List ℕ) (ts : List ℤ) (ps : List ℕ) → sameLengths (length xs) (length ys) (length ts) (length ps) ≡ true
+    → length xs ≤ 2 ^ 28 → Sized xs ys ts ps
 sized-of xs ys ts ps h f =
     let a = and-both _ _ h in
     let b = and-both _ _ (a .1) in
-    record { few = f; same-y = eqb-true (length ys) (length xs) (a .0); same-t = eqb-true (length ts) (length xs) (b .0); same-p = eqb-true (length ps) (length xs) (b .1) }
+    record {
+      few = f;
+      same-y = eqb-true (length ys) (length xs) (a .0);
+      same-t = eqb-true (length ts) (length xs) (b .0);
+      same-p = eqb-true (length ps) (length xs) (b .1);
+    }
 
 count-as : (e : Encoding) (v : EncoderState) (n : ℕ) (l : LastTime) → lastInRange e v n l ≡ true → n ≤ 2 ^ 62
 count-as e v n Never h =

@@ -54,7 +54,7 @@ def parsed(s):
 
 
 def in_range(state):
-    """Document 01, 'Out of range (10)', for a decoder."""
+    """docs/RULES.md T-2: a decoder out of range (10)."""
     enc, started, coarse, time, *place, loops = state
     if not started:
         return not any(state[2:])
@@ -103,7 +103,7 @@ def word(group, state, data, expect=None):
 
 
 def bench():
-    """Document 01's bench values, as far as they concern decoding, at every cut."""
+    """The worked values of docs/RULES.md, as far as they concern decoding, at every cut."""
     yield step('bench', FRESH3, [0x8FFF, 0x800A], 'ok 3:1,16818176,16818176,0,0,0,1 0 :')
     yield step('bench', FRESH3, [0x8FFF, 0x800B], 'ok 3:1,45056,45056,0,0,0,0 0 :')
     yield step('bench', FRESH2, [0x8FFFFFFF, 0x80FFFFFF], f'ok {text(at2(0xFFFFFF, 1))} 0 :')
@@ -313,7 +313,7 @@ def call(data, size, limit, room):
 
 
 def header_end(data):
-    """Document 01: while the next byte is `%`, a line runs through its newline, or to the end of the file."""
+    """docs/RULES.md H-1: while the next byte is `%`, a line runs through its newline, or to the end of the file."""
     at = 0
     while data[at:at + 1] == b'%':
         at = data.find(b'\n', at) + 1 or len(data)
@@ -352,7 +352,7 @@ def read(group, data, size=None, limit=None, room=COLUMNS, expect=None):
 
 
 def kept(enc, stepped, size, limit):
-    """Document 01, 'Limited reading', over the events of all words."""
+    """docs/RULES.md R-1 to R-3, over the events of all words."""
     if size and 0 in size:
         return 'refused 1'
     events = [tuple(map(int, e.split(','))) for e in stepped.split(':')[-1].split()]
@@ -388,7 +388,7 @@ def head(enc, size=None, more=b''):
 
 
 def table():
-    """The table's own examples, and the listing of document 01."""
+    """The table's own examples, and the listing's sample."""
     three = [0x8001, 0x6001, 0x0007, 0x300A, 0x400B]
     for enc in 2, 3:
         one = joined(enc, ONE[enc])
@@ -609,7 +609,7 @@ def fields(sink):
 
 
 def writer_in_range(sink):
-    """Document 01, 'Out of range (10)', for a writer."""
+    """docs/RULES.md T-4: a writer out of range (10)."""
     enc, sent, count, last, high, low, row = fields(sink)
     if last is None:
         return (count, high, low, row) == (0, None, None, None)
@@ -696,7 +696,7 @@ def row_of(xs, t=4097, y=7, p=0):
 
 
 def writer_bench():
-    """Document 01's bench values of the writer, and the table's own examples but 4: its shortest case has 268,435,457 events."""
+    """The worked values of the writer, and the table's own examples but 4: its shortest case has 268,435,457 events."""
     start = [0x8001, 0x6001, 0x0007]
     for room in dict(more=0), dict(room=OUTPUT):
         yield Writing('wbench', '2n', [Append(one_event(100), **room)], [hexed(2, [0x80000001, 0x19002807])])

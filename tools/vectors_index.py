@@ -140,7 +140,7 @@ class Index:
         return self.with_([tuple(changes.get(n, v) for n, v in zip(names, r)) if i == j else r for i, r in enumerate(self.records)])
 
     def in_range(self):
-        """Document 01, 'Out of range (10)', for an index."""
+        """docs/RULES.md T-3: an index out of range (10)."""
         enc, spacing, start, _, _, _, total = self.source
         count, time = 0, 0
         for j, (offset, events, t, state) in enumerate(self.records):

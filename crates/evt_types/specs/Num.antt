@@ -1,10 +1,8 @@
 -- What the small functions on numbers tell, and the bounds that every crate shares.
 use mathlib.Core.Bool.{Bool, _&&_}
-use Prim.Native.Nat.{ℕ, _^_, _<_}
-use native.Mathlib.Omega.{arith}
+use Prim.Native.Nat.{ℕ, _^_}
 use lib.Dec.{ltb}
 use lib.IntN.{ℤ, pos, negsuc}
-use lib.Signed.{mag}
 use Rattle.evt_types.specs.declared.{Encoding.Encoding, Encoding.the-variants.Evt2, Encoding.the-variants.Evt3}
 
 -- more bytes than this aren't read (4)
@@ -24,7 +22,3 @@ isInside width height x y = ltb x width && ltb y height
 abbrev pub natural : ℤ → ℕ
 natural (pos n) = n
 natural (negsuc n) = 0
-
-pub natural-small : (z : ℤ) → mag z < 2 ^ 63 → natural z < 2 ^ 64
-natural-small (pos n) h = omega arith
-natural-small (negsuc n) h = omega arith

@@ -1,4 +1,4 @@
--- What an index holds, and what opening answers, by document 01's table.
+-- What an index holds, and what opening answers, by the table of docs/RULES.md.
 use mathlib.Core.Path.{_≡_, refl}
 use mathlib.Core.Bool.{Bool, false, cond}
 use mathlib.Core.List.{List, [], _∷_, _++_}

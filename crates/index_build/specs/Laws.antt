@@ -34,9 +34,6 @@ module _ (l : List ℕ) (t : Builder) (f : Fit l t) where
   pub chunk-few : length (insideEvents (t .width) (t .height) (t .codec) (chunkOf l t)) ≤ 6 * (length l - t .offset)
   chunk-few = omega (arith, inside-bytes (t .width) (t .height) (t .codec) (chunkOf l t), chunk-length)
 
-  pub chunk-early : greatest clock (insideEvents (t .width) (t .height) (t .codec) (chunkOf l t)) < 2 ^ 63
-  chunk-early = latest-small (t .codec) (chunkOf l t) chunk-bounded (t .width) (t .height)
-
 -- the part of the recording that the code takes
 pub part-chunk : (l : List ℕ) (start spacing end : ℕ) → start ≤ length l → end ≡ min (start + spacing) (length l)
     → take (end - start) (drop start l) ≡ take spacing (drop start l)

@@ -1,6 +1,6 @@
 // The index of a recording: checkpoints at every `spacing` bytes of its body, made one by one. Proved:
 // the records and the answer are those of specs/Index.antt, which has what an index holds and what
-// opening answers, by document 01's table; specs/Build.antt has the making, one iteration after another.
+// opening answers, by the table of docs/RULES.md; specs/Build.antt has the making, one iteration after another.
 // Records are handed over by value. Crate `index_open` has the entries that make an index; crate `index_records`
 // judges records and finds the one that a slice starts at.
 ghost use mathlib.Core.Path.{_≡_};

@@ -1,4 +1,4 @@
--- Document 01's bench values that are to be proved of the definitions: one statement over one list.
+-- Worked values of both encodings, proved of the definitions: one statement over one list.
 use mathlib.Core.Path.{_≡_, refl}
 use mathlib.Core.List.{List, [], _∷_}
 use Prim.Native.Nat.{ℕ}

@@ -7,9 +7,9 @@ use Prim.Native.Nat.{ℕ, _*_, _/_, _≤_}
 use borrow.Author.Tests.{lt-ltb}
 use lib.ListN.{take, drop}
 use Rattle.laws_stream.specs.Machine.{Note, All, all-of, run, emits, words, notes, words-append, notes-append, words-take, says-take, says-fits}
-use Rattle.laws_stream.specs.{Words.Fits, Words.stream, Words.stream-append, Words.wordsOf, Words.wordsOf-stream, Words.wordsOf-take, Format.Format}
-use Rattle.laws_stream.specs.{Format.Lawful, Format.Good, Format.givens, Format.writes, Format.resumes, Stream.after, Stream.notedBytes}
-use Rattle.laws_stream.specs.{Stream.decode-whole, Stream.decode-cut, Stream.bytes-resumed, Checkpoint.good-timed, Order.Rise, Slice.Past}
+use Rattle.laws_stream.specs.{Words.Fits, Words.stream, Words.stream-append, Words.wordsOf, Words.wordsOf-take, Format.Format}
+use Rattle.laws_stream.specs.{Format.Lawful, Format.Good, Format.givens, Format.writes, Format.resumes, Stream.notedBytes}
+use Rattle.laws_stream.specs.{Stream.decode-whole, Stream.decode-cut, Stream.bytes-resumed, Stream.good-timed, Order.Rise, Slice.Past}
 use Rattle.laws_stream.specs.{Slice.within, Slice.reached, Slice.over-time, Slice.says-past}
 use Rattle.evt_types.specs.{declared.Encoding.Encoding, Event.Event}
 use Rattle.evt_codec.specs.Codec.{eventsFrom}
@@ -125,8 +125,3 @@ module _ (e : Encoding) where
     cut-past c win =
         past-over e win d (take c (noteBytes e ns))
         (cut-timed (formatOf e) (lawfulOf e) (isStarted e) (timeOf e) clock (λ d es rd l. ready-ahead e d es rd) (win .t0) (win .t1) d ns understood c)
-
-    -- the decoder after it is the one after its words
-    pub after-words : after (encodeSize e) (readerOf e) d (noteBytes e ns) ≡ run (readerOf e) d (words ns)
-    after-words =
-        rw (wordsOf-stream (encodeSize e) (lawfulOf e .sized) (words ns) (says-fits (readerOf e) (Fits (encodeSize e)) (ReadyOf e) d ns [] understood))

@@ -6,11 +6,11 @@ use Prim.Native.Nat.{ℕ, _≤_}
 use native.Mathlib.Omega.{arith}
 use Rattle.evt_types.specs.{Layout.wordSize2, Layout.wordSize3, Event.Event}
 use Rattle.laws_stream.specs.{Machine.Machine, Machine.Note, Machine.All, Machine.all-of, Words.wordsOf, Format.Format, Format.Lawful, Format.through}
-use Rattle.laws_stream.specs.{Format.givens, Stream.decode, Stream.after, Order.Rise, Order.rise-all, Slice.Past, Slice.reached, Slice.past-then}
+use Rattle.laws_stream.specs.{Format.givens, Stream.decode, Order.Rise, Order.rise-all, Slice.Past, Slice.reached, Slice.past-then}
 use Rattle.evt_types.specs.declared.{Encoding.Encoding, Encoding.the-variants.Evt2, Encoding.the-variants.Evt3}
 use Rattle.evt2_decoder.specs.{declared.Evt2Decoder.Evt2Decoder, Evt2.fresh2, Evt2.reader2}
 use Rattle.evt3_decoder.specs.{declared.Decoder.Decoder, Evt3.fresh3, Evt3.reader3}
-use Rattle.evt_codec.specs.{declared.codec.Codec.Codec, Codec.freshC, Codec.startedC, Codec.timeC, Codec.eventsFrom, Codec.codecAfter}
+use Rattle.evt_codec.specs.{declared.codec.Codec.Codec, Codec.freshC, Codec.startedC, Codec.timeC, Codec.eventsFrom}
 use Rattle.evt_codec.specs.declared.codec.Codec.the-variants as C
 use Rattle.read_columns.specs.Inside.{inside, clock}
 use Rattle.read_window.specs.declared.Window.{Window}
@@ -86,10 +86,6 @@ fresh-is Evt3 = refl
 pub events-are : (e : Encoding) (d : StateOf e) (l : List ℕ) → eventsFrom (codecOf e d) l ≡ decode (encodeSize e) (readerOf e) d l
 events-are Evt2 d l = refl
 events-are Evt3 d l = refl
-
-pub after-is : (e : Encoding) (d : StateOf e) (l : List ℕ) → codecAfter (codecOf e d) l ≡ codecOf e (after (encodeSize e) (readerOf e) d l)
-after-is Evt2 d l = refl
-after-is Evt3 d l = refl
 
 -- a fresh decoder is ready for all that can be said
 pub fresh-ready : (e : Encoding) (es : List Event) → Rise clock (sayable (limit e)) 0 es → ReadyOf e (freshOf e) es

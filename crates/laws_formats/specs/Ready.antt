@@ -2,7 +2,7 @@
 use mathlib.Core.Path.{_≡_, sym, subst}
 use mathlib.Core.Bool.{Bool, true, _&&_, true≢false}
 use mathlib.Core.List.{List, [], _∷_}
-use Prim.Native.Nat.{ℕ, _*_, _^_, _≤_, _<_, min}
+use Prim.Native.Nat.{ℕ, _*_, _≤_, _<_, min}
 use native.Mathlib.Omega.{arith}
 use lib.Dec.{leb, ltb}
 use borrow.Author.Tests.{leb-true, ltb-true, eqb-true}
@@ -35,10 +35,6 @@ Holds Nothing P = Unit
 Holds (Value q) P = P q
 
 -- ---- laws
-
-pub limit-le : (e : Encoding) → limit e ≤ 2 ^ 34
-limit-le Evt2 = omega arith
-limit-le Evt3 = omega arith
 
 pub holds-sent : (o : Sent) (P : ℕ → Type 0) (q : ℕ) → Holds o P → sentIs o q ≡ true → P q
 holds-sent Nothing P q h e = absurd (true≢false (sym e))

@@ -3,7 +3,7 @@ use mathlib.Core.Path.{_≡_, refl, _∙_}
 use mathlib.Core.List.{List, [], _∷_, _++_, append-assoc}
 use Prim.Native.Nat.{ℕ, _<_}
 use lib.ListN.{take, drop}
-use Rattle.laws_stream.specs.Machine.{Machine, Note, All, run, emits, run-append, words, notes, words-append, notes-append, notes-split, Says}
+use Rattle.laws_stream.specs.Machine.{Machine, Note, All, run, emits, run-append, words, notes, words-append, notes-append, Says}
 use Rattle.laws_stream.specs.{Machine.says-append, Machine.says-take, Machine.says-ready, Words.Fits}
 
 -- S: the reader's states. Q: the writer's. I: what the writer is given at a time. E: events
@@ -74,11 +74,6 @@ module _ {S Q I E : Type 0} (F : Format S Q I E) (L : Lawful F) where
       let rd = says-ready (F .reader) (Fits (F .size)) (F .Ready) s (take k ns) (notes (drop k ns) ++ more) q in
       let r = sent-good (run (F .reader) s (words (take k ns))) is more va (rw e rd) in
       says-append (F .reader) (Fits (F .size)) (F .Ready) s (take k ns) (sent F is) more (rw (written-notes (F .fresh) is va, e) q) r
-
-  -- and carries the same events
-  pub resumed-notes : (k : ℕ) (ns : List (Note ℕ E)) (is : List I) → All (F .Valid) is → givens F is ≡ notes (drop k ns)
-      → notes (take k ns ++ sent F is) ≡ notes ns
-  resumed-notes k ns is va e = rw (notes-append, written-notes (F .fresh) is va, e, notes-split)
 
 -- a writer that is given more at a time: `f` takes apart what it is given
 module _ {S Q A I E : Type 0} (F : Format S Q I E) (f : A → List I) (g : A → List E) (Valid : A → Type 0) where

@@ -11,5 +11,4 @@ pub mod Seek
 pub mod PassOver
 pub mod Format
 pub mod Stream
-pub mod Checkpoint
 pub mod Columns

@@ -53,13 +53,6 @@ module _ (period threshold : ℕ) where
   unfolding timeAfter
   in-period old loops raw h = (omega arith, omega arith)
 
-  -- times of the first period that fall by less than the threshold
-  pub first-period : (old raw : ℕ) → old < raw + threshold → (loopsAfter old 0 raw ≡ 0) × (timeAfter old 0 raw ≡ raw)
-  unfolding timeAfter
-  first-period old raw h =
-      let e : loopsAfter old 0 raw ≡ 0 = same-loop old 0 raw (omega arith) in
-      (e, rw e (omega arith))
-
   -- the time t, sent as `raw` in the same loop as the time before or in the next, is read as t
   pub tracks-same : (old loops raw t : ℕ) → t ≡ raw + loops * period → old < t + threshold → (loopsAfter old loops raw ≡ loops) × (timeAfter old loops raw ≡ t)
   unfolding timeAfter

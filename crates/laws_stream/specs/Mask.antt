@@ -70,19 +70,6 @@ bits-zero (suc k) at = bits-even k at 0 refl ∙ bits-zero k (suc at)
 pub bits-one : (k at : ℕ) → bits (suc k) at 1 ≡ at ∷ []
 bits-one k at = bits-odd k at 1 refl ∙ ap (λ (l : List ℕ). at ∷ l) (bits-zero k (suc at))
 
--- bits above those of m give nothing
-pub bits-wide : (k j at m : ℕ) → j ≤ k → m < 2 ^ j → bits k at m ≡ bits j at m
-bits-wide k zero at m h l =
-    let z : m ≡ 0 = omega arith in
-    rw z (bits-zero k at ∙ sym (bits-zero zero at))
-bits-wide zero (suc j) at m h l = absurd (omega arith)
-bits-wide (suc k) (suc j) at m h l =
-    let ih = bits-wide k j (suc at) (m / 2) (omega arith) (omega arith) in
-    ⊎-elim
-    (λ (e : m % 2 ≡ 0). bits-even k at m e ∙ ih ∙ sym (bits-even j at m e))
-    (λ (e : m % 2 ≡ 1). bits-odd k at m e ∙ ap (λ (l : List ℕ). at ∷ l) ih ∙ sym (bits-odd j at m e))
-    (parity m)
-
 -- ---- a loop over the bits: the lowest goes first, and is then cleared from the mask
 
 -- the mask falls
@@ -202,12 +189,6 @@ module _ (f : ℕ → ℕ) (rises : (a b : ℕ) → a ≤ b → f a ≤ f b) whe
 -- the greatest of some numbers, 0 of none
 abbrev pub top : List ℕ → ℕ
 top l = greatest (λ x. x) l
-
-pub top-bits : (k j at m : ℕ) → 2 ^ j ≤ m → m < 2 ^ suc j → m < 2 ^ k → top (bits k at m) ≡ at + j
-top-bits = greatest-bits (λ x. x) (λ a b h. h)
-
-pub top-leading : (k w at m : ℕ) → 0 < m → m < 2 ^ k → m < 2 ^ w → top (bits k at m) ≡ at + (w - 1 - leadingZeros w m)
-top-leading = greatest-leading (λ x. x) (λ a b h. h)
 
 -- ---- a mask that was made of rising numbers has these for its bits
 

@@ -1,12 +1,10 @@
 -- Events of any kind in order of time, and the greatest of what they hold.
 use mathlib.Core.Path.{_≡_, refl, ap}
-use mathlib.Core.Bool.{Bool, true, _&&_}
+use mathlib.Core.Bool.{Bool, true}
 use mathlib.Core.List.{List, [], _∷_, _++_, map}
 use Prim.Native.Nat.{ℕ, _≤_, _<_, max}
 use native.Mathlib.Omega.{arith}
-use lib.Dec.{leb}
-use borrow.Author.Tests.{leb-true}
-use Rattle.laws_stream.specs.Machine.{and-both, All}
+use Rattle.laws_stream.specs.Machine.{All}
 
 -- `clock`: an event's time; `ok`: whether an encoding can say the event at all
 module _ {E : Type 0} (clock : E → ℕ) (ok : E → Bool) where
@@ -19,21 +17,9 @@ module _ {E : Type 0} (clock : E → ℕ) (ok : E → Bool) where
   Rise from [] = Unit
   Rise from (e ∷ es) = Fine from e × Rise (clock e) es
 
-  -- the test for it
-  abbrev pub riseb : ℕ → List E → Bool
-  riseb from [] = true
-  riseb from (e ∷ es) = (leb from (clock e) && ok e) && riseb (clock e) es
-
   abbrev pub lastOf : ℕ → List E → ℕ
   lastOf from [] = from
   lastOf from (e ∷ es) = lastOf (clock e) es
-
-  pub riseb-true : (from : ℕ) (es : List E) → riseb from es ≡ true → Rise from es
-  riseb-true from [] h = tt
-  riseb-true from (e ∷ es) h =
-      let a = and-both (leb from (clock e) && ok e) (riseb (clock e) es) h in
-      let b = and-both (leb from (clock e)) (ok e) (a .0) in
-      (record { rises = leb-true from (clock e) (b .0); fine = b .1 }, riseb-true (clock e) es (a .1))
 
   pub rise-from : (a b : ℕ) (es : List E) → a ≤ b → Rise b es → Rise a es
   rise-from a b [] h r = tt

@@ -1,17 +1,17 @@
 -- The one rule of selection: reading with a limit, slices by number and by time, and the index are uses of it.
 use mathlib.Core.Path.{_≡_, refl, sym, ap, _∙_}
-use mathlib.Core.Bool.{Bool, true, false, _&&_, _||_, and-false, or-false}
+use mathlib.Core.Bool.{Bool, true, false, _&&_, and-false, or-false, _||_}
 use mathlib.Core.List.{List, [], _∷_, _++_, append-nil}
 use Prim.Native.Nat.{ℕ, suc, _+_, _-_, _≤_, _<_, max}
 use native.Mathlib.Omega.{arith}
 use native.Mathlib.Nat.{add-zero, add-suc, suc-add}
 use lib.Dec.{leb, ltb}
 use lib.ListN.{length, take, drop, length-append}
-use lib.Seq.{take-nil, drop-nil, drop-append-add}
+use lib.Seq.{take-nil, drop-nil}
 use borrow.Author.Tests.{leb-true, leb-false, ltb-true, ltb-false, le-leb, lt-leb, lt-ltb, le-ltb}
 use Rattle.laws_stream.specs.Machine.{Machine, All, run, emits, emits-append}
 use Rattle.laws_stream.specs.Slice.{onto, onto-append, sift, sift-append, sift-all, sift-sift, andThen, none-sifted, until, unless, within, reached}
-use Rattle.laws_stream.specs.Slice.{not-reached, Past, until-sift, sliced}
+use Rattle.laws_stream.specs.Slice.{not-reached, Past, sliced}
 
 -- numbers n0 to before n1, times t0 to before t1
 pub record Selection : Type 0 where
@@ -68,16 +68,6 @@ module _ {S W E : Type 0} (R : Reading S W E) where
   pub length-numbered : (s : S) (w : W) (ws : List W) → length (numbered s (w ∷ ws)) ≡ length (numberedOf s w) + length (numbered (R .machine .step s w) ws)
   length-numbered s w ws = ap length (numbered-cons s w ws) ∙ length-append (numberedOf s w) (numbered (R .machine .step s w) ws)
 
-  -- after all the words
-  abbrev pub endAfter : ℕ → S → List W → End S
-  endAfter k s ws = record { number = k + length (numbered s ws); state = run (R .machine) s ws; consumed = length ws }
-
-  end-cons : (k : ℕ) (s : S) (w : W) (ws : List W) → oneMore (endAfter (k + length (numberedOf s w)) (R .machine .step s w) ws) ≡ endAfter k s (w ∷ ws)
-  end-cons k s w ws =
-      let e : k + length (numberedOf s w) + length (numbered (R .machine .step s w) ws) ≡ k + length (numbered s (w ∷ ws)) =
-      omega (arith, length-numbered s w ws) in
-      ap (λ (n : ℕ). record { number = n; state = run (R .machine) (R .machine .step s w) ws; consumed = suc (length ws) }) e
-
   module _ (win : Selection) where
     abbrev pub inTime : E → Bool
     inTime = within (R .clock) (win .t0) (win .t1)
@@ -111,35 +101,17 @@ module _ {S W E : Type 0} (R : Reading S W E) where
     -- ---- one step
 
     module _ (k : ℕ) (s : S) where
-      pub handed-nil : handed k s [] ≡ []
-      unfolding handed
-      handed-nil = refl
-
-      pub ended-nil : ended k s [] ≡ record { number = k; state = s; consumed = 0 }
-      unfolding ended
-      ended-nil = refl
-
       module _ (w : W) (ws : List W) where
         -- the pass stops at this word
         pub handed-stop : isStopped (k + length (numberedOf s w)) (R .machine .step s w) ≡ true → handed k s (w ∷ ws) ≡ chosen k (numberedOf s w)
         unfolding handed
         handed-stop h = rw h (append-nil (chosen k (numberedOf s w)))
 
-        pub ended-stop : isStopped (k + length (numberedOf s w)) (R .machine .step s w) ≡ true
-            → ended k s (w ∷ ws) ≡ record { number = k + length (numberedOf s w); state = R .machine .step s w; consumed = 1 }
-        unfolding ended
-        ended-stop h = rw h
-
         -- or goes on
         pub handed-on : isStopped (k + length (numberedOf s w)) (R .machine .step s w) ≡ false
             → handed k s (w ∷ ws) ≡ chosen k (numberedOf s w) ++ handed (k + length (numberedOf s w)) (R .machine .step s w) ws
         unfolding handed
         handed-on h = rw h
-
-        pub ended-on : isStopped (k + length (numberedOf s w)) (R .machine .step s w) ≡ false
-            → ended k s (w ∷ ws) ≡ oneMore (ended (k + length (numberedOf s w)) (R .machine .step s w) ws)
-        unfolding ended
-        ended-on h = rw h
 
     -- ---- what is chosen
 
@@ -266,44 +238,13 @@ module _ {S W E : Type 0} (R : Reading S W E) where
         go true ih = refl
         go false ih = ih
 
-    -- the same of the whole stream, where no event that is in time follows the stop
-    pub handed-in-time : (k : ℕ) (s : S) (ws : List W) → win .n0 ≤ k → k + length (numbered s ws) < win .n1
-        → Past (R .machine) (andThen (R .inside) inTime) isOver s ws → handed k s ws ≡ sift inTime (numbered s ws)
-    handed-in-time k s ws a b p =
-        handed-by-time k s ws a b ∙ sift-sift (R .inside) inTime (emits (R .machine) s (until (R .machine) isOver s ws))
-        ∙ until-sift (R .machine) (andThen (R .inside) inTime) isOver s ws p ∙ sym (sift-sift (R .inside) inTime (emits (R .machine) s ws))
-
     -- ---- ALL: nothing stops, and nothing is left out
 
     pub handed-all : (k : ℕ) (s : S) (ws : List W) → win .n0 ≤ k → k + length (numbered s ws) ≤ win .n1 → Calm s ws → All (λ e. inTime e ≡ true) (numbered s ws)
         → handed k s ws ≡ numbered s ws
     handed-all k s ws a b c h = handed-chosen k s ws c ∙ chosen-time k (numbered s ws) a b ∙ sift-all inTime (numbered s ws) h
 
-    pub ended-all : (k : ℕ) (s : S) (ws : List W) → k + length (numbered s ws) < win .n1 → Calm s ws → ended k s ws ≡ endAfter k s ws
-    ended-all k s [] b c = ended-nil k s ∙ ap (λ (n : ℕ). record { number = n; state = s; consumed = 0 }) (sym (add-zero k))
-    ended-all k s (w ∷ ws) b c =
-        let es = numberedOf s w in
-        let j = k + length es in
-        let u = R .machine .step s w in
-        let f = length-numbered s w ws in
-        let o : isStopped j u ≡ false = rw (lt-leb (win .n1) j (omega arith), c .0) in
-        ended-on k s w ws o ∙ ap oneMore (ended-all j u ws (omega arith) (c .1)) ∙ end-cons k s w ws
-
     -- ---- the words consumed, whatever stops the pass
-
-    pub ended-after : (k : ℕ) (s : S) (ws : List W) → ended k s ws ≡ endAfter k s (take (ended k s ws .consumed) ws)
-    unfolding ended
-    ended-after k s [] = ap (λ (n : ℕ). record { number = n; state = s; consumed = 0 }) (sym (add-zero k))
-    ended-after k s (w ∷ ws) =
-        let j = k + length (numberedOf s w) in
-        let u = R .machine .step s w in
-        go (isStopped j u) j u (ended j u ws) (end-cons k s w) (ended-after j u ws)
-      where
-        go : (t : Bool) (j : ℕ) (u : S) (e : End S) → ((vs : List W) → oneMore (endAfter j u vs) ≡ endAfter k s (w ∷ vs))
-            → e ≡ endAfter j u (take (e .consumed) ws)
-            → oneMore (endAt t j u e) ≡ endAfter k s (take (oneMore (endAt t j u e) .consumed) (w ∷ ws))
-        go true j u e f ih = ap (λ (n : ℕ). record { number = n; state = u; consumed = 1 }) (sym (add-zero j)) ∙ f []
-        go false j u e f ih = ap oneMore ih ∙ f (take (e .consumed) ws)
 
     pub handed-after : (k : ℕ) (s : S) (ws : List W) → handed k s ws ≡ chosen k (numbered s (take (ended k s ws .consumed) ws))
     unfolding handed ended
@@ -320,18 +261,6 @@ module _ {S W E : Type 0} (R : Reading S W E) where
         go false j u e f ih = ap (λ (l : List E). chosen k (numberedOf s w) ++ l) ih ∙ f (take (e .consumed) ws)
 
     -- ---- from a record, the state and the number after the words a
-
-    pub by-number-from : (s : S) (a b : List W) → length (numbered s a) ≤ win .n0
-        → byNumber (win .n0) (win .n1) (length (numbered s a)) (numbered (run (R .machine) s a) b)
-        ≡ take (win .n1 - win .n0) (drop (win .n0) (numbered s (a ++ b)))
-    by-number-from s a b h =
-        let k = length (numbered s a) in
-        let m : max (win .n0) k ≡ win .n0 = omega arith in
-        let e : win .n0 ≡ k + (win .n0 - k) = omega arith in
-        let d : drop (win .n0) (numbered s (a ++ b)) ≡ drop (win .n0 - k) (numbered (run (R .machine) s a) b)
-        = ap (drop (win .n0)) (numbered-append s a b) ∙ ap (λ (n : ℕ). drop n (numbered s a ++ numbered (run (R .machine) s a) b)) e
-        ∙ drop-append-add (numbered s a) (numbered (run (R .machine) s a) b) (win .n0 - k) in
-        rw (m, d)
 
     -- where none of the events before it is in time
     pub by-time-from : (s : S) (a b : List W) → All (λ e. inTime e ≡ false) (numbered s a) → Past (R .machine) (andThen (R .inside) inTime) isOver s (a ++ b)

@@ -4,13 +4,13 @@ use mathlib.Core.Logic.{_↔_}
 use mathlib.Core.List.{List, [], _∷_, _++_, append-assoc, append-nil}
 use Prim.Native.Nat.{ℕ, zero, suc, _+_, _*_, _/_, _%_, _^_, _≤_, _<_}
 use native.Mathlib.Omega.{arith}
-use native.Mathlib.Nat.{pow-suc, zero-add, suc-add, suc-mul, zero-mul, mod-lt, div-add-mod', div-eq-of-eq-mul-left, div-eq-sub-div, mul-add-div-right}
+use native.Mathlib.Nat.{zero-add, suc-add, suc-mul, zero-mul, mod-lt, div-add-mod', div-eq-of-eq-mul-left, div-eq-sub-div, mul-add-div-right}
 use native.Mathlib.Nat.{div-eq-of-lt, le-div-iff-mul-le}
 use native.Mathlib.Numerals.{add-one}
 use lib.ListN.{length, take, drop, getD, length-append, length-take, length-drop, take-append-drop}
 use lib.Seq.{take-at, drop-at, take-append-add, drop-append-add, take-add, take-append-le, take-nil, drop-nil, drop-append-le, drop-cons, drop-drop}
 use lib.Seq.{length-take-le}
-use Rattle.laws_stream.specs.Machine.{All, all-append, all-take, all-drop}
+use Rattle.laws_stream.specs.Machine.{All, all-take}
 
 abbrev pub bytes : ℕ → ℕ → List ℕ
 bytes zero w = []
@@ -29,10 +29,6 @@ value-bytes zero w h = omega arith
 value-bytes (suc n) w h =
     let ih = value-bytes n (w / 256) (omega arith) in
     omega (arith, ih)
-
-pub value-lt : (l : List ℕ) → All (λ b. b < 256) l → value l < 256 ^ length l
-value-lt [] h = omega arith
-value-lt (b ∷ l) h = rw pow-suc (omega (arith, h .0, value-lt l (h .1)))
 
 -- of the bytes at i and after
 pub value-next : (k : ℕ) (l : List ℕ) (i : ℕ) → i < length l → value (take (suc k) (drop i l)) ≡ getD l i 0 + value (take k (drop (suc i) l)) * 256
@@ -81,15 +77,6 @@ module _ (n : ℕ) where
 
   pub length-words : (l : List ℕ) → length (wordsOf l) ≡ length l / n
   length-words l = length-parse (length l / n) l
-
-  parse-fits : (k : ℕ) (l : List ℕ) → k * n ≤ length l → All (λ b. b < 256) l → All Fits (parse k l)
-  parse-fits zero l h b = tt
-  parse-fits (suc k) l h b =
-      let e : length (take n l) ≡ n = length-take-le n l (omega arith) in
-      (rw e at (value-lt (take n l) (all-take _ n l b)), parse-fits k (drop n l) (rw length-drop (omega arith)) (all-drop _ n l b))
-
-  pub words-fit : (l : List ℕ) → All (λ b. b < 256) l → All Fits (wordsOf l)
-  words-fit l h = parse-fits (length l / n) l (omega (arith, div-add-mod' (length l) n)) h
 
   pub stream-append : (a b : List ℕ) → stream (a ++ b) ≡ stream a ++ stream b
   stream-append [] b = refl
@@ -188,9 +175,3 @@ module _ (n : ℕ) where
     wordsOf-take c ws h =
         let lt : length (take (c % n) (stream (drop (c / n) ws))) < n = rw length-take (omega (arith, mod-lt c pos)) in
         ap wordsOf (take-stream c ws) ∙ wordsOf-broken (take (c / n) ws) (take (c % n) (stream (drop (c / n) ws))) (all-take Fits (c / n) ws h) lt
-
-    -- THE RESUMPTION: less the broken word, with another stream behind
-    pub wordsOf-resumed : (c : ℕ) (ws vs : List ℕ) → All Fits ws → All Fits vs → wordsOf (take (c / n * n) (stream ws) ++ stream vs) ≡ take (c / n) ws ++ vs
-    wordsOf-resumed c ws vs h k =
-        rw (take-stream-words (c / n) ws, ← stream-append)
-        (wordsOf-stream (take (c / n) ws ++ vs) (all-append Fits (take (c / n) ws) vs (all-take Fits (c / n) ws h) k))

@@ -1,10 +1,10 @@
 -- The listing, piece by piece: the first line, and the lines of the rows of four columns.
 use mathlib.Core.Path.{_≡_, refl, sym, ap, _∙_}
 use mathlib.Core.Bool.{Bool, true, false, cond}
-use mathlib.Core.List.{List, [], _∷_, _++_, map, append-nil, append-assoc}
+use mathlib.Core.List.{List, [], _∷_, _++_, map, append-nil}
 use Prim.Native.Nat.{ℕ, zero, suc, _+_, _-_, _*_, _^_, _≤_, _<_}
 use native.Mathlib.Omega.{arith}
-use native.Mathlib.Nat.{add-zero, zero-add, add-suc, suc-add}
+use native.Mathlib.Nat.{add-zero, zero-add}
 use native.Mathlib.Numerals.{add-one}
 use borrow.Author.Tests.{lt-ltb, le-ltb}
 use lib.Dec.{ltb}
@@ -79,13 +79,6 @@ module _ (xs ys : List ℕ) (ts : List ℤ) (ps : List ℕ) where
       → eventLines (rowsFrom xs ys ts ps i left) ≡ eventLine (eventOf xs ys ts ps i) ++ eventLines (rowsFrom xs ys ts ps (i + 1) (left - 1))
   unfolding eventLines
   lines-first i left h = ap eventLines (rows-first i left h)
-
-  pub rows-parts : (i n m : ℕ)
-      → eventLines (rowsFrom xs ys ts ps i (n + m)) ≡ eventLines (rowsFrom xs ys ts ps i n) ++ eventLines (rowsFrom xs ys ts ps (i + n) m)
-  unfolding rowsFrom eventLines
-  rows-parts i zero m = rw (zero-add, add-zero)
-  rows-parts i (suc n) m =
-      rw (suc-add, append-assoc, add-suc) (ap (λ (l : List ℕ). eventLine (eventOf xs ys ts ps i) ++ l) (rows-parts (suc i) n m ∙ rw suc-add))
 
 -- ---- the answer
 

@@ -1,5 +1,5 @@
 // Reading a whole recording, or headerless words, into four lent columns. Both entries are total.
-// What they answer and hand over, by document 01's table, is in specs/Read.antt of `read_rules`, whose
+// What they answer and hand over, by the table of docs/RULES.md, is in specs/Read.antt of `read_rules`, whose
 // functions settle all that needs no column.
 ghost use Prim.Native.Nat.{_≤_, _^_};
 ghost use lib.ListN.{length};

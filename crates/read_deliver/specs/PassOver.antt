@@ -10,7 +10,6 @@ use Rattle.laws_stream.specs.{PassOver.over, PassOver.over-passes, PassOver.han
 use Rattle.evt2_decoder.specs.{declared.Evt2Decoder.Evt2Decoder, Evt2.reader2}
 use Rattle.evt3_decoder.specs.{declared.Decoder.Decoder, Evt3.reader3}
 use Rattle.evt_codec.specs.declared.{codec.Codec.Codec, codec.Codec.the-variants.Evt2, codec.Codec.the-variants.Evt3}
-use Rattle.evt_codec.specs.Codec.{codecAfter}
 use Rattle.read_columns.specs.Inside.{inside}
 use Rattle.read_fill.specs.{Decode.insideEvents, Decode.Bounded, Decode.Steady, Laws.inside-bytes}
 use Rattle.read_count.specs.{declared.CountedTo.CountedTo, Count.countedToOf}
@@ -50,14 +49,6 @@ module _ (width height most : ℕ) (l : List ℕ) where
       rw (words-taken 4 (omega arith) (over reader2 (inside width height) most d (wordsOf wordSize2 l) .words) l (passed-within (Evt2 d))) (passes2 d .count)
   passed-count (Evt3 d) =
       rw (words-taken 2 (omega arith) (over reader3 (inside width height) most d (wordsOf wordSize3 l) .words) l (passed-within (Evt3 d))) (passes3 d .count)
-
-  pub passed-codec : (c : Codec) → countedToOf width height most c l .codec ≡ codecAfter c (take (countedToOf width height most c l .at) l)
-  passed-codec (Evt2 d) =
-      ap Evt2
-      (rw (words-taken 4 (omega arith) (over reader2 (inside width height) most d (wordsOf wordSize2 l) .words) l (passed-within (Evt2 d))) (passes2 d .state))
-  passed-codec (Evt3 d) =
-      ap Evt3
-      (rw (words-taken 2 (omega arith) (over reader3 (inside width height) most d (wordsOf wordSize3 l) .words) l (passed-within (Evt3 d))) (passes3 d .state))
 
 -- ---- the pass from there
 

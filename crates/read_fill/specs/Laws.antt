@@ -61,11 +61,6 @@ pub codec-nil : (c : Codec) → codecAfter c [] ≡ c
 codec-nil (Evt2 d) = refl
 codec-nil (Evt3 d) = refl
 
--- the encoding stays
-pub size-after : (c : Codec) (l : List ℕ) → wordSize (codecAfter c l) ≡ wordSize c
-size-after (Evt2 d) l = refl
-size-after (Evt3 d) l = refl
-
 -- ---- how many
 
 -- events in one word
@@ -131,10 +126,6 @@ bounded-fresh e n h = bounded-range (freshC e) n (range-fresh e) (fitting-fresh 
 pub fresh-range : (e : Encoding) (l : List ℕ) → length l ≤ 2 ^ 30 → inRangeC (codecAfter (freshC e) l) ≡ true
 fresh-range E.Evt2 l h = fresh-range2 l h
 fresh-range E.Evt3 l h = fresh-range3 l h
-
-pub bounded-fitting : (c : Codec) (n : ℕ) → Bounded n c → Fitting c
-bounded-fitting (Evt2 d) n b = tt
-bounded-fitting (Evt3 d) n b = b .column
 
 -- ---- times and coordinates
 

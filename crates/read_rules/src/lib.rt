@@ -1,6 +1,6 @@
 // What reading answers, and all that it settles without touching a column: whether words are read at
 // all, the window of a size and a limit, and the answer to what was written.
-// specs/Read.antt has the answers by document 01's table, specs/Laws.antt that the parts come to them.
+// specs/Read.antt has the answers by the table of docs/RULES.md, specs/Laws.antt that the parts come to them.
 ghost use mathlib.Core.Path.{_≡_};
 ghost use Prim.Native.Nat.{_≤_};
 ghost use lib.ListN.{length};

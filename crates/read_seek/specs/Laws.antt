@@ -5,24 +5,23 @@ use mathlib.Core.Bool.{Bool, true, false, true≢false}
 use mathlib.Core.List.{List, []}
 use Prim.Native.Nat.{ℕ, _+_, _*_, _≤_, _<_, _^_}
 use native.Mathlib.Omega.{arith}
-use lib.Dec.{ltb}
 use lib.ListN.{length, take, drop, length-drop}
 use lib.Seq.{drop-drop}
-use borrow.Author.Tests.{lt-ltb, ltb-true, ltb-false}
-use Rattle.laws_stream.specs.{Machine.All, Machine.all-of, Words.wordsOf, Words.length-words, Mask.bits, Mask.bits-zero, Slice.sift-none, Slice.early}
-use Rattle.laws_stream.specs.{Slice.late, Seek.reach-most, Seek.handed-from, Seek.handed-upto}
+use borrow.Author.Tests.{lt-ltb}
+use Rattle.laws_stream.specs.{Machine.All, Machine.all-of, Words.wordsOf, Words.length-words, Mask.bits, Mask.bits-zero}
+use Rattle.laws_stream.specs.{Seek.reach-most, Seek.handed-from, Seek.handed-upto}
 use Rattle.laws_stream.specs.Select as Select
 use Rattle.evt2_decoder.specs.{declared.Evt2Decoder.Evt2Decoder, Evt2.step2, Evt2.vector2, Evt2.reader2, Range.Regular2, Range.regular-step2}
 use Rattle.evt3_decoder.specs.{declared.Decoder.Decoder, Evt3.step3, Evt3.vector3, Evt3.reader3, Range.Regular3, Range.regular-step3}
 use Rattle.evt_codec.specs.declared.{codec.Codec.Codec, codec.Codec.the-variants.Evt2, codec.Codec.the-variants.Evt3}
-use Rattle.evt_types.specs.{declared.vector.Vector.Vector, Event.Event, Event.eventAt, Event.eventsOf, Layout.type2, Layout.type3, Layout.wordSize2}
+use Rattle.evt_types.specs.{declared.vector.Vector.Vector, Event.eventAt, Event.eventsOf, Layout.type2, Layout.type3, Layout.wordSize2}
 use Rattle.evt_types.specs.{Layout.wordSize3}
 use Rattle.evt2_decoder.specs.Evt2 as Evt2
 use Rattle.evt3_decoder.specs.Evt3 as Evt3
 use Rattle.read_columns.specs.Inside.{clock, all-mapped}
 use Rattle.read_fill.specs.{Decode.insideEvents, Decode.Bounded, Laws.inside-bytes}
 use Rattle.read_window.specs.{declared.Window.Window, Window.selectionOf, Window.reading2, Window.reading3}
-use Rattle.read_select.specs.{Pass.handedOver, Pass.Able, Pass.Ready, Uses.isTimely, Uses.untilOver, Uses.over-by-time, Uses.able-bounded3}
+use Rattle.read_select.specs.{Pass.handedOver, Pass.Able, Pass.Ready, Uses.able-bounded3}
 use Rattle.read_seek.specs.{declared.Sought.Sought, Times.by-type, Cut.take-words, Cut.drop-words}
 use Rattle.read_seek.specs.Seek.{carries2, carriesAs, carries3, reach2, reach3, soughtOf, further, Midway}
 
@@ -135,19 +134,6 @@ module _ (win : Window) (k : ℕ) (low : win .n0 ≤ k) where
             handed-upto (reading3 win) carries3 stamped3 (selectionOf win) Regular3 regular-step3 wakes3 silent3 some k d
             (wordsOf wordSize3 l) (able .regular) low (omega arith) z
             ∙ ap (Select.numbered (reading3 win) d) (sym (take-words reader3 wordSize3 (omega arith) (r .words) l (within3 (win .t0) (win .t1) d l)))
-
-    -- EMPTY, where the last time isn't past the first
-    pub sought-none : win .t1 ≤ win .t0 → handedOver win k c l ≡ []
-    sought-none h =
-        over-by-time win k c l low (omega (arith, inside-bytes (win .width) (win .height) c l))
-        ∙ sift-none (isTimely win) (untilOver win c l) (all-of _ out (untilOver win c l))
-      where
-        out : (e : Event) → isTimely win e ≡ false
-        out e = go (ltb (clock e) (win .t0)) refl
-          where
-            go : (b : Bool) → ltb (clock e) (win .t0) ≡ b → isTimely win e ≡ false
-            go true q = early clock (win .t0) (win .t1) e (ltb-true (clock e) (win .t0) q)
-            go false q = late clock (win .t0) (win .t1) e (omega (arith, ltb-false (clock e) (win .t0) q))
 
 -- ---- a pass can go on there
 

@@ -1,6 +1,6 @@
 -- A loop over the words of some bytes under a window, for every machine and every word size: what holds at index i, at the start, after a word, at the end.
 use mathlib.Core.Path.{_≡_, sym, ap, _∙_}
-use mathlib.Core.Bool.{Bool, true, false}
+use mathlib.Core.Bool.{Bool}
 use mathlib.Core.List.{List, [], _∷_, _++_}
 use Prim.Native.Nat.{ℕ, suc, _+_, _*_, _/_, _≤_, _<_, _^_}
 use native.Mathlib.Omega.{arith}
@@ -114,12 +114,6 @@ module _ {Q : Source} (L : Laws Q) {win : Window} {number : ℕ} {s₀ : Q .Stat
   }
 
   module _ {s : Q .State} {k n i : ℕ} where
-    pub pend-on : stops Q win number s₀ bytes k s ≡ false → Pend Q win number s₀ bytes s k n i → Stand Q win number s₀ bytes s k n i
-    pend-on e p = rw e at p
-
-    pub pend-end : stops Q win number s₀ bytes k s ≡ true → Pend Q win number s₀ bytes s k n i → Done Q win number s₀ bytes s k n i
-    pend-end e p = rw e at p
-
     pub done-count : Done Q win number s₀ bytes s k n i → n ≡ length (all Q win number s₀ bytes)
     done-count p = omega (arith, p .counts)
 

@@ -7,7 +7,7 @@ use native.Mathlib.Omega.{arith}
 use lib.ListN.{length, take, drop, length-append, take-append-drop}
 use Rattle.laws_stream.specs.{Machine.Machine, Machine.All, Machine.all-of, Machine.run, Machine.emits, Machine.emits-all, Words.wordsOf}
 use Rattle.laws_stream.specs.{Words.length-words, Loop.loops-one, Mask.bits, Slice.sift, Slice.all-sift, Slice.andThen, Slice.until, Slice.Past}
-use Rattle.laws_stream.specs.{Slice.within, Slice.timely, Select.End, Select.byNumber}
+use Rattle.laws_stream.specs.{Slice.within, Slice.timely, Select.byNumber}
 use Rattle.laws_stream.specs.Select as Select
 use Rattle.evt2_decoder.specs.{declared.Evt2Decoder.Evt2Decoder, Evt2.reader2, Evt2.vector2, Range.Bounded2, Range.bounded-range2}
 use Rattle.evt2_decoder.specs.{Range.bounded-step2, Range.bounded-narrow2}
@@ -17,10 +17,10 @@ use Rattle.evt_codec.specs.declared.{codec.Codec.Codec, codec.Codec.the-variant
 use Rattle.evt_types.specs.{declared.vector.Vector.Vector, Event.Event, Event.eventAt, Event.eventsOf, Layout.type3, Layout.time3, Layout.wordSize2}
 use Rattle.evt_types.specs.{Layout.wordSize3, Layout.grain3}
 use Rattle.evt3_decoder.specs.Evt3 as Evt3
-use Rattle.evt_codec.specs.Codec.{inRangeC, wordSize, eventsFrom, codecAfter}
+use Rattle.evt_codec.specs.Codec.{inRangeC, eventsFrom}
 use Rattle.read_columns.specs.Inside.{inside, clock, all-mapped}
 use Rattle.read_window.specs.{declared.Window.Window, Window.selectionOf, Window.reading, Window.reading2, Window.reading3}
-use Rattle.read_select.specs.Pass.{handedOver, endOver, endOf, Paced3, Able}
+use Rattle.read_select.specs.Pass.{handedOver, Paced3, Able}
 
 -- ---- a decoder in range is able
 
@@ -117,10 +117,6 @@ PastOver win (Evt2 d) l =
 PastOver win (Evt3 d) l =
     Past reader3 (andThen (inside (win .width) (win .height)) (isTimely win)) (Select.isOver (reading3 win) (selectionOf win)) d (wordsOf wordSize3 l)
 
--- after all words
-abbrev pub endAfterAll : Window → ℕ → Codec → List ℕ → End Codec
-endAfterAll win k c l = record { number = k + length (numberedOver win c l); state = codecAfter c l; consumed = length l / wordSize c }
-
 module _ (win : Window) where
   abbrev pub Calm2 : Evt2Decoder → List ℕ → Type 0
   Calm2 d l = Select.Calm (reading2 win) (selectionOf win) d (wordsOf wordSize2 l)
@@ -171,26 +167,12 @@ module _ (win : Window) where
         go (Evt2 d) a lo hi t = Select.handed-all (reading2 win) (selectionOf win) k d (wordsOf wordSize2 l) lo hi (calm2 no-end d l a) t
         go (Evt3 d) a lo hi t = Select.handed-all (reading3 win) (selectionOf win) k d (wordsOf wordSize3 l) lo hi (calm3 no-end d l a) t
 
-  -- nothing stops it
-  pub over-all-end : (c : Codec) (l : List ℕ) → Able (length l) c → 2 ^ 63 ≤ win .t1 → (k : ℕ) → k + length (numberedOver win c l) < win .n1
-      → endOver win k c l ≡ endAfterAll win k c l
-  over-all-end (Evt2 d) l a no-end k hi =
-      ap (endOf Evt2) (Select.ended-all (reading2 win) (selectionOf win) k d (wordsOf wordSize2 l) hi (calm2 no-end d l a)) ∙ rw (length-words wordSize2 l)
-  over-all-end (Evt3 d) l a no-end k hi =
-      ap (endOf Evt3) (Select.ended-all (reading3 win) (selectionOf win) k d (wordsOf wordSize3 l) hi (calm3 no-end d l a)) ∙ rw (length-words wordSize3 l)
-
   -- ---- BY TIME: where the window has all numbers
 
   pub over-by-time : (k : ℕ) (c : Codec) (l : List ℕ) → win .n0 ≤ k → k + length (numberedOver win c l) < win .n1
       → handedOver win k c l ≡ sift (isTimely win) (untilOver win c l)
   over-by-time k (Evt2 d) l lo hi = Select.handed-by-time (reading2 win) (selectionOf win) k d (wordsOf wordSize2 l) lo hi
   over-by-time k (Evt3 d) l lo hi = Select.handed-by-time (reading3 win) (selectionOf win) k d (wordsOf wordSize3 l) lo hi
-
-  -- of all the bytes, where no event that is in time follows the stop
-  pub over-in-time : (k : ℕ) (c : Codec) (l : List ℕ) → win .n0 ≤ k → k + length (numberedOver win c l) < win .n1 → PastOver win c l
-      → handedOver win k c l ≡ sift (isTimely win) (numberedOver win c l)
-  over-in-time k (Evt2 d) l lo hi p = Select.handed-in-time (reading2 win) (selectionOf win) k d (wordsOf wordSize2 l) lo hi p
-  over-in-time k (Evt3 d) l lo hi p = Select.handed-in-time (reading3 win) (selectionOf win) k d (wordsOf wordSize3 l) lo hi p
 
 -- ---- no more are handed over than have a number
 

@@ -1,5 +1,5 @@
 // What a slice asks for and answers: by number and by time, with the rules by which it is refused.
-// specs/Slice.antt has what slices answer and hand over, by document 01's table; specs/From.antt what
+// specs/Slice.antt has what slices answer and hand over, by the table of docs/RULES.md; specs/From.antt what
 // the parts say, each proved; specs/Laws.antt that the parts come to it.
 ghost use mathlib.Core.Path.{_≡_};
 ghost use Rattle.index_records.specs.Judge.{firstJudging};

@@ -5,8 +5,8 @@ use Prim.Native.Nat.{ℕ, _+_, _/_, _%_, _^_, _≤_, _<_}
 use native.Mathlib.Omega.{arith}
 use native.Mathlib.Nat.{add-zero}
 use native.Mathlib.Numerals.{add-one}
-use lib.ListN.{length, drop, take, set, getD, length-append, drop-of-length-le}
-use lib.Seq.{sets, sets-eq, length-sets, drop-cons, take-at}
+use lib.ListN.{length, drop, set, getD, length-append, drop-of-length-le}
+use lib.Seq.{sets, length-sets, drop-cons}
 use Rattle.write_buffer.specs.Storing.{Storing, storing-start, storing-iteration, stored-both}
 use Rattle.write_text.specs.Text.{digit, decimal, decimal-one, decimal-more, decimal-few}
 
@@ -32,11 +32,6 @@ stored-length {most} {out₀} {at} {text} s = ap length (s .stores) ∙ length-s
 
 pub stored-within : {most : ℕ} {out₀ : List ℕ} {text : List ℕ} {r : ℕ} {out : List ℕ} → most ≤ length out₀ → Stored most out₀ 0 text r out → r ≤ length out
 stored-within h s = omega (arith, s .ends, s .few, stored-length s)
-
--- a text that fits stands there
-pub stored-front : {most : ℕ} {out₀ : List ℕ} {text : List ℕ} {r : ℕ} {out : List ℕ} → most ≤ length out₀ → Stored most out₀ 0 text r out → take r out ≡ text
-stored-front {most} {out₀} {text} {r} {out} h s =
-    ap (take r) (s .stores ∙ sets-eq text out₀ 0 (omega (arith, s .few))) ∙ take-at text (drop (0 + length text) out₀) r (omega (arith, s .ends))
 
 -- ---- a loop that stores a text byte by byte: the bytes from i on are to come
 

@@ -5,7 +5,7 @@ use Prim.Native.Nat.{ℕ}
 use lib.ListN.{length, drop}
 use Rattle.evt_types.specs.{declared.Encoding.Encoding, Outcome.Outcome, Told.Told}
 use Rattle.index_build.specs.declared.{OpenOptions.OpenOptions, RawSliceSource.RawSliceSource, WordsOptions.WordsOptions}
-use Rattle.index_build.specs.Index.{Body, rawOutcome, wordsOutcome, openVerdict, openRecords}
+use Rattle.index_build.specs.Index.{Body, openRawOutcome, openWordsOutcome, openVerdict, openRecords}
 use Rattle.c_structs.specs.declared.{opening.PropheseeOpenOptions.PropheseeOpenOptions, opening.PropheseeOpening.PropheseeOpening}
 use Rattle.c_structs.specs.{declared.opening.PropheseeSource.PropheseeSource, Options.sizeOf, Reading.valueOf, Reading.countOf}
 use Rattle.c_structs.specs.{Records.entriesAll, Records.roomOf}
@@ -51,7 +51,7 @@ pub record Opens (outcome : Outcome Body) (r : PropheseeOpening) (records₀ rec
   pub is-records : records ≡ entriesAll (openRecords outcome) ++ drop (length (entriesAll (openRecords outcome))) records₀
 
 abbrev pub OpensRaw : List ℕ → PropheseeOpenOptions → PropheseeOpening → (records₀ records : List ℕ) → Type 0
-OpensRaw recording o r records₀ = Opens (rawOutcome recording (optionsOf o) (roomOf records₀)) r records₀
+OpensRaw recording o r records₀ = Opens (openRawOutcome recording (optionsOf o) (roomOf records₀)) r records₀
 
 abbrev pub OpensWords : List ℕ → Encoding → PropheseeOpenOptions → PropheseeOpening → (records₀ records : List ℕ) → Type 0
-OpensWords words e o r records₀ = Opens (wordsOutcome words (wordsOptionsOf e o) (roomOf records₀)) r records₀
+OpensWords words e o r records₀ = Opens (openWordsOutcome words (wordsOptionsOf e o) (roomOf records₀)) r records₀

@@ -10,7 +10,7 @@ use borrow.Author.Tests.{eq-eqb, eqb-true, ltb-true}
 use lib.ListN.{length, getD, take, drop}
 use Rattle.laws_stream.specs.{Machine.All, Machine.and-both, Mask.Inc}
 use Rattle.evt_types.specs.{Event.Event, Columns.colX}
-use Rattle.write_buffer.specs.{Columns.event, Emits.eventsOf, Every.xor-equal}
+use Rattle.write_buffer.specs.{Columns.event, Emits.concatMap, Every.xor-equal}
 
 pub record Run : Type 0 where
   pub t : ℕ
@@ -167,7 +167,7 @@ rising-cons x xs h r =
     record { some = omega arith; rises = (omega arith, omega (arith, e), rw e (inc-from (suc x) (firstX xs) (suc (lastX xs)) xs h (r .rises))) }
 
 abbrev pub givenBy : List Run → List Event
-givenBy rs = eventsOf given rs
+givenBy rs = concatMap given rs
 
 glue-as : (b : Bool) (e : Event) (r : Run) (rs : List Run) → goes (e .t) (e .y) (e .p) (e .x) (firstOf r) ≡ b → Valid r → All Valid rs
     → All Valid (cond b (prepend e r ∷ rs) (single e ∷ r ∷ rs)) × (givenBy (cond b (prepend e r ∷ rs) (single e ∷ r ∷ rs)) ≡ e ∷ (given r ++ givenBy rs))

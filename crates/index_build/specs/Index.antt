@@ -102,8 +102,8 @@ recordsBy b = recordsOf (b .size) (b .encoding) (b .start) (b .spacing) (bodyByt
 -- ---- which body is accepted, and what is refused, by the table
 
 -- 8, 9, 1 for no event
-unfoldable pub bodyOutcome : Body → (room : ℕ) → Outcome Body
-bodyOutcome b room =
+unfoldable pub indexOutcome : Body → (room : ℕ) → Outcome Body
+indexOutcome b room =
     cond (spacingOk (b .encoding) (b .spacing))
     (cond (ltb room (needOf b)) (refuse (TooFewRecords (needOf b)))
     (cond (sizeless (b .size) (bodyKept b)) (refuse InvalidSensorSize)
@@ -111,23 +111,23 @@ bodyOutcome b room =
     (refuse InvalidSpacing)
 
 -- a recording: what the header is refused for (4, 3, 2, 1 for a zero size), and so on
-abbrev pub outcomeAfter : HeaderAnswer → List ℕ → (spacing room : ℕ) → Outcome Body
-outcomeAfter (NoHeader r) recording spacing room = refuse r
-outcomeAfter (Header h) recording spacing room =
-    bodyOutcome (bodyAt recording (h .«data_offset») (h .encoding) (h .«sensor_size») spacing) room
+abbrev pub openAfterHeader : HeaderAnswer → List ℕ → (spacing room : ℕ) → Outcome Body
+openAfterHeader (NoHeader r) recording spacing room = refuse r
+openAfterHeader (Header h) recording spacing room =
+    indexOutcome (bodyAt recording (h .«data_offset») (h .encoding) (h .«sensor_size») spacing) room
 
-unfoldable pub rawOutcome : List ℕ → OpenOptions → (room : ℕ) → Outcome Body
-rawOutcome recording o room = outcomeAfter (headerOf recording (o .«sensor_size»)) recording (o .spacing) room
+unfoldable pub openRawOutcome : List ℕ → OpenOptions → (room : ℕ) → Outcome Body
+openRawOutcome recording o room = openAfterHeader (headerOf recording (o .«sensor_size»)) recording (o .spacing) room
 
 -- headerless words: 4, 1 for a zero size, and so on
 abbrev pub wordsBody : List ℕ → WordsOptions → Body
 wordsBody words o = bodyAt words 0 (o .encoding) (o .«sensor_size») (o .spacing)
 
-unfoldable pub wordsOutcome : List ℕ → WordsOptions → (room : ℕ) → Outcome Body
-wordsOutcome words o room =
+unfoldable pub openWordsOutcome : List ℕ → WordsOptions → (room : ℕ) → Outcome Body
+openWordsOutcome words o room =
     cond (ltb mostBytes (length words)) (refuse TooLong)
     (cond (hasZero (o .«sensor_size»)) (refuse InvalidSensorSize)
-    (bodyOutcome (wordsBody words o) room))
+    (indexOutcome (wordsBody words o) room))
 
 -- ---- what is read off an outcome
 
@@ -160,10 +160,10 @@ pub record Opens (outcome : Outcome Body) (r : OpenAnswer) (records₀ records :
   pub is-records : records ≡ openRecords outcome ++ drop (length (openRecords outcome)) records₀
 
 abbrev pub OpensRaw : List ℕ → OpenOptions → OpenAnswer → (records₀ records : List Checkpoint) → Type 0
-OpensRaw recording o r records₀ = Opens (rawOutcome recording o (length records₀)) r records₀
+OpensRaw recording o r records₀ = Opens (openRawOutcome recording o (length records₀)) r records₀
 
 abbrev pub OpensWords : List ℕ → WordsOptions → OpenAnswer → (records₀ records : List Checkpoint) → Type 0
-OpensWords words o r records₀ = Opens (wordsOutcome words o (length records₀)) r records₀
+OpensWords words o r records₀ = Opens (openWordsOutcome words o (length records₀)) r records₀
 
 pub told-answer : (outcome : Outcome Body) → toldOpen (openAnswer outcome) ≡ openVerdict outcome
 told-answer (refuse r) = refl

@@ -29,7 +29,7 @@ use Rattle.index_build.specs.declared.{Builder.Builder, Checkpoint.Check
 use Rattle.index_build.specs.declared.{OpenAnswer.the-variants.Refused, OpenOptions.OpenOptions, Prepared.Prepared, Prepared.the-variants.Ready}
 use Rattle.index_build.specs.declared.{Prepared.the-variants.Refused as NotReady, RawSliceSource.RawSliceSource, WordsOptions.WordsOptions}
 use Rattle.index_build.specs.Index.{keptEvents, recordAt, firsts, recordCount, recordsOf, alignment, spacingOk, Body, bodyAt, bodyBytes, bodyKept, needOf}
-use Rattle.index_build.specs.Index.{openingOf, recordsBy, bodyOutcome, outcomeAfter, rawOutcome, wordsBody, wordsOutcome, openAnswer, openRecords}
+use Rattle.index_build.specs.Index.{openingOf, recordsBy, indexOutcome, openAfterHeader, openRawOutcome, wordsBody, openWordsOutcome, openAnswer, openRecords}
 use Rattle.index_build.specs.{Index.Opens, Index.toldOpen, Index.told-answer, Laws.builder-start, Laws.Laid, Laws.laid-end}
 use Rattle.index_build.specs.Build.{Begun, builderAt, madeAt, spanWidth, spanHeight, wholeWindow, firstFor, uncounted, firstOf, preparedBy, concluded}
 
@@ -102,8 +102,8 @@ IfGiven P (refuse r) = Unit
 IfGiven P (give b) = P b
 
 accepted-body : (b : Body) (room : ℕ) → length (b .recording) ≤ mostBytes → b .start ≤ length (b .recording) → hasZero (b .size) ≡ false
-    → IfGiven (Accepted (b .recording) room) (bodyOutcome b room)
-unfolding bodyOutcome
+    → IfGiven (Accepted (b .recording) room) (indexOutcome b room)
+unfolding indexOutcome
 accepted-body b room long within positive = go (spacingOk (b .encoding) (b .spacing)) refl (ltb room (needOf b)) refl (sizeless (b .size) (bodyKept b))
   where
     go : (x : Bool) → spacingOk (b .encoding) (b .spacing) ≡ x → (y : Bool) → ltb room (needOf b) ≡ y → (z : Bool)
@@ -115,22 +115,22 @@ accepted-body b room long within positive = go (spacingOk (b .encoding) (b .spac
     go true p false q false =
         record { is-recording = refl; long = long; within = within; positive = positive; allowed = p; fits = ltb-false room (needOf b) q }
 
-pub accepted-raw : (l : List ℕ) (o : OpenOptions) (room : ℕ) → IfGiven (Accepted l room) (rawOutcome l o room)
-unfolding rawOutcome
+pub accepted-raw : (l : List ℕ) (o : OpenOptions) (room : ℕ) → IfGiven (Accepted l room) (openRawOutcome l o room)
+unfolding openRawOutcome
 accepted-raw l o room = go (headerOf l (o .«sensor_size»)) refl
   where
-    go : (a : HeaderAnswer) → headerOf l (o .«sensor_size») ≡ a → IfGiven (Accepted l room) (outcomeAfter a l (o .spacing) room)
+    go : (a : HeaderAnswer) → headerOf l (o .«sensor_size») ≡ a → IfGiven (Accepted l room) (openAfterHeader a l (o .spacing) room)
     go (NoHeader r) p = tt
     go (Header h) p =
         let k = of-accepted l (o .«sensor_size») h p in
         accepted-body (bodyAt l (h .«data_offset») (h .encoding) (h .«sensor_size») (o .spacing)) room (k .short) (k .within) (k .positive)
 
-pub accepted-words : (l : List ℕ) (o : WordsOptions) (room : ℕ) → IfGiven (Accepted l room) (wordsOutcome l o room)
-unfolding wordsOutcome
+pub accepted-words : (l : List ℕ) (o : WordsOptions) (room : ℕ) → IfGiven (Accepted l room) (openWordsOutcome l o room)
+unfolding openWordsOutcome
 accepted-words l o room = go (ltb mostBytes (length l)) refl (hasZero (o .«sensor_size»)) refl
   where
     go : (x : Bool) → ltb mostBytes (length l) ≡ x → (y : Bool) → hasZero (o .«sensor_size») ≡ y
-        → IfGiven (Accepted l room) (cond x (refuse TooLong) (cond y (refuse InvalidSensorSize) (bodyOutcome (wordsBody l o) room)))
+        → IfGiven (Accepted l room) (cond x (refuse TooLong) (cond y (refuse InvalidSensorSize) (indexOutcome (wordsBody l o) room)))
     go true p y q = tt
     go false p true q = tt
     go false p false q = accepted-body (wordsBody l o) room (ltb-false mostBytes (length l) p) (omega arith) q
@@ -245,25 +245,25 @@ opens-built l room outcome t s r ys zs is u =
 -- ---- what the code chooses
 
 module _ (b : Body) (room : ℕ) where
-  pub outcome-spacing : spacingOk (b .encoding) (b .spacing) ≡ false → bodyOutcome b room ≡ refuse InvalidSpacing
-  unfolding bodyOutcome
+  pub outcome-spacing : spacingOk (b .encoding) (b .spacing) ≡ false → indexOutcome b room ≡ refuse InvalidSpacing
+  unfolding indexOutcome
   outcome-spacing h = rw h
 
   module _ (n : ℕ) (is : n ≡ recordCount (length (b .recording) - b .start) (b .spacing)) (ok : spacingOk (b .encoding) (b .spacing) ≡ true) where
     pub need-is : n ≡ needOf b
     need-is = is ∙ ap (λ (m : ℕ). recordCount m (b .spacing)) (sym (length-drop (b .start) (b .recording)))
 
-    pub outcome-short : room < n → bodyOutcome b room ≡ refuse (TooFewRecords n)
-    unfolding bodyOutcome
+    pub outcome-short : room < n → indexOutcome b room ≡ refuse (TooFewRecords n)
+    unfolding indexOutcome
     outcome-short lt = rw (ok, lt-ltb room (needOf b) (rw need-is at lt), need-is)
 
     module _ (enough : n ≤ room) where
-      pub outcome-none : sizeless (b .size) (bodyKept b) ≡ true → bodyOutcome b room ≡ refuse InvalidSensorSize
-      unfolding bodyOutcome
+      pub outcome-none : sizeless (b .size) (bodyKept b) ≡ true → indexOutcome b room ≡ refuse InvalidSensorSize
+      unfolding indexOutcome
       outcome-none z = rw (ok, le-ltb room (needOf b) (rw need-is at enough), z)
 
-      pub outcome-given : sizeless (b .size) (bodyKept b) ≡ false → bodyOutcome b room ≡ give b
-      unfolding bodyOutcome
+      pub outcome-given : sizeless (b .size) (bodyKept b) ≡ false → indexOutcome b room ≡ give b
+      unfolding indexOutcome
       outcome-given z = rw (ok, le-ltb room (needOf b) (rw need-is at enough), z)
 
 -- ---- without a size
@@ -319,7 +319,7 @@ module _ (l : List ℕ) (start : ℕ) (e : Encoding) (size : SensorSize) (spacin
   given s = bodyAt l start e s spacing
 
   abbrev prepared : SensorSize → Prepared
-  prepared s = preparedBy (bodyOutcome (given s) room)
+  prepared s = preparedBy (indexOutcome (given s) room)
 
   ready : (s : SensorSize) (source : RawSliceSource) (width height : ℕ) → source ≡ uncounted (given s) width height
       → width ≡ widthOf s (bodyKept (given s)) → height ≡ heightOf s (bodyKept (given s)) → sizeless s (bodyKept (given s)) ≡ false
@@ -360,22 +360,22 @@ ready-rest l start e c is h = rw (is, rest-of l start) (ready-fresh e (length (d
 -- ---- the two entries
 
 module _ (l : List ℕ) (o : OpenOptions) (room : ℕ) (a : HeaderAnswer) (is-header : a ≡ headerOf l (o .«sensor_size»)) where
-  pub outcome-after : rawOutcome l o room ≡ outcomeAfter a l (o .spacing) room
-  unfolding rawOutcome
-  outcome-after = ap (λ (b : HeaderAnswer). outcomeAfter b l (o .spacing) room) (sym is-header)
+  pub outcome-after : openRawOutcome l o room ≡ openAfterHeader a l (o .spacing) room
+  unfolding openRawOutcome
+  outcome-after = ap (λ (b : HeaderAnswer). openAfterHeader b l (o .spacing) room) (sym is-header)
 
   pub header-fits : (h : header.Header) → a ≡ Header h → (length l ≤ mostBytes) × (h .«data_offset» ≤ length l)
   header-fits h q = let k = of-accepted l (o .«sensor_size») h (sym is-header ∙ q) in (k .short, k .within)
 
 module _ (l : List ℕ) (o : WordsOptions) (room : ℕ) where
-  pub outcome-long : mostBytes < length l → wordsOutcome l o room ≡ refuse TooLong
-  unfolding wordsOutcome
+  pub outcome-long : mostBytes < length l → openWordsOutcome l o room ≡ refuse TooLong
+  unfolding openWordsOutcome
   outcome-long h = rw (lt-ltb mostBytes (length l) h)
 
-  pub outcome-zero : length l ≤ mostBytes → hasZero (o .«sensor_size») ≡ true → wordsOutcome l o room ≡ refuse InvalidSensorSize
-  unfolding wordsOutcome
+  pub outcome-zero : length l ≤ mostBytes → hasZero (o .«sensor_size») ≡ true → openWordsOutcome l o room ≡ refuse InvalidSensorSize
+  unfolding openWordsOutcome
   outcome-zero h z = rw (le-ltb mostBytes (length l) h, z)
 
-  pub outcome-words : length l ≤ mostBytes → hasZero (o .«sensor_size») ≡ false → wordsOutcome l o room ≡ bodyOutcome (wordsBody l o) room
-  unfolding wordsOutcome
+  pub outcome-words : length l ≤ mostBytes → hasZero (o .«sensor_size») ≡ false → openWordsOutcome l o room ≡ indexOutcome (wordsBody l o) room
+  unfolding openWordsOutcome
   outcome-words h z = rw (le-ltb mostBytes (length l) h, z)

@@ -8,7 +8,7 @@ ghost use mathlib.Core.Bool.{true};
 ghost use Prim.Native.Nat.{_≤_};
 ghost use lib.ListN.{length};
 ghost use Rattle.evt_types.specs.Num.{mostBytes};
-ghost use Rattle.index_build.specs.Index.{spacingOk, recordCount, bodyAt, bodyOutcome, rawOutcome, wordsOutcome};
+ghost use Rattle.index_build.specs.Index.{spacingOk, recordCount, bodyAt, indexOutcome, openRawOutcome, openWordsOutcome};
 ghost use Rattle.index_build.specs.Build.{Fit, Advanced, firstFor, preparedBy, wholeWindow, concluded};
 use evt_codec::Codec;
 use evt_types::Encoding;
@@ -232,7 +232,7 @@ fn spaced_builder(
     room: usize,
 ) -> Prepared
     requires { ⌜ (length (now recording) ≤ mostBytes) × ((start ≤ length (now recording)) × (spacingOk encoding spacing ≡ true)) ⌝ }
-    ensures { λ r. ⌜ r ≡ preparedBy (bodyOutcome (bodyAt (now (recording .entry)) start encoding size spacing) room) ⌝ }
+    ensures { λ r. ⌜ r ≡ preparedBy (indexOutcome (bodyAt (now (recording .entry)) start encoding size spacing) room) ⌝ }
 {
     let len = recording.len();
     let need = record_count(len - start, spacing);
@@ -268,7 +268,7 @@ fn body_builder(
     room: usize,
 ) -> Prepared
     requires { ⌜ (length (now recording) ≤ mostBytes) × (start ≤ length (now recording)) ⌝ }
-    ensures { λ r. ⌜ r ≡ preparedBy (bodyOutcome (bodyAt (now (recording .entry)) start encoding size spacing) room) ⌝ }
+    ensures { λ r. ⌜ r ≡ preparedBy (indexOutcome (bodyAt (now (recording .entry)) start encoding size spacing) room) ⌝ }
 {
     if spacing_ok(encoding, spacing) {
         return spaced_builder(recording, start, encoding, size, spacing, room);
@@ -278,7 +278,7 @@ fn body_builder(
 
 // A recording: its header, then its body.
 pub fn prepare(recording: &[u8], options: OpenOptions, room: usize) -> Prepared
-    ensures { λ r. ⌜ r ≡ preparedBy (rawOutcome (now (recording .entry)) options room) ⌝ }
+    ensures { λ r. ⌜ r ≡ preparedBy (openRawOutcome (now (recording .entry)) options room) ⌝ }
 {
     let size = options.sensor_size;
     let spacing = options.spacing;
@@ -294,7 +294,7 @@ pub fn prepare(recording: &[u8], options: OpenOptions, room: usize) -> Prepared
 
 // Headerless words.
 pub fn prepare_words(words: &[u8], options: WordsOptions, room: usize) -> Prepared
-    ensures { λ r. ⌜ r ≡ preparedBy (wordsOutcome (now (words .entry)) options room) ⌝ }
+    ensures { λ r. ⌜ r ≡ preparedBy (openWordsOutcome (now (words .entry)) options room) ⌝ }
 {
     let encoding = options.encoding;
     let size = options.sensor_size;

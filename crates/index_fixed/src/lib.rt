@@ -5,7 +5,7 @@
 ghost use mathlib.Core.Path.{_≡_};
 ghost use Prim.Native.Nat.{_≤_, min};
 ghost use lib.ListN.{replicate, take};
-ghost use Rattle.index_build.specs.Index.{Opens, rawOutcome, wordsOutcome};
+ghost use Rattle.index_build.specs.Index.{Opens, openRawOutcome, openWordsOutcome};
 ghost use Rattle.index_build.specs.Nth.{blank as blankRecord};
 ghost use Rattle.slice_rules.specs.Slice.{SlicesIndex, SlicesTime};
 use evt_codec::Codec;
@@ -31,7 +31,7 @@ pub fn open_into(
     n: usize,
 ) -> FixedIndex
     requires { ⌜ n ≤ 64 ⌝ }
-    ensures { λ r. ⌜ Opens (rawOutcome (now (recording .entry)) options n) (r .answer) records (r .records) ⌝ }
+    ensures { λ r. ⌜ Opens (openRawOutcome (now (recording .entry)) options n) (r .answer) records (r .records) ⌝ }
 {
     let mut made = records;
     let answer = index_open::open(recording, &mut made[..n], options);
@@ -49,7 +49,7 @@ pub fn open_words_into(
     n: usize,
 ) -> FixedIndex
     requires { ⌜ n ≤ 64 ⌝ }
-    ensures { λ r. ⌜ Opens (wordsOutcome (now (words .entry)) options n) (r .answer) records (r .records) ⌝ }
+    ensures { λ r. ⌜ Opens (openWordsOutcome (now (words .entry)) options n) (r .answer) records (r .records) ⌝ }
 {
     let mut made = records;
     let answer = index_open::open_words(words, &mut made[..n], options);
@@ -79,7 +79,7 @@ fn clamp(room: usize) -> usize
 
 // Opens with room for `room` records, at most 64.
 pub fn open(recording: &[u8], options: OpenOptions, room: usize) -> FixedIndex
-    ensures { λ r. ⌜ Opens (rawOutcome (now (recording .entry)) options (min room 64)) (r .answer) (replicate 64 blankRecord) (r .records) ⌝ }
+    ensures { λ r. ⌜ Opens (openRawOutcome (now (recording .entry)) options (min room 64)) (r .answer) (replicate 64 blankRecord) (r .records) ⌝ }
 {
     let n = clamp(room);
     let b = blank();
@@ -89,7 +89,7 @@ pub fn open(recording: &[u8], options: OpenOptions, room: usize) -> FixedIndex
 
 // The same for headerless words.
 pub fn open_words(words: &[u8], options: WordsOptions, room: usize) -> FixedIndex
-    ensures { λ r. ⌜ Opens (wordsOutcome (now (words .entry)) options (min room 64)) (r .answer) (replicate 64 blankRecord) (r .records) ⌝ }
+    ensures { λ r. ⌜ Opens (openWordsOutcome (now (words .entry)) options (min room 64)) (r .answer) (replicate 64 blankRecord) (r .records) ⌝ }
 {
     let n = clamp(room);
     let b = blank();

@@ -50,7 +50,7 @@ use Rattle.evt_types.specs.declared.Refusal.{Refusal}
 use Rattle.evt_types.specs.Outcome.{Outcome}
 use Rattle.index_build.specs.declared.{Builder.Builder, Checkpoint.Checkpoint, OpenAnswer.OpenAnswer, OpenAnswer.the-variants.Refused}
 use Rattle.index_build.specs.declared.{Prepared.Prepared, Prepared.the-variants.Refused as NotReady, Prepared.the-variants.Ready}
-use Rattle.index_build.specs.Index.{Body as OpenBody, Opens, rawOutcome, wordsOutcome}
+use Rattle.index_build.specs.Index.{Body as OpenBody, Opens, openRawOutcome, openWordsOutcome}
 use Rattle.index_build.specs.Build.{Begun, preparedBy}
 use Rattle.index_build.specs.Open.{Accepted, accepted-raw, accepted-words, IfGiven, Builds, builds, opens-refused, opens-built}
 use Rattle.index_open.specs.Made.{Made}
@@ -94,7 +94,7 @@ rawEntry = record {
   last = λ s. tt;
   silent = λ s w. refl;
   prepare = #index_build·prepare;
-  outcome = rawOutcome;
+  outcome = openRawOutcome;
   accepted = accepted-raw;
 }
 
@@ -106,7 +106,7 @@ wordsEntry = record {
   last = λ s. tt;
   silent = λ s w. refl;
   prepare = #index_build·prepare_words;
-  outcome = wordsOutcome;
+  outcome = openWordsOutcome;
   accepted = accepted-words;
 }
 

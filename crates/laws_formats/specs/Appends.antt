@@ -20,7 +20,7 @@ use Rattle.write_buffer.specs.{declared.EncoderState.EncoderState, Sent.freshSt
 use Rattle.write_words.specs.{Encode.encodeNotes, Encode.encodeState, Encode.encodeSize, Encode.encodeBytes, Laws.encode-notes}
 use Rattle.laws_formats.specs.Ready.{limit, sayable, sayable-true}
 use Rattle.laws_formats.specs.Either.{StateOf, codecOf, freshOf, readerOf, appender, ReadyOf, AgreeOf, formatOf, lawfulOf, events-are, fresh-ready}
-use Rattle.laws_formats.specs.Either.{isStarted, timeOf, ready-ahead, past-over}
+use Rattle.laws_formats.specs.Either.{isStarted, clockTime, ready-ahead, past-over}
 
 -- all the events of some appends
 abbrev pub flat : List (List Event) → List Event
@@ -115,7 +115,7 @@ module _ (e : Encoding) where
     pub whole-past : (win : Window) → PastOver win (codecOf e d) (noteBytes e ns)
     whole-past win =
         past-over e win d (noteBytes e ns)
-        (good-timed (formatOf e) (lawfulOf e) (isStarted e) (timeOf e) clock (λ d es rd l. ready-ahead e d es rd) (win .t0) (win .t1) d ns understood)
+        (good-timed (formatOf e) (lawfulOf e) (isStarted e) (clockTime e) clock (λ d es rd l. ready-ahead e d es rd) (win .t0) (win .t1) d ns understood)
 
     -- THE CUT: of the first c bytes, the events whose words lie whole within them
     pub cut-events : (c : ℕ) → eventsFrom (codecOf e d) (take c (noteBytes e ns)) ≡ notes (take (c / encodeSize e) ns)
@@ -124,4 +124,4 @@ module _ (e : Encoding) where
     pub cut-past : (c : ℕ) (win : Window) → PastOver win (codecOf e d) (take c (noteBytes e ns))
     cut-past c win =
         past-over e win d (take c (noteBytes e ns))
-        (cut-timed (formatOf e) (lawfulOf e) (isStarted e) (timeOf e) clock (λ d es rd l. ready-ahead e d es rd) (win .t0) (win .t1) d ns understood c)
+        (cut-timed (formatOf e) (lawfulOf e) (isStarted e) (clockTime e) clock (λ d es rd l. ready-ahead e d es rd) (win .t0) (win .t1) d ns understood c)

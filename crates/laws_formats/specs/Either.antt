@@ -97,17 +97,17 @@ fresh-ready Evt3 es r = record { counted = omega arith; past = omega arith; rise
 abbrev pub isStarted : (e : Encoding) → StateOf e → Bool
 isStarted e d = startedC (codecOf e d)
 
-abbrev pub timeOf : (e : Encoding) → StateOf e → ℕ
-timeOf e d = timeC (codecOf e d)
+abbrev pub clockTime : (e : Encoding) → StateOf e → ℕ
+clockTime e d = timeC (codecOf e d)
 
 -- no event to come is before the decoder's time
-pub ready-ahead : (e : Encoding) (d : StateOf e) (es : List Event) → ReadyOf e d es → All (λ a. timeOf e d ≤ clock a) es
+pub ready-ahead : (e : Encoding) (d : StateOf e) (es : List Event) → ReadyOf e d es → All (λ a. clockTime e d ≤ clock a) es
 ready-ahead Evt2 d es rd = rise-all clock (sayable (limit Evt2)) (d .time) es (rd .rises)
 ready-ahead Evt3 d es rd = rise-all clock (sayable (limit Evt3)) (d .time) es (rd .rises)
 
 pub past-over : (e : Encoding) (win : Window) (d : StateOf e) (l : List ℕ)
-    → Past (readerOf e) (isTimely win) (reached (isStarted e) (timeOf e) (win .t1)) d (wordsOf (encodeSize e) l) → PastOver win (codecOf e d) l
+    → Past (readerOf e) (isTimely win) (reached (isStarted e) (clockTime e) (win .t1)) d (wordsOf (encodeSize e) l) → PastOver win (codecOf e d) l
 past-over Evt2 win d l p =
-    past-then reader2 (inside (win .width) (win .height)) (isTimely win) (reached (isStarted Evt2) (timeOf Evt2) (win .t1)) d (wordsOf wordSize2 l) p
+    past-then reader2 (inside (win .width) (win .height)) (isTimely win) (reached (isStarted Evt2) (clockTime Evt2) (win .t1)) d (wordsOf wordSize2 l) p
 past-over Evt3 win d l p =
-    past-then reader3 (inside (win .width) (win .height)) (isTimely win) (reached (isStarted Evt3) (timeOf Evt3) (win .t1)) d (wordsOf wordSize3 l) p
+    past-then reader3 (inside (win .width) (win .height)) (isTimely win) (reached (isStarted Evt3) (clockTime Evt3) (win .t1)) d (wordsOf wordSize3 l) p

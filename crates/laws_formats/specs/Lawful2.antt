@@ -14,7 +14,7 @@ use Rattle.evt2_decoder.specs.Evt2.{fresh2, period2, threshold2, step2, vector2
 use Rattle.read_columns.specs.Inside.{clock}
 use Rattle.write_buffer.specs.{declared.EncoderState.EncoderState, Sent.freshState, Sent.carries, Sent.due}
 use Rattle.evt2_encoder.specs.Evt2.{highWord2, wordOf2, highSent2, encode2, writer2, encode-notes2}
-use Rattle.laws_formats.specs.Ready.{limit, sayable, Ready, Holds, holds-sent, Sayable, sayable-true, no-event, one-event}
+use Rattle.laws_formats.specs.Ready.{limit, sayable, Ready, IfSent, holds-sent, Sayable, sayable-true, no-event, one-event}
 
 abbrev pub Ready2 : Evt2Decoder → List Event → Type 0
 Ready2 d es = Ready period2 (limit Evt2) (d .«time_high») (d .time) (d .«high_loops») es
@@ -33,7 +33,7 @@ format2 = record {
   given = λ e. e ∷ [];
   Valid = λ e. Unit;
   Ready = Ready2;
-  Agree = λ v d. Holds (v .«time_high») (High2 d);
+  Agree = λ v d. IfSent (v .«time_high») (High2 d);
 }
 
 -- ---- an event's word, at the coarse time that the event has

@@ -21,7 +21,7 @@ use Rattle.evt3_lead_words.specs.Evt3.{highWord3, lowWord3, rowWord3, lowKept, 
 use Rattle.evt3_lead_words.specs.Evt3.{beyond, maskCount, vectored, singles, masks, vectors, body3, encode3, encoded3, writer3}
 use Rattle.evt3_run_words.specs.Masks.{near-inc}
 use Rattle.write_words.specs.Laws.{reach, spread-is, none-left, singles-notes, masks-notes, body-notes, due-notes, encode-notes3}
-use Rattle.laws_formats.specs.Ready.{limit, sayable, Ready, Holds, holds-sent, Sayable, sayable-true, no-event, one-event}
+use Rattle.laws_formats.specs.Ready.{limit, sayable, Ready, IfSent, holds-sent, Sayable, sayable-true, no-event, one-event}
 
 abbrev pub Ready3 : Decoder → List Event → Type 0
 Ready3 d es = Ready period3 (limit Evt3) (d .«time_base») (d .time) (d .«high_loops») es
@@ -32,9 +32,9 @@ High3 d h = (d .initialised ≡ true) × (d .«time_base» ≡ h * grain3)
 
 -- what the writer takes for sent is what the decoder has
 pub record Agree3 (v : EncoderState) (d : Decoder) : Type 0 where
-  pub highs : Holds (v .«time_high») (High3 d)
-  pub lows : Holds (v .«time_low») (λ l. d .time ≡ d .«time_base» + l)
-  pub rows : Holds (v .y) (λ y. d .y ≡ y)
+  pub highs : IfSent (v .«time_high») (High3 d)
+  pub lows : IfSent (v .«time_low») (λ l. d .time ≡ d .«time_base» + l)
+  pub rows : IfSent (v .y) (λ y. d .y ≡ y)
 
 abbrev pub format3 : Format Decoder EncoderState Run Event
 format3 = record {

@@ -30,13 +30,13 @@ pub record Ready (period limit coarse time loops : ℕ) (es : List Event) : Type
   pub rises : Rise clock (sayable limit) time es
 
 -- what the writer takes for sent, if anything, is as P says
-abbrev pub Holds : Sent → (P : ℕ → Type 0) → Type 0
-Holds Nothing P = Unit
-Holds (Value q) P = P q
+abbrev pub IfSent : Sent → (P : ℕ → Type 0) → Type 0
+IfSent Nothing P = Unit
+IfSent (Value q) P = P q
 
 -- ---- laws
 
-pub holds-sent : (o : Sent) (P : ℕ → Type 0) (q : ℕ) → Holds o P → sentIs o q ≡ true → P q
+pub holds-sent : (o : Sent) (P : ℕ → Type 0) (q : ℕ) → IfSent o P → sentIs o q ≡ true → P q
 holds-sent Nothing P q h e = absurd (true≢false (sym e))
 holds-sent (Value g) P q h e = subst P (eqb-true g q e) h
 

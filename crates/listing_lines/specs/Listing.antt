@@ -42,8 +42,8 @@ eventLines (e ∷ es) = eventLine e ++ eventLines es
 
 -- ---- the listing
 
-abbrev pub mostBytes : ℕ
-mostBytes = 65536
+abbrev pub mostListed : ℕ
+mostListed = 65536
 
 -- no size and no limit
 abbrev pub listOptions : LoadOptions
@@ -51,11 +51,11 @@ listOptions = record { «sensor_size» = Unknown; «max_events» = Unlimited }
 
 -- columns that always suffice: 12 events for each word of 2 bytes
 abbrev pub listRoom : ℕ
-listRoom = mostBytes / 2 * 12
+listRoom = mostListed / 2 * 12
 
 abbrev pub outcomeText : Outcome ReadEvents → List ℕ
 outcomeText = onOutcome refusedLine (λ g. readLine (g .reading) ++ eventLines (g .events))
 
 unfoldable pub listingOf : List ℕ → List ℕ
 listingOf recording =
-    cond (ltb mostBytes (length recording)) tooLong (outcomeText (rawOutcome recording listOptions listRoom))
+    cond (ltb mostListed (length recording)) tooLong (outcomeText (rawOutcome recording listOptions listRoom))

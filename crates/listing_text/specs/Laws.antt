@@ -28,7 +28,7 @@ use Rattle.evt_codec.specs.Codec.{freshC}
 use Rattle.read_capacity.specs.{Deliver.mostFrom, Laws.few-inside}
 use Rattle.write_buffer.specs.Columns.{eventOf}
 use Rattle.listing_text.specs.declared.Begun.{Begun}
-use Rattle.listing_lines.specs.Listing.{tooLong, refusedLine, eventLine, eventLines, mostBytes, listOptions, listRoom, outcomeText, listingOf}
+use Rattle.listing_lines.specs.Listing.{tooLong, refusedLine, eventLine, eventLines, mostListed, listOptions, listRoom, outcomeText, listingOf}
 use Rattle.write_text.specs.Stored.{Stored}
 use Rattle.listing_lines.specs.Lines.{headLine}
 
@@ -88,10 +88,10 @@ countOf (Read r) = r .count
 countOf (Refused r) = 0
 
 unfoldable pub headOf : List ℕ → List ℕ
-headOf recording = cond (ltb mostBytes (length recording)) tooLong (headLine (readAnswer (rawOutcome recording listOptions listRoom)))
+headOf recording = cond (ltb mostListed (length recording)) tooLong (headLine (readAnswer (rawOutcome recording listOptions listRoom)))
 
 -- at most 12 events for each word
-body-few : (size : SensorSize) (e : Encoding) (body : List ℕ) → length body ≤ mostBytes → length (bodyEvents e size Unlimited body) ≤ listRoom
+body-few : (size : SensorSize) (e : Encoding) (body : List ℕ) → length body ≤ mostListed → length (bodyEvents e size Unlimited body) ≤ listRoom
 body-few size e body h = rw (body-all size e body (omega arith)) (go e (few-inside (sensorOf size .width) (sensorOf size .height) (freshC e) body))
   where
     go : (e : Encoding) {n : ℕ} → n ≤ mostFrom (freshC e) (length body) → n ≤ listRoom
@@ -121,14 +121,14 @@ lists-body e size es h =
     go true r e = lists-refused InvalidSensorSize (omega arith)
     go false r e = lists-read (record { reading = r; events = es }) e h
 
-lists-after : (a : HeaderAnswer) (recording : List ℕ) → toldHeader a .number ≤ 4 → length recording ≤ mostBytes
+lists-after : (a : HeaderAnswer) (recording : List ℕ) → toldHeader a .number ≤ 4 → length recording ≤ mostListed
     → Lists (outcomeAfter a recording Unlimited listRoom)
 lists-after (NoHeader r) recording h k = lists-refused r h
 lists-after (Header g) recording h k =
     lists-body (g .encoding) (g .«sensor_size») (bodyEvents (g .encoding) (g .«sensor_size») Unlimited (drop (g .«data_offset») recording))
     (body-few (g .«sensor_size») (g .encoding) (drop (g .«data_offset») recording) (rw length-drop (omega arith)))
 
-pub lists-raw : (recording : List ℕ) → length recording ≤ mostBytes → Lists (rawOutcome recording listOptions listRoom)
+pub lists-raw : (recording : List ℕ) → length recording ≤ mostListed → Lists (rawOutcome recording listOptions listRoom)
 unfolding rawOutcome
 lists-raw recording h = lists-after (headerOf recording Unknown) recording (header-four recording Unknown) h
 
@@ -148,11 +148,11 @@ pub record Begins (recording : List ℕ) (r : Begun) (out₀ out xs ys : List �
   pub listing : listingOf recording ≡ headOf recording ++ eventLines (rowsFrom xs ys ts ps 0 (r .count))
 
 module _ (recording : List ℕ) {out₀ out : List ℕ} (n : ℕ) where
-  pub begins-long : {xs ys : List ℕ} {ts : List ℤ} {ps : List ℕ} → mostBytes < length recording → Stored 9 out₀ 0 tooLong n out
+  pub begins-long : {xs ys : List ℕ} {ts : List ℤ} {ps : List ℕ} → mostListed < length recording → Stored 9 out₀ 0 tooLong n out
       → Begins recording (record { written = n; count = 0 }) out₀ out xs ys ts ps
   unfolding headOf listingOf rowsFrom eventLines
   begins-long h s =
-      let lt : ltb mostBytes (length recording) ≡ true = lt-ltb mostBytes (length recording) h in
+      let lt : ltb mostListed (length recording) ≡ true = lt-ltb mostListed (length recording) h in
       record {
         head =
             rw lt (record { ends = s .ends; few = omega (arith, s .few); stores = s .stores });
@@ -160,19 +160,19 @@ module _ (recording : List ℕ) {out₀ out : List ℕ} (n : ℕ) where
         listing = rw lt (sym (append-nil tooLong));
       }
 
-  begins-go : {xs ys : List ℕ} {ts : List ℤ} {ps : List ℕ} (a : ReadAnswer) (o : Outcome ReadEvents) → length recording ≤ mostBytes
+  begins-go : {xs ys : List ℕ} {ts : List ℤ} {ps : List ℕ} (a : ReadAnswer) (o : Outcome ReadEvents) → length recording ≤ mostListed
       → o ≡ rawOutcome recording listOptions listRoom → a ≡ readAnswer o → Lists o → rowsFrom xs ys ts ps 0 (length (handedEvents o)) ≡ handedEvents o
       → Stored 96 out₀ 0 (headLine a) n out → Begins recording (record { written = n; count = countOf a }) out₀ out xs ys ts ps
   unfolding headOf listingOf
   begins-go a o h p q l rows s =
-      let le : ltb mostBytes (length recording) ≡ false = le-ltb mostBytes (length recording) h in
+      let le : ltb mostListed (length recording) ≡ false = le-ltb mostListed (length recording) h in
       record {
         head = rw (le, ← p, ← q) s;
         small = rw q (omega (arith, l .counts, l .small));
         listing = rw (le, ← p, q, l .counts, rows) (l .parts);
       }
 
-  pub begins-read : {xs₀ ys₀ : List ℕ} {ts₀ : List ℤ} {ps₀ xs ys : List ℕ} {ts : List ℤ} {ps : List ℕ} (a : ReadAnswer) → length recording ≤ mostBytes
+  pub begins-read : {xs₀ ys₀ : List ℕ} {ts₀ : List ℤ} {ps₀ xs ys : List ℕ} {ts : List ℤ} {ps : List ℕ} (a : ReadAnswer) → length recording ≤ mostListed
       → Wide xs₀ ys₀ ts₀ ps₀
       → ReadsRaw recording listOptions a xs₀ ys₀ ts₀ ps₀ xs ys ts ps → Stored 96 out₀ 0 (headLine a) n out → (k : ℕ) → k ≡ countOf a
       → Begins recording (record { written = n; count = k }) out₀ out xs ys ts ps

@@ -21,7 +21,7 @@ use Rattle.read_rules.specs.Read.{widthOf, heightOf, sizeless}
 use Rattle.index_build.specs.declared.{Checkpoint.Checkpoint, OpenAnswer.OpenAnswer, OpenAnswer.the-variants.Opened, OpenAnswer.the-variants.Refused}
 use Rattle.index_build.specs.{declared.OpenOptions.OpenOptions, declared.Opening.Opening, declared.WordsOptions.WordsOptions, Index.openAnswer}
 use Rattle.index_build.specs.{Index.openRecords, Index.OpensRaw, Index.OpensWords, Laws.length-firsts}
-use Rattle.index_build.specs.Index.{keptEvents, recordCount, recordsOf, spacingOk, Body, bodyAt, bodyOutcome, outcomeAfter, rawOutcome, wordsBody, wordsOutcome}
+use Rattle.index_build.specs.Index.{keptEvents, recordCount, recordsOf, spacingOk, Body, bodyAt, indexOutcome, openAfterHeader, openRawOutcome, wordsBody, openWordsOutcome}
 use Rattle.index_records.specs.InRange.{indexInRange}
 use Rattle.slice_rules.specs.Slice.{sizeOf, firstOf, endOf, indexEvents, isDuring, timeEvents, sliceCheck}
 use Rattle.slice.specs.Own.{ownEvents, ownSource, ownRecords, OwnPast, own-in-range, own-number, own-time, own-rules}
@@ -68,9 +68,9 @@ module _ (l : List ℕ) (start : ℕ) (e : Encoding) (size : SensorSize) (spacin
   length-own = length-firsts _ need
 
   opened-body : (room : ℕ) → start ≤ length l → length l ≤ mostBytes → hasZero size ≡ false
-      → Gives o records₀ records (bodyOutcome (bodyAt l start e size spacing) room)
+      → Gives o records₀ records (indexOutcome (bodyAt l start e size spacing) room)
       → OpenedAs l start e size spacing o records
-  unfolding bodyOutcome
+  unfolding indexOutcome
   opened-body room within long positive = go (spacingOk e spacing) refl (ltb room need) (sizeless size (keptEvents size e body))
     where
       go : (a : Bool) → spacingOk e spacing ≡ a → (b c : Bool)
@@ -96,13 +96,13 @@ module _ (l : List ℕ) (start : ℕ) (e : Encoding) (size : SensorSize) (spacin
 module _ (o : Opening) (r : OpenAnswer) (records₀ records : List Checkpoint) (accepted : r ≡ Opened o) where
   pub opened-words : (words : List ℕ) (options : WordsOptions) → OpensWords words options r records₀ records
       → OpenedAs words 0 (options .encoding) (options .«sensor_size») (options .spacing) o records
-  unfolding wordsOutcome
+  unfolding openWordsOutcome
   opened-words words options h =
       go (ltb mostBytes (length words)) refl (hasZero (options .«sensor_size»)) refl (sym (h .is-answer) ∙ accepted, h .is-records)
     where
       go : (a : Bool) → ltb mostBytes (length words) ≡ a → (b : Bool) → hasZero (options .«sensor_size») ≡ b
           → Gives o records₀ records
-          (cond a (refuse TooLong) (cond b (refuse InvalidSensorSize) (bodyOutcome (wordsBody words options) (length records₀))))
+          (cond a (refuse TooLong) (cond b (refuse InvalidSensorSize) (indexOutcome (wordsBody words options) (length records₀))))
           → OpenedAs words 0 (options .encoding) (options .«sensor_size») (options .spacing) o records
       go true p b q u = never o records₀ records TooLong u
       go false p true q u = never o records₀ records InvalidSensorSize u
@@ -113,11 +113,11 @@ module _ (o : Opening) (r : OpenAnswer) (records₀ records : List Checkpoint) (
   pub opened-raw : (recording : List ℕ) (options : OpenOptions) → OpensRaw recording options r records₀ records
       → (h : header.Header) × (headerOf recording (options .«sensor_size») ≡ Header h)
       × OpenedAs recording (h .«data_offset») (h .encoding) (h .«sensor_size») (options .spacing) o records
-  unfolding rawOutcome
+  unfolding openRawOutcome
   opened-raw recording options h = go (headerOf recording (options .«sensor_size»)) refl (sym (h .is-answer) ∙ accepted, h .is-records)
     where
       go : (a : HeaderAnswer) → headerOf recording (options .«sensor_size») ≡ a
-          → Gives o records₀ records (outcomeAfter a recording (options .spacing) (length records₀))
+          → Gives o records₀ records (openAfterHeader a recording (options .spacing) (length records₀))
           → (h : header.Header) × (headerOf recording (options .«sensor_size») ≡ Header h)
           × OpenedAs recording (h .«data_offset») (h .encoding) (h .«sensor_size») (options .spacing) o records
       go (NoHeader q) p u = never o records₀ records q u
@@ -133,12 +133,12 @@ module _ (o : Opening) (r : OpenAnswer) (records₀ records : List Checkpoint) (
 pub words-opened : (words : List ℕ) (options : WordsOptions) (room : ℕ) → length words ≤ mostBytes → hasZero (options .«sensor_size») ≡ false
     → spacingOk (options .encoding) (options .spacing) ≡ true → recordCount (length words) (options .spacing) ≤ room
     → sizeless (options .«sensor_size») (ownEvents (options .«sensor_size») (options .encoding) 0 words) ≡ false
-    → openAnswer (wordsOutcome words options room)
+    → openAnswer (openWordsOutcome words options room)
     ≡ Opened (record {
       source = ownSource (options .«sensor_size») (options .encoding) 0 (options .spacing) words;
       records = recordCount (length words) (options .spacing);
     })
-unfolding wordsOutcome bodyOutcome
+unfolding openWordsOutcome indexOutcome
 words-opened words options room long positive allowed enough sized =
     rw (le-ltb mostBytes (length words) long, positive, allowed, le-ltb room (recordCount (length words) (options .spacing)) enough, sized)
 

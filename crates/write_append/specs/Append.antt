@@ -43,12 +43,12 @@ module _ (s : RawEventSink) (xs ys : List ℕ) (ts : List ℤ) (ps : List ℕ) w
 
 module _ (s : RawEventSink) (width height : ℕ) (xs ys : List ℕ) (ts : List ℤ) (ps : List ℕ) where
   -- a header that is due goes before the first words
-  abbrev pub headerBytes : List ℕ
-  headerBytes = cond (headerDue s xs) (headerText (s .version) width height) []
+  abbrev pub dueHeader : List ℕ
+  dueHeader = cond (headerDue s xs) (headerText (s .version) width height) []
 
   -- what an append that is accepted hands over
   abbrev pub sends : List ℕ
-  sends = headerBytes ++ wordBytes s xs ys ts ps
+  sends = dueHeader ++ wordBytes s xs ys ts ps
 
 -- ---- what an append comes to: a refusal, or the bytes that it hands over and the writer after it
 

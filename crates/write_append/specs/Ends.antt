@@ -21,7 +21,7 @@ use Rattle.write_rules.specs.declared.{Check.the-variants.Passed, Check.the-var
 use Rattle.write_rules.specs.{declared.RawEventSink.RawEventSink, Range.eventsInRange, Rules.checkOutcome, Rules.checkOf, Checks.event-fine}
 use Rattle.write_rules.specs.{Checks.check-given, Checks.check-refused}
 use Rattle.write_append.specs.declared.AppendAnswer.the-variants.{Written, Refused}
-use Rattle.write_append.specs.Append.{some, headerDue, headerBytes, wordBytes, lastAfter, sends, nextSink, AppendedBytes, appendOutcome}
+use Rattle.write_append.specs.Append.{some, headerDue, dueHeader, wordBytes, lastAfter, sends, nextSink, AppendedBytes, appendOutcome}
 use Rattle.write_append.specs.Append.{accepts, handedOver, sinkAfter, Appends, AppendOwed}
 
 -- ---- the last time
@@ -164,7 +164,7 @@ module _ (s : RawEventSink) (width height : ℕ) (xs ys : List ℕ) (ts : List �
 
   pub sends-few : Sized xs ys ts ps → width < 2 ^ 64 → height < 2 ^ 64 → length (sends s width height xs ys ts ps) ≤ 96 + 8 * length xs
   sends-few z lw lh =
-      let h = headerBytes s width height xs ys ts ps in
+      let h = dueHeader s width height xs ys ts ps in
       let w = wordBytes s xs ys ts ps in
       omega (
         arith,

@@ -8,11 +8,11 @@ use Rattle.laws_stream.specs.Machine.{Machine, Note, All, all-append, emits, wo
 use Rattle.laws_stream.specs.Words.{Fits}
 use Rattle.write_buffer.specs.Storing.{piece, bytesFrom, bytes-cons}
 
-abbrev pub eventsOf : {I E : Type 0} → (I → List E) → List I → List E
-eventsOf f [] = []
-eventsOf f (a ∷ l) = f a ++ eventsOf f l
+abbrev pub concatMap : {I E : Type 0} → (I → List E) → List I → List E
+concatMap f [] = []
+concatMap f (a ∷ l) = f a ++ concatMap f l
 
-pub events-single : {E : Type 0} (es : List E) → eventsOf (λ (e : E). e ∷ []) es ≡ es
+pub events-single : {E : Type 0} (es : List E) → concatMap (λ (e : E). e ∷ []) es ≡ es
 events-single [] = refl
 events-single (e ∷ es) = ap (λ (l : List _). e ∷ l) (events-single es)
 
@@ -25,12 +25,12 @@ module _ {Q I E : Type 0} (W : Machine Q I (Note ℕ E)) where
 
   -- of elements that are valid, where `f` says which events one has
   module _ (Valid : I → Type 0) (f : I → List E) where
-    pub emits-notes : ((v : Q) (a : I) → Valid a → notes (W .emit v a) ≡ f a) → (v : Q) (l : List I) → All Valid l → notes (emits W v l) ≡ eventsOf f l
+    pub emits-notes : ((v : Q) (a : I) → Valid a → notes (W .emit v a) ≡ f a) → (v : Q) (l : List I) → All Valid l → notes (emits W v l) ≡ concatMap f l
     emits-notes one v [] va = refl
     emits-notes one v (a ∷ l) va = rw (notes-append, one v a (va .0), emits-notes one (W .step v a) l (va .1))
 
     pub emits-few : (size : ℕ) → ((v : Q) (a : I) → Valid a → length (piece size W v a) ≤ 8 * length (f a))
-        → (v : Q) (l : List I) → All Valid l → length (bytesFrom size W v l) ≤ 8 * length (eventsOf f l)
+        → (v : Q) (l : List I) → All Valid l → length (bytesFrom size W v l) ≤ 8 * length (concatMap f l)
     unfolding bytesFrom
     emits-few size one v [] va = omega arith
     emits-few size one v (a ∷ l) va =
@@ -40,7 +40,7 @@ module _ {Q I E : Type 0} (W : Machine Q I (Note ℕ E)) where
           arith,
           ap length (bytes-cons size W v a l),
           length-append here rest,
-          length-append (f a) (eventsOf f l),
+          length-append (f a) (concatMap f l),
           one v a (va .0),
           emits-few size one (W .step v a) l (va .1),
         )

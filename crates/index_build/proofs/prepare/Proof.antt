@@ -2,7 +2,7 @@ use mathlib.Core.Path.{sym, ap, subst, _∙_}
 use Rattle.header.specs.declared.HeaderAnswer.{HeaderAnswer}
 use Rattle.header.specs.Header.{IsRefused}
 use Rattle.index_build.specs.Build.{preparedBy}
-use Rattle.index_build.specs.Index.{outcomeAfter}
+use Rattle.index_build.specs.Index.{openAfterHeader}
 use Rattle.index_build.specs.Open.{outcome-after, header-fits}
 use borrow.Author.Needs.{needs}
 use Rattle.index_build.proofs.prepare.Statement.{statement}
@@ -17,7 +17,7 @@ returns c =
     let answer = c .before .before .before .parse-header in
     let o = s .args .options in
     sym (ap preparedBy (outcome-after (s .args .recording .now) o (s .args .room) (answer .result) (answer .ensures .answer)
-    ∙ ap (λ (a : HeaderAnswer). outcomeAfter a (s .args .recording .now) (o .spacing) (s .args .room)) (c .refusal-of .ensures)))
+    ∙ ap (λ (a : HeaderAnswer). openAfterHeader a (s .args .recording .now) (o .spacing) (s .args .room)) (c .refusal-of .ensures)))
 
 body-builder-requires : tie.Need-body-builder-requires
 body-builder-requires c κs =
@@ -31,7 +31,7 @@ returns-2 c =
     let answer = c .before .before .before .before .parse-header in
     let o = s .args .options in
     c .body-builder .ensures ∙ sym (ap preparedBy (outcome-after (s .args .recording .now) o (s .args .room) (answer .result) (answer .ensures .answer)
-    ∙ ap (λ (a : HeaderAnswer). outcomeAfter a (s .args .recording .now) (o .spacing) (s .args .room)) (c .before .before .answer .given .1)))
+    ∙ ap (λ (a : HeaderAnswer). openAfterHeader a (s .args .recording .now) (o .spacing) (s .args .room)) (c .before .before .answer .given .1)))
 
 pub prepare-spec : {M : Type 1} → statement M
 prepare-spec =

@@ -1,7 +1,7 @@
 use mathlib.Core.Path.{ap, _∙_}
 use Rattle.index_build.specs.declared.WordsOptions.{WordsOptions}
 use Rattle.index_build.specs.Build.{preparedBy}
-use Rattle.index_build.specs.Index.{wordsOutcome}
+use Rattle.index_build.specs.Index.{openWordsOutcome}
 use Rattle.index_build.specs.Open.{accepted-words}
 use Rattle.c_structs.specs.Making.{begins}
 use Rattle.c_structs.specs.Opening.{wordsOptionsOf}
@@ -16,7 +16,7 @@ open-entries-requires c κs =
     let l = a .words .now in
     let room = roomOf (a .records .now) in
     let o = c .before .before .words-options-of .result in
-    begins l room (wordsOutcome l o room) (accepted-words l o room) _ (c .before .prepare-words .ensures)
+    begins l room (openWordsOutcome l o room) (accepted-words l o room) _ (c .before .prepare-words .ensures)
 
 returns : tie.Need-returns
 returns c =
@@ -24,9 +24,9 @@ returns c =
     let l = a .words .now in
     let room = roomOf (a .records .now) in
     let o = wordsOptionsOf (a .encoding) (a .options) in
-    c .before .before .open-entries .ensures (wordsOutcome l o room) (accepted-words l o room)
+    c .before .before .open-entries .ensures (openWordsOutcome l o room) (accepted-words l o room)
     (c .before .before .before .before .prepare-words .ensures
-    ∙ ap (λ (x : WordsOptions). preparedBy (wordsOutcome l x room)) (c .before .before .before .before .before .words-options-of .ensures))
+    ∙ ap (λ (x : WordsOptions). preparedBy (openWordsOutcome l x room)) (c .before .before .before .before .before .words-options-of .ensures))
 
 pub open-words-spec : {M : Type 1} → statement M
 open-words-spec =

@@ -1,7 +1,7 @@
 use mathlib.Core.Path.{ap, _∙_}
 use Rattle.index_build.specs.declared.OpenOptions.{OpenOptions}
 use Rattle.index_build.specs.Build.{preparedBy}
-use Rattle.index_build.specs.Index.{rawOutcome}
+use Rattle.index_build.specs.Index.{openRawOutcome}
 use Rattle.index_build.specs.Open.{accepted-raw}
 use Rattle.c_structs.specs.Making.{begins}
 use Rattle.c_structs.specs.Opening.{optionsOf}
@@ -16,7 +16,7 @@ open-entries-requires c κs =
     let l = a .recording .now in
     let room = roomOf (a .records .now) in
     let o = c .before .before .options-of .result in
-    begins l room (rawOutcome l o room) (accepted-raw l o room) _ (c .before .prepare .ensures)
+    begins l room (openRawOutcome l o room) (accepted-raw l o room) _ (c .before .prepare .ensures)
 
 returns : tie.Need-returns
 returns c =
@@ -24,9 +24,9 @@ returns c =
     let l = a .recording .now in
     let room = roomOf (a .records .now) in
     let o = optionsOf (a .options) in
-    c .before .before .open-entries .ensures (rawOutcome l o room) (accepted-raw l o room)
+    c .before .before .open-entries .ensures (openRawOutcome l o room) (accepted-raw l o room)
     (c .before .before .before .before .prepare .ensures
-    ∙ ap (λ (x : OpenOptions). preparedBy (rawOutcome l x room)) (c .before .before .before .before .before .options-of .ensures))
+    ∙ ap (λ (x : OpenOptions). preparedBy (openRawOutcome l x room)) (c .before .before .before .before .before .options-of .ensures))
 
 pub prophesee-open-spec : {M : Type 1} → statement M
 prophesee-open-spec =

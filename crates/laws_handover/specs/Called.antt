@@ -9,7 +9,7 @@ use Rattle.evt_types.specs.{Columns.colX, Columns.colY, Columns.colT, Columns.c
 use Rattle.index_build.specs.{declared.OpenAnswer.the-variants.Opened, declared.Opening.Opening, Index.recordCount, Index.sourceOf}
 use Rattle.slice_rules.specs.declared.{SliceAnswer.SliceAnswer, SliceAnswer.the-variants.Sliced}
 use Rattle.laws_handover.specs.{Handover.fresh, Handover.widest, Handover.Suits, Handover.Exact, Handover.Reads, Handover.callsOf}
-use Rattle.laws_handover.specs.{Handover.Columns, Handover.Holds, Handover.ByTime, Proof.demand-three, Ran.ran-written}
+use Rattle.laws_handover.specs.{Handover.Columns, Handover.HoldsEvents, Handover.ByTime, Proof.demand-three, Ran.ran-written}
 use Rattle.laws_handover.specs.Handover.{Index, Alike, ReadBack, DemandThreeRan, numbered, duringTimes, NumberRan, TimeRan, room, ByNumber}
 
 -- ---- two callers
@@ -20,8 +20,8 @@ front-same f part old now old′ now′ a b =
     ap (take (length part)) a ∙ take-at (map f part) (drop (length part) old) (length part) (length-map part f)
     ∙ sym (ap (take (length part)) b ∙ take-at (map f part) (drop (length part) old′) (length part) (length-map part f))
 
-alike : (part : List Event) (r q : SliceAnswer) (c₀ c d₀ d : Columns) → (r ≡ Sliced (length part)) × Holds part c₀ c
-    → (q ≡ Sliced (length part)) × Holds part d₀ d
+alike : (part : List Event) (r q : SliceAnswer) (c₀ c d₀ d : Columns) → (r ≡ Sliced (length part)) × HoldsEvents part c₀ c
+    → (q ≡ Sliced (length part)) × HoldsEvents part d₀ d
     → Alike (length part) r q c d
 alike part r q c₀ c d₀ d a b = record {
   first = a .0;
@@ -49,13 +49,13 @@ module _ (e : Encoding) (bytes : List ℕ) (es : List Event) (reads : Reads e wi
     told-is o h = cc (indexed .0)
 
     sliced-number : (o : Opening) → x .answer ≡ Opened o → (i0 i1 : ℕ) (r : SliceAnswer) (c₀ c : Columns) → NumberRan x o i0 i1 r c₀ c
-        → length (numbered es i0 i1) ≤ room c₀ → (r ≡ Sliced (length (numbered es i0 i1))) × Holds (numbered es i0 i1) c₀ c
+        → length (numbered es i0 i1) ≤ room c₀ → (r ≡ Sliced (length (numbered es i0 i1))) × HoldsEvents (numbered es i0 i1) c₀ c
     sliced-number o h i0 i1 r c₀ c ran fits =
         let g = indexed .1 i0 i1 r (c₀ .xs) (c₀ .ys) (c₀ .ts) (c₀ .ps) (c .xs) (c .ys) (c .ts) (c .ps) (rw (told-is o h) at ran) fits in
         (g .count, g .columns)
 
     sliced-time : (o : Opening) → x .answer ≡ Opened o → (t0 t1 : ℤ) (r : SliceAnswer) (c₀ c : Columns) → TimeRan x o t0 t1 r c₀ c
-        → length (duringTimes es t0 t1) ≤ room c₀ → (r ≡ Sliced (length (duringTimes es t0 t1))) × Holds (duringTimes es t0 t1) c₀ c
+        → length (duringTimes es t0 t1) ≤ room c₀ → (r ≡ Sliced (length (duringTimes es t0 t1))) × HoldsEvents (duringTimes es t0 t1) c₀ c
     sliced-time o h t0 t1 r c₀ c ran fits =
         let g = indexed .2 t0 t1 r (c₀ .xs) (c₀ .ys) (c₀ .ts) (c₀ .ps) (c .xs) (c .ys) (c .ts) (c .ps) (rw (told-is o h) at ran) fits in
         (g .count, g .columns)

@@ -12,7 +12,7 @@
 --   decoding what came before gives exactly the whole events               `DemandThreeRan`: `of-cut`, `decoded`
 --   the joined stream decodes to all                                       `DemandThreeRan`: `of-joined`
 --   slices by number and time, exact at every allowed spacing              `opened`, `by-number`, `by-time` of `ReadBack`
---   the count and all four columns up to it; at every spacing alike        `Holds`, `Alike`, `alike-number`, `alike-time`
+--   the count and all four columns up to it; at every spacing alike        `HoldsEvents`, `Alike`, `alike-number`, `alike-time`
 use mathlib.Core.Path.{_≡_}
 use mathlib.Core.Bool.{Bool, true, false, cond, _||_}
 use mathlib.Core.List.{List, [], _∷_, _++_, map}
@@ -269,8 +269,8 @@ abbrev pub room : Columns → ℕ
 room c = shortest (c .xs) (c .ys) (c .ts) (c .ps)
 
 -- columns that were c₀ now hold es in front, and behind them what was there
-abbrev pub Holds : List Event → (c₀ c : Columns) → Type 0
-Holds es c₀ c = Handed es (c₀ .xs) (c₀ .ys) (c₀ .ts) (c₀ .ps) (c .xs) (c .ys) (c .ts) (c .ps)
+abbrev pub HoldsEvents : List Event → (c₀ c : Columns) → Type 0
+HoldsEvents es c₀ c = Handed es (c₀ .xs) (c₀ .ys) (c₀ .ts) (c₀ .ps) (c .xs) (c .ys) (c .ts) (c .ps)
 
 -- an index that was built from just these bytes, at an allowed spacing, into records that suffice
 pub record Index (e : Encoding) (bytes : List ℕ) : Type 0 where
@@ -305,13 +305,15 @@ pub record Alike (n : ℕ) (r₁ r₂ : SliceAnswer) (c₁ c₂ : Columns) : Typ
 pub record ReadBack (e : Encoding) (bytes : List ℕ) (es : List Event) : Type 0 where
   pub decoded : (r : ReadAnswer) (c₀ c : Columns)
       → DecodesWords bytes e widest Unlimited r (c₀ .xs) (c₀ .ys) (c₀ .ts) (c₀ .ps) (c .xs) (c .ys) (c .ts) (c .ps) → length es ≤ room c₀
-      → (r ≡ Read (record { encoding = e; width = 2048; height = 2048; count = length es })) × Holds es c₀ c
+      → (r ≡ Read (record { encoding = e; width = 2048; height = 2048; count = length es })) × HoldsEvents es c₀ c
   pub opened : (x : Index e bytes)
       → x .answer ≡ Opened (record { source = sourceOf (length bytes) 0 e widest (x .spacing) es; records = recordCount (length bytes) (x .spacing) })
   pub by-number : (x : Index e bytes) (o : Opening) → x .answer ≡ Opened o → (i0 i1 : ℕ) (r : SliceAnswer) (c₀ c : Columns)
-      → NumberRan x o i0 i1 r c₀ c → length (numbered es i0 i1) ≤ room c₀ → (r ≡ Sliced (length (numbered es i0 i1))) × Holds (numbered es i0 i1) c₀ c
+      → NumberRan x o i0 i1 r c₀ c → length (numbered es i0 i1) ≤ room c₀
+      → (r ≡ Sliced (length (numbered es i0 i1))) × HoldsEvents (numbered es i0 i1) c₀ c
   pub by-time : (x : Index e bytes) (o : Opening) → x .answer ≡ Opened o → (t0 t1 : ℤ) (r : SliceAnswer) (c₀ c : Columns)
-      → TimeRan x o t0 t1 r c₀ c → length (duringTimes es t0 t1) ≤ room c₀ → (r ≡ Sliced (length (duringTimes es t0 t1))) × Holds (duringTimes es t0 t1) c₀ c
+      → TimeRan x o t0 t1 r c₀ c → length (duringTimes es t0 t1) ≤ room c₀
+      → (r ≡ Sliced (length (duringTimes es t0 t1))) × HoldsEvents (duringTimes es t0 t1) c₀ c
   -- at whatever two spacings, into whatever columns that suffice
   pub alike-number : (x y : Index e bytes) (o p : Opening) → x .answer ≡ Opened o → y .answer ≡ Opened p → (i0 i1 : ℕ) (r q : SliceAnswer) (c₀ c d₀ d : Columns)
       → NumberRan x o i0 i1 r c₀ c → NumberRan y p i0 i1 q d₀ d → length (numbered es i0 i1) ≤ room c₀ → length (numbered es i0 i1) ≤ room d₀

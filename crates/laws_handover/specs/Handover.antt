@@ -1,6 +1,6 @@
 -- DEMAND 3, stated once, of the definitions that the contracts of `append`, `decode_words`, `open_words`, `slice_index` and `slice_time` cite.
 -- `DemandThree` speaks of lists of appends (specs/Proof.antt proves it), `DemandThreeRan`, at the end, of calls that ran, `DemandThreeByValue` of those of
--- `index_fixed` (specs/Called.antt proves both).
+-- `index_fixed` (specs/Called.antt proves both), `SecondListExists` of the list that resumes (specs/Others.antt).
 --
 --   a list of appends, each given the writer that the last one returned    `Call`, `next`; as they ran: `Ran`, `Chained`
 --   a fresh writer that sends no header                                    `fresh`
@@ -12,6 +12,7 @@
 --   the joined stream                                                      `joined`; of calls that ran: `joinedRan`
 --   decoding what came before gives exactly the whole events               `DemandThreeRan`: `of-cut`, `decoded`
 --   the joined stream decodes to all                                       `DemandThreeRan`: `of-joined`
+--   a second list always exists                                            `SecondListExists`, `singles`
 --   slices by number and time, exact at every allowed spacing              `opened`, `by-number`, `by-time` of `ReadBack`
 --   by an index whose records are lent, or held by value in any room       `lent`, `by-value`; the latter in full: `DemandThreeByValue`
 --   the count and all four columns up to it; by every two indexes alike    `HoldsEvents`, `Alike`, `alike-number`, `alike-time`
@@ -21,7 +22,7 @@ use mathlib.Core.List.{List, [], _∷_, _++_, map}
 use Prim.Native.Nat.{ℕ, _+_, _-_, _*_, _/_, _^_, _≤_, _<_, min, max}
 use native.Mathlib.Omega.{arith}
 use lib.Dec.{leb, eqb}
-use lib.IntN.{ℤ}
+use lib.IntN.{ℤ, pos}
 use lib.ListN.{length, take, drop, replicate, length-replicate}
 use Rattle.laws_stream.specs.{Machine.Machine, Machine.Note, Machine.All, Machine.words, Machine.notes, Slice.sift, Words.stream}
 use Rattle.evt_types.specs.{Event.Event, Outcome.Outcome, Layout.type2, Layout.type3, declared.SensorSize.SensorSize}
@@ -237,6 +238,27 @@ pub record Claim (e : Encoding) (bytes : List ℕ) (ws : List (Note ℕ Event)) 
 abbrev pub DemandThree : Type 0
 DemandThree = (e : Encoding) (calls : List Call) (cut : ℕ) → cut ≤ length (streamOf (fresh e) calls)
     → Claim e (streamOf (fresh e) calls) (streamWords (fresh e) calls) (acceptedEvents (fresh e) calls) cut
+
+-- ---- a second list always exists: the others one by one, each with an output of 8 bytes
+
+abbrev pub single : Event → Call
+single a = record { width = 2048; height = 2048; xs = a .x ∷ []; ys = a .y ∷ []; ts = pos (a .t) ∷ []; ps = a .p ∷ []; room = 8 }
+
+abbrev pub singles : List Event → List Call
+singles es = map single es
+
+module _ (e : Encoding) (calls : List Call) (cut : ℕ) where
+  abbrev pub othersOf : List Event
+  othersOf = others e cut (streamWords (fresh e) calls)
+
+  pub record Resumable : Type 0 where
+    -- all are accepted, up to the count that rule 10 allows a writer: more are never left where demand 3 speaks, of streams of at most 2 ^ 30 bytes
+    pub accepted : length othersOf ≤ 2 ^ 62 → acceptedEvents (fresh e) (singles othersOf) ≡ othersOf
+    -- so what is joined is read as all events; here no count is asked, since each append writes a byte at least, and `Exact` is of at most 2 ^ 30
+    pub exact : Exact e (joined e cut (streamOf (fresh e) calls) (singles othersOf)) (acceptedEvents (fresh e) calls)
+
+abbrev pub SecondListExists : Type 0
+SecondListExists = (e : Encoding) (calls : List Call) (cut : ℕ) → Resumable e calls cut
 
 -- ---- THE SAME OF CALLS THAT RAN, at a sensor of 2048 by 2048: by the contracts of `append`, `decode_words`, `open_words`, `slice_index` and `slice_time`
 -- alone

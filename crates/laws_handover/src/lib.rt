@@ -6,5 +6,5 @@
 // by specs/Calls.antt (lists of appends), EventWords.antt (the types of their words), Cut.antt (cuts)
 // and Reading.antt (contracts unfolded). Ran.antt is the step from appends that ran to their list, and
 // Called.antt proves the same of calls that ran (`DemandThreeRan`, `DemandThreeByValue`).
-// Others.antt proves that a second list exists, and Again.antt has what follows: any number of
-// handovers, and numbers that stay through every cut.
+// Others.antt proves that a second list always exists (`SecondListExists`), and Again.antt has what
+// follows: any number of handovers, and numbers that stay through every cut.

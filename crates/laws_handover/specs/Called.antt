@@ -9,8 +9,9 @@ use Rattle.evt_types.specs.{Columns.colX, Columns.colY, Columns.colT, Columns.c
 use Rattle.index_build.specs.{declared.OpenAnswer.the-variants.Opened, declared.Opening.Opening, Index.recordCount, Index.sourceOf}
 use Rattle.slice_rules.specs.declared.{SliceAnswer.SliceAnswer, SliceAnswer.the-variants.Sliced}
 use Rattle.laws_handover.specs.{Handover.fresh, Handover.widest, Handover.Suits, Handover.Exact, Handover.Reads, Handover.callsOf}
-use Rattle.laws_handover.specs.{Handover.Columns, Handover.Holds, Handover.ByTime, Proof.demand-three, Ran.ran-written}
-use Rattle.laws_handover.specs.Handover.{Index, Alike, ReadBack, DemandThreeRan, numbered, duringTimes, NumberRan, TimeRan, room, ByNumber}
+use Rattle.laws_handover.specs.{Handover.Columns, Handover.HoldsEvents, Handover.Indexed, Proof.demand-three, Ran.ran-written}
+use Rattle.laws_handover.specs.Handover.{Index, by-value, Alike, ReadBack, DemandThreeRan, numbered, duringTimes, NumberRan, TimeRan, room}
+use Rattle.laws_handover.specs.Handover.{ReadByValue, DemandThreeByValue}
 
 -- ---- two callers
 
@@ -20,8 +21,8 @@ front-same f part old now old′ now′ a b =
     ap (take (length part)) a ∙ take-at (map f part) (drop (length part) old) (length part) (length-map part f)
     ∙ sym (ap (take (length part)) b ∙ take-at (map f part) (drop (length part) old′) (length part) (length-map part f))
 
-alike : (part : List Event) (r q : SliceAnswer) (c₀ c d₀ d : Columns) → (r ≡ Sliced (length part)) × Holds part c₀ c
-    → (q ≡ Sliced (length part)) × Holds part d₀ d
+alike : (part : List Event) (r q : SliceAnswer) (c₀ c d₀ d : Columns) → (r ≡ Sliced (length part)) × HoldsEvents part c₀ c
+    → (q ≡ Sliced (length part)) × HoldsEvents part d₀ d
     → Alike (length part) r q c d
 alike part r q c₀ c d₀ d a b = record {
   first = a .0;
@@ -39,23 +40,21 @@ module _ (e : Encoding) (bytes : List ℕ) (es : List Event) (reads : Reads e wi
   openedAs spacing = record { source = sourceOf (length bytes) 0 e widest spacing es; records = recordCount (length bytes) spacing }
 
   module _ (x : Index e bytes) where
-    indexed : (x .answer ≡ Opened (openedAs (x .spacing)))
-        × ByNumber bytes es (openedAs (x .spacing) .source) (take (openedAs (x .spacing) .records) (x .records))
-        × ByTime bytes es (openedAs (x .spacing) .source) (take (openedAs (x .spacing) .records) (x .records))
-    indexed = reads .indexes (x .spacing) (x .allowed) (x .answer) (x .records₀) (x .records) (x .ran) (x .enough)
+    indexed : Indexed e widest bytes es (x .spacing) (x .answer) (x .records)
+    indexed = reads .indexes (x .spacing) (x .allowed) (x .room) (x .answer) (x .records₀) (x .records) (x .within) (x .ran) (x .enough)
 
     -- the opening that it told is that one
     told-is : (o : Opening) → x .answer ≡ Opened o → o ≡ openedAs (x .spacing)
     told-is o h = cc (indexed .0)
 
     sliced-number : (o : Opening) → x .answer ≡ Opened o → (i0 i1 : ℕ) (r : SliceAnswer) (c₀ c : Columns) → NumberRan x o i0 i1 r c₀ c
-        → length (numbered es i0 i1) ≤ room c₀ → (r ≡ Sliced (length (numbered es i0 i1))) × Holds (numbered es i0 i1) c₀ c
+        → length (numbered es i0 i1) ≤ room c₀ → (r ≡ Sliced (length (numbered es i0 i1))) × HoldsEvents (numbered es i0 i1) c₀ c
     sliced-number o h i0 i1 r c₀ c ran fits =
         let g = indexed .1 i0 i1 r (c₀ .xs) (c₀ .ys) (c₀ .ts) (c₀ .ps) (c .xs) (c .ys) (c .ts) (c .ps) (rw (told-is o h) at ran) fits in
         (g .count, g .columns)
 
     sliced-time : (o : Opening) → x .answer ≡ Opened o → (t0 t1 : ℤ) (r : SliceAnswer) (c₀ c : Columns) → TimeRan x o t0 t1 r c₀ c
-        → length (duringTimes es t0 t1) ≤ room c₀ → (r ≡ Sliced (length (duringTimes es t0 t1))) × Holds (duringTimes es t0 t1) c₀ c
+        → length (duringTimes es t0 t1) ≤ room c₀ → (r ≡ Sliced (length (duringTimes es t0 t1))) × HoldsEvents (duringTimes es t0 t1) c₀ c
     sliced-time o h t0 t1 r c₀ c ran fits =
         let g = indexed .2 t0 t1 r (c₀ .xs) (c₀ .ys) (c₀ .ts) (c₀ .ps) (c .xs) (c .ys) (c .ts) (c .ps) (rw (told-is o h) at ran) fits in
         (g .count, g .columns)
@@ -86,4 +85,30 @@ demand-three-ran e ran chained cut h =
       of-joined = λ second chained₂ rest few.
           let written₂ = ran-written (fresh e) second chained₂ in
           exact-back e _ _ (rw (written, written₂) (claim .of-joined (callsOf second) rest)) (claim .all-suits) few;
+    }
+
+-- ---- BY VALUE
+
+value-back : (e : Encoding) (bytes : List ℕ) (es : List Event) → ReadBack e bytes es → ReadByValue e bytes es
+value-back e bytes es back spacing allowed room r records ran enough =
+    let x = by-value spacing allowed r room records ran enough in
+    let opened = back .opened x in (
+      opened,
+      (λ i0 i1 q xs₀ ys₀ ts₀ ps₀ xs ys ts ps sliced fits.
+          let g = back .by-number x _ opened i0 i1 q (columns xs₀ ys₀ ts₀ ps₀) (columns xs ys ts ps) sliced fits in
+          record { count = g .0; columns = g .1 }),
+      (λ t0 t1 q xs₀ ys₀ ts₀ ps₀ xs ys ts ps sliced fits.
+          let g = back .by-time x _ opened t0 t1 q (columns xs₀ ys₀ ts₀ ps₀) (columns xs ys ts ps) sliced fits in
+          record { count = g .0; columns = g .1 }),
+    )
+  where
+    columns : List ℕ → List ℕ → List ℤ → List ℕ → Columns
+    columns xs ys ts ps = record { xs = xs; ys = ys; ts = ts; ps = ps }
+
+pub demand-three-by-value : DemandThreeByValue
+demand-three-by-value e ran chained cut h =
+    let read = demand-three-ran e ran chained cut h in
+    record {
+      of-cut = λ few. value-back e _ _ (read .of-cut few);
+      of-joined = λ second chained₂ rest few. value-back e _ _ (read .of-joined second chained₂ rest few);
     }

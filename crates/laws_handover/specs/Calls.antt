@@ -37,7 +37,7 @@ module _ (s : RawEventSink) (c : Call) where
   bytes = sends s (c .width) (c .height) (c .xs) (c .ys) (c .ts) (c .ps)
 
   -- the writer after it, and its bytes, by whether it is accepted
-  by-call : (next s c ≡ cond (isAccepted s c) later s) × (callBytes s c ≡ cond (isAccepted s c) bytes [])
+  pub by-call : (next s c ≡ cond (isAccepted s c) later s) × (callBytes s c ≡ cond (isAccepted s c) bytes [])
   by-call = by-acceptance s (c .width) (c .height) (c .xs) (c .ys) (c .ts) (c .ps) (c .room)
 
   pub record Unchanged : Type 0 where

@@ -1,5 +1,6 @@
 -- DEMAND 3, stated once, of the definitions that the contracts of `append`, `decode_words`, `open_words`, `slice_index` and `slice_time` cite.
--- `DemandThree` speaks of lists of appends (specs/Proof.antt proves it), `DemandThreeRan`, at the end, of calls that ran (specs/Called.antt proves it).
+-- `DemandThree` speaks of lists of appends (specs/Proof.antt proves it), `DemandThreeRan`, at the end, of calls that ran, `DemandThreeByValue` of those of
+-- `index_fixed` (specs/Called.antt proves both), `SecondListExists` of the list that resumes (specs/Others.antt).
 --
 --   a list of appends, each given the writer that the last one returned    `Call`, `next`; as they ran: `Ran`, `Chained`
 --   a fresh writer that sends no header                                    `fresh`
@@ -11,15 +12,18 @@
 --   the joined stream                                                      `joined`; of calls that ran: `joinedRan`
 --   decoding what came before gives exactly the whole events               `DemandThreeRan`: `of-cut`, `decoded`
 --   the joined stream decodes to all                                       `DemandThreeRan`: `of-joined`
+--   a second list always exists                                            `SecondListExists`, `singles`
 --   slices by number and time, exact at every allowed spacing              `opened`, `by-number`, `by-time` of `ReadBack`
---   the count and all four columns up to it; at every spacing alike        `Holds`, `Alike`, `alike-number`, `alike-time`
+--   by an index whose records are lent, or held by value in any room       `lent`, `by-value`; the latter in full: `DemandThreeByValue`
+--   the count and all four columns up to it; by every two indexes alike    `HoldsEvents`, `Alike`, `alike-number`, `alike-time`
 use mathlib.Core.Path.{_≡_}
 use mathlib.Core.Bool.{Bool, true, false, cond, _||_}
 use mathlib.Core.List.{List, [], _∷_, _++_, map}
 use Prim.Native.Nat.{ℕ, _+_, _-_, _*_, _/_, _^_, _≤_, _<_, min, max}
+use native.Mathlib.Omega.{arith}
 use lib.Dec.{leb, eqb}
-use lib.IntN.{ℤ}
-use lib.ListN.{length, take, drop}
+use lib.IntN.{ℤ, pos}
+use lib.ListN.{length, take, drop, replicate, length-replicate}
 use Rattle.laws_stream.specs.{Machine.Machine, Machine.Note, Machine.All, Machine.words, Machine.notes, Slice.sift, Words.stream}
 use Rattle.evt_types.specs.{Event.Event, Outcome.Outcome, Layout.type2, Layout.type3, declared.SensorSize.SensorSize}
 use Rattle.evt_types.specs.{declared.SensorSize.the-variants.Known}
@@ -36,7 +40,8 @@ use Rattle.read_rules.specs.declared.{ReadAnswer.ReadAnswer, ReadAnswer.the-var
 use Rattle.header.specs.Header.{hasZero}
 use Rattle.read_rules.specs.Read.{DecodesWords, Handed, shortest, kept, widthOf, heightOf, sizeless}
 use Rattle.index_build.specs.declared.{Checkpoint.Checkpoint, OpenAnswer.OpenAnswer, OpenAnswer.the-variants.Opened, Opening.Opening}
-use Rattle.index_build.specs.{declared.RawSliceSource.RawSliceSource, Index.OpensWords, Index.recordCount, Index.sourceOf, Index.spacingOk}
+use Rattle.index_build.specs.{declared.RawSliceSource.RawSliceSource, declared.WordsOptions.WordsOptions, Nth.blank as blankRecord}
+use Rattle.index_build.specs.Index.{Opens, OpensWords, wordsOutcome, recordCount, sourceOf, spacingOk}
 use Rattle.slice_rules.specs.declared.{SliceAnswer.SliceAnswer, SliceAnswer.the-variants.Sliced}
 use Rattle.slice_rules.specs.Slice.{SlicesIndex, SlicesTime, isDuring}
 
@@ -179,6 +184,9 @@ module _ (bytes : List ℕ) (es : List Event) (source : RawSliceSource) (records
       → SlicesTime bytes source records t0 t1 r xs₀ ys₀ ts₀ ps₀ xs ys ts ps → length (duringTimes es t0 t1) ≤ shortest xs₀ ys₀ ts₀ ps₀
       → Gives (duringTimes es t0 t1) r xs₀ ys₀ ts₀ ps₀ xs ys ts ps
 
+abbrev pub optionsOf : Encoding → SensorSize → (spacing : ℕ) → WordsOptions
+optionsOf e size spacing = record { encoding = e; «sensor_size» = size; spacing = spacing }
+
 module _ (e : Encoding) (size : SensorSize) (bytes : List ℕ) (es : List Event) where
   -- decoding, with no header and no limit, where the columns suffice: accepted, the count and all four columns
   abbrev pub Decodes : Type 0
@@ -186,16 +194,19 @@ module _ (e : Encoding) (size : SensorSize) (bytes : List ℕ) (es : List Event)
       → DecodesWords bytes e size Unlimited r xs₀ ys₀ ts₀ ps₀ xs ys ts ps → length es ≤ shortest xs₀ ys₀ ts₀ ps₀
       → (r ≡ Read (record { encoding = e; width = widthOf size es; height = heightOf size es; count = length es })) × Handed es xs₀ ys₀ ts₀ ps₀ xs ys ts ps
 
-  -- an index built likewise from just these bytes at any allowed spacing, where the records suffice: opened, and both slices by the source told and the records
-  -- made
-  abbrev pub Indexes : Type 0
-  Indexes = (spacing : ℕ) → spacingOk e spacing ≡ true
-      → (r : OpenAnswer) (records₀ records : List Checkpoint)
-      → OpensWords bytes (record { encoding = e; «sensor_size» = size; spacing = spacing }) r records₀ records
-      → recordCount (length bytes) spacing ≤ length records₀
-      → let source = sourceOf (length bytes) 0 e size spacing es in
+  -- opened at this spacing, and sliced by number and by time over the source told and the records made
+  abbrev pub Indexed : (spacing : ℕ) → OpenAnswer → List Checkpoint → Type 0
+  Indexed spacing r records =
+      let source = sourceOf (length bytes) 0 e size spacing es in
       let made = recordCount (length bytes) spacing in
       (r ≡ Opened (record { source = source; records = made })) × ByNumber bytes es source (take made records) × ByTime bytes es source (take made records)
+
+  -- an index built likewise from just these bytes at any allowed spacing, into the first `room` of some records, where these suffice
+  abbrev pub Indexes : Type 0
+  Indexes = (spacing : ℕ) → spacingOk e spacing ≡ true
+      → (room : ℕ) (r : OpenAnswer) (records₀ records : List Checkpoint) → room ≤ length records₀
+      → Opens (wordsOutcome bytes (optionsOf e size spacing) room) r records₀ records
+      → recordCount (length bytes) spacing ≤ room → Indexed spacing r records
 
   pub record Reads : Type 0 where
     pub decodes : Decodes
@@ -227,6 +238,27 @@ pub record Claim (e : Encoding) (bytes : List ℕ) (ws : List (Note ℕ Event)) 
 abbrev pub DemandThree : Type 0
 DemandThree = (e : Encoding) (calls : List Call) (cut : ℕ) → cut ≤ length (streamOf (fresh e) calls)
     → Claim e (streamOf (fresh e) calls) (streamWords (fresh e) calls) (acceptedEvents (fresh e) calls) cut
+
+-- ---- a second list always exists: the others one by one, each with an output of 8 bytes
+
+abbrev pub single : Event → Call
+single a = record { width = 2048; height = 2048; xs = a .x ∷ []; ys = a .y ∷ []; ts = pos (a .t) ∷ []; ps = a .p ∷ []; room = 8 }
+
+abbrev pub singles : List Event → List Call
+singles es = map single es
+
+module _ (e : Encoding) (calls : List Call) (cut : ℕ) where
+  abbrev pub othersOf : List Event
+  othersOf = others e cut (streamWords (fresh e) calls)
+
+  pub record Resumable : Type 0 where
+    -- all are accepted, up to the count that rule 10 allows a writer: more are never left where demand 3 speaks, of streams of at most 2 ^ 30 bytes
+    pub accepted : length othersOf ≤ 2 ^ 62 → acceptedEvents (fresh e) (singles othersOf) ≡ othersOf
+    -- so what is joined is read as all events; here no count is asked, since each append writes a byte at least, and `Exact` is of at most 2 ^ 30
+    pub exact : Exact e (joined e cut (streamOf (fresh e) calls) (singles othersOf)) (acceptedEvents (fresh e) calls)
+
+abbrev pub SecondListExists : Type 0
+SecondListExists = (e : Encoding) (calls : List Call) (cut : ℕ) → Resumable e calls cut
 
 -- ---- THE SAME OF CALLS THAT RAN, at a sensor of 2048 by 2048: by the contracts of `append`, `decode_words`, `open_words`, `slice_index` and `slice_time`
 -- alone
@@ -269,18 +301,55 @@ abbrev pub room : Columns → ℕ
 room c = shortest (c .xs) (c .ys) (c .ts) (c .ps)
 
 -- columns that were c₀ now hold es in front, and behind them what was there
-abbrev pub Holds : List Event → (c₀ c : Columns) → Type 0
-Holds es c₀ c = Handed es (c₀ .xs) (c₀ .ys) (c₀ .ts) (c₀ .ps) (c .xs) (c .ys) (c .ts) (c .ps)
+abbrev pub HoldsEvents : List Event → (c₀ c : Columns) → Type 0
+HoldsEvents es c₀ c = Handed es (c₀ .xs) (c₀ .ys) (c₀ .ts) (c₀ .ps) (c .xs) (c .ys) (c .ts) (c .ps)
 
--- an index that was built from just these bytes, at an allowed spacing, into records that suffice
+-- an index that was built from just these bytes, at an allowed spacing, into the first `room` of some records, and these suffice
 pub record Index (e : Encoding) (bytes : List ℕ) : Type 0 where
   pub spacing : ℕ
   pub allowed : spacingOk e spacing ≡ true
+  pub room : ℕ
   pub answer : OpenAnswer
   pub records₀ : List Checkpoint
   pub records : List Checkpoint
-  pub ran : OpensWords bytes (record { encoding = e; «sensor_size» = widest; spacing = spacing }) answer records₀ records
-  pub enough : recordCount (length bytes) spacing ≤ length records₀
+  pub within : room ≤ length records₀
+  pub ran : Opens (wordsOutcome bytes (optionsOf e widest spacing) room) answer records₀ records
+  pub enough : recordCount (length bytes) spacing ≤ room
+
+-- what `index_fixed::open_words` promises, whatever room is named: 64 records are held, blank before
+abbrev pub OpensByValue : List ℕ → WordsOptions → (room : ℕ) → OpenAnswer → List Checkpoint → Type 0
+OpensByValue words options room r records = Opens (wordsOutcome words options (min room 64)) r (replicate 64 blankRecord) records
+
+module _ {e : Encoding} {bytes : List ℕ} (spacing : ℕ) (allowed : spacingOk e spacing ≡ true) (answer : OpenAnswer) where
+  -- such an index is one whose records were lent, all of them
+  abbrev pub lent : (records₀ records : List Checkpoint) → OpensWords bytes (optionsOf e widest spacing) answer records₀ records
+      → recordCount (length bytes) spacing ≤ length records₀ → Index e bytes
+  lent records₀ records ran enough = record {
+    spacing = spacing;
+    allowed = allowed;
+    room = length records₀;
+    answer = answer;
+    records₀ = records₀;
+    records = records;
+    within = omega arith;
+    ran = ran;
+    enough = enough;
+  }
+
+  -- and one that holds them by value
+  abbrev pub by-value : (room : ℕ) (records : List Checkpoint) → OpensByValue bytes (optionsOf e widest spacing) room answer records
+      → recordCount (length bytes) spacing ≤ min room 64 → Index e bytes
+  by-value room records ran enough = record {
+    spacing = spacing;
+    allowed = allowed;
+    room = min room 64;
+    answer = answer;
+    records₀ = replicate 64 blankRecord;
+    records = records;
+    within = rw (length-replicate 64 blankRecord) (omega arith);
+    ran = ran;
+    enough = enough;
+  }
 
 module _ {e : Encoding} {bytes : List ℕ} (x : Index e bytes) (o : Opening) where
   -- slices that ran, by the source that opening told and as many records as it told
@@ -305,14 +374,16 @@ pub record Alike (n : ℕ) (r₁ r₂ : SliceAnswer) (c₁ c₂ : Columns) : Typ
 pub record ReadBack (e : Encoding) (bytes : List ℕ) (es : List Event) : Type 0 where
   pub decoded : (r : ReadAnswer) (c₀ c : Columns)
       → DecodesWords bytes e widest Unlimited r (c₀ .xs) (c₀ .ys) (c₀ .ts) (c₀ .ps) (c .xs) (c .ys) (c .ts) (c .ps) → length es ≤ room c₀
-      → (r ≡ Read (record { encoding = e; width = 2048; height = 2048; count = length es })) × Holds es c₀ c
+      → (r ≡ Read (record { encoding = e; width = 2048; height = 2048; count = length es })) × HoldsEvents es c₀ c
   pub opened : (x : Index e bytes)
       → x .answer ≡ Opened (record { source = sourceOf (length bytes) 0 e widest (x .spacing) es; records = recordCount (length bytes) (x .spacing) })
   pub by-number : (x : Index e bytes) (o : Opening) → x .answer ≡ Opened o → (i0 i1 : ℕ) (r : SliceAnswer) (c₀ c : Columns)
-      → NumberRan x o i0 i1 r c₀ c → length (numbered es i0 i1) ≤ room c₀ → (r ≡ Sliced (length (numbered es i0 i1))) × Holds (numbered es i0 i1) c₀ c
+      → NumberRan x o i0 i1 r c₀ c → length (numbered es i0 i1) ≤ room c₀
+      → (r ≡ Sliced (length (numbered es i0 i1))) × HoldsEvents (numbered es i0 i1) c₀ c
   pub by-time : (x : Index e bytes) (o : Opening) → x .answer ≡ Opened o → (t0 t1 : ℤ) (r : SliceAnswer) (c₀ c : Columns)
-      → TimeRan x o t0 t1 r c₀ c → length (duringTimes es t0 t1) ≤ room c₀ → (r ≡ Sliced (length (duringTimes es t0 t1))) × Holds (duringTimes es t0 t1) c₀ c
-  -- at whatever two spacings, into whatever columns that suffice
+      → TimeRan x o t0 t1 r c₀ c → length (duringTimes es t0 t1) ≤ room c₀
+      → (r ≡ Sliced (length (duringTimes es t0 t1))) × HoldsEvents (duringTimes es t0 t1) c₀ c
+  -- by whatever two indexes, lent or by value and at whatever spacings, into whatever columns that suffice
   pub alike-number : (x y : Index e bytes) (o p : Opening) → x .answer ≡ Opened o → y .answer ≡ Opened p → (i0 i1 : ℕ) (r q : SliceAnswer) (c₀ c d₀ d : Columns)
       → NumberRan x o i0 i1 r c₀ c → NumberRan y p i0 i1 q d₀ d → length (numbered es i0 i1) ≤ room c₀ → length (numbered es i0 i1) ≤ room d₀
       → Alike (length (numbered es i0 i1)) r q c d
@@ -331,10 +402,23 @@ module _ (e : Encoding) (ran : List Ran) (cut : ℕ) where
   abbrev pub joinedRan : (second : List Ran) → List ℕ
   joinedRan second = take (cut / encodeSize e * encodeSize e) (take cut (allWritten ran)) ++ allWritten second
 
-  pub record CutAndResumed : Type 0 where
-    pub of-cut : length (take cut (allWritten ran)) ≤ 2 ^ 30 → ReadBack e (take cut (allWritten ran)) wholeRan
+  -- where `Read bytes es` says how some bytes are read as es
+  pub record CutAndResumed (Read : List ℕ → List Event → Type 0) : Type 0 where
+    pub of-cut : length (take cut (allWritten ran)) ≤ 2 ^ 30 → Read (take cut (allWritten ran)) wholeRan
     pub of-joined : (second : List Ran) → Chained (fresh e) second → acceptedEvents (fresh e) (callsOf second) ≡ othersRan
-        → length (joinedRan second) ≤ 2 ^ 30 → ReadBack e (joinedRan second) (acceptedEvents (fresh e) (callsOf ran))
+        → length (joinedRan second) ≤ 2 ^ 30 → Read (joinedRan second) (acceptedEvents (fresh e) (callsOf ran))
 
 abbrev pub DemandThreeRan : Type 0
-DemandThreeRan = (e : Encoding) (ran : List Ran) → Chained (fresh e) ran → (cut : ℕ) → cut ≤ length (allWritten ran) → CutAndResumed e ran cut
+DemandThreeRan = (e : Encoding) (ran : List Ran) → Chained (fresh e) ran → (cut : ℕ) → cut ≤ length (allWritten ran) → CutAndResumed e ran cut (ReadBack e)
+
+-- ---- THE SAME BY VALUE: by the contracts of `open_words`, `slice_index` and `slice_time` of `index_fixed`
+
+-- opened whatever room is named, if it holds the records, and sliced over as many as opening told
+abbrev pub ReadByValue : Encoding → List ℕ → List Event → Type 0
+ReadByValue e bytes es = (spacing : ℕ) → spacingOk e spacing ≡ true
+    → (room : ℕ) (r : OpenAnswer) (records : List Checkpoint) → OpensByValue bytes (optionsOf e widest spacing) room r records
+    → recordCount (length bytes) spacing ≤ min room 64 → Indexed e widest bytes es spacing r records
+
+abbrev pub DemandThreeByValue : Type 0
+DemandThreeByValue = (e : Encoding) (ran : List Ran) → Chained (fresh e) ran → (cut : ℕ) → cut ≤ length (allWritten ran)
+    → CutAndResumed e ran cut (ReadByValue e)

@@ -1,91 +1,92 @@
--- A second list exists: events that can be said, with times that never fall, are all accepted by a fresh writer in one append whose output has 8 bytes for
--- each.
+-- A SECOND LIST EXISTS, proved: events that can be said, with times that never fall, are all accepted by a fresh writer, one an append.
 use mathlib.Core.Path.{_≡_, refl, ap, _∙_}
-use mathlib.Core.Bool.{Bool, true, false}
-use mathlib.Core.List.{List, [], _∷_, map, append-nil}
-use Prim.Native.Nat.{ℕ, _*_, _^_, _≤_}
+use mathlib.Core.Bool.{true, false}
+use mathlib.Core.List.{List, [], _∷_, _++_}
+use Prim.Native.Nat.{ℕ, _+_, _^_, _≤_, _<_, min}
 use native.Mathlib.Omega.{arith}
-use lib.IntN.{pos}
-use lib.ListN.{length, length-map}
-use borrow.Author.Tests.{eq-eqb, le-leb, le-ltb, lt-ltb}
-use Rattle.laws_stream.specs.{Machine.All, Machine.all-map, Order.Rise, Order.rise-suffix}
-use Rattle.evt_types.specs.{Columns.colX, Columns.colY, Columns.colT, Columns.colP, Event.Event, declared.Encoding.Encoding}
+use lib.Dec.{leb}
+use lib.IntN.{pos, negsuc}
+use lib.ListN.{length, length-append}
+use borrow.Author.Tests.{le-leb, le-ltb}
+use Rattle.laws_stream.specs.{Machine.Note, Machine.and-both, Machine.notes, Order.Fine, Order.rise-suffix, Words.bytes, Words.length-bytes}
+use Rattle.evt_types.specs.{Event.Event, declared.Encoding.Encoding}
 use Rattle.read_columns.specs.Inside.{clock}
-use Rattle.write_buffer.specs.{Columns.eventsIn, Sent.freshState}
-use Rattle.write_words.specs.{Encode.encodeBytes, Laws.encode-few}
-use Rattle.laws_formats.specs.Ready.{limit, sayable, Sayable, sayable-true}
-use Rattle.write_rules.specs.declared.LastTime.the-variants.{Never}
-use Rattle.write_rules.specs.Range.{timeInRange, every, atMost, eventsInRange, falls, fallsAfter, sameLengths}
-use Rattle.write_append.specs.Append.{appendOutcome}
-use Rattle.laws_handover.specs.Handover.{Call, isAccepted, acceptedEvents, streamOf, streamWords, fresh, whole, others, joined, Exact}
-use Rattle.laws_handover.specs.{Calls.bound-is, Proof.fresh-sent, Proof.claim}
+use Rattle.write_words.specs.{Encode.encodeNotes, Encode.encodeBytes, Encode.encodeSize, Laws.encode-few, Laws.encode-notes}
+use Rattle.laws_formats.specs.{Ready.limit, Ready.sayable, Either.lawfulOf, Appends.noteBytes}
+use Rattle.write_rules.specs.declared.{LastTime.LastTime, LastTime.the-variants.Never, LastTime.the-variants.At, RawEventSink.RawEventSink}
+use Rattle.write_rules.specs.Range.{timeBound, every, falls, fallsAfter, sinkInRange}
+use Rattle.write_append.specs.{Append.lastAfter, Append.nextSink, Append.appendOutcome, Laws.range-kept}
+use Rattle.laws_handover.specs.Handover.{isAccepted, next, callBytes, acceptedEvents, streamOf, streamWords, fresh, whole}
+use Rattle.laws_handover.specs.Handover.{single, singles, othersOf, SecondListExists}
+use Rattle.laws_handover.specs.{Calls.by-call, Calls.bound-is, Calls.Rises, Calls.lastTime, Proof.fresh-sent, Proof.claim}
 
--- all of them at once
-abbrev pub onceFor : List Event → (room : ℕ) → Call
-onceFor es room = record { width = 2048; height = 2048; xs = map colX es; ys = map colY es; ts = map colT es; ps = map colP es; room = room }
+-- words that carry an event are some bytes
+some-bytes : (e : Encoding) (a : Event) (ns : List (Note ℕ Event)) → notes ns ≡ a ∷ [] → 0 < length (noteBytes e ns)
+some-bytes e a [] h = absurd (omega (arith, ap length h))
+some-bytes e a (w ∷ ws) h =
+    let size = encodeSize e in
+    omega (arith, length-append (bytes size (w .word)) (noteBytes e ws), length-bytes size (w .word), lawfulOf e .sized)
 
-columns-are : (es : List Event) → eventsIn (map colX es) (map colY es) (map colT es) (map colP es) ≡ es
-columns-are [] = refl
-columns-are (a ∷ es) = ap {B = List Event} (λ (l : List Event). a ∷ l) (columns-are es)
+-- ---- one append
 
-every-map : {A : Type 0} (f : A → Bool) (g : Event → A) (es : List Event) → All (λ a. f (g a) ≡ true) es → every f (map g es) ≡ true
-unfolding every
-every-map f g [] h = refl
-every-map f g (a ∷ es) h = rw (h .0) (every-map f g es (h .1))
+not-fallen : (l : LastTime) (t : ℕ) → lastTime l ≤ t → fallsAfter l (pos t ∷ []) ≡ false
+unfolding falls
+not-fallen Never t h = refl
+not-fallen (At (pos n)) t h = rw (le-ltb t n h)
+not-fallen (At (negsuc n)) t h = refl
 
-module _ (e : Encoding) where
-  all-said : (from : ℕ) (es : List Event) → Rise clock (sayable (limit e)) from es → All (Sayable (limit e)) es
-  all-said from [] r = tt
-  all-said from (a ∷ es) r = (sayable-true (limit e) a (r .0 .fine), all-said (clock a) es (r .1))
+-- its words, and the writer after it
+abbrev sent : RawEventSink → Event → List ℕ
+sent s a = encodeBytes (s .version) (s .state) (a ∷ [])
 
-  rise-falls : (from : ℕ) (es : List Event) → Rise clock (sayable (limit e)) from es → falls (pos from) (map colT es) ≡ false
-  unfolding falls
-  rise-falls from [] r = refl
-  rise-falls from (a ∷ es) r = rw (le-ltb (a .t) from (r .0 .rises)) (rise-falls (a .t) es (r .1))
+abbrev later : RawEventSink → Event → RawEventSink
+later s a = let c = single a in nextSink s (c .xs) (c .ys) (c .ts) (c .ps)
 
-  rise-after : (es : List Event) → Rise clock (sayable (limit e)) 0 es → fallsAfter Never (map colT es) ≡ false
-  rise-after [] r = refl
-  rise-after (a ∷ es) r = rise-falls (a .t) es (r .1)
+module _ (s : RawEventSink) (a : Event) (written : s .«header_written» ≡ true) (in-range : sinkInRange s ≡ true)
+    (fine : Fine clock (sayable (timeBound (s .version))) (lastTime (s .«last_t»)) a) where
+  one-accepted : isAccepted s (single a) ≡ true
+  unfolding appendOutcome every
+  one-accepted =
+      let x = and-both (leb (a .x) 2047) _ (fine .fine) in
+      let y = and-both (leb (a .y) 2047) _ (x .1) in
+      let p = and-both (leb (a .p) 1) _ (y .1) in
+      let few : length (sent s a) ≤ single a .room = omega (arith, encode-few (s .version) (s .state) (a ∷ [])) in
+      rw (in-range, not-fallen (s .«last_t») (a .t) (fine .rises), x .0, y .0, p .0, p .1, written, le-leb (length (sent s a)) (single a .room) few)
 
-  in-range : (es : List Event) → All (Sayable (limit e)) es → eventsInRange e (map colX es) (map colY es) (map colT es) (map colP es) ≡ true
-  in-range es h =
-      rw (
-        every-map (atMost 2047) colX es (all-map _ _ (λ a s. le-leb (a .x) 2047 (omega (arith, s .x<))) es h),
-        every-map (atMost 2047) colY es (all-map _ _ (λ a s. le-leb (a .y) 2047 (omega (arith, s .y<))) es h),
-        every-map (atMost 1) colP es (all-map _ _ (λ a s. le-leb (a .p) 1 (omega (arith, s .p<))) es h),
-        every-map (timeInRange e) colT es (all-map _ _ (λ a s. rw bound-is (lt-ltb (a .t) (limit e) (s .t<))) es h),
-      )
+  ends : (next s (single a) ≡ later s a) × (callBytes s (single a) ≡ sent s a)
+  ends = let e = by-call s (single a) in (e .0 ∙ rw one-accepted, e .1 ∙ rw (one-accepted, written))
 
-  module _ (es : List Event) (rise : Rise clock (sayable (limit e)) 0 es) (few : length es ≤ 2 ^ 28) (room : ℕ) (enough : 8 * length es ≤ room) where
-    bytes-few : length (encodeBytes e freshState es) ≤ room
-    bytes-few = omega (arith, encode-few e freshState es)
+  some-sent : 0 < length (sent s a)
+  unfolding encodeBytes
+  some-sent = some-bytes (s .version) a (encodeNotes (s .version) (s .state) (a ∷ [])) (encode-notes (s .version) (s .state) (a ∷ []))
 
-    lengths : sameLengths (length (map colX es)) (length (map colY es)) (length (map colT es)) (length (map colP es)) ≡ true
-    lengths = rw (length-map es colX, length-map es colY, length-map es colT, length-map es colP, eq-eqb (length es) (length es) refl)
+-- ---- ONE AN APPEND: a bound on the events, or on their bytes, keeps the count in range
 
-    once-accepted : isAccepted (fresh e) (onceFor es room) ≡ true
-    unfolding appendOutcome
-    once-accepted =
-        rw (
-          lengths,
-          length-map es colX,
-          le-leb (length es) (2 ^ 28) few,
-          rise-after es rise,
-          in-range es (all-said 0 es rise),
-          columns-are es,
-          le-leb (length (encodeBytes e freshState es)) room bytes-few,
-        )
+singles-all : (s : RawEventSink) (es : List Event) → s .«header_written» ≡ true → sinkInRange s ≡ true → Rises (s .version) (lastTime (s .«last_t»)) es
+    → s .«n_events» + min (length es) (length (streamOf s (singles es))) ≤ 2 ^ 62 → acceptedEvents s (singles es) ≡ es
+unfolding lastAfter
+singles-all s [] written in-range rise few = refl
+singles-all s (a ∷ es) written in-range rise few =
+    let c = single a in
+    let ok = one-accepted s a written in-range (rise .0) in
+    let end = ends s a written in-range (rise .0) in
+    let some = some-sent s a written in-range (rise .0) in
+    let all : length (streamOf s (singles (a ∷ es))) ≡ length (sent s a) + length (streamOf (later s a) (singles es)) =
+    (λ i. length (end .1 i ++ streamOf (end .0 i) (singles es))) ∙ length-append (sent s a) (streamOf (later s a) (singles es)) in
+    let kept = rw (end .0) at (range-kept s (c .width) (c .height) (c .xs) (c .ys) (c .ts) (c .ps) (c .room) ok (omega arith)) in
+    rw (ok, end .0, singles-all (later s a) es (rw written) kept (rise .1) (omega arith))
 
-    once-all : acceptedEvents (fresh e) (onceFor es room ∷ []) ≡ es
-    once-all = rw once-accepted (append-nil _ ∙ columns-are es)
-
-  -- THE OTHERS, after any cut of any list's stream: what is joined decodes, and is sliced, as all events
-  pub resumed : (calls : List Call) (cut : ℕ) → length (others e cut (streamWords (fresh e) calls)) ≤ 2 ^ 28
-      → (room : ℕ) → 8 * length (others e cut (streamWords (fresh e) calls)) ≤ room
-      → Exact e (joined e cut (streamOf (fresh e) calls) (onceFor (others e cut (streamWords (fresh e) calls)) room ∷ [])) (acceptedEvents (fresh e) calls)
-  resumed calls cut few room enough =
-      let ws = streamWords (fresh e) calls in
-      let sent = fresh-sent e calls in
-      let c = claim e (streamOf (fresh e) calls) ws (acceptedEvents (fresh e) calls) sent cut in
-      let rise = rise-suffix clock (sayable (limit e)) 0 (whole e cut ws) (others e cut ws) (rw (c .parted) (sent .rises)) in
-      c .of-joined (onceFor (others e cut ws) room ∷ []) (once-all (others e cut ws) rise few room enough)
+-- THE OTHERS, after any cut of any list's stream
+pub second-list : SecondListExists
+second-list e calls cut =
+    let ws = streamWords (fresh e) calls in
+    let rest = othersOf e calls cut in
+    let sent = fresh-sent e calls in
+    let c = claim e (streamOf (fresh e) calls) ws (acceptedEvents (fresh e) calls) sent cut in
+    let rise : Rises e 0 rest =
+    rw (bound-is e) (rise-suffix clock (sayable (limit e)) 0 (whole e cut ws) rest (rw (c .parted) (sent .rises))) in
+    let all = singles-all (fresh e) rest refl refl rise in
+    record {
+      accepted = λ few. all (omega arith);
+      exact = λ few. c .of-joined (singles rest) (all (omega (arith, rw length-append at few))) few;
+    }

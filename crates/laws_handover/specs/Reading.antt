@@ -3,6 +3,7 @@ use mathlib.Core.Path.{_≡_, subst, _∙_}
 use mathlib.Core.Bool.{Bool, false}
 use mathlib.Core.List.{List}
 use Prim.Native.Nat.{ℕ, _^_, _≤_}
+use native.Mathlib.Omega.{arith}
 use borrow.Author.Tests.{le-ltb}
 use lib.IntN.{ℤ}
 use lib.ListN.{length}
@@ -14,11 +15,11 @@ use Rattle.read_window.specs.declared.Window.{Window}
 use Rattle.read_select.specs.Uses.{PastOver}
 use Rattle.read_rules.specs.Read.{wordsOutcome, bodyEvents, shortest, sizeless, widthOf, heightOf}
 use Rattle.index_build.specs.declared.{OpenAnswer.the-variants.Opened, Opening.Opening, RawSliceSource.RawSliceSource, WordsOptions.WordsOptions}
-use Rattle.index_build.specs.Index.{keptEvents, recordCount}
+use Rattle.index_build.specs.Index.{keptEvents, recordCount, bodyOutcome, wordsOutcome as openOutcome, OpensWords}
 use Rattle.slice_rules.specs.{declared.SliceAnswer.SliceAnswer, Slice.sliceCheck, Slice.sliceOutcome, From.SlicesFrom}
 use Rattle.slice.specs.Own.{ownSource}
 use Rattle.slice.specs.Opened.{OpenedAs, opened-words, words-opened, opened-rules, opened-number, opened-time}
-use Rattle.laws_handover.specs.Handover.{Gives, Decodes, Indexes, Reads, Exact}
+use Rattle.laws_handover.specs.Handover.{Gives, optionsOf, Decodes, Indexes, Reads, Exact}
 
 -- a slice that no rule but 5 can refuse
 slice-gives : (bytes : List ℕ) (source : RawSliceSource) (ok : Bool) (passes : sliceCheck (length bytes) source ok ≡ give tt)
@@ -29,6 +30,14 @@ unfolding sliceOutcome
 slice-gives bytes source ok passes asked part are r xs₀ ys₀ ts₀ ps₀ xs ys ts ps s fits =
     let s′ = rw (passes, are, le-ltb (shortest xs₀ ys₀ ts₀ ps₀) (length part) fits) at s in
     record { count = s′ .is-answer; columns = s′ .columns }
+
+-- more room than the records need changes nothing
+same-outcome : (words : List ℕ) (options : WordsOptions) (room more : ℕ) → room ≤ more → recordCount (length words) (options .spacing) ≤ room
+    → openOutcome words options room ≡ openOutcome words options more
+unfolding openOutcome bodyOutcome
+same-outcome words options room more h enough =
+    let need = recordCount (length words) (options .spacing) in
+    rw (le-ltb room need enough, le-ltb more need (omega arith))
 
 module _ (e : Encoding) (size : SensorSize) (bytes : List ℕ) (few : length bytes ≤ 2 ^ 30) (no-zero : hasZero size ≡ false) where
   abbrev own : List Event
@@ -48,10 +57,11 @@ module _ (e : Encoding) (size : SensorSize) (bytes : List ℕ) (few : length byt
 
     module _ (past : (win : Window) → PastOver win (freshC e) bytes) where
       indexes : Indexes e size bytes own
-      indexes spacing allowed r records₀ records o fits =
-          let options : WordsOptions = record { encoding = e; «sensor_size» = size; spacing = spacing } in
+      indexes spacing allowed room r records₀ records within ran fits =
+          let options = optionsOf e size spacing in
+          let o : OpensWords bytes options r records₀ records = rw (← same-outcome bytes options room (length records₀) within fits) ran in
           let opening : Opening = record { source = ownSource size e 0 spacing bytes; records = recordCount (length bytes) spacing } in
-          let opened : r ≡ Opened opening = o .is-answer ∙ words-opened bytes options (length records₀) few no-zero allowed fits is-sized in
+          let opened : r ≡ Opened opening = o .is-answer ∙ words-opened bytes options (length records₀) few no-zero allowed (omega arith) is-sized in
           let is : OpenedAs bytes 0 e size spacing opening records = opened-words opening r records₀ records opened bytes options o in
           let passes = opened-rules bytes 0 e size spacing opening records is in (
             opened,

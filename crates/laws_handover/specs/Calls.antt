@@ -18,8 +18,8 @@ use Rattle.write_words.specs.Encode.{encodeNotes, encodeBytes}
 use Rattle.laws_formats.specs.{Ready.limit, Ready.sayable, Either.freshOf}
 use Rattle.laws_formats.specs.Appends.{flat, appendNotes, noteBytes, appendBytes, bytes-next, notes-all, Understood, fresh-understood}
 use Rattle.write_rules.specs.declared.{LastTime.LastTime, LastTime.the-variants.Never, LastTime.the-variants.At, RawEventSink.RawEventSink}
-use Rattle.write_rules.specs.Range.{timeBound, timeInRange, every, atMost, falls, fallsAfter, lastInRange, sinkInRange}
-use Rattle.write_append.specs.{Append.lastAfter, Append.sends, Append.nextSink, Append.appendOutcome, Ends.accepts-checked, Ends.by-acceptance}
+use Rattle.write_rules.specs.Range.{timeBound, timeInRange, every, atMost, falls, fallsAfter, lastInRange}
+use Rattle.write_append.specs.{Append.lastAfter, Append.sends, Append.nextSink, Ends.accepts-checked, Ends.by-acceptance}
 use Rattle.write_rules.specs.Checks.{Checked, checked-of, or-neither}
 use Rattle.laws_handover.specs.Handover.{Call, isAccepted, next, callBytes, callEvents, callWords, acceptedEvents, streamOf, streamWords, fresh, Typed}
 use Rattle.laws_handover.specs.EventWords.{append-typed}
@@ -45,30 +45,10 @@ module _ (s : RawEventSink) (c : Call) where
     pub no-bytes : callBytes s c ≡ []
     pub no-events : callEvents s c ≡ []
     pub no-words : callWords s c ≡ []
-
-  pub refused-unchanged : isAccepted s c ≡ false → Unchanged
-  refused-unchanged h = record {
-    is-sink = by-call .0 ∙ ap (λ (b : Bool). cond b later s) h;
-    no-bytes = by-call .1 ∙ ap (λ (b : Bool). cond b bytes []) h;
-    no-events = ap (λ (b : Bool). cond b columns []) h;
-    no-words = ap (λ (b : Bool). cond b (encodeNotes (s .version) (s .state) columns) []) h;
   }
 
   pub accepted-checked : isAccepted s c ≡ true → Checked s (c .xs) (c .ys) (c .ts) (c .ps)
   accepted-checked h = checked-of s (c .xs) (c .ys) (c .ts) (c .ps) (accepts-checked s (c .width) (c .height) (c .xs) (c .ys) (c .ts) (c .ps) (c .room) h .0)
-
-  -- a writer out of range accepts nothing
-  pub out-refused : sinkInRange s ≡ false → isAccepted s c ≡ false
-  unfolding appendOutcome
-  out-refused h = rw h
-
--- so a list to it comes to nothing
-pub out-nothing : (s : RawEventSink) (cs : List Call) → sinkInRange s ≡ false → (acceptedEvents s cs ≡ []) × (streamOf s cs ≡ [])
-out-nothing s [] h = (refl, refl)
-out-nothing s (c ∷ cs) h =
-    let n = out-nothing s cs h in
-    let u = refused-unchanged s c (out-refused s c h) in
-    ((λ i. u .no-events i ++ acceptedEvents (u .is-sink i) cs) ∙ n .0, (λ i. u .no-bytes i ++ streamOf (u .is-sink i) cs) ∙ n .1)
 
 -- ---- the accepted appends as groups of events
 

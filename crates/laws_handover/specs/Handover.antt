@@ -41,7 +41,7 @@ use Rattle.header.specs.Header.{hasZero}
 use Rattle.read_rules.specs.Read.{DecodesWords, Handed, shortest, kept, widthOf, heightOf, sizeless}
 use Rattle.index_build.specs.declared.{Checkpoint.Checkpoint, OpenAnswer.OpenAnswer, OpenAnswer.the-variants.Opened, Opening.Opening}
 use Rattle.index_build.specs.{declared.RawSliceSource.RawSliceSource, declared.WordsOptions.WordsOptions, Nth.blank as blankRecord}
-use Rattle.index_build.specs.Index.{Opens, OpensWords, wordsOutcome, recordCount, sourceOf, spacingOk}
+use Rattle.index_build.specs.Index.{Opens, OpensWords, openWordsOutcome, recordCount, sourceOf, spacingOk}
 use Rattle.slice_rules.specs.declared.{SliceAnswer.SliceAnswer, SliceAnswer.the-variants.Sliced}
 use Rattle.slice_rules.specs.Slice.{SlicesIndex, SlicesTime, isDuring}
 
@@ -205,7 +205,7 @@ module _ (e : Encoding) (size : SensorSize) (bytes : List ℕ) (es : List Event)
   abbrev pub Indexes : Type 0
   Indexes = (spacing : ℕ) → spacingOk e spacing ≡ true
       → (room : ℕ) (r : OpenAnswer) (records₀ records : List Checkpoint) → room ≤ length records₀
-      → Opens (wordsOutcome bytes (optionsOf e size spacing) room) r records₀ records
+      → Opens (openWordsOutcome bytes (optionsOf e size spacing) room) r records₀ records
       → recordCount (length bytes) spacing ≤ room → Indexed spacing r records
 
   pub record Reads : Type 0 where
@@ -313,12 +313,12 @@ pub record Index (e : Encoding) (bytes : List ℕ) : Type 0 where
   pub records₀ : List Checkpoint
   pub records : List Checkpoint
   pub within : room ≤ length records₀
-  pub ran : Opens (wordsOutcome bytes (optionsOf e widest spacing) room) answer records₀ records
+  pub ran : Opens (openWordsOutcome bytes (optionsOf e widest spacing) room) answer records₀ records
   pub enough : recordCount (length bytes) spacing ≤ room
 
 -- what `index_fixed::open_words` promises, whatever room is named: 64 records are held, blank before
 abbrev pub OpensByValue : List ℕ → WordsOptions → (room : ℕ) → OpenAnswer → List Checkpoint → Type 0
-OpensByValue words options room r records = Opens (wordsOutcome words options (min room 64)) r (replicate 64 blankRecord) records
+OpensByValue words options room r records = Opens (openWordsOutcome words options (min room 64)) r (replicate 64 blankRecord) records
 
 module _ {e : Encoding} {bytes : List ℕ} (spacing : ℕ) (allowed : spacingOk e spacing ≡ true) (answer : OpenAnswer) where
   -- such an index is one whose records were lent, all of them

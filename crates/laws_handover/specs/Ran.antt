@@ -44,14 +44,3 @@ ran-written s (a ∷ ran) h =
     ∙ ap (λ (l : List ℕ). callBytes s (a .call) ++ l)
     (ran-written (a .result .sink) ran (h .1)
     ∙ ap (λ (u : RawEventSink). streamOf u (callsOf ran)) (one-sink s (a .call) (a .out₀) (a .is-room) (a .result) (a .out) (h .0)))
-
--- the writer that the last one returned
-abbrev pub lastSink : RawEventSink → List Ran → RawEventSink
-lastSink s [] = s
-lastSink s (a ∷ ran) = lastSink (a .result .sink) ran
-
-pub ran-sink : (s : RawEventSink) (ran : List Ran) → Chained s ran → lastSink s ran ≡ sinkOf s (callsOf ran)
-ran-sink s [] h = refl
-ran-sink s (a ∷ ran) h =
-    ran-sink (a .result .sink) ran (h .1)
-    ∙ ap (λ (u : RawEventSink). sinkOf u (callsOf ran)) (one-sink s (a .call) (a .out₀) (a .is-room) (a .result) (a .out) (h .0))

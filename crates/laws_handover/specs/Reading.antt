@@ -15,7 +15,7 @@ use Rattle.read_window.specs.declared.Window.{Window}
 use Rattle.read_select.specs.Uses.{PastOver}
 use Rattle.read_rules.specs.Read.{wordsOutcome, bodyEvents, shortest, sizeless, widthOf, heightOf}
 use Rattle.index_build.specs.declared.{OpenAnswer.the-variants.Opened, Opening.Opening, RawSliceSource.RawSliceSource, WordsOptions.WordsOptions}
-use Rattle.index_build.specs.Index.{keptEvents, recordCount, bodyOutcome, wordsOutcome as openOutcome, OpensWords}
+use Rattle.index_build.specs.Index.{keptEvents, recordCount, indexOutcome, openWordsOutcome, OpensWords}
 use Rattle.slice_rules.specs.{declared.SliceAnswer.SliceAnswer, Slice.sliceCheck, Slice.sliceOutcome, From.SlicesFrom}
 use Rattle.slice.specs.Own.{ownSource}
 use Rattle.slice.specs.Opened.{OpenedAs, opened-words, words-opened, opened-rules, opened-number, opened-time}
@@ -33,8 +33,8 @@ slice-gives bytes source ok passes asked part are r xs₀ ys₀ ts₀ ps₀ xs y
 
 -- more room than the records need changes nothing
 same-outcome : (words : List ℕ) (options : WordsOptions) (room more : ℕ) → room ≤ more → recordCount (length words) (options .spacing) ≤ room
-    → openOutcome words options room ≡ openOutcome words options more
-unfolding openOutcome bodyOutcome
+    → openWordsOutcome words options room ≡ openWordsOutcome words options more
+unfolding openWordsOutcome indexOutcome
 same-outcome words options room more h enough =
     let need = recordCount (length words) (options .spacing) in
     rw (le-ltb room need enough, le-ltb more need (omega arith))

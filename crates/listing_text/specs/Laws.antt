@@ -196,9 +196,9 @@ module _ {xs ys : List ℕ} {ts : List ℤ} {ps : List ℕ} {from n : ℕ} {out�
   pub listing-start : Listing xs ys ts ps from n out₀ 0 from n out₀
   listing-start = record { count = refl; fewer = omega arith; long = refl; small = omega arith; ends = zero-add _; stores = refl }
 
-  pub listing-turn : {at i left : ℕ} {out : List ℕ} (r : ℕ) (out′ : List ℕ) → 0 < left → Stored 84 out at (eventLine (eventOf xs ys ts ps i)) r out′
+  pub listing-next : {at i left : ℕ} {out : List ℕ} (r : ℕ) (out′ : List ℕ) → 0 < left → Stored 84 out at (eventLine (eventOf xs ys ts ps i)) r out′
       → Listing xs ys ts ps from n out₀ at i left out → Listing xs ys ts ps from n out₀ r (i + 1) (left - 1) out′
-  listing-turn {at} {i} {left} {out} r out′ h s l =
+  listing-next {at} {i} {left} {out} r out′ h s l =
       let line = eventLine (eventOf xs ys ts ps i) in
       let rest = eventLines (rowsFrom xs ys ts ps (i + 1) (left - 1)) in
       let is : eventLines (rowsFrom xs ys ts ps i left) ≡ line ++ rest = lines-first xs ys ts ps i left h in

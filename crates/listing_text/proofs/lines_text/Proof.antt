@@ -6,7 +6,7 @@ use borrow.Author.Needs.{needs}
 use lib.ListN.{getD}
 use lib.IntN.{pos}
 use Rattle.evt_types.specs.Num.{natural}
-use Rattle.listing_text.specs.Laws.{Listing, listing-start, listing-turn, listing-end}
+use Rattle.listing_text.specs.Laws.{Listing, listing-start, listing-next, listing-end}
 use Rattle.listing_text.proofs.lines_text.Statement.{statement}
 use Rattle.listing_text.proofs.lines_text.Tie as tie
 
@@ -23,7 +23,7 @@ loop-again c =
     let l = b .before .before .before .loop in
     let t : b .natural-time .result ≡ natural (getD (a .ts .now) (l .i) (pos 0)) =
     b .natural-time .ensures ∙ ap natural (toZ-ofZ w64 (getD (a .ts .now) (l .i) (pos 0)) (record { sfits = b .before .natural-time-arg .given })) in
-    listing-turn (c .before .before .event-at .result) _ (b .before .before .loop-test .taken) (rw t at (c .before .before .event-at .ensures)) (l .inv)
+    listing-next (c .before .before .event-at .result) _ (b .before .before .loop-test .taken) (rw t at (c .before .before .event-at .ensures)) (l .inv)
 
 returns : tie.Need-returns Inv-loop μ-loop
 returns c = listing-end (c .loop-test .left) (c .before .loop .inv)

@@ -1,7 +1,7 @@
 #!/usr/bin/env python3
 """vectors.py ORACLE [PROGRAM]: makes stdin and stdout of crates/test_vectors and crates/test_vectors_index anew, or those of one.
 
-ORACLE is the program built from the Rust original (docs/VECTORS.md). The cases are made here and in vectors_index.py, always the same ones.
+ORACLE is the program built from the Rust original (tools/vectors.sh builds it and runs this; tools/original/src/oracle.rs). The cases are made here and in vectors_index.py, always the same ones.
 An expected answer is the oracle's, except where the table of refusals has a number that the Rust lacks.
 A layer of the library is a function that yields cases; LAYERS at the end lists those of crates/test_vectors.
 """
@@ -371,7 +371,7 @@ def words(group, enc, data, size=None, limit=None, room=COLUMNS, expect=None):
     if size and limit is None:
         asked.append(f'decode enc={enc} size={shown(size)} data={data.hex()}')
     if data[:1] != b'%':
-        asked.append(f'read data={"+".join([f"h{enc}"] + [data.hex()] * bool(data))} size={shown(size)} limit={shown(limit)}')
+        asked.append(f'read data={(head(enc) + data).hex()} size={shown(size)} limit={shown(limit)}')
 
     def judge(answers):
         rule = kept(enc, answers[0], size, limit)
@@ -655,7 +655,7 @@ class Writing(Case):
         self.asked = [begin + ';'.join(a.asked() for a in kept)] * bool(kept) + extra
 
     def judge(self, answers):
-        parts = iter(answers[0].split(' = ')[0].split(' | ')[1:]) if any(n in (0, 6) for n in self.numbers) else None
+        parts = iter(answers[0].split(' | ')[1:]) if any(n in (0, 6) for n in self.numbers) else None
         extra = iter(answers[1:] if parts else answers)
         sink, said, words = self.start, [], []
         for a, n in zip(self.appends, self.numbers):
@@ -666,11 +666,11 @@ class Writing(Case):
                 assert ok == 'ok' and (a.room is None or need <= a.room)
                 said.append(f'{told} {sink}')
             elif n == 6:
-                err, order, _, told, state = next(parts).split()
+                err, order, told, state = next(parts).split()
                 assert (err, order, told) == ('err', 'order', '-') and state[1:-1] == sink[2:]
                 said.append(f'refused 6 {sink}')
             elif n == 11:
-                ok, told, _ = next(extra).split(' = ')[0].split(' | ')[-1].split()
+                ok, told, _ = next(extra).split(' | ')[-1].split()
                 need = len(told) // 2
                 assert ok == 'ok' and (a.room is None or a.room < need)
                 said.append(f'refused 11 {need} {sink}')
@@ -910,21 +910,17 @@ def writing():
 LAYERS = [decoding, reading, writing]
 
 
-LOST = 'err io No_such_file'
-
-
 def answers_of(oracle, cases):
-    """The oracle's answers to what the cases ask, in order. With many recordings it may lose a file between two of one line: such lines are asked anew."""
+    """The oracle's answers to what the cases ask, in order."""
     lines = [f'{i} {a}' for i, c in enumerate(cases) for a in c.asked]
-    told = {}
-    while left := [line for line in dict.fromkeys(lines) if line not in told]:
-        out = subprocess.run([oracle], input='\n'.join(left) + '\n', capture_output=True, text=True, check=True).stdout.splitlines()
-        assert len(out) == len(left), 'the oracle left lines out'
-        told.update((line, answer.split(' ', 1)[1]) for line, answer in zip(left, out) if LOST not in answer)
+    asked = '\n'.join(lines) + '\n'
+    out = subprocess.run([oracle], input=asked, stdout=subprocess.PIPE, text=True, check=True).stdout.splitlines()
+    assert len(out) == len(lines), 'the oracle left lines out'
     found = [[] for _ in cases]
-    for line in lines:
-        assert told[line].split()[0] not in ('badcase', 'panic', 'MISMATCH'), (line, told[line])
-        found[int(line.split(' ', 1)[0])].append(told[line])
+    for line, told in zip(lines, out):
+        case, answer = told.split(' ', 1)
+        assert 'MISMATCH' not in answer, (line, answer)
+        found[int(case)].append(answer)
     return found
 
 

@@ -3,9 +3,9 @@
 use crate::archive::{self, Columns, Lend, Lent, OpenOptions, Opening, Options, ENTRIES};
 use crate::memory::{self, Mapped};
 use crate::recordings::Recording;
-use evt::io::probed::{self, probe};
-use evt::io::{prophesee_raw as original, EventSink, LoadOptions, SliceSource};
-use evt::EventStream;
+use eventcv::io::spaced::{self, probe};
+use eventcv::io::{prophesee_raw as original, EventSink, LoadOptions, SliceSource};
+use eventcv::EventStream;
 use std::hint::black_box;
 
 /// The original's spacing for every length up to 13 GB.
@@ -94,12 +94,12 @@ fn spoil(c: &mut Lent, n: usize) {
 
 /// The original decodes into columns that it was handed: what the others add is its allocations.
 fn read_places(r: &Recording, s: &Setup, c: &mut Lent, places: usize, n: usize) -> Times {
-    let mut warm = probe::warm(n);
+    let mut warm = probe::Warm::new(n);
+    let decode = |warm: &mut probe::Warm| warm.decode(r.evt3, r.body(), r.width, r.height);
     spoil(c, n);
-    assert_eq!(r.read(&mut c.first(places)), probe::decode_warm(&mut warm, r.encoding, r.body(), r.width, r.height));
-    let ts = unsafe { std::slice::from_raw_parts(c.ts.as_ptr().cast::<u64>(), n) };
-    assert!(probe::warm_same(&warm, c.xs, c.ys, ts, c.ps), "the columns differ");
-    pair(s.runs, || r.read(&mut c.first(places)), || probe::decode_warm(&mut warm, r.encoding, r.body(), r.width, r.height))
+    assert_eq!(r.read(&mut c.first(places)), decode(&mut warm));
+    assert!(warm.same(c.xs, c.ys, c.ts, c.ps), "the columns differ");
+    pair(s.runs, || r.read(&mut c.first(places)), || decode(&mut warm))
 }
 
 pub fn read(r: &Recording, s: &Setup, c: &mut Lent) -> Times {
@@ -148,8 +148,8 @@ fn source(r: &Recording, spacing: usize) -> Box<dyn SliceSource> {
     if spacing == SPACING {
         return Box::new(original::open_raw_slice(&r.path, &o).unwrap());
     }
-    evt::set_spacing(Some(spacing as u64));
-    Box::new(probed::open_raw_slice(&r.path, &o).unwrap())
+    eventcv::set_spacing(Some(spacing as u64));
+    Box::new(spaced::open_raw_slice(&r.path, &o).unwrap())
 }
 
 fn room(r: &Recording, spacing: usize) -> Vec<u64> {
@@ -162,23 +162,18 @@ fn open_in(bytes: &[u8], records: &mut [u64], spacing: usize) -> Opening {
     a
 }
 
-/// A record as `probe::checkpoints_text` writes it.
-fn record_text(evt3: bool, e: &[u64]) -> String {
-    let before = format!("{}/{}/{}/", e[0], e[1], e[2]);
-    if evt3 {
-        return format!("{before}3:{},{},{},{},{},{},{}", e[3], e[4], e[5], e[7], e[8], e[9], e[6]);
-    }
-    format!("{before}2:{},{},{},{}", e[3], e[4], e[5], e[6])
+fn entries(r: &probe::Record) -> Vec<u64> {
+    [r.byte_offset, r.event_index as u64, r.time as u64].into_iter().chain(r.state.map(|n| n as u64)).collect()
 }
 
 fn same_index(r: &Recording, opening: &Opening, records: &[u64]) {
-    evt::set_spacing(Some(opening.source.spacing as u64));
-    let theirs = probed::open_raw_slice(&r.path, &LoadOptions::default()).unwrap();
+    eventcv::set_spacing(Some(opening.source.spacing as u64));
+    let theirs = spaced::open_raw_slice(&r.path, &LoadOptions::default()).unwrap();
     let size = (opening.source.width, opening.source.height);
     assert_eq!((opening.source.n_events, size), (theirs.n_events(), theirs.sensor_size()));
-    let ours: Vec<String> = records.chunks_exact(ENTRIES).map(|e| record_text(r.evt3, e)).collect();
-    assert_eq!(opening.records, ours.len());
-    assert!(ours.join(" ") == probe::checkpoints_text(&theirs), "the records differ");
+    let theirs = probe::records(&theirs);
+    assert_eq!(opening.records, theirs.len());
+    assert!(records.chunks_exact(ENTRIES).zip(&theirs).all(|(a, b)| a == entries(b)), "the records differ");
 }
 
 /// Both map the file and make the index of it.
@@ -283,7 +278,7 @@ fn lists(r: &Recording, c: &mut Lent) -> (Vec<Columns>, Vec<EventStream>) {
     let ours: Vec<Columns> = (0..n).step_by(APPEND).map(part).collect();
     let stream = |c: &Columns| {
         let ps = c.ps.iter().map(|p| *p != 0).collect();
-        evt::stream_of(r.width, r.height, c.xs.clone(), c.ys.clone(), c.ts.clone(), ps)
+        eventcv::stream_of(r.width, r.height, c.xs.clone(), c.ys.clone(), c.ts.clone(), ps)
     };
     let theirs = ours.iter().map(stream).collect();
     (ours, theirs)

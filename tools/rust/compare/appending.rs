@@ -5,8 +5,8 @@ use crate::making;
 use crate::original::{self, Writer};
 use crate::shared::*;
 use crate::table;
-use evt::io::EventSink;
-use evt::{stream_of, EventStream};
+use eventcv::io::EventSink;
+use eventcv::{stream_of, EventStream};
 
 /// How long the output is, beside the bytes needed.
 #[derive(Clone, Copy, Debug)]

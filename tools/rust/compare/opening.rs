@@ -111,18 +111,17 @@ impl Case {
 
     /// Document 01's rule for records over the original's decoder.
     fn ruled(&self, evt3: bool) -> Result<Index, u32> {
-        let (mut records, mut state, mut count, mut latest) = (Vec::new(), None, 0usize, 0i64);
+        let (mut records, mut state, mut count, mut latest) = (Vec::new(), step(evt3, None, &[]).0, 0usize, 0i64);
         let (mut width, mut height, mut earliest) = (0, 0, i64::MAX);
         for (j, part) in self.bytes.chunks(self.spacing).enumerate() {
-            let text = state.take().unwrap_or_else(|| step(evt3, None, &[]).0);
             records.extend([(j * self.spacing) as u64, count as u64, latest as u64]);
-            records.extend(state_entries(&text));
-            let (after, events) = step(evt3, Some(&text), part);
+            records.extend(state_entries(state));
+            let (after, events) = step(evt3, Some(state), part);
             for e in events.iter().filter(|e| self.size.is_none_or(|(w, h)| (e.x as usize) < w && (e.y as usize) < h)) {
                 (width, height) = (width.max(e.x as usize + 1), height.max(e.y as usize + 1));
                 (count, latest, earliest) = (count + 1, latest.max(e.t), earliest.min(e.t));
             }
-            state = Some(after);
+            state = after;
         }
         let (width, height) = match self.size {
             Some(size) => size,

@@ -5,8 +5,8 @@ use crate::making;
 use crate::original::{behind_header, step, stream, Original, Size};
 use crate::shared::*;
 use crate::table;
-use evt::io::RawEvent;
-use evt::EventStream;
+use eventcv::io::RawEvent;
+use eventcv::EventStream;
 
 #[derive(Clone, Debug)]
 pub struct Case {

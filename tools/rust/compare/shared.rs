@@ -2,7 +2,7 @@
 use crate::archive::Lent;
 use crate::lent::{columns_untouched, Board, Region, Rng};
 use crate::original::Original;
-use evt::EventStream;
+use eventcv::EventStream;
 
 /// Calls of one kind and their answers.
 #[derive(Clone, Default)]

@@ -3,11 +3,11 @@ use crate::archive::{self, Slice, Source, ENTRIES};
 use crate::lent::Rng;
 use crate::making;
 use crate::opening::{self, Expected};
-use crate::original::{self, slice_number, slice_time, state_text, step, stream, Index};
+use crate::original::{self, slice_number, slice_time, state_of, step, stream, Index};
 use crate::shared::*;
 use crate::table;
-use evt::io::{RawEvent, SliceSource};
-use evt::EventStream;
+use eventcv::io::{RawEvent, SliceSource};
+use eventcv::EventStream;
 
 /// An end of a slice: a number, or one beside the total, a record's, or within the recording.
 #[derive(Clone, Copy, Debug)]
@@ -315,7 +315,7 @@ impl Case {
         let from = i.records.chunks_exact(ENTRIES).rev().find(|r| r[1] <= start).unwrap_or(&i.records[..ENTRIES]);
         let bytes = &self.bytes()[(from[0] as usize).min(self.bytes().len())..];
         let inside = |e: &RawEvent| (e.x as usize) < i.source.width && (e.y as usize) < i.source.height;
-        let numbered = step(i.evt3, Some(&state_text(i.evt3, from)), bytes).1.into_iter().filter(inside).zip(from[1]..);
+        let numbered = step(i.evt3, Some(state_of(from)), bytes).1.into_iter().filter(inside).zip(from[1]..);
         let events: Vec<RawEvent> = numbered.filter(|(_, n)| (start..end).contains(n)).map(|(e, _)| e).collect();
         stream(i.source.width, i.source.height, &events)
     }

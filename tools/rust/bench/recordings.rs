@@ -38,6 +38,10 @@ impl Recording {
         if self.evt3 { self.bytes().len() / 2 * 12 } else { self.bytes().len() / 4 }
     }
 
+    pub fn encoding(&self) -> u32 {
+        archive::encoding(self.evt3)
+    }
+
     pub fn version(&self) -> original::EvtVersion {
         if self.evt3 { original::EvtVersion::Evt3 } else { original::EvtVersion::Evt2 }
     }

@@ -1,5 +1,6 @@
 //! The original's answers. It reads files: they are written to a folder of their own.
-use crate::archive::{Sink, Source, ENTRIES};
+use crate::archive::{encoding, Decoder, Record, Sink, Source};
+use crate::table;
 use eventcv::io::prophesee_raw as unchanged;
 use eventcv::io::spaced::{self, probe};
 use eventcv::io::{EventConsumer, EventSink, IoError, LoadOptions, RawEvent, SliceSource};
@@ -12,7 +13,7 @@ pub struct Original {
     dir: PathBuf,
 }
 
-/// Document 01's number of what the original refuses.
+/// The number of docs/RULES.md for what the original refuses.
 fn number(e: &IoError) -> u32 {
     match e {
         IoError::InvalidSensorSize => 1,
@@ -40,15 +41,20 @@ pub fn behind_header(evt3: bool, words: &[u8]) -> Vec<u8> {
 
 /// The original's index of a file, and the same as numbers.
 pub struct Index {
-    pub evt3: bool,
     pub source: Source,
-    pub records: Vec<u64>,
+    pub records: Vec<Record>,
     /// The least and the greatest time of its events.
     pub span: (i64, i64),
     /// None where the index was made by the rules alone.
     pub live: Option<spaced::RawSliceSource>,
     /// The module without a settable spacing, at its own.
     pub unchanged: Option<unchanged::RawSliceSource>,
+}
+
+impl Index {
+    pub fn evt3(&self) -> bool {
+        self.source.encoding == 3
+    }
 }
 
 struct Collected(Vec<RawEvent>);
@@ -73,32 +79,44 @@ pub fn stream(width: usize, height: usize, events: &[RawEvent]) -> EventStream {
 
 pub use probe::{step, Head, State};
 
-/// The original's decoder of a record.
-pub fn state_of(r: &[u64]) -> State {
-    let (flag, short) = (|n: u64| (n != 0) as i64, |n: u64| n.min(65535) as i64);
-    [flag(r[3]), r[4] as i64, r[5] as i64, r[6] as i64, short(r[7]), short(r[8]), flag(r[9])]
+/// The original's decoder from the numbers of one that is in range.
+pub fn state_of(numbers: [u64; 7]) -> State {
+    numbers.map(|n| n as i64)
 }
 
-/// A record's entries 3 to 9.
-pub fn state_entries(s: State) -> [u64; 7] {
-    s.map(|n| n as u64)
+pub fn decoder_of(evt3: bool, [initialised, time_base, time, high_loops, y, base_x, polarity]: State) -> Decoder {
+    Decoder {
+        time_base: time_base as u64,
+        time: time as u64,
+        high_loops: high_loops as u64,
+        encoding: encoding(evt3),
+        y: y as u16,
+        base_x: base_x as u16,
+        initialised: initialised as u8,
+        polarity: polarity as u8,
+    }
 }
 
-/// The original's records as entries, offsets less `shift`.
-fn entries(records: &[probe::Record], shift: usize) -> Vec<u64> {
-    let first = |r: &probe::Record| [r.byte_offset - shift as u64, r.event_index as u64, r.time as u64];
-    records.iter().flat_map(|r| first(r).into_iter().chain(state_entries(r.state))).collect()
+pub fn record(offset: u64, count: u64, time: u64, state: State) -> Record {
+    let [started, coarse, now, loops, row, base, polarity] = state.map(|n| n as u64);
+    [offset, count, time, started, coarse, now, loops, row, base, polarity]
 }
 
-/// The original's records from entries, offsets and `shift` more.
-fn checkpoints(records: &[u64], shift: usize) -> Vec<probe::Record> {
-    let one = |r: &[u64]| probe::Record {
+/// The original's records, offsets less `shift`.
+fn records(live: &spaced::RawSliceSource, shift: usize) -> Vec<Record> {
+    let one = |r: &probe::Record| record(r.byte_offset - shift as u64, r.event_index as u64, r.time as u64, r.state);
+    probe::records(live).iter().map(one).collect()
+}
+
+/// The original's records from ours, offsets and `shift` more.
+fn checkpoints(records: &[Record], shift: usize) -> Vec<probe::Record> {
+    let one = |r: &Record| probe::Record {
         byte_offset: r[0].saturating_add(shift as u64),
         event_index: r[1] as usize,
         time: r[2] as i64,
-        state: state_of(r),
+        state: state_of(table::state(r)),
     };
-    records.chunks_exact(ENTRIES).map(one).collect()
+    records.iter().map(one).collect()
 }
 
 impl Original {
@@ -141,7 +159,9 @@ impl Original {
         let live = live?;
         let (width, height) = live.sensor_size();
         let data_offset = probe::data_offset(&live) - shift;
-        let source = Source { spacing, data_offset, len: bytes.len() - shift, width, height, n_events: live.n_events() };
+        let (records, len) = (records(&live, shift), bytes.len() - shift);
+        let n_events = live.n_events();
+        let source = Source { records: records.len(), spacing, data_offset, len, width, height, n_events, encoding: encoding(evt3) };
         let unchanged =
             (spacing == 65536).then(|| unchanged::open_raw_slice(&path, &options(size, None)).expect("the unchanged module's index"));
         if let Some(u) = &unchanged {
@@ -150,16 +170,16 @@ impl Original {
                 "two builds differ"
             );
         }
-        let records = entries(&probe::records(&live), shift);
-        Ok(Index { evt3, source, records, span: live.time_span(), live: Some(live), unchanged })
+        Ok(Index { source, records, span: live.time_span(), live: Some(live), unchanged })
     }
 
     /// The original's slice source over other records, another total and size, and another recording lent.
-    pub fn altered(&self, evt3: bool, source: &Source, records: &[u64], lent: &[u8]) -> spaced::RawSliceSource {
+    pub fn altered(&self, source: &Source, records: &[Record], lent: &[u8]) -> spaced::RawSliceSource {
+        let evt3 = source.encoding == 3;
         let header = plain_header(evt3);
         let mut s = spaced::open_raw_slice(self.file("base", header), &options(Some((source.width, source.height)), None))
             .expect("an index of no words");
-        probe::set_records(&mut s, evt3, &checkpoints(records, header.len()));
+        probe::set_records(&mut s, evt3, &checkpoints(&records[..source.records], header.len()));
         probe::set_total(&mut s, source.n_events);
         probe::set_recording(&mut s, &self.file("lent", &behind_header(evt3, lent)));
         s
@@ -207,7 +227,7 @@ fn sink_of(evt3: bool, w: &probe::Writer) -> Sink {
         time_high: of(w.time_high),
         time_low: of(w.time_low),
         y: w.y.unwrap_or(0).into(),
-        evt3: evt3 as u8,
+        encoding: encoding(evt3),
         header_written: w.header_written as u8,
         has_last_t: w.last_t.is_some() as u8,
         has_time_high: w.time_high.is_some() as u8,
@@ -218,7 +238,7 @@ fn sink_of(evt3: bool, w: &probe::Writer) -> Sink {
 
 /// One append to a writer in range: the bytes and the writer behind it, or whether the order of times was refused.
 pub fn append(s: &Sink, events: &EventStream) -> Result<(Vec<u8>, Sink), u32> {
-    let (evt3, before) = (s.evt3 != 0, writer_of(s));
+    let (evt3, before) = (s.encoding == 3, writer_of(s));
     let mut sink = probe::sink_of(Vec::new(), evt3, before);
     let answer = sink.append(events);
     let after = probe::writer_of(&sink);

@@ -44,9 +44,10 @@ for number, line in enumerate(open('docs/CLAIMS.md', encoding='utf-8'), 1):
         if parts and parts[-1] in ('antt', 'rt', 'edit'):
             continue
         last = parts[-1].split(' ')[-1] if parts else ''
+        listed = file and file.endswith('.antt') and re.search(re.escape(file) + r'`: (?:`[^`]+`(?:, | and )?)*$', line[:token.start()])
         if last and last not in EVERY:
             faults.append(f'{number}: nothing in crates/ is called {said}')
-        elif last and file and file.endswith('.antt') and re.search(re.escape(file) + r'`: (?:`[^`]+`(?:, | and )?)*$', line[:token.start()]) and last not in FILES.get(file, ()):
+        elif last and listed and last not in FILES.get(file, ()):
             faults.append(f'{number}: {file} has no {said}')
 for crate, label in sorted(EDITS - named):
     faults.append(f'edit {label} of {crate} is not named')

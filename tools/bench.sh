@@ -1,19 +1,19 @@
 #!/bin/sh
 # Times this library against the Rust original, in one process (tools/rust/bench.rs), and compares what both hand over.
-#   tools/bench.sh FOLDER [OUT]            every operation on every recording, a line for each; the table for
+#   tools/bench.sh CHECKOUT [OUT]          every operation on every recording, a line for each; the table for
 #                                          docs/PERFORMANCE.md as Markdown to the file OUT, or printed for -
-#   tools/bench.sh FOLDER --plot           lengths from 1 MiB to 1 GiB, to docs/performance.svg
-#   tools/bench.sh FOLDER --only open,slice_time [--files evt2,evt3] [--mib 16] [--runs 9] [--spacing 4096]
+#   tools/bench.sh CHECKOUT --plot         lengths from 1 MiB to 1 GiB, to docs/performance.svg
+#   tools/bench.sh CHECKOUT --only open,slice_time [--files evt2,evt3] [--mib 16] [--runs 9] [--spacing 4096]
 #                                          these operations alone, on these recordings, on their first 16 MiB, best of
 #                                          9 runs, indexes at this spacing: any of the words may be left out
 # Operations: read read_exact read_words read_file open slice_index slice_time slice_time_exact append append_exact memory.
 # Recordings: evt2 evt3 evt3dense evt3long (1 GiB); evt3dense and evt3long whole want 10 GiB of memory.
-# FOLDER is the original's, as tools/original.sh says. The archive is built (and proved) first, unless ARCHIVE names one:
-#   ARCHIVE=target/staticlib/libprophesee_raw_c.a tools/bench.sh FOLDER --only append --files evt3
+# CHECKOUT is of the original, as tools/original.sh says. The archive is built (and proved) first, unless ARCHIVE names one:
+#   ARCHIVE=target/staticlib/libprophesee_raw_c.a tools/bench.sh CHECKOUT --only append --files evt3
 # Recordings are made once, in BENCH_DIR (default /dev/shm/prophesee-bench).
 # Exit status 0: measured; 1: what the two hand over differs; 2: it wasn't built.
 [ $# -gt 0 ] || { sed -n '2,/^\[/{/^#/p}' "$0"; exit 2; }
-folder=$(cd "$1" && pwd) || exit 2
+checkout=$(cd "$1" && pwd) || exit 2
 shift
 here=$(pwd)
 case ${ARCHIVE:-} in '' | /*) ;; *) ARCHIVE=$here/$ARCHIVE ;; esac
@@ -26,9 +26,7 @@ case ${1:-} in
 esac
 cd "$(dirname "$0")/.." || exit 2
 . tools/original.sh
-build_with "$folder" bench || exit 2
+build_with "$checkout" bench || exit 2
 recordings=${BENCH_DIR:-/dev/shm/prophesee-bench}
-if [ ! -e "$recordings/evt3dense.raw" ]; then
-    mkdir -p "$recordings" && target/original/from/target/release/bench gen "$recordings" || exit 2
-fi
+mkdir -p "$recordings" || exit 2
 target/original/bench "$@" "$recordings" || exit 1

@@ -1,11 +1,11 @@
 #!/bin/sh
-# Compares the Rust original with this library on random and damaged recordings and on lists of appends.
-#   tools/compare.sh FOLDER [CASES [SEED [CASE]]]    FOLDER holds the original (tools/original.sh says how); CASE: this one alone
+# Compares the Rust original with this library on random and damaged recordings, on lists of appends and on single words.
+#   tools/compare.sh CHECKOUT [CASES [SEED [CASE]]]    CHECKOUT: of the original, as tools/original.sh says; CASE: this one alone
 # Exit status 0: no difference; 1: one, with the smallest case found that shows it; 2: not built.
-[ $# -ge 1 ] || { echo "usage: tools/compare.sh FOLDER [CASES [SEED [CASE]]]"; exit 2; }
-folder=$(cd "$1" && pwd) || exit 2
+[ $# -ge 1 ] || { echo "usage: tools/compare.sh CHECKOUT [CASES [SEED [CASE]]]"; exit 2; }
+checkout=$(cd "$1" && pwd) || exit 2
 shift
 cd "$(dirname "$0")/.." || exit 2
 . tools/original.sh
-build_with "$folder" compare || exit 2
+build_with "$checkout" compare || exit 2
 exec target/original/compare "$@"

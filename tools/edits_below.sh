@@ -16,7 +16,12 @@ trap 'exit 2' HUP INT TERM
 
 # of a log: the crate that was refused, and the first error, on one line (a long path breaks it)
 refused_in() { sed -n 's/^rt: \([a-z0-9_]*\) NOT PROVED (exit 1,.*/\1/p' "$1" | head -n 1; }
-error_in() { sed "s|^.*$room/[a-z0-9_]*/||" "$1" | awk '/: error: / && !n { n = 1; printf "%s", $0; next } n && /^ / && n < 8 { n++; sub(/^ +/, " "); printf "%s", $0; next } n { exit }'; }
+error_in() {
+    sed "s|^.*$room/[a-z0-9_]*/||" "$1" | awk '
+        /: error: / && !n { n = 1; printf "%s", $0; next }
+        n && /^ / && n < 8 { n++; sub(/^ +/, " "); printf "%s", $0; next }
+        n { exit }'
+}
 
 try() { # NAME
     work=$room/$1 log=$room/$1.log

@@ -1,9 +1,11 @@
 """The cases of crates/test_vectors_index: opening (`open`, `openw`) and slices (`slice`). vectors.py runs this; docs/VECTORS.md says what a case is.
 
-An expected answer is the oracle's, except where the table has a number that the Rust lacks (3, 5, 8, 9, 10). The records that slices are given are the oracle's too.
+An expected answer is the oracle's, except where the table of docs/RULES.md has a number that the Rust lacks (3, 5, 8, 9, 10).
+The records that slices are given are the oracle's too.
 """
 import itertools, random, subprocess
-from vectors import (Case, COLUMNS, FRESH, MORE, ONE, WIDE, at2, at3, expected, head, header_end, in_range, joined, numbered, parsed, range2, range3, rooms, s2, s3, shown, text)
+from vectors import (Case, COLUMNS, FRESH, MORE, ONE, WIDE, at2, at3, expected, head, header_end, in_range, joined, numbered, parsed, range2, range3,
+                     rooms, s2, s3, shown, text)
 
 RECORDS = 64        # the records of the program's array
 MOST = 2**33        # the greatest count of a record
@@ -37,7 +39,8 @@ def short_hex(data):
     """HEX, or HEX*K*N where that is much shorter."""
     if len(data) > 2048:
         for k in range(1, 65):
-            n = next((i for i in range(len(data) - k) if data[i:i + 64] == data[i + k:i + k + 64] and all(data[j] == data[j + k] for j in range(i, len(data) - k))), None)
+            n = next((i for i in range(len(data) - k) if data[i:i + 64] == data[i + k:i + k + 64]
+                      and all(data[j] == data[j + k] for j in range(i, len(data) - k))), None)
             if n is not None and n < 512:
                 return f'{data[:n + k].hex()}*{k}*{len(data)}'
         raise ValueError('too long')
@@ -140,7 +143,7 @@ class Index:
         return self.with_([tuple(changes.get(n, v) for n, v in zip(names, r)) if i == j else r for i, r in enumerate(self.records)])
 
     def in_range(self):
-        """docs/RULES.md T-3: an index out of range (10)."""
+        """docs/RULES.md, rule 10, for an index."""
         enc, spacing, start, _, _, _, total = self.source
         count, time = 0, 0
         for j, (offset, events, t, state) in enumerate(self.records):
@@ -258,9 +261,11 @@ def order():
     yes = (False, True)
     for is3, is2, is1, is8, is9, empty in itertools.product(*[yes] * 6):
         enc = 2 + (is3 + is2 + is1 + is8 + is9 + empty) % 2
-        data = (b'% date x\n' if is2 else head(enc)) + b'% \xC3\xA9\n' * is3 + joined(enc, [0xE << {2: 28, 3: 12}[enc]] * (8 // {2: 4, 3: 2}[enc]) if empty else ONE[enc])
+        body = [0xE << {2: 28, 3: 12}[enc]] * (8 // {2: 4, 3: 2}[enc]) if empty else ONE[enc]
+        data = (b'% date x\n' if is2 else head(enc)) + b'% \xC3\xA9\n' * is3 + joined(enc, body)
         size, spacing, room = (0, 5) if is1 else None, 6 if is8 else 4, 1 if is9 else 2
-        expect = 'refused 3' if is3 else 'refused 2' if is2 else 'refused 1' if is1 else 'refused 8' if is8 else 'refused 9 2' if is9 else 'refused 1' if empty else 'ok'
+        refused = [(is3, '3'), (is2, '2'), (is1, '1'), (is8, '8'), (is9, '9 2'), (empty, '1')]
+        expect = next((f'refused {n}' for applies, n in refused if applies), 'ok')
         yield open_raw('imeet', data, size, spacing, room, expect)
         if not is3 and not is2:
             yield open_words('imeet', enc, data[len(head(enc)):], size, spacing, room, expect)
@@ -315,7 +320,8 @@ def recordings():
                 times = sorted({r[2] + d for r in index.records for d in (-1, 0, 1)} | {-2**63, -1, 0, 2**63 - 1})
                 windows = [('t', a, b) for a, b in itertools.product(times, times)]
                 if spacing > 8:
-                    numbers, windows = numbers[::5], [('t', a, b) for a, b in itertools.product((-1, 0, 4097, 4101, 4102, 2**24, 2**34, 2**63 - 1), repeat=2)][::5]
+                    times = (-1, 0, 4097, 4101, 4102, 2**24, 2**34, 2**63 - 1)
+                    numbers, windows = numbers[::5], [('t', a, b) for a, b in itertools.product(times, repeat=2)][::5]
                 elif spacing == 8 or words_ is LOOPING:
                     numbers, windows = numbers[::3], windows[::7]
                 else:
@@ -340,9 +346,11 @@ def cuts():
                     if not headed and spacing == 4:
                         yield open_words(f'icut{enc}', enc, data[:cut], None, spacing)
                     if (cut >= index.source[2] or cut % 7 == 0) and headed == (spacing == 8):
-                        yield Slices(f'icut{enc}', index, data[:cut], [('n', 0, n), ('n', 1, n - 1), ('n', n, n), ('t', 0, 2**63 - 1), ('t', 66, 4097), ('t', 4101, 4102)])
+                        yield Slices(f'icut{enc}', index, data[:cut],
+                                     [('n', 0, n), ('n', 1, n - 1), ('n', n, n), ('t', 0, 2**63 - 1), ('t', 66, 4097), ('t', 4101, 4102)])
                 for more in MORE[enc][:1], MORE[enc], [0xE << {2: 28, 3: 12}[enc]] * 9:
-                    yield Slices(f'ilonger{enc}', index, data + joined(enc, more), [('n', 0, n), ('n', n - 1, n + 5), ('n', 0, WIDE), ('t', 0, 2**63 - 1), ('t', 4097, 4200), ('t', 64, 130)])
+                    yield Slices(f'ilonger{enc}', index, data + joined(enc, more),
+                                 [('n', 0, n), ('n', n - 1, n + 5), ('n', 0, WIDE), ('t', 0, 2**63 - 1), ('t', 4097, 4200), ('t', 64, 130)])
 
 
 def ranges():
@@ -369,8 +377,10 @@ def ranges():
         yield case(index.with_(spacing=8), False)
         yield case(index.with_(index.records[:1], spacing=8), True)
         fresh, top = FRESH[enc], 2**64
-        for first, spacing, k, ok in (top - 8, 4, 2, True), (top - 8, 4, 3, False), (top - 4, 4, 1, True), (top - 4, 4, 2, False), (top - 1, 4, 1, True), (top - 1, 4, 2, False), (top - 5, 4, 2, True), \
-                (top - 4194304, 4194304, 1, True), (top - 4194304, 4194304, 2, False), (top - 4194305, 4194304, 2, True), (top - 65536 * 3, 65536, 3, True), (top - 65536 * 3, 65536, 4, False):
+        for first, spacing, k, ok in (top - 8, 4, 2, True), (top - 8, 4, 3, False), (top - 4, 4, 1, True), (top - 4, 4, 2, False), \
+                (top - 1, 4, 1, True), (top - 1, 4, 2, False), (top - 5, 4, 2, True), \
+                (top - 4194304, 4194304, 1, True), (top - 4194304, 4194304, 2, False), (top - 4194305, 4194304, 2, True), \
+                (top - 65536 * 3, 65536, 3, True), (top - 65536 * 3, 65536, 4, False):
             records = [((first + j * spacing) % top, 0, 0, fresh) for j in range(k)]
             yield case(Index((enc, spacing, first, 0, 64, 48, 3), records), ok, [('n', 0, 3), ('t', 0, 9999)])
         other = {2: FRESH[3], 3: FRESH[2]}[enc]                     # the other encoding
@@ -394,7 +404,8 @@ def ranges():
         yield case(index.with_(events=counts[last] - 1), False)
         yield case(index.with_(events=0), False)
         yield case(index.with_(index.records[:2], events=counts[1]), True)
-        for total, count, ok in (MOST, MOST, True), (MOST + 1, MOST, True), (WIDE, MOST, True), (WIDE, MOST + 1, False), (MOST + 1, MOST + 1, False), (MOST, MOST + 1, False), (WIDE, WIDE, False), (WIDE, 2**63, False):
+        for total, count, ok in (MOST, MOST, True), (MOST + 1, MOST, True), (WIDE, MOST, True), (WIDE, MOST + 1, False), (MOST + 1, MOST + 1, False), \
+                (MOST, MOST + 1, False), (WIDE, WIDE, False), (WIDE, 2**63, False):
             near = [('n', MOST - 1, MOST + 2), ('n', count, min(count + 3, WIDE)), ('n', 0, 3), ('t', 0, 9999)]
             yield case(Index((*index.source[:6], total), [(start, count, 0, FRESH[enc])]), ok, near)
             yield case(Index((*index.source[:6], total), [(start, 0, 0, FRESH[enc]), (start + 4, count, 5, index.records[1][3])]), ok, near[:3])
@@ -402,7 +413,8 @@ def ranges():
         for j in 1, last:
             yield case(index.record(j - 1, time=times[j]), True)
             yield case(index.record(j - 1, time=times[j] + 1), False)
-        for j, t, ok in (0, -1, False), (0, -2**63, False), (0, 0, True), (last, 2**63 - 1, True), (0, 2**63 - 1, False), (last, times[last - 1], True), (last, times[last - 1] - 1, False), (last, -1, False):
+        for j, t, ok in (0, -1, False), (0, -2**63, False), (0, 0, True), (last, 2**63 - 1, True), (0, 2**63 - 1, False), (last, times[last - 1], True), \
+                (last, times[last - 1] - 1, False), (last, -1, False):
             yield case(index.record(j, time=t), ok)
         yield case(index.with_([(*r[:2], 2**63 - 1, r[3]) for r in index.records]), True)
         yield case(index.with_([(*r[:2], -1, r[3]) for r in index.records]), False)
@@ -453,9 +465,12 @@ def backward():
     for enc, window, found in (3, ('t', 4101, 4102), 'ok 1 : 4101,1,0,0'), (2, ('t', 64, 65), 'ok 1 : 64,1,1,1'):
         data = joined(enc, BACK[enc])
         for spacing in 4, 8, 65536, 4194304:
-            yield Slices('iback', index_of(enc, data, ALL, spacing, False), data, [window, ('n', 0, 1)], expect=[found if spacing == 4 or (enc, spacing) == (2, 8) else 'ok 0 :', 'ok 1 :'])
-    lists = {3: [[0x8002, 0x2001, 0x8001, 0x6005, 0x2002, 0x8003, 0x2003, 0x6FFF, 0x6001, 0x2004, 0x8001, 0x2005], [0x8005, 0x6064, 0x2001, 0x6005, 0x2002, 0x6003, 0x2003, 0x6FFF, 0x2004, 0x8004, 0x2005, 0x8006]],
-             2: [[0x80000003, 0x10400801, 0x80000001, 0x10000802, 0x1FC00803, 0x80000002, 0x10400804, 0x10000805, 0x80000003, 0x10000806], [0x80000009, 0x80000003, 0x1FC00801, 0x10000802, 0x10400803, 0x80000002, 0x1FC00804, 0x80000004]]}
+            yield Slices('iback', index_of(enc, data, ALL, spacing, False), data, [window, ('n', 0, 1)],
+                         expect=[found if spacing == 4 or (enc, spacing) == (2, 8) else 'ok 0 :', 'ok 1 :'])
+    lists = {3: [[0x8002, 0x2001, 0x8001, 0x6005, 0x2002, 0x8003, 0x2003, 0x6FFF, 0x6001, 0x2004, 0x8001, 0x2005],
+                 [0x8005, 0x6064, 0x2001, 0x6005, 0x2002, 0x6003, 0x2003, 0x6FFF, 0x2004, 0x8004, 0x2005, 0x8006]],
+             2: [[0x80000003, 0x10400801, 0x80000001, 0x10000802, 0x1FC00803, 0x80000002, 0x10400804, 0x10000805, 0x80000003, 0x10000806],
+                 [0x80000009, 0x80000003, 0x1FC00801, 0x10000802, 0x10400803, 0x80000002, 0x1FC00804, 0x80000004]]}
     for enc in 2, 3:
         for words_, spacing in itertools.product(lists[enc], (4, 8, 12, 65536)):
             data = joined(enc, words_)
@@ -486,7 +501,8 @@ def longs():
             yield open_raw(f'ilong{enc}', data, None, 65536) if headed else open_words(f'ilong{enc}', enc, data, ALL, 65536)
             index = index_of(enc, data, ALL, 65536, headed)
             total, (offset, count, time, _) = index.source[6], index.records[-1]
-            queries = [('n', a, a + 5) for a in (0, count - 3, count - 1, count, count + 1, total - 3)] + [('t', time + d, time + d + 2**25) for d in (-2**25, -1, 0, 1, 2**24)] + [('t', -1, 2**24)]
+            queries = [('n', a, a + 5) for a in (0, count - 3, count - 1, count, count + 1, total - 3)]
+            queries += [('t', time + d, time + d + 2**25) for d in (-2**25, -1, 0, 1, 2**24)] + [('t', -1, 2**24)]
             yield Slices(f'ilong{enc}', index, data, [(k, max(a, 0) if k == 'n' else a, b) for k, a, b in queries], 30)
             yield Slices(f'ilong{enc}', index, data[:offset + 9], [('n', count, count + 9), ('t', time, 2**63 - 1), ('n', total - 1, total)], 30)
 
@@ -505,10 +521,12 @@ def drawn():
         for _ in range(count):
             body = joined(enc, [r.choice([0x8001 << (16 if enc == 2 else 0), one(enc)])] + [one(enc) for _ in range(r.randrange(4, 26))])
             body = body[:len(body) - r.choice([0, 0, 0, 1, 2])]
-            headed, size, spacing = r.random() < .5, r.choice([None, ALL, (1000, 2048), (64, 48), (2**20, 2**20)]), r.choice([4, 4, 8, 12, 16, 20, 65536, 4194304])
+            headed, size = r.random() < .5, r.choice([None, ALL, (1000, 2048), (64, 48), (2**20, 2**20)])
+            spacing = r.choice([4, 4, 8, 12, 16, 20, 65536, 4194304])
             headed = headed or body[:1] == b'%'
             data = head(enc, r.choice([None, ALL, (700, 900)])) + body if headed else body
-            yield open_raw(f'irandom{enc}', data, size, spacing, r.choice([64, 64, 20, 5])) if headed else open_words(f'irandom{enc}', enc, data, size, spacing, r.choice([64, 64, 20, 5]))
+            group, room = f'irandom{enc}', r.choice([64, 64, 20, 5])
+            yield open_raw(group, data, size, spacing, room) if headed else open_words(group, enc, data, size, spacing, room)
             if ORACLE.ask(index_line(data if headed else head(enc) + data, size, spacing)) == 'err size':
                 continue
             index = index_of(enc, data, size, spacing, headed)
@@ -518,7 +536,8 @@ def drawn():
                 return r.choice([0, n, WIDE, r.randrange(n + 2), r.randrange(n + 2), r.choice(records)[1]])
 
             def time():
-                return max(-2**63, min(2**63 - 1, r.choice([r.choice(records)[2] + r.randrange(-1, 2), r.choice(records)[3][3] + r.randrange(-2, 70), 2**63 - 1, 0, r.randrange(2**24), -1])))
+                return max(-2**63, min(2**63 - 1, r.choice([r.choice(records)[2] + r.randrange(-1, 2), r.choice(records)[3][3] + r.randrange(-2, 70),
+                                                            2**63 - 1, 0, r.randrange(2**24), -1])))
 
             queries = [r.choice([lambda: ('n', number(), number()), lambda: ('t', time(), time())])() for _ in range(6)]
             kind, lent = r.randrange(5), data
@@ -532,7 +551,9 @@ def drawn():
             if kind == 4:
                 k = r.randrange(len(records))
                 more = r.randrange(5)
-                index = index.with_([(o, e + more * (j >= k), t + 7 * more * (j >= k), records[k][3] if j == k - 1 else s) for j, (o, e, t, s) in enumerate(records)], events=n + r.choice([more, more + 3]))
+                altered = [(o, e + more * (j >= k), t + 7 * more * (j >= k), records[k][3] if j == k - 1 else s)
+                           for j, (o, e, t, s) in enumerate(records)]
+                index = index.with_(altered, events=n + r.choice([more, more + 3]))
             yield Slices(f'irandom{enc}', index, lent, queries, r.choice([COLUMNS, COLUMNS, n, max(n - 1, 0), 3, (9, 8, 7, 6)]))
 
 

@@ -1,14 +1,34 @@
 //! The C interface (include/prophesee_raw.h) as Rust sees it.
 #![allow(dead_code)]
+use std::mem::{offset_of, size_of};
+
+/// The header file's version.
+pub const VERSION: u32 = 1;
+
+/// The number of an encoding.
+pub fn encoding(evt3: bool) -> u32 {
+    2 + evt3 as u32
+}
+
+#[repr(C)]
+#[derive(Clone, Copy, Debug, Default, PartialEq, Eq)]
+pub struct Header {
+    pub refusal: u32,
+    pub encoding: u32,
+    pub data_offset: usize,
+    pub width: usize,
+    pub height: usize,
+    pub sized: u8,
+}
 
 #[repr(C)]
 #[derive(Clone, Copy, Debug, Default, PartialEq, Eq)]
 pub struct Options {
-    pub sized: u8,
-    pub limited: u8,
     pub width: usize,
     pub height: usize,
     pub max_events: usize,
+    pub sized: u8,
+    pub limited: u8,
 }
 
 #[repr(C)]
@@ -25,42 +45,43 @@ pub struct Reading {
 #[repr(C)]
 #[derive(Clone, Copy, Debug, Default, PartialEq, Eq)]
 pub struct OpenOptions {
-    pub sized: u8,
     pub width: usize,
     pub height: usize,
     pub spacing: usize,
+    pub sized: u8,
 }
 
 #[repr(C)]
 #[derive(Clone, Copy, Debug, Default, PartialEq, Eq)]
 pub struct Source {
+    pub records: usize,
     pub spacing: usize,
     pub data_offset: usize,
     pub len: usize,
     pub width: usize,
     pub height: usize,
     pub n_events: usize,
+    pub encoding: u32,
 }
 
 #[repr(C)]
 #[derive(Clone, Copy, Debug, Default, PartialEq, Eq)]
 pub struct Opening {
-    pub refusal: u32,
-    pub encoding: u32,
-    pub told: usize,
-    pub records: usize,
     pub source: Source,
+    pub told: usize,
+    pub refusal: u32,
 }
 
-/// How many entries of 64 bits a record has.
-pub const ENTRIES: usize = 10;
+/// A record's numbers in the order of its fields: byte_offset, event_index, time, and the decoder's initialised, time_base,
+/// decoder_time, high_loops, y, base_x, polarity.
+pub type Record = [u64; 10];
 
 #[repr(C)]
 #[derive(Clone, Copy, Debug, Default, PartialEq, Eq)]
 pub struct Slice {
-    pub refusal: u32,
     pub told: usize,
     pub count: usize,
+    pub refusal: u32,
 }
 
 #[repr(C)]
@@ -71,7 +92,7 @@ pub struct Sink {
     pub time_high: u64,
     pub time_low: u64,
     pub y: u64,
-    pub evt3: u8,
+    pub encoding: u32,
     pub header_written: u8,
     pub has_last_t: u8,
     pub has_time_high: u8,
@@ -83,10 +104,84 @@ pub struct Sink {
 #[derive(Clone, Copy, Debug, Default, PartialEq, Eq)]
 pub struct Appended {
     pub sink: Sink,
-    pub refusal: u32,
     pub told: usize,
     pub written: usize,
+    pub refusal: u32,
 }
+
+#[repr(C)]
+#[derive(Clone, Copy, Debug, Default, PartialEq, Eq)]
+pub struct Decoder {
+    pub time_base: u64,
+    pub time: u64,
+    pub high_loops: u64,
+    pub encoding: u32,
+    pub y: u16,
+    pub base_x: u16,
+    pub initialised: u8,
+    pub polarity: u8,
+}
+
+#[repr(C)]
+#[derive(Clone, Copy, Debug, Default, PartialEq, Eq)]
+pub struct Vector {
+    pub t: i64,
+    pub mask: u32,
+    pub x: u16,
+    pub y: u16,
+    pub p: u8,
+}
+
+#[repr(C)]
+#[derive(Clone, Copy, Debug, Default, PartialEq, Eq)]
+pub struct Decoded {
+    pub decoder: Decoder,
+    pub events: Vector,
+    pub refusal: u32,
+}
+
+#[repr(C)]
+#[derive(Clone, Copy, Debug, Default, PartialEq, Eq)]
+pub struct Stepped {
+    pub decoder: Decoder,
+    pub refusal: u32,
+}
+
+#[repr(C)]
+#[derive(Clone, Copy, Debug, Default, PartialEq, Eq)]
+pub struct Event {
+    pub t: i64,
+    pub x: u16,
+    pub y: u16,
+    pub p: u8,
+}
+
+#[repr(C)]
+#[derive(Clone, Copy, Debug, Default, PartialEq, Eq)]
+pub struct Next {
+    pub rest: Vector,
+    pub event: Event,
+    pub some: u8,
+}
+
+// What the header file takes for granted.
+const _: () = {
+    assert!(size_of::<Header>() == 40 && offset_of!(Header, sized) == 32);
+    assert!(size_of::<Options>() == 32 && offset_of!(Options, limited) == 25);
+    assert!(size_of::<Reading>() == 40 && offset_of!(Reading, count) == 32);
+    assert!(size_of::<OpenOptions>() == 32 && offset_of!(OpenOptions, sized) == 24);
+    assert!(size_of::<Source>() == 64 && offset_of!(Source, encoding) == 56);
+    assert!(size_of::<Opening>() == 80 && offset_of!(Opening, refusal) == 72);
+    assert!(size_of::<Slice>() == 24 && offset_of!(Slice, refusal) == 16);
+    assert!(size_of::<Sink>() == 56 && offset_of!(Sink, has_y) == 48);
+    assert!(size_of::<Appended>() == 80 && offset_of!(Appended, refusal) == 72);
+    assert!(size_of::<Decoder>() == 40 && offset_of!(Decoder, polarity) == 33);
+    assert!(size_of::<Vector>() == 24 && offset_of!(Vector, p) == 16);
+    assert!(size_of::<Decoded>() == 72 && offset_of!(Decoded, refusal) == 64);
+    assert!(size_of::<Stepped>() == 48 && offset_of!(Stepped, refusal) == 40);
+    assert!(size_of::<Event>() == 16 && offset_of!(Event, p) == 12);
+    assert!(size_of::<Next>() == 48 && offset_of!(Next, some) == 40);
+};
 
 /// The four lent columns.
 #[derive(Clone, Debug, Default, PartialEq, Eq)]
@@ -134,33 +229,35 @@ impl Lend for Lent<'_> {
     }
 }
 
+/// The functions, with the parts of their arguments that stand between a recording and the columns.
 mod raw {
     use super::*;
-    macro_rules! reading {
-        ($($name:ident)*) => { extern "C" { $(pub fn $name(
-            bytes: *const u8, n: usize, options: Options,
-            xs: *mut u16, xn: usize, ys: *mut u16, yn: usize, ts: *mut i64, tn: usize, ps: *mut u8, pn: usize) -> Reading;)* } };
+    macro_rules! into_columns {
+        ($($name:ident($($more:ident: $of:ty),*) -> $answer:ty;)*) => { extern "C" { $(pub fn $name(
+            bytes: *const u8, n: usize $(, $more: $of)*,
+            xs: *mut u16, xn: usize, ys: *mut u16, yn: usize, ts: *mut i64, tn: usize, ps: *mut u8, pn: usize) -> $answer;)* } };
     }
-    macro_rules! opening {
-        ($($name:ident)*) => { extern "C" { $(pub fn $name(
-            bytes: *const u8, n: usize, records: *mut u64, rn: usize, options: OpenOptions) -> Opening;)* } };
+    into_columns! {
+        prophesee_read_raw(options: Options) -> Reading;
+        prophesee_decode_words(encoding: u32, options: Options) -> Reading;
+        prophesee_slice_index(source: Source, records: *const Record, rn: usize, i0: usize, i1: usize) -> Slice;
+        prophesee_slice_time(source: Source, records: *const Record, rn: usize, t0: i64, t1: i64) -> Slice;
     }
-    macro_rules! slicing {
-        ($($name:ident: $end:ty),*) => { extern "C" { $(pub fn $name(
-            bytes: *const u8, n: usize, source: Source, records: *const u64, rn: usize, from: $end, to: $end,
-            xs: *mut u16, xn: usize, ys: *mut u16, yn: usize, ts: *mut i64, tn: usize, ps: *mut u8, pn: usize) -> Slice;)* } };
-    }
-    reading!(prophesee_read_raw prophesee_decode_evt2 prophesee_decode_evt3);
-    opening!(prophesee_open prophesee_open_evt2 prophesee_open_evt3);
-    slicing!(prophesee_slice_index_evt2: usize, prophesee_slice_index_evt3: usize,
-             prophesee_slice_time_evt2: i64, prophesee_slice_time_evt3: i64);
     extern "C" {
-        pub fn prophesee_writer_evt2(header: u8) -> Sink;
-        pub fn prophesee_writer_evt3(header: u8) -> Sink;
+        pub fn prophesee_version() -> u32;
+        pub fn prophesee_parse_header(recording: *const u8, n: usize, sized: u8, width: usize, height: usize) -> Header;
+        pub fn prophesee_open(recording: *const u8, n: usize, records: *mut Record, rn: usize, options: OpenOptions) -> Opening;
+        pub fn prophesee_open_words(
+            words: *const u8, n: usize, encoding: u32, records: *mut Record, rn: usize, options: OpenOptions) -> Opening;
+        pub fn prophesee_writer(encoding: u32, header: u8) -> Sink;
         pub fn prophesee_append(
             sink: Sink, width: usize, height: usize,
             xs: *const u16, xn: usize, ys: *const u16, yn: usize, ts: *const i64, tn: usize, ps: *const u8, pn: usize,
             output: *mut u8, on: usize) -> Appended;
+        pub fn prophesee_new_decoder(encoding: u32) -> Decoder;
+        pub fn prophesee_decode(decoder: Decoder, bytes: *const u8, n: usize) -> Decoded;
+        pub fn prophesee_next_event(events: Vector) -> Next;
+        pub fn prophesee_decoder_after(decoder: Decoder, words: *const u8, n: usize) -> Stepped;
     }
 }
 
@@ -173,40 +270,40 @@ macro_rules! with_columns {
     }};
 }
 
+pub fn version() -> u32 {
+    unsafe { raw::prophesee_version() }
+}
+
+pub fn parse_header(recording: &[u8], sized: u8, width: usize, height: usize) -> Header {
+    unsafe { raw::prophesee_parse_header(recording.as_ptr(), recording.len(), sized, width, height) }
+}
+
 pub fn read_raw(recording: &[u8], o: Options, c: &mut impl Lend) -> Reading {
     with_columns!(prophesee_read_raw, recording, c, o)
 }
 
-pub fn decode_words(words: &[u8], evt3: bool, o: Options, c: &mut impl Lend) -> Reading {
-    if evt3 { with_columns!(prophesee_decode_evt3, words, c, o) } else { with_columns!(prophesee_decode_evt2, words, c, o) }
+pub fn decode_words(words: &[u8], encoding: u32, o: Options, c: &mut impl Lend) -> Reading {
+    with_columns!(prophesee_decode_words, words, c, encoding, o)
 }
 
-pub fn open(recording: &[u8], records: &mut [u64], o: OpenOptions) -> Opening {
+pub fn open(recording: &[u8], records: &mut [Record], o: OpenOptions) -> Opening {
     unsafe { raw::prophesee_open(recording.as_ptr(), recording.len(), records.as_mut_ptr(), records.len(), o) }
 }
 
-pub fn open_words(words: &[u8], evt3: bool, records: &mut [u64], o: OpenOptions) -> Opening {
-    let f = if evt3 { raw::prophesee_open_evt3 } else { raw::prophesee_open_evt2 };
-    unsafe { f(words.as_ptr(), words.len(), records.as_mut_ptr(), records.len(), o) }
+pub fn open_words(words: &[u8], encoding: u32, records: &mut [Record], o: OpenOptions) -> Opening {
+    unsafe { raw::prophesee_open_words(words.as_ptr(), words.len(), encoding, records.as_mut_ptr(), records.len(), o) }
 }
 
-pub fn slice_index(b: &[u8], evt3: bool, s: Source, r: &[u64], i0: usize, i1: usize, c: &mut impl Lend) -> Slice {
-    if evt3 { with_columns!(prophesee_slice_index_evt3, b, c, s, r.as_ptr(), r.len(), i0, i1) }
-    else { with_columns!(prophesee_slice_index_evt2, b, c, s, r.as_ptr(), r.len(), i0, i1) }
+pub fn slice_index(b: &[u8], s: Source, r: &[Record], i0: usize, i1: usize, c: &mut impl Lend) -> Slice {
+    with_columns!(prophesee_slice_index, b, c, s, r.as_ptr(), r.len(), i0, i1)
 }
 
-pub fn slice_time(b: &[u8], evt3: bool, s: Source, r: &[u64], t0: i64, t1: i64, c: &mut impl Lend) -> Slice {
-    if evt3 { with_columns!(prophesee_slice_time_evt3, b, c, s, r.as_ptr(), r.len(), t0, t1) }
-    else { with_columns!(prophesee_slice_time_evt2, b, c, s, r.as_ptr(), r.len(), t0, t1) }
+pub fn slice_time(b: &[u8], s: Source, r: &[Record], t0: i64, t1: i64, c: &mut impl Lend) -> Slice {
+    with_columns!(prophesee_slice_time, b, c, s, r.as_ptr(), r.len(), t0, t1)
 }
 
-pub fn writer(evt3: bool, header: bool) -> Sink {
-    unsafe { if evt3 { raw::prophesee_writer_evt3(header as u8) } else { raw::prophesee_writer_evt2(header as u8) } }
-}
-
-/// The same from the flag as C gives it.
-pub fn writer_flagged(evt3: bool, header: u8) -> Sink {
-    unsafe { if evt3 { raw::prophesee_writer_evt3(header) } else { raw::prophesee_writer_evt2(header) } }
+pub fn writer(encoding: u32, header: u8) -> Sink {
+    unsafe { raw::prophesee_writer(encoding, header) }
 }
 
 pub fn append(s: Sink, width: usize, height: usize, c: &Columns, output: &mut [u8]) -> Appended {
@@ -222,4 +319,20 @@ pub fn append_from(s: Sink, width: usize, height: usize, c: &Lent, output: &mut 
         raw::prophesee_append(s, width, height, c.xs.as_ptr(), c.xs.len(), c.ys.as_ptr(), c.ys.len(),
             c.ts.as_ptr(), c.ts.len(), c.ps.as_ptr(), c.ps.len(), output.as_mut_ptr(), output.len())
     }
+}
+
+pub fn new_decoder(encoding: u32) -> Decoder {
+    unsafe { raw::prophesee_new_decoder(encoding) }
+}
+
+pub fn decode(d: Decoder, bytes: &[u8]) -> Decoded {
+    unsafe { raw::prophesee_decode(d, bytes.as_ptr(), bytes.len()) }
+}
+
+pub fn next_event(events: Vector) -> Next {
+    unsafe { raw::prophesee_next_event(events) }
+}
+
+pub fn decoder_after(d: Decoder, words: &[u8]) -> Stepped {
+    unsafe { raw::prophesee_decoder_after(d, words.as_ptr(), words.len()) }
 }

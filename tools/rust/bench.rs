@@ -1,6 +1,8 @@
 //! Times this library's archive and the Rust original in one process, on the same bytes: tools/bench.sh builds
 //! it and says how it is called. bench/operations.rs has what is timed and how.
 mod archive;
+#[path = "bench/generating.rs"]
+mod generating;
 #[path = "bench/memory.rs"]
 mod memory;
 #[path = "bench/operations.rs"]

@@ -1,10 +1,13 @@
-//! Compares the Rust original with this library's archive on random and damaged recordings and on lists of appends.
+//! Compares the Rust original with this library's archive on random and damaged recordings, on lists of appends and
+//! on single words.
 //!   compare CASES [SEED]         all cases from 0 on
 //!   compare CASES SEED CASE      this one alone
 //! A line for each kind of call; exit status 1 at the first difference, with the smallest case found that shows one.
 #[path = "compare/appending.rs"]
 mod appending;
 mod archive;
+#[path = "compare/decoding.rs"]
+mod decoding;
 mod lent;
 mod making;
 #[path = "compare/opening.rs"]
@@ -28,6 +31,7 @@ enum Case {
     Opening(opening::Case),
     Slicing(slicing::Case),
     Appending(appending::Case),
+    Decoding(decoding::Case),
 }
 
 impl Case {
@@ -35,8 +39,9 @@ impl Case {
         match rng.below(100) {
             0..=29 => Case::Reading(reading::Case::make(rng)),
             30..=44 => Case::Opening(opening::Case::make(rng)),
-            45..=79 => Case::Slicing(slicing::Case::make(rng)),
-            _ => Case::Appending(appending::Case::make(rng)),
+            45..=74 => Case::Slicing(slicing::Case::make(rng)),
+            75..=91 => Case::Appending(appending::Case::make(rng)),
+            _ => Case::Decoding(decoding::Case::make(rng)),
         }
     }
 
@@ -46,6 +51,7 @@ impl Case {
             Case::Opening(c) => c.check(env),
             Case::Slicing(c) => c.check(env),
             Case::Appending(c) => c.check(env),
+            Case::Decoding(c) => c.check(env),
         }
     }
 
@@ -63,6 +69,7 @@ impl Case {
             Case::Opening(c) => Box::new(c.smaller().map(Case::Opening)),
             Case::Slicing(c) => Box::new(c.smaller().map(Case::Slicing)),
             Case::Appending(c) => Box::new(c.smaller().map(Case::Appending)),
+            Case::Decoding(c) => Box::new(c.smaller().map(Case::Decoding)),
         }
     }
 
@@ -72,6 +79,7 @@ impl Case {
             Case::Opening(c) => c.show(),
             Case::Slicing(c) => c.show(),
             Case::Appending(c) => c.show(),
+            Case::Decoding(c) => c.show(),
         }
     }
 }
@@ -93,12 +101,12 @@ fn line(name: &str, c: &Count) -> String {
     for (n, k) in c.answers.iter().enumerate().skip(1).filter(|(_, k)| **k > 0) {
         out.push_str(&format!(", {k} refused {n}"));
     }
-    let what = if name.starts_with("open") {
-        "records"
-    } else if name.starts_with("append") {
-        "bytes"
-    } else {
-        "events"
+    let what = match name.split([' ', ',']).next() {
+        Some("open" | "open_words") => "records",
+        Some("append") => "bytes",
+        Some("parse_header") => "sizes",
+        Some("decoder_after") => "words",
+        _ => "events",
     };
     out.push_str(&format!("; {} {what}", c.items));
     if c.ruled > 0 {

@@ -1,6 +1,6 @@
 //! Random numbers, lent memory between pages that can't be touched, and the marks in it that tell whether it was altered.
 #![allow(dead_code)]
-use crate::archive::Lent;
+use crate::archive::{Lent, Record};
 use std::fmt::Write;
 use std::sync::atomic::{AtomicU64, Ordering::Relaxed};
 
@@ -132,9 +132,9 @@ impl Mark for i64 {
     }
 }
 
-impl Mark for u64 {
-    fn mark(i: usize) -> u64 {
-        !(i as u64)
+impl Mark for Record {
+    fn mark(i: usize) -> Record {
+        std::array::from_fn(|k| !((i * 10 + k) as u64))
     }
 }
 

@@ -268,9 +268,19 @@ fn written(rng: &mut Rng, evt3: bool, n: usize) -> Vec<u8> {
     let from = if rng.chance(50) { 0 } else { rng.below(time_bound(evt3) as usize) as i64 };
     let c = events(rng, evt3, from, n);
     let mut bytes = vec![0; 96 + 8 * c.xs.len()];
-    let a = archive::append(archive::writer(evt3, false), 0, 0, &c, &mut bytes);
+    let a = archive::append(archive::writer(archive::encoding(evt3), 0), 0, 0, &c, &mut bytes);
     bytes.truncate(a.written);
     bytes
+}
+
+/// An encoding's number, mostly a known one.
+pub fn encoding(rng: &mut Rng) -> u32 {
+    if rng.chance(90) {
+        rng.pick(&[2, 3])
+    } else {
+        let wild = rng.wild() as u32;
+        rng.pick(&[0, 1, 4, 5, 7, 21, 30, 258, 65538, u32::MAX, wild])
+    }
 }
 
 /// Words of one of the encodings.

@@ -1,6 +1,6 @@
-//! Document 01's table of refusals, as far as the arguments alone tell it: written from the paper, apart from the library.
+//! The table of refusals of docs/RULES.md, as far as the arguments alone tell it: written from its text, apart from the library.
 #![allow(dead_code)]
-use crate::archive::{Sink, Source, ENTRIES};
+use crate::archive::{Decoder, Record, Sink, Source};
 
 pub const LONGEST: usize = 1 << 30;
 pub const MOST_EVENTS: usize = 1 << 28;
@@ -98,10 +98,16 @@ pub fn header_refusal(bytes: &[u8], given: Option<(usize, usize)>) -> u32 {
     }
 }
 
-/// The same without a header.
-pub fn words_refusal(bytes: &[u8], given: Option<(usize, usize)>) -> u32 {
+pub fn is_known(encoding: u32) -> bool {
+    encoding == 2 || encoding == 3
+}
+
+/// The same without a header: 4, 2, 1.
+pub fn words_refusal(bytes: &[u8], encoding: u32, given: Option<(usize, usize)>) -> u32 {
     if bytes.len() > LONGEST {
         4
+    } else if !is_known(encoding) {
+        2
     } else if is_zero(given) {
         1
     } else {
@@ -117,43 +123,69 @@ pub fn records_needed(body: usize, spacing: usize) -> usize {
     body.div_ceil(spacing).max(1)
 }
 
-/// Rule 10 for a record's decoder.
-fn decoder_ok(evt3: bool, r: &[u64]) -> bool {
-    let [started, coarse, time, loops, row, base, polarity] = [r[3], r[4], r[5], r[6], r[7], r[8], r[9]];
-    let (step, period, most) = if evt3 { (4096, 1u64 << 24, 1 << 28) } else { (64, 1 << 34, 1 << 27) };
-    if started == 0 {
-        return coarse == 0 && time == 0 && loops == 0 && (!evt3 || (row == 0 && base == 0 && polarity == 0));
-    }
-    if loops > most || (evt3 && row > 2047) || coarse < loops * period {
+/// Rule 10 for a decoder, given as a record has it, but for the bound of its loops.
+fn decoder_fits(encoding: u32, [started, coarse, time, loops, row, base, polarity]: [u64; 7]) -> bool {
+    let evt3 = encoding == 3;
+    let place = if evt3 { row <= 2047 && base <= 65535 && polarity <= 1 } else { (row, base, polarity) == (0, 0, 0) };
+    if !is_known(encoding) || started > 1 || !place {
         return false;
     }
-    let rest = coarse - loops * period;
-    rest < period && rest % step == 0 && time >= coarse && time - coarse < step
+    if started == 0 {
+        return (coarse, time, loops, row, base, polarity) == (0, 0, 0, 0, 0, 0);
+    }
+    let (step, period) = if evt3 { (4096, 1 << 24) } else { (64, 1 << 34) };
+    let [coarse, time, loops] = [coarse, time, loops].map(u128::from);
+    let Some(rest) = coarse.checked_sub(loops * period) else { return false };
+    rest < period && rest % step == 0 && (coarse..coarse + step).contains(&time)
 }
 
-/// Rule 10 for an index.
-pub fn index_ok(evt3: bool, source: &Source, records: &[u64]) -> bool {
+fn loops_fit(encoding: u32, loops: u64) -> bool {
+    loops <= if encoding == 3 { 1 << 28 } else { 1 << 27 }
+}
+
+/// A decoder as a record has it.
+pub fn numbers(d: &Decoder) -> [u64; 7] {
+    [d.initialised.into(), d.time_base, d.time, d.high_loops, d.y.into(), d.base_x.into(), d.polarity.into()]
+}
+
+/// Rule 10 for a decoder.
+pub fn decoder_ok(d: &Decoder) -> bool {
+    loops_fit(d.encoding, d.high_loops) && decoder_fits(d.encoding, numbers(d))
+}
+
+/// What words may make of a decoder in range: its loops may have gone past their bound.
+pub fn decoder_made(d: &Decoder) -> bool {
+    decoder_fits(d.encoding, numbers(d))
+}
+
+/// The state of a record's decoder.
+pub fn state(r: &Record) -> [u64; 7] {
+    [r[3], r[4], r[5], r[6], r[7], r[8], r[9]]
+}
+
+/// Rule 10 for an index: as many records as it tells, one at least, each in its place and in range.
+pub fn index_ok(source: &Source, records: &[Record]) -> bool {
     let (mut count, mut time) = (0, 0);
-    for (j, r) in records.chunks_exact(ENTRIES).enumerate() {
+    for (j, r) in records.iter().take(source.records).enumerate() {
         let place = source.data_offset as u128 + j as u128 * source.spacing as u128;
         let numbers = r[1] >= count && r[1] <= 1 << 33 && r[1] <= source.n_events as u64 && r[2] >= time && r[2] < 1 << 63;
-        if r[0] as u128 != place || !numbers || !decoder_ok(evt3, r) {
+        if r[0] as u128 != place || !numbers || !loops_fit(source.encoding, r[6]) || !decoder_fits(source.encoding, state(r)) {
             return false;
         }
         (count, time) = (r[1], r[2]);
     }
-    records.len() >= ENTRIES
+    is_known(source.encoding) && (1..=records.len()).contains(&source.records)
 }
 
 /// 4, 1, 8 and 10 of a slice, the first that applies; 0 for none.
-pub fn slice_refusal(lent: usize, evt3: bool, source: &Source, records: &[u64]) -> u32 {
+pub fn slice_refusal(lent: usize, source: &Source, records: &[Record]) -> u32 {
     if lent > LONGEST {
         4
     } else if source.width == 0 || source.height == 0 {
         1
     } else if !spacing_ok(source.spacing) {
         8
-    } else if !index_ok(evt3, source, records) {
+    } else if !index_ok(source, records) {
         10
     } else {
         0
@@ -164,11 +196,22 @@ fn time_bound(evt3: bool) -> i64 {
     1 << if evt3 { 24 } else { 34 }
 }
 
+/// A flag, and a number that is 0 where the flag is.
+fn flagged(has: u8, number: u64) -> bool {
+    has == 1 || (has == 0 && number == 0)
+}
+
+/// A writer's numbers, whatever their range: known encoding, flags of 0 or 1, 0 where a flag is 0.
+fn is_sink(s: &Sink) -> bool {
+    let halves = flagged(s.has_time_high, s.time_high) && flagged(s.has_time_low, s.time_low) && flagged(s.has_y, s.y);
+    is_known(s.encoding) && s.header_written <= 1 && flagged(s.has_last_t, s.last_t as u64) && halves
+}
+
 /// Rule 10 for a writer.
 pub fn sink_ok(s: &Sink) -> bool {
-    let evt3 = s.evt3 != 0;
-    let (high, low, row) = (s.has_time_high != 0, s.has_time_low != 0, s.has_y != 0);
-    if s.n_events > 1 << 62 || (!evt3 && (low || row)) {
+    let evt3 = s.encoding == 3;
+    let (high, low, row) = (s.has_time_high == 1, s.has_time_low == 1, s.has_y == 1);
+    if !is_sink(s) || s.n_events > 1 << 62 || (!evt3 && (low || row)) {
         return false;
     }
     if s.has_last_t == 0 {
@@ -194,7 +237,7 @@ pub fn append_refusal(s: &Sink, xs: &[u16], ys: &[u16], ts: &[i64], ps: &[u8]) -
     } else if ts.first().is_some_and(|t| *t < before) || ts.windows(2).any(|t| t[1] < t[0]) {
         6
     } else {
-        let times = ts.iter().all(|t| (0..time_bound(s.evt3 != 0)).contains(t));
+        let times = ts.iter().all(|t| (0..time_bound(s.encoding == 3)).contains(t));
         let places = xs.iter().chain(ys).all(|n| *n <= 2047) && ps.iter().all(|p| *p <= 1);
         if times && places {
             0

@@ -1,11 +1,11 @@
 //! What is timed. Both sides of a pair run in turn, and the best time of each counts. Before that each runs
 //! once, so that its memory is there, and what both hand over is compared: a difference ends the program.
-use crate::archive::{self, Columns, Lend, Lent, OpenOptions, Opening, Options, ENTRIES};
+use crate::archive::{self, Columns, Lend, Lent, OpenOptions, Options, Record, Source};
 use crate::memory::{self, Mapped};
 use crate::recordings::Recording;
-use evt::io::probed::{self, probe};
-use evt::io::{prophesee_raw as original, EventSink, LoadOptions, SliceSource};
-use evt::EventStream;
+use eventcv::io::spaced::{self, probe};
+use eventcv::io::{prophesee_raw as original, EventSink, LoadOptions, SliceSource};
+use eventcv::EventStream;
 use std::hint::black_box;
 
 /// The original's spacing for every length up to 13 GB.
@@ -94,12 +94,12 @@ fn spoil(c: &mut Lent, n: usize) {
 
 /// The original decodes into columns that it was handed: what the others add is its allocations.
 fn read_places(r: &Recording, s: &Setup, c: &mut Lent, places: usize, n: usize) -> Times {
-    let mut warm = probe::warm(n);
+    let mut warm = probe::Warm::new(n);
+    let decode = |warm: &mut probe::Warm| warm.decode(r.evt3, r.body(), r.width, r.height);
     spoil(c, n);
-    assert_eq!(r.read(&mut c.first(places)), probe::decode_warm(&mut warm, r.encoding, r.body(), r.width, r.height));
-    let ts = unsafe { std::slice::from_raw_parts(c.ts.as_ptr().cast::<u64>(), n) };
-    assert!(probe::warm_same(&warm, c.xs, c.ys, ts, c.ps), "the columns differ");
-    pair(s.runs, || r.read(&mut c.first(places)), || probe::decode_warm(&mut warm, r.encoding, r.body(), r.width, r.height))
+    assert_eq!(r.read(&mut c.first(places)), decode(&mut warm));
+    assert!(warm.same(c.xs, c.ys, c.ts, c.ps), "the columns differ");
+    pair(s.runs, || r.read(&mut c.first(places)), || decode(&mut warm))
 }
 
 pub fn read(r: &Recording, s: &Setup, c: &mut Lent) -> Times {
@@ -123,10 +123,10 @@ fn read_words(r: &Recording, s: &Setup, c: &mut Lent) -> Times {
     let theirs = || original::decode_words(r.body(), r.version(), r.width, r.height).unwrap();
     let stream = theirs();
     spoil(c, stream.len());
-    archive::decode_words(r.body(), r.evt3, sized, c);
+    archive::decode_words(r.body(), r.encoding(), sized, c);
     same(c, &stream);
     drop(stream);
-    pair(s.runs, || archive::decode_words(r.body(), r.evt3, sized, c).count, || theirs().len())
+    pair(s.runs, || archive::decode_words(r.body(), r.encoding(), sized, c).count, || theirs().len())
 }
 
 fn read_file(r: &Recording, s: &Setup, c: &mut Lent) -> Times {
@@ -148,61 +148,55 @@ fn source(r: &Recording, spacing: usize) -> Box<dyn SliceSource> {
     if spacing == SPACING {
         return Box::new(original::open_raw_slice(&r.path, &o).unwrap());
     }
-    evt::set_spacing(Some(spacing as u64));
-    Box::new(probed::open_raw_slice(&r.path, &o).unwrap())
+    eventcv::set_spacing(Some(spacing as u64));
+    Box::new(spaced::open_raw_slice(&r.path, &o).unwrap())
 }
 
-fn room(r: &Recording, spacing: usize) -> Vec<u64> {
-    vec![7; r.body().len().div_ceil(spacing).max(1) * ENTRIES]
+fn room(r: &Recording, spacing: usize) -> Vec<Record> {
+    vec![[7; 10]; r.body().len().div_ceil(spacing).max(1)]
 }
 
-fn open_in(bytes: &[u8], records: &mut [u64], spacing: usize) -> Opening {
+fn open_in(bytes: &[u8], records: &mut [Record], spacing: usize) -> Source {
     let a = archive::open(bytes, records, OpenOptions { spacing, ..OpenOptions::default() });
     assert_eq!(a.refusal, 0);
-    a
+    a.source
 }
 
-/// A record as `probe::checkpoints_text` writes it.
-fn record_text(evt3: bool, e: &[u64]) -> String {
-    let before = format!("{}/{}/{}/", e[0], e[1], e[2]);
-    if evt3 {
-        return format!("{before}3:{},{},{},{},{},{},{}", e[3], e[4], e[5], e[7], e[8], e[9], e[6]);
-    }
-    format!("{before}2:{},{},{},{}", e[3], e[4], e[5], e[6])
+fn same_record(ours: &Record, theirs: &probe::Record) -> bool {
+    let first = [theirs.byte_offset, theirs.event_index as u64, theirs.time as u64];
+    ours[..3] == first && ours[3..] == theirs.state.map(|n| n as u64)
 }
 
-fn same_index(r: &Recording, opening: &Opening, records: &[u64]) {
-    evt::set_spacing(Some(opening.source.spacing as u64));
-    let theirs = probed::open_raw_slice(&r.path, &LoadOptions::default()).unwrap();
-    let size = (opening.source.width, opening.source.height);
-    assert_eq!((opening.source.n_events, size), (theirs.n_events(), theirs.sensor_size()));
-    let ours: Vec<String> = records.chunks_exact(ENTRIES).map(|e| record_text(r.evt3, e)).collect();
-    assert_eq!(opening.records, ours.len());
-    assert!(ours.join(" ") == probe::checkpoints_text(&theirs), "the records differ");
+fn same_index(r: &Recording, ours: &Source, records: &[Record]) {
+    eventcv::set_spacing(Some(ours.spacing as u64));
+    let theirs = spaced::open_raw_slice(&r.path, &LoadOptions::default()).unwrap();
+    assert_eq!((ours.n_events, (ours.width, ours.height)), (theirs.n_events(), theirs.sensor_size()));
+    let theirs = probe::records(&theirs);
+    assert_eq!(ours.records, theirs.len());
+    assert!(records.iter().zip(&theirs).all(|(a, b)| same_record(a, b)), "the records differ");
 }
 
 /// Both map the file and make the index of it.
 pub fn open(r: &Recording, s: &Setup, _: &mut Lent) -> Times {
     let mut records = room(r, s.spacing);
-    let opening = open_in(r.bytes(), &mut records, s.spacing);
-    same_index(r, &opening, &records);
-    let ours = || open_in(Mapped::new(&r.path).bytes(), &mut records, s.spacing).source.n_events;
+    same_index(r, &open_in(r.bytes(), &mut records, s.spacing), &records);
+    let ours = || open_in(Mapped::new(&r.path).bytes(), &mut records, s.spacing).n_events;
     pair(s.runs, ours, || source(r, s.spacing).n_events())
 }
 
 // ---- slices
 
 struct Index {
-    opening: Opening,
-    records: Vec<u64>,
+    ours: Source,
+    records: Vec<Record>,
     source: Box<dyn SliceSource>,
 }
 
 impl Index {
     fn new(r: &Recording, spacing: usize) -> Self {
         let mut records = room(r, spacing);
-        let opening = open_in(r.bytes(), &mut records, spacing);
-        Index { opening, records, source: source(r, spacing) }
+        let ours = open_in(r.bytes(), &mut records, spacing);
+        Index { ours, records, source: source(r, spacing) }
     }
 }
 
@@ -228,7 +222,7 @@ fn slice_index(r: &Recording, s: &Setup, c: &mut Lent) -> Times {
     let n = i.source.n_events();
     let starts: Vec<usize> = scattered().iter().map(|v| *v as usize % (n - SLICE_EVENTS)).collect();
     let ours = |c: &mut Lent, a: usize| {
-        archive::slice_index(r.bytes(), r.evt3, i.opening.source, &i.records, a, a + SLICE_EVENTS, &mut c.first(SLICE_EVENTS)).count
+        archive::slice_index(r.bytes(), i.ours, &i.records, a, a + SLICE_EVENTS, &mut c.first(SLICE_EVENTS)).count
     };
     let theirs = |a: usize| i.source.slice_index(a, a + SLICE_EVENTS).unwrap();
     for a in &starts {
@@ -248,7 +242,7 @@ fn slice_times(r: &Recording, s: &Setup, c: &mut Lent, places: impl Fn(usize) ->
     let start = |v: &u64| from + *v as i64 % (to - from);
     let starts: Vec<(i64, usize)> = scattered().iter().map(start).map(|a| (a, places(theirs(a).len()))).collect();
     let ours = |c: &mut Lent, (a, n): (i64, usize)| {
-        archive::slice_time(r.bytes(), r.evt3, i.opening.source, &i.records, a, a + SLICE_TIME, &mut c.first(n)).count
+        archive::slice_time(r.bytes(), i.ours, &i.records, a, a + SLICE_TIME, &mut c.first(n)).count
     };
     for q in &starts {
         let stream = theirs(q.0);
@@ -283,7 +277,7 @@ fn lists(r: &Recording, c: &mut Lent) -> (Vec<Columns>, Vec<EventStream>) {
     let ours: Vec<Columns> = (0..n).step_by(APPEND).map(part).collect();
     let stream = |c: &Columns| {
         let ps = c.ps.iter().map(|p| *p != 0).collect();
-        evt::stream_of(r.width, r.height, c.xs.clone(), c.ys.clone(), c.ts.clone(), ps)
+        eventcv::stream_of(r.width, r.height, c.xs.clone(), c.ys.clone(), c.ts.clone(), ps)
     };
     let theirs = ours.iter().map(stream).collect();
     (ours, theirs)
@@ -291,7 +285,7 @@ fn lists(r: &Recording, c: &mut Lent) -> (Vec<Columns>, Vec<EventStream>) {
 
 /// Appends all lists to a fresh writer, each into the part of the output that `room` ends; the bytes written.
 fn append_ours(r: &Recording, lists: &[Columns], out: &mut [u8], room: impl Fn(usize) -> usize) -> usize {
-    let mut sink = archive::writer(r.evt3, false);
+    let mut sink = archive::writer(r.encoding(), 0);
     let mut at = 0;
     for (k, c) in lists.iter().enumerate() {
         let a = archive::append(sink, r.width, r.height, c, &mut out[at..room(k)]);
@@ -314,7 +308,7 @@ fn append_theirs(r: &Recording, lists: &[EventStream], out: &mut Vec<u8>) -> usi
 
 /// Where the bytes of each append end.
 fn ends(r: &Recording, lists: &[Columns], out: &mut [u8]) -> Vec<usize> {
-    let mut sink = archive::writer(r.evt3, false);
+    let mut sink = archive::writer(r.encoding(), 0);
     let mut at = 0;
     let end = |c: &Columns| {
         let a = archive::append(sink, r.width, r.height, c, &mut out[at..]);
@@ -354,9 +348,9 @@ pub fn memory_gained(r: &Recording, c: &mut Lent) -> (usize, usize) {
     let mut records = room(r, SPACING);
     let mut calls = || {
         r.read(c);
-        let s = open_in(r.bytes(), &mut records, SPACING).source;
-        archive::slice_index(r.bytes(), r.evt3, s, &records, s.n_events / 2, s.n_events / 2 + SLICE_EVENTS, c);
-        archive::slice_time(r.bytes(), r.evt3, s, &records, 0, SLICE_TIME, c);
+        let s = open_in(r.bytes(), &mut records, SPACING);
+        archive::slice_index(r.bytes(), s, &records, s.n_events / 2, s.n_events / 2 + SLICE_EVENTS, c);
+        archive::slice_time(r.bytes(), s, &records, 0, SLICE_TIME, c);
         let end = out.len();
         append_ours(r, &lists, &mut out, |_| end);
     };

@@ -1,8 +1,9 @@
 //! The recordings that both sides are timed on.
 use crate::archive::{self, Lend, Options};
+use crate::generating;
 use crate::memory::Mapped;
-use evt::io::probed::probe;
-use evt::io::prophesee_raw as original;
+use eventcv::io::prophesee_raw as original;
+use eventcv::io::spaced::probe;
 
 /// Name of the file, and what the table calls it.
 pub const RECORDINGS: [(&str, &str); 4] =
@@ -12,7 +13,6 @@ pub struct Recording {
     pub path: String,
     mapped: Mapped,
     data_offset: usize,
-    pub encoding: probe::Encoding2,
     pub evt3: bool,
     pub width: usize,
     pub height: usize,
@@ -22,9 +22,7 @@ impl Recording {
     pub fn new(path: &str) -> Self {
         let head = probe::header(path.as_ref(), None).unwrap();
         let (width, height) = head.size.unwrap();
-        let evt3 = head.enc == probe::Encoding2::E3;
-        let mapped = Mapped::new(path);
-        Recording { path: path.to_owned(), mapped, data_offset: head.offset as usize, encoding: head.enc, evt3, width, height }
+        Recording { path: path.to_owned(), mapped: Mapped::new(path), data_offset: head.start, evt3: head.evt3, width, height }
     }
 
     pub fn bytes(&self) -> &[u8] {
@@ -38,6 +36,10 @@ impl Recording {
     /// Columns of this many places are sure to hold its events.
     pub fn most(&self) -> usize {
         if self.evt3 { self.bytes().len() / 2 * 12 } else { self.bytes().len() / 4 }
+    }
+
+    pub fn encoding(&self) -> u32 {
+        archive::encoding(self.evt3)
     }
 
     pub fn version(&self) -> original::EvtVersion {
@@ -78,15 +80,22 @@ fn put(path: &str, bytes: &[u8]) {
     std::fs::rename(&part, path).unwrap();
 }
 
+fn exists(path: &str) -> bool {
+    std::path::Path::new(path).exists()
+}
+
 /// The path of a recording, or of its first `mib` MiB.
 pub fn recording(dir: &str, name: &str, mib: Option<usize>) -> String {
     let path = format!("{dir}/{name}.raw");
-    if name == "evt3long" && !std::path::Path::new(&path).exists() {
+    if !exists(&format!("{dir}/evt3dense.raw")) {
+        generating::all().iter().for_each(|(name, bytes)| put(&format!("{dir}/{name}.raw"), bytes));
+    }
+    if name == "evt3long" && !exists(&path) {
         make_long(dir, &path);
     }
     let Some(mib) = mib else { return path };
     let part = format!("{dir}/{name}-{mib}.raw");
-    if !std::path::Path::new(&part).exists() {
+    if !exists(&part) {
         let whole = Mapped::new(&path);
         put(&part, &whole.bytes()[..whole.bytes().len().min(mib << 20)]);
     }

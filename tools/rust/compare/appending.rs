@@ -1,12 +1,12 @@
 //! Lists of appends to fresh writers and to writers of any state.
-use crate::archive::{self, Appended, Columns, Sink};
+use crate::archive::{self, encoding, Appended, Columns, Sink};
 use crate::lent::{untouched, Rng};
 use crate::making;
 use crate::original::{self, Writer};
 use crate::shared::*;
 use crate::table;
-use evt::io::EventSink;
-use evt::{stream_of, EventStream};
+use eventcv::io::EventSink;
+use eventcv::{stream_of, EventStream};
 
 /// How long the output is, beside the bytes needed.
 #[derive(Clone, Copy, Debug)]
@@ -49,24 +49,14 @@ fn any_sink(rng: &mut Rng) -> Sink {
         _ => rng.below(bound as usize) as i64,
     };
     let step = if evt3 { 4096 } else { 64 };
-    let mut flag = |percent: usize| if rng.chance(percent) { rng.pick(&[1, 1, 2, 255]) } else { 0 };
-    let mut s = Sink {
-        n_events: 0,
-        last_t: last,
-        time_high: last as u64 / step,
-        time_low: last as u64 % step,
-        y: 0,
-        evt3: evt3 as u8,
-        header_written: flag(60),
-        has_last_t: 1,
-        has_time_high: flag(80),
-        has_time_low: if evt3 { flag(80) } else { 0 },
-        has_y: if evt3 { flag(80) } else { 0 },
-    };
-    s.y = making::events(rng, evt3, 0, 1).ys[0] as u64;
-    s.n_events = rng.pick(&[0, 1, 17, 1 << 40, (1 << 62) - 1, 1 << 62]);
-    if rng.chance(10) {
-        (s.has_last_t, s.has_time_high, s.has_time_low, s.has_y, s.n_events) = (0, 0, 0, 0, 0);
+    let [header, high, low, row] = [60, 80, 80, 80].map(|percent| rng.chance(percent) as u8);
+    let y = making::events(rng, evt3, 0, 1).ys[0] as u64;
+    let mut s = Sink { encoding: encoding(evt3), header_written: header, ..Sink::default() };
+    if rng.chance(90) {
+        (s.has_last_t, s.last_t, s.n_events) = (1, last, rng.pick(&[0, 1, 17, 1 << 40, (1 << 62) - 1, 1 << 62]));
+        (s.has_time_high, s.time_high) = (high, high as u64 * (last as u64 / step));
+        let (low, row) = if evt3 { (low, row) } else { (0, 0) };
+        (s.has_time_low, s.time_low, s.has_y, s.y) = (low, low as u64 * (last as u64 % step), row, row as u64 * y);
     }
     if rng.chance(15) {
         spoil(rng, &mut s);
@@ -77,14 +67,14 @@ fn any_sink(rng: &mut Rng) -> Sink {
 /// Any of the numbers becomes another one, which may still be in range.
 fn spoil(rng: &mut Rng, s: &mut Sink) {
     let wild = rng.wild();
-    let flag = rng.pick(&[0, 1, 7]);
+    let flag = rng.pick(&[0, 1, 2, 255]);
     match rng.below(12) {
         0 => s.n_events = rng.pick(&[1, (1 << 62) + 1, wild as usize]),
         1 => s.last_t = rng.pick(&[-1, 1 << 24, 1 << 34, s.last_t + 1, wild as i64]),
         2 => s.time_high = rng.pick(&[s.time_high + 1, s.time_high.wrapping_sub(1), wild]),
         3 => s.time_low = rng.pick(&[s.time_low + 1, 4096, wild]),
         4 => s.y = rng.pick(&[2047, 2048, 65535, 65536, wild]),
-        5 => s.evt3 ^= 1,
+        5 => s.encoding = making::encoding(rng),
         6 => s.has_last_t = flag,
         7 => s.has_time_high = flag,
         8 => s.has_time_low = flag,
@@ -151,25 +141,6 @@ fn stream(a: &Append) -> EventStream {
     stream_of(a.width, a.height, c.xs.clone(), c.ys.clone(), c.ts.clone(), c.ps.iter().map(|p| *p != 0).collect())
 }
 
-/// The same writer, numbers that don't count being 0 and flags 1.
-fn plain(s: &Sink) -> Sink {
-    let of = |has: u8, n: u64| if has != 0 { n } else { 0 };
-    let flag = |n: u8| (n != 0) as u8;
-    Sink {
-        n_events: s.n_events,
-        last_t: of(s.has_last_t, s.last_t as u64) as i64,
-        time_high: of(s.has_time_high, s.time_high),
-        time_low: of(s.has_time_low, s.time_low),
-        y: of(s.has_y, s.y),
-        evt3: flag(s.evt3),
-        header_written: flag(s.header_written),
-        has_last_t: flag(s.has_last_t),
-        has_time_high: flag(s.has_time_high),
-        has_time_low: flag(s.has_time_low),
-        has_y: flag(s.has_y),
-    }
-}
-
 fn at<T: Copy>(of: &[T], places: &[usize]) -> Vec<T> {
     places.iter().filter_map(|i| of.get(*i)).copied().collect()
 }
@@ -185,7 +156,7 @@ impl Case {
     pub fn make(rng: &mut Rng) -> Case {
         let fresh = rng.chance(50);
         let sink = any_sink(rng);
-        let start = if fresh { Start::Fresh { evt3: sink.evt3 != 0, header: rng.chance(50) } } else { Start::From(sink) };
+        let start = if fresh { Start::Fresh { evt3: sink.encoding == 3, header: rng.chance(50) } } else { Start::From(sink) };
         let mut from = if !fresh {
             sink.last_t
         } else if rng.chance(50) {
@@ -195,7 +166,7 @@ impl Case {
         };
         let mut appends: Vec<Append> = Vec::new();
         for _ in 0..1 + rng.below(5) {
-            appends.push(any_append(rng, sink.evt3 != 0, from));
+            appends.push(any_append(rng, sink.encoding == 3, from));
             from = appends.last().and_then(|a| a.columns.ts.last().copied()).unwrap_or(from);
         }
         Case { start, appends, last: rng.chance(70) }
@@ -210,8 +181,8 @@ impl Case {
         let (mut sink, mut whole) = match self.start {
             Start::From(s) => (s, None),
             Start::Fresh { evt3, header } => {
-                let sink = archive::writer(evt3, header);
-                same(sink, Sink { evt3: evt3 as u8, header_written: !header as u8, ..Sink::default() })?;
+                let sink = archive::writer(encoding(evt3), header as u8);
+                same(sink, Sink { encoding: encoding(evt3), header_written: !header as u8, ..Sink::default() })?;
                 (sink, Some(original::writer(evt3, header)))
             }
         };
@@ -229,7 +200,7 @@ impl Case {
     /// What is to be answered, the bytes if it is an acceptance, and the length of the output.
     fn expected(&self, s: &Sink, a: &Append) -> Result<(Appended, Vec<u8>, usize), String> {
         let c = &a.columns;
-        let refused = |refusal, told| Appended { sink: *s, refusal, told, written: 0 };
+        let refused = |refusal, told| Appended { sink: *s, told, written: 0, refusal };
         let n = table::append_refusal(s, &c.xs, &c.ys, &c.ts, &c.ps);
         if n == 6 {
             same(original::append(s, &stream(a)).err(), Some(6)).map_err(|e| format!("the original's order of times: {e}"))?;
@@ -242,7 +213,7 @@ impl Case {
         if lent < bytes.len() {
             return Ok((refused(11, bytes.len()), Vec::new(), lent));
         }
-        Ok((Appended { sink: plain(&after), refusal: 0, told: 0, written: bytes.len() }, bytes, lent))
+        Ok((Appended { sink: after, told: 0, written: bytes.len(), refusal: 0 }, bytes, lent))
     }
 
     fn append(&self, env: &mut Env, s: &Sink, a: &Append, whole: &mut Option<Writer>, all: &mut Vec<u8>) -> Result<Sink, String> {

@@ -1,37 +1,36 @@
 //! Opening recordings and headerless words: every record of the index.
-use crate::archive::{self, OpenOptions, Source, ENTRIES};
+use crate::archive::{self, encoding, OpenOptions, Record, Source};
 use crate::lent::{untouched, Rng};
 use crate::making;
-use crate::original::{behind_header, plain_header, state_entries, step, Index, Original, Size};
+use crate::original::{behind_header, plain_header, record, step, Index, Original, Size};
 use crate::shared::*;
 use crate::table;
 
-/// How many entries are lent, beside those needed.
+/// How many records are lent, beside those needed.
 #[derive(Clone, Copy, Debug)]
-pub enum Entries {
-    Exact(usize),
+pub enum Records {
+    Exact,
     Short(usize),
     Longer(usize),
     Any(usize),
 }
 
-impl Entries {
-    pub fn make(rng: &mut Rng) -> Entries {
+impl Records {
+    pub fn make(rng: &mut Rng) -> Records {
         match rng.below(5) {
-            0 | 1 => Entries::Exact(rng.below(ENTRIES)),
-            2 => Entries::Short(1 + rng.below(ENTRIES)),
-            3 => Entries::Longer(rng.below(64)),
-            _ => Entries::Any(rng.next() as usize),
+            0 | 1 => Records::Exact,
+            2 => Records::Short(1 + rng.below(2)),
+            3 => Records::Longer(1 + rng.below(7)),
+            _ => Records::Any(rng.next() as usize),
         }
     }
 
-    fn length(self, records: usize) -> usize {
-        let need = records * ENTRIES;
+    fn length(self, need: usize) -> usize {
         match self {
-            Entries::Exact(k) => need + k,
-            Entries::Short(k) => need.saturating_sub(k),
-            Entries::Longer(k) => need + ENTRIES + k,
-            Entries::Any(k) => k % (2 * need + 3),
+            Records::Exact => need,
+            Records::Short(k) => need.saturating_sub(k),
+            Records::Longer(k) => need + k,
+            Records::Any(k) => k % (2 * need + 3),
         }
     }
 }
@@ -39,10 +38,11 @@ impl Entries {
 #[derive(Clone, Debug)]
 pub struct Case {
     pub bytes: Vec<u8>,
+    /// Headerless words, EVT3 or EVT2.
     pub words: Option<bool>,
     pub size: Size,
     pub spacing: usize,
-    rooms: Vec<Entries>,
+    rooms: Vec<Records>,
     junk: u64,
     last: bool,
 }
@@ -65,7 +65,7 @@ impl Case {
             words,
             size: making::size(rng),
             spacing,
-            rooms: vec![Entries::make(rng), Entries::make(rng)],
+            rooms: vec![Records::make(rng), Records::make(rng)],
             junk: rng.next(),
             last: rng.chance(70),
             bytes,
@@ -76,7 +76,7 @@ impl Case {
         2 + self.words.is_some() as usize
     }
 
-    /// Whether the index is by document 01's rules over the original's decoder: words that begin with `%`.
+    /// Whether the index is by docs/RULES.md over the original's decoder: words that begin with `%`.
     pub fn is_ruled(&self) -> bool {
         self.words.is_some() && self.bytes.first() == Some(&b'%')
     }
@@ -109,34 +109,34 @@ impl Case {
         Expected::Late { need: table::records_needed(self.bytes.len() - start, self.spacing), index }
     }
 
-    /// Document 01's rule for records over the original's decoder.
+    /// The rule of docs/RULES.md for records over the original's decoder.
     fn ruled(&self, evt3: bool) -> Result<Index, u32> {
-        let (mut records, mut state, mut count, mut latest) = (Vec::new(), None, 0usize, 0i64);
+        let (mut records, mut state, mut count, mut latest) = (Vec::new(), step(evt3, None, &[]).0, 0usize, 0i64);
         let (mut width, mut height, mut earliest) = (0, 0, i64::MAX);
         for (j, part) in self.bytes.chunks(self.spacing).enumerate() {
-            let text = state.take().unwrap_or_else(|| step(evt3, None, &[]).0);
-            records.extend([(j * self.spacing) as u64, count as u64, latest as u64]);
-            records.extend(state_entries(&text));
-            let (after, events) = step(evt3, Some(&text), part);
+            records.push(record((j * self.spacing) as u64, count as u64, latest as u64, state));
+            let (after, events) = step(evt3, Some(state), part);
             for e in events.iter().filter(|e| self.size.is_none_or(|(w, h)| (e.x as usize) < w && (e.y as usize) < h)) {
                 (width, height) = (width.max(e.x as usize + 1), height.max(e.y as usize + 1));
                 (count, latest, earliest) = (count + 1, latest.max(e.t), earliest.min(e.t));
             }
-            state = Some(after);
+            state = after;
         }
         let (width, height) = match self.size {
             Some(size) => size,
             None if count == 0 => return Err(1),
             None => (width, height),
         };
-        let source = Source { spacing: self.spacing, data_offset: 0, len: self.bytes.len(), width, height, n_events: count };
-        Ok(Index { evt3, source, records, span: (earliest.min(latest), latest), live: None, unchanged: None })
+        let (n, len) = (records.len(), self.bytes.len());
+        let place = Source { records: n, spacing: self.spacing, data_offset: 0, len, ..Source::default() };
+        let source = Source { width, height, n_events: count, encoding: encoding(evt3), ..place };
+        Ok(Index { source, records, span: (earliest.min(latest), latest), live: None, unchanged: None })
     }
 
     pub fn check(&self, env: &mut Env) -> Result<(), String> {
         let want = self.expected(&env.original);
         if let Expected::Late { need, index: Ok(i) } = &want {
-            same(*need * ENTRIES, i.records.len()).map_err(|e| format!("the table's number of entries: {e}"))?;
+            same(*need, i.records.len()).map_err(|e| format!("the table's number of records: {e}"))?;
         }
         env.counts[self.kind()].cases += 1;
         for room in &self.rooms {
@@ -145,26 +145,24 @@ impl Case {
         Ok(())
     }
 
-    fn call(&self, env: &mut Env, want: &Expected, room: Entries) -> Result<(), String> {
+    fn call(&self, env: &mut Env, want: &Expected, room: Records) -> Result<(), String> {
         let lent = room.length(if let Expected::Late { need, .. } = want { *need } else { 2 });
         let bytes = env.bytes.copy(&self.bytes, self.last);
-        let records = env.entries.marked::<u64>(lent, self.last);
+        let records = env.records.marked::<Record>(lent, self.last);
         let got = match self.words {
             None => archive::open(bytes, records, self.options()),
-            Some(evt3) => archive::open_words(bytes, evt3, records, self.options()),
+            Some(evt3) => archive::open_words(bytes, encoding(evt3), records, self.options()),
         };
-        let (numbers, made) = answer(want, lent / ENTRIES);
+        let (numbers, made) = answer(want, lent);
         same(got, numbers)?;
-        let differs = records.iter().zip(made).position(|(a, b)| a != b);
-        if let Some(at) = differs {
-            let at = at / ENTRIES * ENTRIES;
-            return Err(format!("record {}: {:?}, the original's {:?}", at / ENTRIES, &records[at..at + ENTRIES], &made[at..at + ENTRIES]));
+        if let Some(at) = records.iter().zip(made).position(|(a, b)| a != b) {
+            return Err(format!("record {at}: {:?}, the original's {:?}", records[at], made[at]));
         }
         if !untouched(records, made.len()) {
-            return Err("an entry behind the records handed over was altered".to_owned());
+            return Err("a record behind those handed over was altered".to_owned());
         }
         let by_index = matches!(want, Expected::Late { .. }) && got.refusal != 9;
-        env.count(self.kind(), got.refusal, got.records, by_index && self.is_ruled());
+        env.count(self.kind(), got.refusal, got.source.records, by_index && self.is_ruled());
         Ok(())
     }
 
@@ -179,7 +177,7 @@ impl Case {
 
     pub fn show(&self) -> String {
         format!(
-            "{} {:?} size {:?} spacing {} entries {:?}\nbytes {}",
+            "{} {:?} size {:?} spacing {} records {:?}\nbytes {}",
             KINDS[self.kind()],
             self.words.map(|e| if e { "EVT3" } else { "EVT2" }),
             self.size,
@@ -190,15 +188,13 @@ impl Case {
     }
 }
 
-/// The numbers to be answered where this many records are lent, and the entries.
-fn answer(want: &Expected, room: usize) -> (archive::Opening, &[u64]) {
+/// The numbers to be answered where this many records are lent, and the records.
+fn answer(want: &Expected, room: usize) -> (archive::Opening, &[Record]) {
     let refused = |refusal, told| archive::Opening { refusal, told, ..archive::Opening::default() };
     match want {
         Expected::Early(n) => (refused(*n, 0), &[]),
         Expected::Late { need, .. } if room < *need => (refused(9, *need), &[]),
         Expected::Late { index: Err(n), .. } => (refused(*n, 0), &[]),
-        Expected::Late { need, index: Ok(i) } => {
-            (archive::Opening { refusal: 0, encoding: 2 + i.evt3 as u32, told: 0, records: *need, source: i.source }, &i.records)
-        }
+        Expected::Late { index: Ok(i), .. } => (archive::Opening { source: i.source, told: 0, refusal: 0 }, &i.records),
     }
 }

@@ -1,9 +1,10 @@
 //! The original's answers. It reads files: they are written to a folder of their own.
-use crate::archive::{Sink, Source, ENTRIES};
-use evt::io::probed::{self, probe};
-use evt::io::prophesee_raw as unchanged;
-use evt::io::{EventConsumer, EventSink, IoError, LoadOptions, RawEvent, SliceSource};
-use evt::{set_spacing, stream_of, EventStream};
+use crate::archive::{encoding, Decoder, Record, Sink, Source};
+use crate::table;
+use eventcv::io::prophesee_raw as unchanged;
+use eventcv::io::spaced::{self, probe};
+use eventcv::io::{EventConsumer, EventSink, IoError, LoadOptions, RawEvent, SliceSource};
+use eventcv::{set_spacing, stream_of, EventStream};
 use std::path::PathBuf;
 
 pub type Size = Option<(usize, usize)>;
@@ -12,7 +13,7 @@ pub struct Original {
     dir: PathBuf,
 }
 
-/// Document 01's number of what the original refuses.
+/// The number of docs/RULES.md for what the original refuses.
 fn number(e: &IoError) -> u32 {
     match e {
         IoError::InvalidSensorSize => 1,
@@ -38,24 +39,22 @@ pub fn behind_header(evt3: bool, words: &[u8]) -> Vec<u8> {
     [plain_header(evt3), words].concat()
 }
 
-/// What a header told.
-pub struct Head {
-    pub evt3: bool,
-    pub start: usize,
-    pub size: Size,
-}
-
 /// The original's index of a file, and the same as numbers.
 pub struct Index {
-    pub evt3: bool,
     pub source: Source,
-    pub records: Vec<u64>,
+    pub records: Vec<Record>,
     /// The least and the greatest time of its events.
     pub span: (i64, i64),
     /// None where the index was made by the rules alone.
-    pub live: Option<probed::RawSliceSource>,
+    pub live: Option<spaced::RawSliceSource>,
     /// The module without a settable spacing, at its own.
     pub unchanged: Option<unchanged::RawSliceSource>,
+}
+
+impl Index {
+    pub fn evt3(&self) -> bool {
+        self.source.encoding == 3
+    }
 }
 
 struct Collected(Vec<RawEvent>);
@@ -78,54 +77,46 @@ pub fn stream(width: usize, height: usize, events: &[RawEvent]) -> EventStream {
     )
 }
 
-fn encoding(evt3: bool) -> probe::Encoding2 {
-    if evt3 {
-        probe::Encoding2::E3
-    } else {
-        probe::Encoding2::E2
+pub use probe::{step, Head, State};
+
+/// The original's decoder from the numbers of one that is in range.
+pub fn state_of(numbers: [u64; 7]) -> State {
+    numbers.map(|n| n as i64)
+}
+
+pub fn decoder_of(evt3: bool, [initialised, time_base, time, high_loops, y, base_x, polarity]: State) -> Decoder {
+    Decoder {
+        time_base: time_base as u64,
+        time: time as u64,
+        high_loops: high_loops as u64,
+        encoding: encoding(evt3),
+        y: y as u16,
+        base_x: base_x as u16,
+        initialised: initialised as u8,
+        polarity: polarity as u8,
     }
 }
 
-/// All events of all whole words from a decoder (None: a fresh one), and the decoder behind them.
-pub fn step(evt3: bool, state: Option<&str>, bytes: &[u8]) -> (String, Vec<RawEvent>) {
-    probe::step(encoding(evt3), state, bytes)
+pub fn record(offset: u64, count: u64, time: u64, state: State) -> Record {
+    let [started, coarse, now, loops, row, base, polarity] = state.map(|n| n as u64);
+    [offset, count, time, started, coarse, now, loops, row, base, polarity]
 }
 
-/// The original's text for the decoder of a record.
-pub fn state_text(evt3: bool, r: &[u64]) -> String {
-    let flag = |n: u64| (n != 0) as u8;
-    if evt3 {
-        format!("3:{},{},{},{},{},{},{}", flag(r[3]), r[4], r[5], r[7].min(65535), r[8].min(65535), flag(r[9]), r[6])
-    } else {
-        format!("2:{},{},{},{}", flag(r[3]), r[4], r[5], r[6])
-    }
+/// The original's records, offsets less `shift`.
+fn records(live: &spaced::RawSliceSource, shift: usize) -> Vec<Record> {
+    let one = |r: &probe::Record| record(r.byte_offset - shift as u64, r.event_index as u64, r.time as u64, r.state);
+    probe::records(live).iter().map(one).collect()
 }
 
-/// A record's entries 3 to 9 from the original's text.
-pub fn state_entries(text: &str) -> [u64; 7] {
-    let f: Vec<u64> = text[2..].split(',').map(|n| n.parse().expect("a number of a decoder")).collect();
-    match f[..] {
-        [started, base, time, row, x, p, loops] => [started, base, time, loops, row, x, p],
-        [started, high, time, loops] => [started, high, time, loops, 0, 0, 0],
-        _ => panic!("{text}"),
-    }
-}
-
-/// The original's records as entries, offsets less `shift`.
-fn entries(text: &str, shift: usize) -> Vec<u64> {
-    let mut out = Vec::new();
-    for record in text.split(' ') {
-        let f: Vec<&str> = record.split('/').collect();
-        let n = |i: usize| f[i].parse::<u64>().expect("a number of a record");
-        out.extend([n(0) - shift as u64, n(1), n(2)]);
-        out.extend(state_entries(f[3]));
-    }
-    out
-}
-
-/// The original's records from entries, offsets and `shift` more.
-fn checkpoints(evt3: bool, records: &[u64], shift: usize) -> Vec<(u64, usize, i64, String)> {
-    records.chunks_exact(ENTRIES).map(|r| (r[0].saturating_add(shift as u64), r[1] as usize, r[2] as i64, state_text(evt3, r))).collect()
+/// The original's records from ours, offsets and `shift` more.
+fn checkpoints(records: &[Record], shift: usize) -> Vec<probe::Record> {
+    let one = |r: &Record| probe::Record {
+        byte_offset: r[0].saturating_add(shift as u64),
+        event_index: r[1] as usize,
+        time: r[2] as i64,
+        state: state_of(table::state(r)),
+    };
+    records.iter().map(one).collect()
 }
 
 impl Original {
@@ -147,8 +138,7 @@ impl Original {
     }
 
     pub fn head(&self, bytes: &[u8], size: Size) -> Result<Head, u32> {
-        let h = probe::header(&self.file("head", bytes), size).map_err(|e| number(&e))?;
-        Ok(Head { evt3: h.enc == probe::Encoding2::E3, start: h.offset as usize, size: h.size })
+        probe::header(&self.file("head", bytes), size).map_err(|e| number(&e))
     }
 
     pub fn read(&self, bytes: &[u8], size: Size, limit: Option<usize>) -> Result<EventStream, u32> {
@@ -164,12 +154,14 @@ impl Original {
     pub fn open(&self, bytes: &[u8], evt3: bool, size: Size, spacing: usize, shift: usize) -> Result<Index, u32> {
         let path = self.file("open", bytes);
         set_spacing(Some(spacing as u64));
-        let live = probed::open_raw_slice(&path, &options(size, None)).map_err(|e| number(&e));
+        let live = spaced::open_raw_slice(&path, &options(size, None)).map_err(|e| number(&e));
         set_spacing(None);
         let live = live?;
         let (width, height) = live.sensor_size();
         let data_offset = probe::data_offset(&live) - shift;
-        let source = Source { spacing, data_offset, len: bytes.len() - shift, width, height, n_events: live.n_events() };
+        let (records, len) = (records(&live, shift), bytes.len() - shift);
+        let n_events = live.n_events();
+        let source = Source { records: records.len(), spacing, data_offset, len, width, height, n_events, encoding: encoding(evt3) };
         let unchanged =
             (spacing == 65536).then(|| unchanged::open_raw_slice(&path, &options(size, None)).expect("the unchanged module's index"));
         if let Some(u) = &unchanged {
@@ -178,17 +170,19 @@ impl Original {
                 "two builds differ"
             );
         }
-        let records = entries(&probe::checkpoints_text(&live), shift);
-        Ok(Index { evt3, source, records, span: live.time_span(), live: Some(live), unchanged })
+        Ok(Index { source, records, span: live.time_span(), live: Some(live), unchanged })
     }
 
     /// The original's slice source over other records, another total and size, and another recording lent.
-    pub fn altered(&self, evt3: bool, source: &Source, records: &[u64], lent: &[u8]) -> probed::RawSliceSource {
+    pub fn altered(&self, source: &Source, records: &[Record], lent: &[u8]) -> spaced::RawSliceSource {
+        let evt3 = source.encoding == 3;
         let header = plain_header(evt3);
-        let base = probed::open_raw_slice(self.file("base", header), &options(Some((source.width, source.height)), None))
+        let mut s = spaced::open_raw_slice(self.file("base", header), &options(Some((source.width, source.height)), None))
             .expect("an index of no words");
-        let path = self.file("lent", &behind_header(evt3, lent));
-        probe::altered(base, Some(checkpoints(evt3, records, header.len())), Some(source.n_events), Some(&path))
+        probe::set_records(&mut s, evt3, &checkpoints(&records[..source.records], header.len()));
+        probe::set_total(&mut s, source.n_events);
+        probe::set_recording(&mut s, &self.file("lent", &behind_header(evt3, lent)));
+        s
     }
 }
 
@@ -212,50 +206,47 @@ pub fn same_events(a: &EventStream, b: &EventStream) -> bool {
     a.xs() == b.xs() && a.ys() == b.ys() && a.ts() == b.ts() && a.ps() == b.ps()
 }
 
-/// The original's text for a writer in range.
-fn sink_text(s: &Sink) -> String {
-    let of = |has: u8, n: u64| if has != 0 { n.to_string() } else { "-".to_owned() };
-    let last = of(s.has_last_t, s.last_t as u64);
-    format!(
-        "{},{},{last},{},{},{}",
-        (s.header_written != 0) as u8,
-        s.n_events,
-        of(s.has_time_high, s.time_high),
-        of(s.has_time_low, s.time_low),
-        of(s.has_y, s.y)
-    )
+/// The original's writer for one in range.
+fn writer_of(s: &Sink) -> probe::Writer {
+    let of = |has: u8, n: u64| (has != 0).then_some(n as i64);
+    probe::Writer {
+        header_written: s.header_written != 0,
+        n_events: s.n_events,
+        last_t: of(s.has_last_t, s.last_t as u64),
+        time_high: of(s.has_time_high, s.time_high),
+        time_low: of(s.has_time_low, s.time_low),
+        y: of(s.has_y, s.y).map(|y| y as u16),
+    }
 }
 
-fn sink_from(evt3: bool, text: &str) -> Sink {
-    let f: Vec<&str> = text.split(',').collect();
-    let n = |i: usize| f[i].parse().unwrap_or(0u64);
-    let has = |i: usize| (f[i] != "-") as u8;
+fn sink_of(evt3: bool, w: &probe::Writer) -> Sink {
+    let of = |n: Option<i64>| n.unwrap_or(0) as u64;
     Sink {
-        n_events: n(1) as usize,
-        last_t: n(2) as i64,
-        time_high: n(3),
-        time_low: n(4),
-        y: n(5),
-        evt3: evt3 as u8,
-        header_written: n(0) as u8,
-        has_last_t: has(2),
-        has_time_high: has(3),
-        has_time_low: has(4),
-        has_y: has(5),
+        n_events: w.n_events,
+        last_t: of(w.last_t) as i64,
+        time_high: of(w.time_high),
+        time_low: of(w.time_low),
+        y: w.y.unwrap_or(0).into(),
+        encoding: encoding(evt3),
+        header_written: w.header_written as u8,
+        has_last_t: w.last_t.is_some() as u8,
+        has_time_high: w.time_high.is_some() as u8,
+        has_time_low: w.time_low.is_some() as u8,
+        has_y: w.y.is_some() as u8,
     }
 }
 
 /// One append to a writer in range: the bytes and the writer behind it, or whether the order of times was refused.
 pub fn append(s: &Sink, events: &EventStream) -> Result<(Vec<u8>, Sink), u32> {
-    let version = if s.evt3 != 0 { probed::EvtVersion::Evt3 } else { probed::EvtVersion::Evt2 };
-    let mut sink = probe::writer_with_state(Vec::new(), version, &sink_text(s));
+    let (evt3, before) = (s.encoding == 3, writer_of(s));
+    let mut sink = probe::sink_of(Vec::new(), evt3, before);
     let answer = sink.append(events);
-    let after = sink_from(s.evt3 != 0, &probe::writer_state(&sink));
+    let after = probe::writer_of(&sink);
     let bytes = sink.into_inner().expect("the bytes");
     match answer {
-        Ok(()) => Ok((bytes, after)),
+        Ok(()) => Ok((bytes, sink_of(evt3, &after))),
         Err(IoError::Unsupported(_)) => {
-            assert!(bytes.is_empty() && sink_text(s) == sink_text(&after), "a refused append wrote");
+            assert!(bytes.is_empty() && before == after, "a refused append wrote");
             Err(6)
         }
         Err(other) => panic!("the original: {other}"),

@@ -1,12 +1,12 @@
-//! read_raw, and decode_words of both encodings.
-use crate::archive::{self, Options, Reading};
+//! parse_header, read_raw, and decode_words of both encodings.
+use crate::archive::{self, encoding, Header, Options, Reading};
 use crate::lent::Rng;
 use crate::making;
-use crate::original::{behind_header, step, stream, Original, Size};
+use crate::original::{behind_header, step, stream, Head, Original, Size};
 use crate::shared::*;
 use crate::table;
-use evt::io::RawEvent;
-use evt::EventStream;
+use eventcv::io::RawEvent;
+use eventcv::EventStream;
 
 #[derive(Clone, Debug)]
 pub struct Case {
@@ -62,7 +62,7 @@ impl Case {
         }
     }
 
-    /// Document 01's rule for sizes and limits over all events, as words that begin with `%` have no other reference.
+    /// The rule of docs/RULES.md for sizes and limits over all events, as words that begin with `%` have no other reference.
     fn ruled(&self, evt3: bool) -> Result<EventStream, u32> {
         let inside = |e: &RawEvent| self.size.is_none_or(|(w, h)| (e.x as usize) < w && (e.y as usize) < h);
         let events: Vec<RawEvent> =
@@ -103,7 +103,7 @@ impl Case {
             (Err(n), Err(m)) if n == m => Ok(Err(n)),
             (Ok(_), Err(n)) => Ok(Err(n)),
             (Ok(h), Ok(events)) => {
-                same((model.start, model.encoding, self.size.or(model.size)), (h.start, 2 + h.evt3 as u32, h.size))
+                same((model.start, model.encoding, self.size.or(model.size)), (h.start, encoding(h.evt3), h.size))
                     .map_err(|e| format!("the table's header: {e}"))?;
                 Ok(Ok(Read { evt3: h.evt3, events }))
             }
@@ -113,10 +113,31 @@ impl Case {
 
     pub fn check(&self, env: &mut Env) -> Result<(), String> {
         let want = self.expected(&env.original)?;
+        if self.words.is_none() {
+            self.parse(env).map_err(|e| format!("the header: {e}"))?;
+        }
         env.counts[self.kind()].cases += 1;
         for room in &self.rooms {
             self.call(env, &want, room).map_err(|e| format!("{room:?}: {e}"))?;
         }
+        Ok(())
+    }
+
+    fn parse(&self, env: &mut Env) -> Result<(), String> {
+        let refused = |refusal| Header { refusal, ..Header::default() };
+        let want = match env.original.head(&self.bytes, self.size) {
+            _ if !table::head(&self.bytes).ascii => refused(3),
+            Err(n) => refused(n),
+            Ok(Head { evt3, start, size }) => {
+                let (width, height) = size.unwrap_or((0, 0));
+                Header { refusal: 0, encoding: encoding(evt3), data_offset: start, width, height, sized: size.is_some() as u8 }
+            }
+        };
+        let (bytes, o) = (env.bytes.copy(&self.bytes, self.last), self.options());
+        let got = archive::parse_header(bytes, o.sized, o.width, o.height);
+        same(got, want)?;
+        env.counts[HEADERS].cases += 1;
+        env.count(HEADERS, got.refusal, got.sized as usize, false);
         Ok(())
     }
 
@@ -128,7 +149,7 @@ impl Case {
         let mut lent = env.board.lend(lengths, self.last);
         let got = match self.words {
             None => archive::read_raw(bytes, self.options(), &mut lent),
-            Some(evt3) => archive::decode_words(bytes, evt3, self.options(), &mut lent),
+            Some(evt3) => archive::decode_words(bytes, encoding(evt3), self.options(), &mut lent),
         };
         let (numbers, events) = answer(want, lengths.into_iter().min().unwrap_or(0));
         same(got, numbers)?;
@@ -162,7 +183,7 @@ fn answer(want: &Result<Read, u32>, shortest: usize) -> (Reading, Option<&EventS
         Ok(r) if r.events.len() > shortest => (Reading { refusal: 5, told: r.events.len(), ..Reading::default() }, None),
         Ok(r) => {
             let (width, height) = r.events.sensor_size();
-            (Reading { refusal: 0, encoding: 2 + r.evt3 as u32, told: 0, width, height, count: r.events.len() }, Some(&r.events))
+            (Reading { refusal: 0, encoding: encoding(r.evt3), told: 0, width, height, count: r.events.len() }, Some(&r.events))
         }
     }
 }

@@ -2,7 +2,7 @@
 use crate::archive::Lent;
 use crate::lent::{columns_untouched, Board, Region, Rng};
 use crate::original::Original;
-use evt::EventStream;
+use eventcv::EventStream;
 
 /// Calls of one kind and their answers.
 #[derive(Clone, Default)]
@@ -14,13 +14,13 @@ pub struct Count {
     /// Events, records or bytes handed over, and acceptances that handed over any.
     pub items: u64,
     pub filled: u64,
-    /// Calls whose reference is document 01's rules over the original's decoder.
+    /// Calls whose reference is docs/RULES.md over the original's decoder.
     pub ruled: u64,
     /// Cases that came to no call, since the recording they start from was refused.
     pub without: u64,
 }
 
-pub const KINDS: [&str; 12] = [
+pub const KINDS: [&str; 15] = [
     "read_raw",
     "decode_words",
     "open",
@@ -33,13 +33,19 @@ pub const KINDS: [&str; 12] = [
     "slice_time, altered index",
     "append, fresh writer",
     "append, any writer",
+    "parse_header",
+    "decoder_after",
+    "decode and next_event",
 ];
+pub const HEADERS: usize = 12;
+pub const AFTER: usize = 13;
+pub const DECODING: usize = 14;
 
 pub struct Env {
     pub original: Original,
     pub bytes: Region,
     pub board: Board,
-    pub entries: Region,
+    pub records: Region,
     pub given: Board,
     pub output: Region,
     pub counts: Vec<Count>,
@@ -51,7 +57,7 @@ impl Env {
             original: Original::new(),
             bytes: Region::new(4 << 20),
             board: Board::new(16 << 20),
-            entries: Region::new(64 << 20),
+            records: Region::new(64 << 20),
             given: Board::new(1 << 20),
             output: Region::new(16 << 20),
             counts: vec![Count::default(); KINDS.len()],

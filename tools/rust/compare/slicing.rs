@@ -1,13 +1,13 @@
 //! Slices by number and by time: over the recording itself, over another one lent, and over altered indexes.
-use crate::archive::{self, Slice, Source, ENTRIES};
-use crate::lent::Rng;
+use crate::archive::{self, Record, Slice, Source};
+use crate::lent::{Mark, Rng};
 use crate::making;
 use crate::opening::{self, Expected};
-use crate::original::{self, slice_number, slice_time, state_text, step, stream, Index};
+use crate::original::{self, slice_number, slice_time, state_of, step, stream, Index};
 use crate::shared::*;
 use crate::table;
-use evt::io::{RawEvent, SliceSource};
-use evt::EventStream;
+use eventcv::io::{RawEvent, SliceSource};
+use eventcv::EventStream;
 
 /// An end of a slice: a number, or one beside the total, a record's, or within the recording.
 #[derive(Clone, Copy, Debug)]
@@ -84,23 +84,18 @@ impl Ends {
     }
 }
 
-/// An entry of record j, counted round the records.
-fn record(i: &Index, j: usize, entry: usize) -> u64 {
-    let n = i.records.len() / ENTRIES;
-    if n == 0 {
-        0
-    } else {
-        i.records[j % n * ENTRIES + entry]
-    }
+/// A number of record j, counted round the records.
+fn record(i: &Index, j: usize, number: usize) -> u64 {
+    i.records.get(j % i.records.len().max(1)).map_or(0, |r| r[number])
 }
 
-/// A change of an index. Which of them document 01 allows is left to table.rs.
+/// A change of an index. Which of them docs/RULES.md allows is left to table.rs.
 #[derive(Clone, Debug)]
 enum Change {
     Counts(usize, u64),
     Times(usize, u64),
     Decoder(usize, [u64; 7]),
-    Entry(usize, usize, u64),
+    Number(usize, usize, u64),
     Fewer(usize),
     More(usize, [u64; 7]),
     Start(usize),
@@ -109,23 +104,26 @@ enum Change {
     TotalMore(usize),
     Size(usize, usize),
     Len(usize),
+    /// How many records the source tells, the lent ones staying.
+    Told(usize),
+    Encoding(u32),
 }
 
 /// A decoder that is in range, or just outside.
-fn decoder(rng: &mut Rng, evt3: bool) -> [u64; 7] {
+pub fn decoder(rng: &mut Rng, evt3: bool) -> [u64; 7] {
     let (step, period, most) = if evt3 { (4096, 1u64 << 24, 1usize << 28) } else { (64, 1 << 34, 1 << 27) };
     let loops = rng.pick(&[0, 0, 1, 2, most / 2, most - 1, most]) as u64;
     let coarse = loops * period + rng.pick(&[0, 1, period / step - 1, period / step / 2]) * step;
     let time = coarse + rng.pick(&[0, 1, step - 1, step / 2]);
-    let row = rng.pick(&[0, 1, 7, 2047]);
-    let mut d =
-        [rng.pick(&[1, 1, 255, 1 << 40]), coarse, time, loops, row, rng.pick(&[0, 10, 2047, 65524, 65535, 70000]), rng.pick(&[0, 1, 9])];
+    let place = [rng.pick(&[0, 1, 7, 2047]), rng.pick(&[0, 10, 2047, 2048, 65524, 65535]), rng.pick(&[0, 1])];
+    let [row, base, polarity] = if evt3 { place } else { [0; 3] };
+    let mut d = [1, coarse, time, loops, row, base, polarity];
     if rng.chance(15) {
         d = [0; 7];
     }
-    if rng.chance(10) {
+    if rng.chance(15) {
         let at = rng.below(7);
-        d[at] = rng.pick(&[0, 1, d[at].wrapping_add(1), d[at].wrapping_sub(1), d[at] + step, 2048, 65536, d[at] + period]);
+        d[at] = rng.pick(&[0, 1, 2, 255, d[at].wrapping_add(1), d[at].wrapping_sub(1), d[at] + step, 2048, 65536, d[at] + period]);
     }
     d
 }
@@ -133,11 +131,11 @@ fn decoder(rng: &mut Rng, evt3: bool) -> [u64; 7] {
 impl Change {
     fn make(rng: &mut Rng, evt3: bool) -> Change {
         let at = rng.next() as usize;
-        match rng.below(20) {
+        match rng.below(22) {
             0..=2 => Change::Counts(at, rng.pick(&[1, 2, 5, 100, 1 << 20, 1 << 33])),
             3..=5 => Change::Times(at, rng.pick(&[1, 2, 64, 4096, 1 << 24, 1 << 34, 1 << 62])),
             6..=9 => Change::Decoder(at, decoder(rng, evt3)),
-            10 => Change::Entry(at, rng.below(ENTRIES), rng.wild()),
+            10 => Change::Number(at, rng.below(10), rng.wild()),
             11 => Change::Fewer(rng.below(4)),
             12 => Change::More(1 + rng.below(4), decoder(rng, evt3)),
             13 => Change::Start(if rng.chance(80) { rng.below(200) } else { rng.wild() as usize }),
@@ -145,19 +143,24 @@ impl Change {
             15 => Change::Total(rng.wild() as usize),
             16..=17 => Change::TotalMore(rng.pick(&[1, 2, 50, 100_000, 1 << 33, 1 << 34])),
             18 => Change::Size(rng.pick(&[0, 1, 5, 64, 2048, 65536, usize::MAX]), rng.pick(&[1, 5, 64, 2048, 65536, usize::MAX])),
-            _ => Change::Len(rng.wild() as usize),
+            19 => Change::Len(rng.wild() as usize),
+            20 => Change::Told(if rng.chance(80) { rng.below(8) } else { rng.wild() as usize }),
+            _ => Change::Encoding(making::encoding(rng)),
         }
     }
 
-    fn apply(&self, s: &mut Source, records: &mut Vec<u64>) {
-        let n = records.len() / ENTRIES;
-        let from = |j: usize| if n == 0 { 0 } else { j % n * ENTRIES };
+    fn apply(&self, s: &mut Source, records: &mut Vec<Record>) {
+        let n = records.len();
+        let at = |j: &usize| j % n.max(1);
         match self {
-            Change::Counts(j, k) => records.chunks_mut(ENTRIES).skip(from(*j) / ENTRIES).for_each(|r| r[1] = r[1].saturating_add(*k)),
-            Change::Times(j, k) => records.chunks_mut(ENTRIES).skip(from(*j) / ENTRIES).for_each(|r| r[2] = r[2].saturating_add(*k)),
-            Change::Decoder(j, d) if n > 0 => records[from(*j) + 3..][..7].copy_from_slice(d),
-            Change::Entry(j, e, v) if n > 0 => records[from(*j) + e] = *v,
-            Change::Fewer(k) => records.truncate(n.saturating_sub(*k) * ENTRIES),
+            Change::Counts(j, k) => records.iter_mut().skip(at(j)).for_each(|r| r[1] = r[1].saturating_add(*k)),
+            Change::Times(j, k) => records.iter_mut().skip(at(j)).for_each(|r| r[2] = r[2].saturating_add(*k)),
+            Change::Decoder(j, d) if n > 0 => records[at(j)][3..].copy_from_slice(d),
+            Change::Number(j, k, v) if n > 0 => records[at(j)][*k] = *v,
+            Change::Fewer(k) => {
+                records.truncate(n.saturating_sub(*k));
+                s.records = records.len();
+            }
             Change::More(k, d) => (0..*k).for_each(|_| more(s, records, d)),
             Change::Start(d) => replace(s.spacing, *d, s, records),
             Change::Spacing(k) => replace(*k, s.data_offset, s, records),
@@ -165,23 +168,25 @@ impl Change {
             Change::TotalMore(k) => s.n_events = s.n_events.saturating_add(*k),
             Change::Size(w, h) => (s.width, s.height) = (*w, *h),
             Change::Len(k) => s.len = *k,
+            Change::Told(k) => s.records = *k,
+            Change::Encoding(n) => s.encoding = *n,
             _ => {}
         }
     }
 }
 
 /// One more record, where the next one would stand.
-fn more(s: &Source, records: &mut Vec<u64>, d: &[u64; 7]) {
-    let n = records.len() / ENTRIES;
-    let (count, time) = if n == 0 { (0, 0) } else { (records[(n - 1) * ENTRIES + 1], records[(n - 1) * ENTRIES + 2]) };
-    records.extend([s.data_offset.wrapping_add(n.wrapping_mul(s.spacing)) as u64, count, time]);
-    records.extend(d);
+fn more(s: &mut Source, records: &mut Vec<Record>, d: &[u64; 7]) {
+    let place = s.data_offset.wrapping_add(records.len().wrapping_mul(s.spacing)) as u64;
+    let [count, time] = records.last().map_or([0, 0], |r| [r[1], r[2]]);
+    records.push([place, count, time, d[0], d[1], d[2], d[3], d[4], d[5], d[6]]);
+    s.records = records.len();
 }
 
 /// Another start of the body or spacing, and the records at their places.
-fn replace(spacing: usize, start: usize, s: &mut Source, records: &mut [u64]) {
+fn replace(spacing: usize, start: usize, s: &mut Source, records: &mut [Record]) {
     (s.spacing, s.data_offset) = (spacing, start);
-    records.chunks_mut(ENTRIES).enumerate().for_each(|(j, r)| r[0] = start.wrapping_add(j.wrapping_mul(spacing)) as u64);
+    records.iter_mut().enumerate().for_each(|(j, r)| r[0] = start.wrapping_add(j.wrapping_mul(spacing)) as u64);
 }
 
 #[derive(Clone, Debug)]
@@ -193,7 +198,7 @@ pub struct Case {
     changes: Vec<Change>,
     ends: Vec<Ends>,
     rooms: Vec<Room>,
-    /// Entries behind the last whole record.
+    /// Records behind those that the source tells.
     behind: usize,
     last: bool,
 }
@@ -230,7 +235,7 @@ impl Case {
             by_time: rng.chance(50),
             ends: (0..few).map(|_| Ends::make(rng)).collect(),
             rooms: (0..few).map(|_| Room::make(rng)).collect(),
-            behind: if rng.chance(20) { rng.below(ENTRIES) } else { 0 },
+            behind: if rng.chance(20) { rng.below(4) } else { 0 },
             last: rng.chance(70),
             open,
         }
@@ -251,6 +256,10 @@ impl Case {
         self.lent.as_ref().unwrap_or(&self.open.bytes)
     }
 
+    fn lent_records(&self, i: &Index) -> Vec<Record> {
+        i.records.iter().copied().chain((0..self.behind).map(Mark::mark)).collect()
+    }
+
     pub fn check(&self, env: &mut Env) -> Result<(), String> {
         env.counts[self.kind()].cases += 1;
         let Expected::Late { index: Ok(mut index), .. } = self.open.expected(&env.original) else {
@@ -260,9 +269,9 @@ impl Case {
         for c in &self.changes {
             c.apply(&mut index.source, &mut index.records);
         }
-        let refused = table::slice_refusal(self.bytes().len(), index.evt3, &index.source, &index.records);
+        let refused = table::slice_refusal(self.bytes().len(), &index.source, &self.lent_records(&index));
         if refused == 0 && (index.live.is_none() || self.lent.is_some() || !self.changes.is_empty()) {
-            index.live = Some(env.original.altered(index.evt3, &index.source, &index.records, self.bytes()));
+            index.live = Some(env.original.altered(&index.source, &self.lent_records(&index), self.bytes()));
             index.unchanged = None;
         }
         for (room, ends) in self.rooms.iter().zip(&self.ends) {
@@ -303,19 +312,19 @@ impl Case {
         if end - start <= width {
             return Some(b as usize);
         }
-        let first = i.records[1].max(start);
-        let most = most_events(i.evt3, self.bytes().len()) as u64;
+        let first = i.records[0][1].max(start);
+        let most = most_events(i.evt3(), self.bytes().len()) as u64;
         (first + most < start + width).then_some((start + width) as usize)
     }
 
-    /// Document 01's rule for a slice by number over the original's decoder.
+    /// The rule of docs/RULES.md for a slice by number over the original's decoder.
     fn ruled(&self, i: &Index, (a, b): (u64, u64)) -> EventStream {
         let start = a.min(i.source.n_events as u64);
         let end = b.clamp(start, i.source.n_events as u64);
-        let from = i.records.chunks_exact(ENTRIES).rev().find(|r| r[1] <= start).unwrap_or(&i.records[..ENTRIES]);
+        let from = i.records.iter().take(i.source.records).rev().find(|r| r[1] <= start).unwrap_or(&i.records[0]);
         let bytes = &self.bytes()[(from[0] as usize).min(self.bytes().len())..];
         let inside = |e: &RawEvent| (e.x as usize) < i.source.width && (e.y as usize) < i.source.height;
-        let numbered = step(i.evt3, Some(&state_text(i.evt3, from)), bytes).1.into_iter().filter(inside).zip(from[1]..);
+        let numbered = step(i.evt3(), Some(state_of(table::state(from))), bytes).1.into_iter().filter(inside).zip(from[1]..);
         let events: Vec<RawEvent> = numbered.filter(|(_, n)| (start..end).contains(n)).map(|(e, _)| e).collect();
         stream(i.source.width, i.source.height, &events)
     }
@@ -330,21 +339,20 @@ impl Case {
         room: &Room,
     ) -> Result<(), String> {
         let n = want.as_ref().map_or(3, |e| e.len());
-        let lengths = room.lengths(n, most_events(i.evt3, self.bytes().len()));
+        let lengths = room.lengths(n, most_events(i.evt3(), self.bytes().len()));
         let bytes = env.bytes.copy(self.bytes(), self.last);
-        let mut given = i.records.clone();
-        given.extend((0..self.behind).map(|k| a ^ k as u64));
-        let records: &[u64] = env.entries.copy(&given, self.last);
+        let given = self.lent_records(i);
+        let records: &[Record] = env.records.copy(&given, self.last);
         let mut lent = env.board.lend(lengths, self.last);
         let got = if self.by_time {
-            archive::slice_time(bytes, i.evt3, i.source, records, a as i64, b as i64, &mut lent)
+            archive::slice_time(bytes, i.source, records, a as i64, b as i64, &mut lent)
         } else {
-            archive::slice_index(bytes, i.evt3, i.source, records, a as usize, b as usize, &mut lent)
+            archive::slice_index(bytes, i.source, records, a as usize, b as usize, &mut lent)
         };
         let (numbers, events) = match &want {
             Err(refusal) => (Slice { refusal: *refusal, ..Slice::default() }, None),
-            Ok(e) if lengths.iter().any(|k| *k < e.len()) => (Slice { refusal: 5, told: e.len(), count: 0 }, None),
-            Ok(e) => (Slice { refusal: 0, told: 0, count: e.len() }, Some(e)),
+            Ok(e) if lengths.iter().any(|k| *k < e.len()) => (Slice { told: e.len(), count: 0, refusal: 5 }, None),
+            Ok(e) => (Slice { told: 0, count: e.len(), refusal: 0 }, Some(e)),
         };
         same(got, numbers)?;
         columns_are(&lent, events)?;
@@ -367,7 +375,7 @@ impl Case {
     pub fn show(&self) -> String {
         let lent = self.lent.as_ref().map_or("itself".to_owned(), |b| hex(b));
         format!(
-            "{} ends {:?} columns {:?} changes {:?} entries behind {}\nlent {lent}\nindex of {}",
+            "{} ends {:?} columns {:?} changes {:?} records behind {}\nlent {lent}\nindex of {}",
             KINDS[self.kind()],
             self.ends,
             self.rooms,

@@ -1,0 +1,92 @@
+//! parse_header, read_raw and decode_words.
+use crate::archive::{self, Header, Lent, Options, Reading};
+use crate::lent::{columns_untouched, Rng};
+use crate::*;
+
+fn any_options(rng: &mut Rng) -> Options {
+    Options {
+        width: number(rng),
+        height: number(rng),
+        max_events: if rng.chance(50) { rng.below(300) } else { rng.wild() as usize },
+        sized: flag(rng),
+        limited: flag(rng),
+    }
+}
+
+/// What the table allows behind `early`, the refusal that the arguments tell: 0, 1 without a size, and 5 with its count.
+fn reading_allowed(r: &Reading, early: u32, size: Size, limit: usize, c: &Lent) -> Checked {
+    let refused = Reading { refusal: r.refusal, told: r.told, ..Reading::default() };
+    if r.refusal == 0 {
+        ensure(early == 0 && r.told == 0 && r.count <= shortest(c) && r.count <= limit, "an acceptance that isn't allowed")?;
+        ensure(size.is_none_or(|s| s == (r.width, r.height)) && r.width > 0 && r.height > 0, "another size")?;
+        return columns_allowed(c, r.count, (r.width, r.height));
+    }
+    ensure(columns_untouched(c, 0) && *r == refused, "a refusal that alters a column or tells more than it should")?;
+    match (early, r.refusal) {
+        (0, 1) => ensure(size.is_none() && r.told == 0, "1 with a size"),
+        (0, 5) => ensure(r.told > shortest(c) && r.told <= limit, "5 with a wrong count"),
+        (n, m) => ensure(n == m && n > 0 && r.told == 0, "another refusal than the table's"),
+    }
+}
+
+impl Env {
+    /// All that a header tells follows from its text.
+    pub fn header(&mut self) -> Checked {
+        let (o, recording) = (any_options(&mut self.rng), Bytes::make(&mut self.rng));
+        let bytes = recording.lend(&mut self.bytes, &mut self.long);
+        let given = size_given(o.sized, o.width, o.height);
+        let refusal = table::header_refusal(bytes, given);
+        let want = if refusal > 0 {
+            Header { refusal, ..Header::default() }
+        } else {
+            let head = table::head(bytes);
+            let size = given.or(head.size);
+            let (width, height) = size.unwrap_or((0, 0));
+            Header { refusal, encoding: head.encoding, data_offset: head.start, width, height, sized: size.is_some() as u8 }
+        };
+        for _ in 0..2 {
+            same(archive::parse_header(bytes, o.sized, o.width, o.height), want)?;
+        }
+        recording.unaltered(bytes)?;
+        self.count(Name::ParseHeader, refusal)
+    }
+
+    pub fn reading(&mut self) -> Checked {
+        let rng = &mut self.rng;
+        let (options, recording) = (any_options(rng), Bytes::make(rng));
+        let words = rng.chance(60).then(|| making::encoding(rng));
+        let lengths = any_lengths(rng, recording.given.len() / 2 * 12);
+        let got = self.read(words, &recording, options, lengths)?;
+        if got.refusal == 5 {
+            let again = self.read(words, &recording, options, [got.told; 4])?;
+            ensure(again.refusal == 0 && again.count == got.told, "the count that 5 told isn't taken")?;
+        }
+        Ok(())
+    }
+
+    /// A recording, or words of this encoding.
+    fn read(&mut self, words: Option<u32>, recording: &Bytes, o: Options, lengths: [usize; 4]) -> Result<Reading, String> {
+        let bytes = recording.lend(&mut self.bytes, &mut self.long);
+        let given = size_given(o.sized, o.width, o.height);
+        let early = words.map_or_else(|| table::header_refusal(bytes, given), |n| table::words_refusal(bytes, n, given));
+        let head = (words.is_none() && early == 0).then(|| table::head(bytes));
+        let size = given.or(head.and_then(|h| h.size));
+        let limit = if o.limited != 0 { o.max_events } else { usize::MAX };
+        let mut answers = Vec::new();
+        for _ in 0..2 {
+            let mut c = self.board.lend(lengths, recording.last);
+            let r = match words {
+                None => archive::read_raw(bytes, o, &mut c),
+                Some(n) => archive::decode_words(bytes, n, o, &mut c),
+            };
+            reading_allowed(&r, early, size, limit, &c)?;
+            answers.push((r, snapshot(&c)));
+        }
+        recording.unaltered(bytes)?;
+        ensure(answers[0] == answers[1], "two answers to one call")?;
+        let r = answers[0].0;
+        ensure(r.refusal != 0 || r.encoding == words.or(head.map(|h| h.encoding)).unwrap_or(0), "another encoding")?;
+        self.count(if words.is_none() { Name::ReadRaw } else { Name::DecodeWords }, r.refusal)?;
+        Ok(r)
+    }
+}

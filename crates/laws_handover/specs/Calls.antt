@@ -21,7 +21,7 @@ use Rattle.write_rules.specs.declared.{LastTime.LastTime, LastTime.the-variants
 use Rattle.write_rules.specs.Range.{timeBound, timeInRange, every, atMost, falls, fallsAfter, lastInRange}
 use Rattle.write_append.specs.{Append.lastAfter, Append.sends, Append.nextSink, Ends.accepts-checked, Ends.by-acceptance}
 use Rattle.write_rules.specs.Checks.{Checked, checked-of, or-neither}
-use Rattle.laws_handover.specs.Handover.{Call, isAccepted, next, callBytes, callEvents, callWords, acceptedEvents, streamOf, streamWords, fresh, Typed}
+use Rattle.laws_handover.specs.Handover.{Call, isAccepted, next, callBytes, acceptedEvents, streamOf, streamWords, fresh, Typed}
 use Rattle.laws_handover.specs.EventWords.{append-typed}
 
 -- ---- what an append that is refused, and one that is accepted, comes to
@@ -39,13 +39,6 @@ module _ (s : RawEventSink) (c : Call) where
   -- the writer after it, and its bytes, by whether it is accepted
   pub by-call : (next s c ≡ cond (isAccepted s c) later s) × (callBytes s c ≡ cond (isAccepted s c) bytes [])
   by-call = by-acceptance s (c .width) (c .height) (c .xs) (c .ys) (c .ts) (c .ps) (c .room)
-
-  pub record Unchanged : Type 0 where
-    pub is-sink : next s c ≡ s
-    pub no-bytes : callBytes s c ≡ []
-    pub no-events : callEvents s c ≡ []
-    pub no-words : callWords s c ≡ []
-  }
 
   pub accepted-checked : isAccepted s c ≡ true → Checked s (c .xs) (c .ys) (c .ts) (c .ps)
   accepted-checked h = checked-of s (c .xs) (c .ys) (c .ts) (c .ps) (accepts-checked s (c .width) (c .height) (c .xs) (c .ys) (c .ts) (c .ps) (c .room) h .0)

@@ -1,5 +1,4 @@
--- Appends as they ran: by their contract alone, the bytes that they told to have written are the stream of their calls, and the last writer is that of the
--- list.
+-- Appends as they ran: by their contract alone, the bytes that they told to have written are the stream of their calls.
 use mathlib.Core.Path.{_≡_, refl, ap, _∙_}
 use mathlib.Core.List.{List, [], _∷_, _++_}
 use Prim.Native.Nat.{ℕ}
@@ -10,11 +9,6 @@ use Rattle.write_rules.specs.declared.RawEventSink.{RawEventSink}
 use Rattle.write_append.specs.declared.Appended.{Appended}
 use Rattle.write_append.specs.Append.{AppendedBytes, appendAnswer, handedOver, Appends, AppendOwed}
 use Rattle.laws_handover.specs.Handover.{Call, callOutcome, next, callBytes, streamOf, Ran, Chained, bytesTold, allWritten, callsOf}
-
--- the writer that a list leaves
-abbrev pub sinkOf : RawEventSink → List Call → RawEventSink
-sinkOf s [] = s
-sinkOf s (c ∷ cs) = sinkOf (next s c) cs
 
 -- ---- one append
 

@@ -1,26 +1,25 @@
-/* Prophesee RAW recordings (EVT2 and EVT3): reading, indexes, slices, writing.
+/* Prophesee RAW recordings (EVT2 and EVT3): reading, indexes, slices, writing, single words.
  *
  * `rt staticlib prophesee_raw_c` proves the library and writes target/staticlib/libprophesee_raw_c.a
- * (x86-64 Linux). Every function is proved to return what crates/prophesee_raw_c/specs says, whatever
- * numbers it is given. Outside of that lie: a pointer that isn't valid for its length (null, even for
- * a length of 0), a buffer of 2^63 bytes or more, a buffer that is written and overlaps another, and
- * one that another thread writes meanwhile.
+ * (x86-64 Linux). Every function is proved to return and to write exactly what its contract says
+ * (crates/prophesee_raw_c/src cites it, crates/c_structs/specs defines it), whatever numbers it is given.
  *
- * A `.._len` counts elements. A flag is true if it isn't 0. `refusal` is 0 for an acceptance, else:
- *    1  width or height 0, or no size and no event kept
- *    2  no known encoding in the header
- *    3  a header byte from 128 on
- *    4  over 2^30 bytes read, or over 2^28 events in one append
- *    5  more events to hand over than the shortest column holds; `told` is how many
- *    6  a time below the one before, or below the last append's
- *    7  x or y over 2047, p over 1, a negative time, or one from 2^34 (EVT2) or 2^24 (EVT3) on
- *    8  a spacing that is no multiple of 4, or outside 4..4,194,304
- *    9  more checkpoints than lent records; `told` is how many
- *   10  a record of an index or a writer's state out of range
- *   11  an output shorter than the words and the header need; `told` is how many bytes
- *   12  appended columns that differ in length
- * A refusal alters no buffer. An acceptance alters no place of a buffer behind what it hands over.
- * Numbers of an answer that don't apply are 0.
+ * There is no global state and no memory is kept: all that a later call needs is in the values that
+ * an earlier one returned and in the buffers of the caller. Calls on different buffers may run at the
+ * same time.
+ *
+ * Outside of every contract lie: a pointer that isn't valid for its length or isn't aligned to its
+ * type (NULL is valid for length 0), a buffer of 2^63 bytes or more, a buffer that is written and
+ * overlaps another of the same call, and a buffer that another thread writes meanwhile.
+ *
+ * Units. Each `.._len` counts elements of its buffer: bytes of a recording or an output, events of a
+ * column, records of an index. `told` is in the unit of the buffer that was too short. Times are in
+ * microseconds. The four columns of an event are x (column of the sensor, from 0), y (row, from 0), t
+ * (time) and p (polarity, 0 or 1); the shortest of the four lent columns counts.
+ *
+ * `refusal` is 0 for an acceptance, else a number of docs/RULES.md (PROPHESEE_.. below). A refusal
+ * alters no buffer. An acceptance alters no place of a buffer behind what it hands over. Numbers of an
+ * answer that don't apply are 0. An option's flag is true if it isn't 0.
  */
 #ifndef PROPHESEE_RAW_H
 #define PROPHESEE_RAW_H
@@ -30,22 +29,109 @@
 
 #ifdef __cplusplus
 extern "C" {
+#define PROPHESEE_ASSERT(what) static_assert(what, #what)
+#else
+#define PROPHESEE_ASSERT(what) _Static_assert(what, #what)
 #endif
+
+/* Raised whenever a struct or a function changes; `prophesee_version` tells the archive's. */
+#define PROPHESEE_RAW_VERSION 1
+
+uint32_t prophesee_version(void);
+
+/* ---- encodings and refusals */
+
+#define PROPHESEE_EVT2 2u
+#define PROPHESEE_EVT3 3u
+
+#define PROPHESEE_ACCEPTED 0u
+#define PROPHESEE_INVALID_SENSOR_SIZE 1u
+#define PROPHESEE_UNKNOWN_ENCODING 2u
+#define PROPHESEE_HEADER_NOT_ASCII 3u
+#define PROPHESEE_TOO_LONG 4u
+#define PROPHESEE_COLUMNS_TOO_SHORT 5u
+#define PROPHESEE_TIME_ORDER 6u
+#define PROPHESEE_EVENT_OUT_OF_RANGE 7u
+#define PROPHESEE_INVALID_SPACING 8u
+#define PROPHESEE_TOO_FEW_RECORDS 9u
+#define PROPHESEE_STATE_OUT_OF_RANGE 10u
+#define PROPHESEE_OUTPUT_TOO_SHORT 11u
+#define PROPHESEE_COLUMN_LENGTHS 12u
+
+static inline const char *prophesee_refusal_text(uint32_t refusal)
+{
+    switch (refusal) {
+    case PROPHESEE_ACCEPTED: return "accepted";
+    case PROPHESEE_INVALID_SENSOR_SIZE: return "width or height 0, or no size and no event";
+    case PROPHESEE_UNKNOWN_ENCODING: return "no known encoding";
+    case PROPHESEE_HEADER_NOT_ASCII: return "a header byte above 127";
+    case PROPHESEE_TOO_LONG: return "over 2^30 bytes read, or over 2^28 events in one append";
+    case PROPHESEE_COLUMNS_TOO_SHORT: return "more events than the shortest column holds";
+    case PROPHESEE_TIME_ORDER: return "a time below the one before";
+    case PROPHESEE_EVENT_OUT_OF_RANGE: return "an event that its encoding cannot say";
+    case PROPHESEE_INVALID_SPACING: return "a spacing that is no multiple of 4 from 4 to 4194304";
+    case PROPHESEE_TOO_FEW_RECORDS: return "more checkpoints than lent records";
+    case PROPHESEE_STATE_OUT_OF_RANGE: return "an index, a writer or a decoder out of range";
+    case PROPHESEE_OUTPUT_TOO_SHORT: return "an output shorter than the bytes to write";
+    case PROPHESEE_COLUMN_LENGTHS: return "appended columns that differ in length";
+    default: return "no refusal of this version";
+    }
+}
+
+/* ---- how long buffers must be, so that 5, 9 and 11 never come */
+
+/* The most events of `bytes` bytes of words: a word of EVT2 holds one, a word of EVT3 up to 12. */
+static inline size_t prophesee_most_events(uint32_t encoding, size_t bytes)
+{
+    return encoding == PROPHESEE_EVT2 ? bytes / 4 : bytes / 2 * 12;
+}
+
+/* The records of an index over `bytes` bytes at a spacing (not 0). For a body shorter than `bytes`: at
+ * least as many. */
+static inline size_t prophesee_most_records(size_t bytes, size_t spacing)
+{
+    return bytes == 0 ? 1 : (bytes - 1) / spacing + 1;
+}
+
+/* The most bytes of an append of `events` events by a writer whose header isn't due, and of one whose
+ * header is. */
+static inline size_t prophesee_most_bytes(size_t events)
+{
+    return events * 8;
+}
+
+static inline size_t prophesee_most_bytes_with_header(size_t events)
+{
+    return events * 8 + 96;
+}
 
 /* ---- reading */
 
-/* `sized` 0: the size is unknown (a header may tell it), else it is width x height and overrides the
- * header's. `limited` 0: all events, else the first `max_events`. All zeros: neither. */
+/* The header of a recording: 4, 3, 2, 1 for a zero size; the first that applies. `sized` 0: no size is
+ * given (the header may tell one), else it is width x height and overrides the header's. */
 typedef struct {
-    uint8_t sized;
-    uint8_t limited;
+    uint32_t refusal;
+    uint32_t encoding;
+    size_t data_offset; /* where the body begins */
+    size_t width;       /* where a size is known */
+    size_t height;
+    uint8_t sized;      /* 1 where a size is known, else 0 */
+} prophesee_header;
+
+prophesee_header prophesee_parse_header(
+    const uint8_t *recording, size_t recording_len, uint8_t sized, size_t width, size_t height);
+
+/* `sized` as above. `limited` 0: all events, else the first `max_events`. All zeros: neither. */
+typedef struct {
     size_t width;
     size_t height;
     size_t max_events;
+    uint8_t sized;
+    uint8_t limited;
 } prophesee_options;
 
-/* `encoding` is 2 or 3, and `count` is how many events stand at the front of the columns. Without a
- * size, width and height are the largest column and row read, plus 1 each. */
+/* `count` is how many events stand at the front of the columns. Without a size, width and height are
+ * the largest column and row read, plus 1 each. */
 typedef struct {
     uint32_t refusal;
     uint32_t encoding;
@@ -55,55 +141,49 @@ typedef struct {
     size_t count;
 } prophesee_reading;
 
-/* A recording, with its header: 4, 3, 2, 1 for a zero size, 1 for no event, 5; the first that applies. */
+/* A recording, with its header: 4, 3, 2, 1 for a zero size, 1 for no event, 5. */
 prophesee_reading prophesee_read_raw(
     const uint8_t *recording, size_t recording_len, prophesee_options options,
     uint16_t *xs, size_t xs_len, uint16_t *ys, size_t ys_len,
     int64_t *ts, size_t ts_len, uint8_t *ps, size_t ps_len);
 
-/* Words without a header: 4, 1 for a zero size, 1 for no event, 5. */
-prophesee_reading prophesee_decode_evt2(
-    const uint8_t *words, size_t words_len, prophesee_options options,
-    uint16_t *xs, size_t xs_len, uint16_t *ys, size_t ys_len,
-    int64_t *ts, size_t ts_len, uint8_t *ps, size_t ps_len);
-
-prophesee_reading prophesee_decode_evt3(
-    const uint8_t *words, size_t words_len, prophesee_options options,
+/* Words without a header, of an encoding that the caller names: 4, 2 for an unknown one, 1 for a zero
+ * size, 1 for no event, 5. */
+prophesee_reading prophesee_decode_words(
+    const uint8_t *words, size_t words_len, uint32_t encoding, prophesee_options options,
     uint16_t *xs, size_t xs_len, uint16_t *ys, size_t ys_len,
     int64_t *ts, size_t ts_len, uint8_t *ps, size_t ps_len);
 
 /* ---- indexes */
 
-/* `sized` as in prophesee_options; a checkpoint at every `spacing` bytes of the body. */
+/* `sized` as above; a checkpoint at every `spacing` bytes of the body. */
 typedef struct {
-    uint8_t sized;
     size_t width;
     size_t height;
     size_t spacing;
+    uint8_t sized;
 } prophesee_open_options;
 
-/* An index without its encoding and its records. */
+/* An index but for its records: they stand at the front of the records lent to opening. */
 typedef struct {
+    size_t records; /* how many */
     size_t spacing;
     size_t data_offset;
-    size_t len;
+    size_t len;     /* of the recording */
     size_t width;
     size_t height;
     size_t n_events;
+    uint32_t encoding;
 } prophesee_source;
 
-/* `encoding` is 2 or 3, and `records` is how many records stand at the front of the lent ones. */
 typedef struct {
-    uint32_t refusal;
-    uint32_t encoding;
-    size_t told;
-    size_t records;
     prophesee_source source;
+    size_t told;
+    uint32_t refusal;
 } prophesee_opening;
 
-/* A record: where it stands, the events counted before it, their greatest time (from 2^63 on: a
- * negative one), and the decoder there. `initialised` and `polarity` are flags. A `y` or `base_x` over
- * 65,535 is taken as 65,535. In EVT2 `y`, `base_x` and `polarity` are written as 0 and not read. */
+/* A record: where it stands, the events counted before it, their greatest time, and the decoder there.
+ * `initialised` and `polarity` are 0 or 1. In EVT2 `y`, `base_x` and `polarity` are 0. */
 typedef struct {
     uint64_t byte_offset;
     uint64_t event_index;
@@ -117,71 +197,53 @@ typedef struct {
     uint64_t polarity;
 } prophesee_record;
 
-/* Records are lent as entries of 64 bits, ten to a record: (uint64_t *)r, n * PROPHESEE_ENTRIES for
- * n records at r. Entries behind the last whole record don't count. */
-#define PROPHESEE_ENTRIES 10
-
 /* Makes the index of a recording: 4, 3, 2, 1 for a zero size, 8, 9, 1 for no event. */
 prophesee_opening prophesee_open(
-    const uint8_t *recording, size_t recording_len, uint64_t *records, size_t records_len,
-    prophesee_open_options options);
+    const uint8_t *recording, size_t recording_len,
+    prophesee_record *records, size_t records_len, prophesee_open_options options);
 
-/* Words without a header: 4, 1 for a zero size, 8, 9, 1 for no event. */
-prophesee_opening prophesee_open_evt2(
-    const uint8_t *words, size_t words_len, uint64_t *records, size_t records_len,
-    prophesee_open_options options);
+/* Words without a header: 4, 2 for an unknown encoding, 1 for a zero size, 8, 9, 1 for no event. */
+prophesee_opening prophesee_open_words(
+    const uint8_t *words, size_t words_len, uint32_t encoding,
+    prophesee_record *records, size_t records_len, prophesee_open_options options);
 
-prophesee_opening prophesee_open_evt3(
-    const uint8_t *words, size_t words_len, uint64_t *records, size_t records_len,
-    prophesee_open_options options);
-
-/* ---- slices: the encoding is the one that opening told; the records lent are the index's, all of
- * them and no more. 4, 1, 8, 10, 5. */
+/* ---- slices: 4, 1, 8, 10, 5. The records are the index's, as opening left them; records behind
+ * `source.records` aren't looked at. 10: an index that opening could not have made, such as one of an
+ * unknown encoding, with fewer records lent than `source.records`, a flag above 1, a row above 2047 or
+ * a base column above 65,535 (docs/RULES.md, T-3 and T-5). */
 
 typedef struct {
-    uint32_t refusal;
     size_t told;
     size_t count;
+    uint32_t refusal;
 } prophesee_slice;
 
 /* The events from number i0 to before i1, both clamped to the total. */
-prophesee_slice prophesee_slice_index_evt2(
+prophesee_slice prophesee_slice_index(
     const uint8_t *recording, size_t recording_len, prophesee_source source,
-    const uint64_t *records, size_t records_len, size_t i0, size_t i1,
+    const prophesee_record *records, size_t records_len, size_t i0, size_t i1,
     uint16_t *xs, size_t xs_len, uint16_t *ys, size_t ys_len,
     int64_t *ts, size_t ts_len, uint8_t *ps, size_t ps_len);
 
-prophesee_slice prophesee_slice_index_evt3(
+/* The events with t0 <= t < t1. Where a recording's times step back: those of them that are read from
+ * the last record whose time is below t0, up to the first word that brings the time to t1 or more. */
+prophesee_slice prophesee_slice_time(
     const uint8_t *recording, size_t recording_len, prophesee_source source,
-    const uint64_t *records, size_t records_len, size_t i0, size_t i1,
-    uint16_t *xs, size_t xs_len, uint16_t *ys, size_t ys_len,
-    int64_t *ts, size_t ts_len, uint8_t *ps, size_t ps_len);
-
-/* The events with t0 <= t < t1. */
-prophesee_slice prophesee_slice_time_evt2(
-    const uint8_t *recording, size_t recording_len, prophesee_source source,
-    const uint64_t *records, size_t records_len, int64_t t0, int64_t t1,
-    uint16_t *xs, size_t xs_len, uint16_t *ys, size_t ys_len,
-    int64_t *ts, size_t ts_len, uint8_t *ps, size_t ps_len);
-
-prophesee_slice prophesee_slice_time_evt3(
-    const uint8_t *recording, size_t recording_len, prophesee_source source,
-    const uint64_t *records, size_t records_len, int64_t t0, int64_t t1,
+    const prophesee_record *records, size_t records_len, int64_t t0, int64_t t1,
     uint16_t *xs, size_t xs_len, uint16_t *ys, size_t ys_len,
     int64_t *ts, size_t ts_len, uint8_t *ps, size_t ps_len);
 
 /* ---- writing */
 
-/* A writer. `evt3` is a flag: EVT3, else EVT2. The last time, the halves of the time and the row that
- * were sent count only where the flag `has_..` is set. All zeros: a fresh writer of EVT2 whose header
- * is due. */
+/* A writer. The last time, the halves of the time and the row that were sent are 0 where their flag
+ * `has_..` is 0. Each flag is 0 or 1. 10 for a writer out of range (docs/RULES.md, T-4 and T-5). */
 typedef struct {
     size_t n_events;
     int64_t last_t;
     uint64_t time_high;
     uint64_t time_low;
     uint64_t y;
-    uint8_t evt3;
+    uint32_t encoding;
     uint8_t header_written;
     uint8_t has_last_t;
     uint8_t has_time_high;
@@ -189,19 +251,18 @@ typedef struct {
     uint8_t has_y;
 } prophesee_sink;
 
-/* `sink` is the writer to go on with: refused, the one that was given, unaltered. `written` is how
- * many bytes stand at the front of the output. */
+/* A fresh writer; `header` is a flag: it sends a header before its first words. A writer of an unknown
+ * encoding accepts nothing (10). */
+prophesee_sink prophesee_writer(uint32_t encoding, uint8_t header);
+
+/* `sink` is the writer for the next append: refused, the one that was given, unaltered. `written` is
+ * how many bytes stand at the front of the output. */
 typedef struct {
     prophesee_sink sink;
-    uint32_t refusal;
     size_t told;
     size_t written;
+    uint32_t refusal;
 } prophesee_appended;
-
-/* A fresh writer; `header` is a flag: it sends a header before its first words. */
-prophesee_sink prophesee_writer_evt2(uint8_t header);
-
-prophesee_sink prophesee_writer_evt3(uint8_t header);
 
 /* Appends events: 10, 12, 4, 6, 7, 11. Width and height are those that a header due tells. */
 prophesee_appended prophesee_append(
@@ -209,6 +270,90 @@ prophesee_appended prophesee_append(
     const uint16_t *xs, size_t xs_len, const uint16_t *ys, size_t ys_len,
     const int64_t *ts, size_t ts_len, const uint8_t *ps, size_t ps_len,
     uint8_t *output, size_t output_len);
+
+/* ---- single words */
+
+/* A decoder. `initialised` and `polarity` are 0 or 1. In EVT2 `y`, `base_x` and `polarity` are 0. */
+typedef struct {
+    uint64_t time_base;
+    uint64_t time;
+    uint64_t high_loops;
+    uint32_t encoding;
+    uint16_t y;
+    uint16_t base_x;
+    uint8_t initialised;
+    uint8_t polarity;
+} prophesee_decoder;
+
+/* The events of a word: bit i of `mask` stands for one at column x + i (at most 65,535), the lowest
+ * bit first. */
+typedef struct {
+    int64_t t;
+    uint32_t mask;
+    uint16_t x;
+    uint16_t y;
+    uint8_t p;
+} prophesee_vector;
+
+typedef struct {
+    prophesee_decoder decoder;
+    prophesee_vector events;
+    uint32_t refusal;
+} prophesee_decoded;
+
+typedef struct {
+    prophesee_decoder decoder;
+    uint32_t refusal;
+} prophesee_stepped;
+
+typedef struct {
+    int64_t t;
+    uint16_t x;
+    uint16_t y;
+    uint8_t p;
+} prophesee_event;
+
+/* `some` 1: `event` is the vector's first event, and `rest` the vector without it. 0: it has none. */
+typedef struct {
+    prophesee_vector rest;
+    prophesee_event event;
+    uint8_t some;
+} prophesee_next;
+
+/* A fresh decoder. One of an unknown encoding decodes nothing (10). */
+prophesee_decoder prophesee_new_decoder(uint32_t encoding);
+
+/* The first word of `bytes`: the decoder after it and its events; bytes behind it aren't read, and fewer
+ * bytes than a word do nothing. A decoder out of range (docs/RULES.md, T-2 and T-5) gets 10 and is
+ * returned as it was. */
+prophesee_decoded prophesee_decode(prophesee_decoder decoder, const uint8_t *bytes, size_t bytes_len);
+
+prophesee_next prophesee_next_event(prophesee_vector events);
+
+/* The decoder after all whole words of `words`: 4, 10; refused, the one that was given. */
+prophesee_stepped prophesee_decoder_after(prophesee_decoder decoder, const uint8_t *words, size_t words_len);
+
+/* ---- what this file takes for granted */
+
+PROPHESEE_ASSERT(sizeof(size_t) == 8);
+PROPHESEE_ASSERT(sizeof(prophesee_header) == 40 && offsetof(prophesee_header, sized) == 32);
+PROPHESEE_ASSERT(sizeof(prophesee_options) == 32 && offsetof(prophesee_options, limited) == 25);
+PROPHESEE_ASSERT(sizeof(prophesee_reading) == 40 && offsetof(prophesee_reading, count) == 32);
+PROPHESEE_ASSERT(sizeof(prophesee_open_options) == 32 && offsetof(prophesee_open_options, sized) == 24);
+PROPHESEE_ASSERT(sizeof(prophesee_source) == 64 && offsetof(prophesee_source, encoding) == 56);
+PROPHESEE_ASSERT(sizeof(prophesee_opening) == 80 && offsetof(prophesee_opening, refusal) == 72);
+PROPHESEE_ASSERT(sizeof(prophesee_record) == 80 && offsetof(prophesee_record, polarity) == 72);
+PROPHESEE_ASSERT(sizeof(prophesee_slice) == 24 && offsetof(prophesee_slice, refusal) == 16);
+PROPHESEE_ASSERT(sizeof(prophesee_sink) == 56 && offsetof(prophesee_sink, has_y) == 48);
+PROPHESEE_ASSERT(sizeof(prophesee_appended) == 80 && offsetof(prophesee_appended, refusal) == 72);
+PROPHESEE_ASSERT(sizeof(prophesee_decoder) == 40 && offsetof(prophesee_decoder, polarity) == 33);
+PROPHESEE_ASSERT(sizeof(prophesee_vector) == 24 && offsetof(prophesee_vector, p) == 16);
+PROPHESEE_ASSERT(sizeof(prophesee_decoded) == 72 && offsetof(prophesee_decoded, refusal) == 64);
+PROPHESEE_ASSERT(sizeof(prophesee_stepped) == 48 && offsetof(prophesee_stepped, refusal) == 40);
+PROPHESEE_ASSERT(sizeof(prophesee_event) == 16 && offsetof(prophesee_event, p) == 12);
+PROPHESEE_ASSERT(sizeof(prophesee_next) == 48 && offsetof(prophesee_next, some) == 40);
+
+#undef PROPHESEE_ASSERT
 
 #ifdef __cplusplus
 }

@@ -1,109 +1,102 @@
--- Records that were made into entries are read back as they were.
+-- Between numbers and the records of an index nothing is lost, and nothing else is read as one: rule 10 refuses it.
 use mathlib.Core.Path.{_≡_, refl, sym, ap, subst, _∙_}
-use mathlib.Core.List.{List, [], _∷_, _++_}
-use Prim.Native.Nat.{ℕ, zero, suc, _+_, _*_, _/_, _≤_, _<_, _^_, min}
-use native.Mathlib.Nat.{not-suc-le-zero, le-of-suc-le-suc}
+use mathlib.Core.Bool.{Bool, true, false, cond, not, _&&_}
+use mathlib.Core.List.{List, [], _∷_, _++_, map}
+use Prim.Native.Nat.{ℕ, suc, _+_, _<_, _^_}
 use native.Mathlib.Omega.{arith}
-use lib.IntN.{ℤ, pos}
-use lib.ListN.{length, take, getD}
-use lib.Seq.{getD-append-add, take-suc, take-length}
+use lib.Dec.{ltb, leb, eqb}
+use lib.IntN.{pos, negsuc}
+use lib.ListN.{length, length-map}
+use lib.Seq.{take-at}
 use borrow.Author.Tests.{lt-ltb}
 use Rattle.evt_types.specs.{declared.Encoding.Encoding, Num.natural}
-use Rattle.evt_codec.specs.declared.{codec.Codec.Codec, codec.Codec.the-variants.Evt2, codec.Codec.the-variants.Evt3}
-use Rattle.evt_codec.specs.Codec.{encodingOf}
-use Rattle.index_build.specs.{declared.Checkpoint.Checkpoint, Index.firsts, Nth.nth, Nth.blank}
-use Rattle.c_structs.specs.{Laws.bit-back, Making.length-entries}
-use Rattle.c_structs.specs.Records.{flatOf, flatRecord, entriesOf, entriesAll, timeOf, checkpointOf, partAt, roomOf, recordAt, recordsIn}
+use Rattle.evt_codec.specs.{Codec.encodingOf, Codec.inRangeC}
+use Rattle.index_build.specs.{declared.Checkpoint.Checkpoint, declared.RawSliceSource.RawSliceSource, Nth.nth}
+use Rattle.index_records.specs.{InRange.recordInRange, InRange.recordsInRange, Judge.isOther}
+use Rattle.write_rules.specs.Range.{every}
+use Rattle.c_structs.specs.{declared.records.PropheseeRecord.PropheseeRecord, Flags.both}
+use Rattle.c_structs.specs.Codec.{numbersOf, codecOf, Narrow, codec-back, codec-fits, numbers-back}
+use Rattle.c_structs.specs.Records.{flatRecord, entriesAll, recordIn, isRecord, checkpointOf, checkpointIn, checkpointsIn}
 
--- ---- one record
-
--- a row and a column of 16 bits, as the decoder's fields have
-abbrev pub Narrow : Codec → Type 0
-Narrow (Evt2 d) = Unit
-Narrow (Evt3 d) = (d .y ≤ 65535) × (d .«base_x» ≤ 65535)
+-- ---- a record that was made is read back
 
 -- of the encoding, and with a time that isn't negative
-pub record Holds (e : Encoding) (c : Checkpoint) : Type 0 where
+pub record Readable (e : Encoding) (c : Checkpoint) : Type 0 where
   pub is-encoding : encodingOf (c .codec) ≡ e
   pub narrow : Narrow (c .codec)
   pub greatest : ℕ
   pub is-time : c .time ≡ pos greatest
   pub early : greatest < 2 ^ 63
 
-time-back : (n : ℕ) → n < 2 ^ 63 → timeOf n ≡ pos n
-time-back n h = rw (lt-ltb n (2 ^ 63) h)
+module _ (e : Encoding) (c : Checkpoint) (h : Readable e c) where
+  is-natural : natural (c .time) ≡ h .greatest
+  is-natural = ap natural (h .is-time)
 
-held-back : (offset count n : ℕ) → n < 2 ^ 63 → (k : Codec) → Narrow k
-    → checkpointOf (encodingOf k) (flatOf offset count n k) ≡ record { «byte_offset» = offset; «event_index» = count; time = pos n; codec = k }
-held-back offset count n h (Evt2 d) u = λ i. record {
-  «byte_offset» = offset;
-  «event_index» = count;
-  time = time-back n h i;
-  codec = Evt2 (record { initialised = bit-back (d .initialised) i; «time_high» = d .«time_high»; time = d .time; «high_loops» = d .«high_loops» });
-}
-held-back offset count n h (Evt3 d) u =
-    let row : min (d .y) 65535 ≡ d .y = omega (arith, u .0) in
-    let column : min (d .«base_x») 65535 ≡ d .«base_x» = omega (arith, u .1) in
+  pub record-fits : isRecord e (flatRecord c) ≡ true
+  record-fits =
+      subst (λ (d : Encoding). isRecord d (flatRecord c) ≡ true) (h .is-encoding)
+      (rw (is-natural, lt-ltb (h .greatest) (2 ^ 63) (h .early)) (codec-fits (c .codec) (h .narrow)))
+
+  pub checkpoint-back : checkpointOf e (flatRecord c) ≡ c
+  checkpoint-back =
+      let time : cond (isRecord e (flatRecord c)) (pos (natural (c .time))) (negsuc 0) ≡ c .time =
+      rw record-fits (ap pos is-natural ∙ sym (h .is-time)) in
+      let codec : codecOf e (numbersOf (c .codec)) ≡ c .codec = subst (λ (d : Encoding). codecOf d (numbersOf (c .codec)) ≡ c .codec) (h .is-encoding)
+      (codec-back (c .codec) (h .narrow)) in
+      λ i. record { «byte_offset» = c .«byte_offset»; «event_index» = c .«event_index»; time = time i; codec = codec i }
+
+-- all of them, whatever stands behind
+pub records-back : (e : Encoding) (cs : List Checkpoint) → ((j : ℕ) → j < length cs → Readable e (nth cs j)) → (behind : List (List ℕ))
+    → checkpointsIn e (length cs) (entriesAll cs ++ behind) ≡ cs
+unfolding checkpointsIn
+records-back e cs holds behind = ap (map (checkpointIn e)) (take-at (entriesAll cs) behind (length cs) (length-map cs _)) ∙ go cs holds
+  where
+    go : (cs : List Checkpoint) → ((j : ℕ) → j < length cs → Readable e (nth cs j)) → map (checkpointIn e) (entriesAll cs) ≡ cs
+    go [] holds = refl
+    go (c ∷ cs) holds = λ i. checkpoint-back e c (holds 0 (omega arith)) i ∷ go cs (λ j h. holds (suc j) (omega arith)) i
+
+-- ---- nothing else is read as a record
+
+pub record-numbers : (e : Encoding) (r : PropheseeRecord) → isRecord e r ≡ true → flatRecord (checkpointOf e r) ≡ r
+record-numbers e r h =
+    let parts = both (ltb (r .time) (2 ^ 63)) _ h in
+    let time : natural (cond (isRecord e r) (pos (r .time)) (negsuc 0)) ≡ r .time = rw h in
     λ i. record {
-      «byte_offset» = offset;
-      «event_index» = count;
-      time = time-back n h i;
-      codec = Evt3 (record {
-        initialised = bit-back (d .initialised) i;
-        «time_base» = d .«time_base»;
-        time = d .time;
-        y = row i;
-        «base_x» = column i;
-        polarity = bit-back (d .polarity) i;
-        «high_loops» = d .«high_loops»;
-      });
+      «byte_offset» = r .«byte_offset»;
+      «event_index» = r .«event_index»;
+      time = time i;
+      decoder = numbers-back e (r .decoder) (parts .1) i;
     }
 
-pub checkpoint-back : (e : Encoding) (c : Checkpoint) → Holds e c → checkpointOf e (flatRecord c) ≡ c
-checkpoint-back e c h =
-    subst (λ (d : Encoding). checkpointOf d (flatRecord c) ≡ c) (h .is-encoding)
-    (ap (λ (t : ℤ). checkpointOf (encodingOf (c .codec)) (flatOf (c .«byte_offset») (c .«event_index») (natural t) (c .codec))) (h .is-time)
-    ∙ held-back (c .«byte_offset») (c .«event_index») (h .greatest) (h .early) (c .codec) (h .narrow)
-    ∙ (λ i. record { «byte_offset» = c .«byte_offset»; «event_index» = c .«event_index»; time = sym (h .is-time) i; codec = c .codec }))
+module _ (s : RawSliceSource) (e : Encoding) where
+  -- it is out of range, wherever it stands
+  pub no-record : (r : PropheseeRecord) → isRecord e r ≡ false → (offset count time : ℕ) → recordInRange s offset count (pos time) (checkpointOf e r) ≡ false
+  no-record r h offset count time =
+      let c = checkpointOf e r in
+      end (ltb offset (2 ^ 64)) _ (end (eqb (c .«byte_offset») offset) _ (end (not (isOther (c .codec) (s .encoding))) _ (end (inRangeC (c .codec)) _
+      (end (leb count (c .«event_index»)) _ (end (leb (c .«event_index») (2 ^ 33)) _ (end (leb (c .«event_index») (s .«n_events»)) _ (rw h)))))))
+    where
+      end : (a b : Bool) → b ≡ false → (a && b) ≡ false
+      end true b p = p
+      end false b p = refl
 
--- ---- all of them
+  is-record : (r : PropheseeRecord) (offset count time : ℕ) → recordInRange s offset count (pos time) (checkpointOf e r) ≡ true → isRecord e r ≡ true
+  is-record r offset count time h = go (isRecord e r) refl
+    where
+      go : (b : Bool) → isRecord e r ≡ b → b ≡ true
+      go true p = refl
+      go false p = sym (no-record r p offset count time) ∙ h
 
-part-shift : (xs l : List ℕ) (m : ℕ) → partAt (xs ++ l) (length xs + m) ≡ partAt l m
-part-shift xs l m = λ i. record {
-  «byte_offset» = getD-append-add xs l m 0 i;
-  «event_index» = at 1 i;
-  time = at 2 i;
-  initialised = at 3 i;
-  «time_base» = at 4 i;
-  «decoder_time» = at 5 i;
-  «high_loops» = at 6 i;
-  y = at 7 i;
-  «base_x» = at 8 i;
-  polarity = at 9 i;
-}
-  where
-    at : (k : ℕ) → getD (xs ++ l) (length xs + m + k) 0 ≡ getD l (m + k) 0
-    at k = let e : length xs + m + k ≡ length xs + (m + k) = omega arith in ap (λ (n : ℕ). getD (xs ++ l) n 0) e ∙ getD-append-add xs l (m + k) 0
-
-part-at : (cs : List Checkpoint) (j : ℕ) → j < length cs → partAt (entriesAll cs) (j * 10) ≡ flatRecord (nth cs j)
-part-at [] j h = absurd (not-suc-le-zero h)
-part-at (c ∷ cs) zero h = refl
-part-at (c ∷ cs) (suc j) h =
-    let e : suc j * 10 ≡ 10 + j * 10 = omega arith in
-    ap (partAt (entriesAll (c ∷ cs))) e ∙ part-shift (entriesOf (flatRecord c)) (entriesAll cs) (j * 10) ∙ part-at cs j (le-of-suc-le-suc h)
-
-firsts-take : (f : ℕ → Checkpoint) (cs : List Checkpoint) (n : ℕ) → n ≤ length cs → ((j : ℕ) → j < n → f j ≡ nth cs j) → firsts f n ≡ take n cs
-firsts-take f cs zero h g = refl
-firsts-take f cs (suc n) h g =
-    let before : firsts f n ≡ take n cs = firsts-take f cs n (omega arith) (λ j l. g j (omega arith)) in
-    let here : f n ≡ nth cs n = g n (omega arith) in
-    (λ i. before i ++ (here i ∷ [])) ∙ sym (take-suc cs n blank h)
-
-pub records-back : (e : Encoding) (cs : List Checkpoint) → ((j : ℕ) → j < length cs → Holds e (nth cs j)) → recordsIn e (entriesAll cs) ≡ cs
-unfolding recordsIn
-records-back e cs holds =
-    let room : roomOf (entriesAll cs) ≡ length cs = ap (λ (n : ℕ). n / 10) (length-entries cs) ∙ omega arith in
-    ap (firsts (recordAt e (entriesAll cs))) room
-    ∙ firsts-take (recordAt e (entriesAll cs)) cs (length cs) (omega arith)
-    (λ j h. ap (checkpointOf e) (part-at cs j h) ∙ checkpoint-back e (nth cs j) (holds j h))
-    ∙ take-length cs
+  -- so an index in range has records only
+  pub all-records : (l : List (List ℕ)) (offset count time : ℕ) → recordsInRange s offset count (pos time) (map (checkpointIn e) l) ≡ true
+      → every (λ a. isRecord e (recordIn a)) l ≡ true
+  unfolding every
+  all-records [] offset count time h = refl
+  all-records (a ∷ l) offset count time h =
+      let r = recordIn a in
+      let parts = both (recordInRange s offset count (pos time) (checkpointOf e r)) _ h in
+      let is : isRecord e r ≡ true = is-record r offset count time (parts .0) in
+      let next : recordsInRange s (offset + s .spacing) (r .«event_index») (pos (r .time)) (map (checkpointIn e) l) ≡ true =
+      subst (λ (b : Bool). recordsInRange s (offset + s .spacing) (r .«event_index») (cond b (pos (r .time)) (negsuc 0)) (map (checkpointIn e) l) ≡ true) is
+      (parts .1) in
+      rw is (all-records l (offset + s .spacing) (r .«event_index») (r .time) next)

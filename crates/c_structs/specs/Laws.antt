@@ -1,102 +1,33 @@
--- From what the library promises to what the C interface does.
-use mathlib.Core.Path.{_≡_, refl, sym, ap, subst, _∙_}
-use mathlib.Core.Bool.{Bool, true, false, cond}
-use mathlib.Core.List.{List}
-use Prim.Native.Nat.{ℕ, _<_}
+-- Between numbers and the library's own writers and decoders nothing is lost, and nothing else is read as one of them.
+use mathlib.Core.Path.{_≡_, refl, sym, ap, _∙_}
+use mathlib.Core.Bool.{Bool, true, false, cond, not, _&&_}
+use Prim.Native.Nat.{ℕ, _<_, _^_}
 use native.Mathlib.Omega.{arith}
 use lib.Dec.{eqb}
-use lib.IntN.{ℤ}
-use lib.ListN.{length, getD}
-use borrow.Author.Tests.{ne-eqb}
-use Rattle.evt_types.specs.declared.{Encoding.Encoding, Encoding.the-variants.Evt2, Encoding.the-variants.Evt3, Refusal.Refusal, Sent.Sent}
-use Rattle.evt_types.specs.{declared.Sent.the-variants.Nothing, declared.Sent.the-variants.Value, Event.Event, Told.told, Told.told-numbered}
-use Rattle.evt_types.specs.{Told.naturals, Outcome.Outcome, Outcome.refuse, Outcome.give}
-use Rattle.read_rules.specs.{declared.LoadOptions.LoadOptions, declared.ReadAnswer.ReadAnswer, Read.ReadEvents}
-use Rattle.read_rules.specs.Read as Read
-use Rattle.index_build.specs.declared.{Checkpoint.Checkpoint, RawSliceSource.RawSliceSource}
-use Rattle.index_records.specs.{declared.Judging.Judging, BinarySearch.chosenOf, Choose.Chose, Judge.judgedAll, Search.chosen, InRange.indexInRange}
-use Rattle.slice_rules.specs.{declared.Asked.Asked, declared.SliceAnswer.SliceAnswer, Slice.toldSlice, From.askedByNumber, From.askedByTime}
-use Rattle.slice_rules.specs.{From.passedFrom, From.SlicesFrom, From.Startable, Laws.startable, Laws.began-index, Laws.slices-index, Laws.began-time}
-use Rattle.slice_rules.specs.{Laws.slices-time}
-use Rattle.slice_rules.specs.Slice as Slice
-use Rattle.write_append.specs.declared.Appended.{Appended}
+use lib.IntN.{ℤ, pos, negsuc}
+use lib.Signed.{mag}
+use mir.Syntax.{w64}
+use mir.Val.{ofZ}
+use borrow.Author.Tests.{eqb-true, ne-eqb}
+use Rattle.evt_types.specs.declared.{Encoding.Encoding, Encoding.the-variants.Evt2, Encoding.the-variants.Evt3, Sent.Sent}
+use Rattle.evt_types.specs.{declared.Sent.the-variants.Nothing, declared.Sent.the-variants.Value, Num.encodingNumber}
+use Rattle.evt_codec.specs.{declared.codec.Codec.Codec, Codec.freshC, Codec.encodingOf as codecEncoding}
 use Rattle.write_rules.specs.declared.{LastTime.LastTime, LastTime.the-variants.Never, LastTime.the-variants.At, RawEventSink.RawEventSink}
-use Rattle.write_append.specs.Append.{AppendedBytes, appendOutcome, toldAppend, appendVerdict, sinkAfter, AppendOwed}
-use Rattle.c_structs.specs.declared.{opening.PropheseeSource.PropheseeSource, options.PropheseeOptions.PropheseeOptions}
-use Rattle.c_structs.specs.declared.{reading.PropheseeReading.PropheseeReading, slices.PropheseeSlice.PropheseeSlice}
-use Rattle.c_structs.specs.declared.{writer.PropheseeAppended.PropheseeAppended, writer.PropheseeSink.PropheseeSink}
-use Rattle.c_structs.specs.{Lookup.length-records, Opening.openingOf, Opening.sourceOf, Options.flag, Options.optionsOf, Reading.valueOf}
-use Rattle.c_structs.specs.{Reading.countOf, Reading.readingOf, Reading.Reads, Reading.DecodesWords, Reading.ReadsRaw, Records.roomOf}
-use Rattle.c_structs.specs.{Records.recordsIn, Slicing.slicedOf, Slicing.SlicesFrom as SlicedFrom, Slicing.SlicesIndex, Slicing.SlicesTime}
-use Rattle.c_structs.specs.Writer.{versionOf, sentOf, lastOf, sinkOf, bit, evt3Of, hasSent, sentValue, hasLast, lastValue, flatSink, appendedOf, Appends}
-
--- a refusal is no acceptance, and has none of its values
-refused-not : (r : Refusal) → eqb (told r .number) 0 ≡ false
-refused-not r = ne-eqb (told r .number) 0 (nonzero (told r .number) (told-numbered r))
-  where
-    nonzero : (n : ℕ) → 0 < n → n ≡ 0 → ⊥
-    nonzero n h e = omega arith
-
-pub no-value : (r : Refusal) (i : ℕ) → valueOf (told r) i ≡ 0
-no-value r i = ap (λ (b : Bool). cond b (getD (naturals (told r .values)) i 0) 0) (refused-not r)
-
-pub refused-reading : (r : Refusal) (n k : ℕ) → n ≡ told r .number → k ≡ countOf (told r)
-    → record { refusal = n; encoding = 0; told = k; width = 0; height = 0; count = 0 } ≡ readingOf (told r)
-refused-reading r n k p q = λ i. record {
-  refusal = p i;
-  encoding = sym (no-value r 0) i;
-  told = q i;
-  width = sym (no-value r 1) i;
-  height = sym (no-value r 2) i;
-  count = sym (no-value r 3) i;
-}
-
-pub refused-opening : (r : Refusal) (n k : ℕ) → n ≡ told r .number → k ≡ countOf (told r)
-    → record {
-      refusal = n;
-      encoding = 0;
-      told = k;
-      records = 0;
-      source = record { spacing = 0; «data_offset» = 0; len = 0; width = 0; height = 0; «n_events» = 0 };
-    } ≡ openingOf (told r)
-refused-opening r n k p q = λ i. record {
-  refusal = p i;
-  encoding = sym (no-value r 0) i;
-  told = q i;
-  records = sym (no-value r 7) i;
-  source = record {
-    spacing = sym (no-value r 1) i;
-    «data_offset» = sym (no-value r 2) i;
-    len = sym (no-value r 3) i;
-    width = sym (no-value r 4) i;
-    height = sym (no-value r 5) i;
-    «n_events» = sym (no-value r 6) i;
-  };
-}
-
-pub refused-slice : (r : Refusal) (n k : ℕ) → n ≡ told r .number → k ≡ countOf (told r) → record { refusal = n; told = k; count = 0 } ≡ slicedOf (told r)
-refused-slice r n k p q = λ i. record { refusal = p i; told = q i; count = sym (no-value r 0) i }
-
--- ---- reading
-
-module _ (o : PropheseeOptions) (given : LoadOptions) (is-given : given ≡ optionsOf o) (a : ReadAnswer) (r : PropheseeReading)
-    (is-r : r ≡ readingOf (Read.toldRead a)) where
-  reads : {outcome : Outcome ReadEvents} {xs₀ ys₀ : List ℕ} {ts₀ : List ℤ} {ps₀ xs ys : List ℕ} {ts : List ℤ} {ps : List ℕ}
-      → Read.Reads outcome a xs₀ ys₀ ts₀ ps₀ xs ys ts ps → Reads outcome r xs₀ ys₀ ts₀ ps₀ xs ys ts ps
-  reads h = record { is-answer = is-r ∙ ap readingOf (h .is-told); columns = h .columns }
-
-  pub reads-words : (words : List ℕ) (e : Encoding) {xs₀ ys₀ : List ℕ} {ts₀ : List ℤ} {ps₀ xs ys : List ℕ} {ts : List ℤ} {ps : List ℕ}
-      → Read.DecodesWords words e (given .«sensor_size») (given .«max_events») a xs₀ ys₀ ts₀ ps₀ xs ys ts ps
-      → DecodesWords words e o r xs₀ ys₀ ts₀ ps₀ xs ys ts ps
-  reads-words words e {xs₀} {ys₀} {ts₀} {ps₀} {xs} {ys} {ts} {ps} h =
-      reads (subst (λ (g : LoadOptions). Read.DecodesWords words e (g .«sensor_size») (g .«max_events») a xs₀ ys₀ ts₀ ps₀ xs ys ts ps) is-given h)
-
-  pub reads-raw : (recording : List ℕ) {xs₀ ys₀ : List ℕ} {ts₀ : List ℤ} {ps₀ xs ys : List ℕ} {ts : List ℤ} {ps : List ℕ}
-      → Read.ReadsRaw recording given a xs₀ ys₀ ts₀ ps₀ xs ys ts ps → ReadsRaw recording o r xs₀ ys₀ ts₀ ps₀ xs ys ts ps
-  reads-raw recording {xs₀} {ys₀} {ts₀} {ps₀} {xs} {ys} {ts} {ps} h =
-      reads (subst (λ (g : LoadOptions). Read.ReadsRaw recording g a xs₀ ys₀ ts₀ ps₀ xs ys ts ps) is-given h)
+use Rattle.write_rules.specs.Rules.{freshSink}
+use Rattle.c_structs.specs.declared.{decoder.PropheseeDecoder.PropheseeDecoder, writer.PropheseeSink.PropheseeSink}
+use Rattle.c_structs.specs.Codec.{numbersOf, codecOf, Narrow, codec-back, codec-fits, numbers-back}
+use Rattle.c_structs.specs.Decoder.{numbersIn, isDecoder, codecIn, decoderBy, decoderOf, newDecoder}
+use Rattle.c_structs.specs.Encoding.{isKnown, encodingOf, number-known, encoding-back, number-back}
+use Rattle.c_structs.specs.Flags.{flag, bit, isFlag, bit-flag, bit-back, flag-back, both}
+use Rattle.c_structs.specs.Writer.{isHeld, isZero, isLastHeld, isStateHeld, isSink, sentOf, lastOf, sinkOf, hasSent, sentValue, hasLast, lastValue}
+use Rattle.c_structs.specs.Writer.{flatSink, writerOf}
 
 -- ---- the writer
+
+-- a signed number is 0 where its bits are
+pub zero-bits : (t : ℤ) → mag t < 2 ^ 63 → eqb (ofZ w64 t) 0 ≡ isZero t
+zero-bits (pos n) h = refl
+zero-bits (negsuc n) h = ne-eqb (ofZ w64 (negsuc n)) 0 (λ e. omega (arith, e))
 
 sent-back : (s : Sent) → sentOf (hasSent s) (sentValue s) ≡ s
 sent-back Nothing = refl
@@ -106,18 +37,10 @@ last-back : (l : LastTime) → lastOf (hasLast l) (lastValue l) ≡ l
 last-back Never = refl
 last-back (At t) = refl
 
-version-back : (e : Encoding) → versionOf (evt3Of e) ≡ e
-version-back Evt2 = refl
-version-back Evt3 = refl
-
-pub bit-back : (b : Bool) → flag (bit b) ≡ b
-bit-back true = refl
-bit-back false = refl
-
 -- a writer as numbers loses nothing
 pub sink-back : (s : RawEventSink) → sinkOf (flatSink s) ≡ s
 sink-back s = λ i. record {
-  version = version-back (s .version) i;
+  version = encoding-back (s .version) i;
   «header_written» = bit-back (s .«header_written») i;
   «n_events» = s .«n_events»;
   «last_t» = last-back (s .«last_t») i;
@@ -128,78 +51,114 @@ sink-back s = λ i. record {
   };
 }
 
-pub refused-appended : (given : PropheseeSink) (next : RawEventSink) (r : Refusal) (n k : ℕ) → n ≡ told r .number → k ≡ countOf (told r)
-    → record { sink = given; refusal = n; told = k; written = 0 } ≡ appendedOf given (told r) next
-refused-appended given next r n k p q = λ i. record {
-  sink = cond (sym (refused-not r) i) (flatSink next) given;
-  refusal = p i;
-  told = q i;
-  written = sym (no-value r 0) i;
+-- and they are a writer's
+pub sink-flat : (s : RawEventSink) → isSink (flatSink s) ≡ true
+sink-flat s =
+    rw (
+      number-known (s .version),
+      bit-flag (s .«header_written»),
+      last (s .«last_t»),
+      sent (s .state .«time_high»),
+      sent (s .state .«time_low»),
+      sent (s .state .y),
+    )
+  where
+    sent : (s : Sent) → isHeld (hasSent s) (sentValue s) ≡ true
+    sent Nothing = refl
+    sent (Value v) = refl
+
+    last : (l : LastTime) → isLastHeld (hasLast l) (lastValue l) ≡ true
+    last Never = refl
+    last (At t) = refl
+
+-- nothing else is read as that writer
+pub sink-numbers : (f : PropheseeSink) → isSink f ≡ true → flatSink (sinkOf f) ≡ f
+sink-numbers f h =
+    let parts = both (isKnown (f .encoding) && (isFlag (f .«header_written») && isLastHeld (f .«has_last_t») (f .«last_t»))) (isStateHeld f) h in
+    let front = both (isKnown (f .encoding)) _ (parts .0) in
+    let flags = both (isFlag (f .«header_written»)) _ (front .1) in
+    let state = both (isHeld (f .«has_time_high») (f .«time_high»)) _ (parts .1) in
+    let rest = both (isHeld (f .«has_time_low») (f .«time_low»)) _ (state .1) in
+    let last = last-held (f .«has_last_t») (f .«last_t») (flags .1) in
+    let high = held (f .«has_time_high») (f .«time_high») (state .0) in
+    let low = held (f .«has_time_low») (f .«time_low») (rest .0) in
+    let row = held (f .«has_y») (f .y) (rest .1) in
+    λ i. record {
+      «n_events» = f .«n_events»;
+      «last_t» = last .1 i;
+      «time_high» = high .1 i;
+      «time_low» = low .1 i;
+      y = row .1 i;
+      encoding = number-back (f .encoding) (front .0) i;
+      «header_written» = flag-back (f .«header_written») (flags .0) i;
+      «has_last_t» = last .0 i;
+      «has_time_high» = high .0 i;
+      «has_time_low» = low .0 i;
+      «has_y» = row .0 i;
+    }
+  where
+    held : (has value : ℕ) → isHeld has value ≡ true → (hasSent (sentOf has value) ≡ has) × (sentValue (sentOf has value) ≡ value)
+    held has value = go (eqb has 0) (eqb-true has 0)
+      where
+        go : (b : Bool) → (b ≡ true → has ≡ 0) → cond b (eqb value 0) (eqb has 1) ≡ true
+            → (hasSent (cond (not b) (Value value) Nothing) ≡ has) × (sentValue (cond (not b) (Value value) Nothing) ≡ value)
+        go true p h = (sym (p refl), sym (eqb-true value 0 h))
+        go false p h = (sym (eqb-true has 1 h), refl)
+
+    zero-is : (t : ℤ) → isZero t ≡ true → pos 0 ≡ t
+    zero-is (pos n) h = ap pos (sym (eqb-true n 0 h))
+    zero-is (negsuc n) h = let z : _≡_ {A = ℕ} 0 1 = cc in absurd (omega arith)
+
+    last-held : (has : ℕ) (t : ℤ) → isLastHeld has t ≡ true → (hasLast (lastOf has t) ≡ has) × (lastValue (lastOf has t) ≡ t)
+    last-held has t = go (eqb has 0) (eqb-true has 0)
+      where
+        go : (b : Bool) → (b ≡ true → has ≡ 0) → cond b (isZero t) (eqb has 1) ≡ true
+            → (hasLast (cond (not b) (At t) Never) ≡ has) × (lastValue (cond (not b) (At t) Never) ≡ t)
+        go true p h = (sym (p refl), zero-is t h)
+        go false p h = (sym (eqb-true has 1 h), refl)
+
+-- of a known encoding, a fresh writer is the library's
+pub writer-fresh : (n header : ℕ) → isKnown n ≡ true → writerOf n header ≡ flatSink (freshSink (encodingOf n) (flag header))
+writer-fresh n header h = λ i. record {
+  «n_events» = 0;
+  «last_t» = pos 0;
+  «time_high» = 0;
+  «time_low» = 0;
+  y = 0;
+  encoding = sym (number-back n h) i;
+  «header_written» = bit (not (flag header));
+  «has_last_t» = 0;
+  «has_time_high» = 0;
+  «has_time_low» = 0;
+  «has_y» = 0;
 }
 
-pub appends : (given : PropheseeSink) (s : RawEventSink) → s ≡ sinkOf given
-    → (width height : ℕ) (xs ys : List ℕ) (ts : List ℤ) (ps out₀ : List ℕ) (a : Appended) (out : List ℕ)
-    → AppendOwed s width height xs ys ts ps out₀ a out → (r : PropheseeAppended) → r ≡ appendedOf given (toldAppend (a .answer)) (a .sink)
-    → Appends given width height xs ys ts ps out₀ r out
-appends given s is-s width height xs ys ts ps out₀ a out owed r is-r =
-    let h = subst (λ (s : RawEventSink). AppendOwed s width height xs ys ts ps out₀ a out) is-s owed in
-    let o = appendOutcome (sinkOf given) width height xs ys ts ps (length out₀) in
-    let answer : r ≡ appendedOf given (appendVerdict o) (sinkAfter (sinkOf given) o) = is-r ∙ (λ i. appendedOf given (h .is-told i) (h .is-sink i)) in
-    record { is-answer = answer; is-sink = ap (λ (r : PropheseeAppended). sinkOf (r .sink)) answer ∙ go o; is-output = h .is-output }
+-- ---- the decoder
+
+-- a decoder as numbers loses nothing
+pub decoder-back : (c : Codec) → Narrow c → codecIn (decoderOf c) ≡ c
+decoder-back c u = ap (λ (e : Encoding). codecOf e (numbersOf c)) (encoding-back (codecEncoding c)) ∙ codec-back c u
+
+-- and they are a decoder's
+pub decoder-fits : (c : Codec) → Narrow c → isDecoder (decoderOf c) ≡ true
+decoder-fits c u = rw (number-known (codecEncoding c), encoding-back (codecEncoding c)) (codec-fits c u)
+
+-- nothing else is read as that decoder
+pub decoder-numbers : (d : PropheseeDecoder) → isDecoder d ≡ true → decoderOf (codecIn d) ≡ d
+decoder-numbers d h =
+    let parts = both (isKnown (d .encoding)) _ h in
+    let number : encodingNumber (codecEncoding (codecIn d)) ≡ d .encoding =
+    ap encodingNumber (encoding-in (encodingOf (d .encoding))) ∙ number-back (d .encoding) (parts .0) in
+    λ i. decoderBy (number i) (numbers-back (encodingOf (d .encoding)) (numbersIn d) (parts .1) i)
   where
-    go : (o : Outcome AppendedBytes) → sinkOf (appendedOf given (appendVerdict o) (sinkAfter (sinkOf given) o) .sink) ≡ sinkAfter (sinkOf given) o
-    go (refuse r) = ap (λ (b : Bool). sinkOf (cond b (flatSink (sinkOf given)) given)) (refused-not r)
-    go (give b) = sink-back (b .sink)
+    encoding-in : (e : Encoding) → codecEncoding (codecOf e (numbersIn d)) ≡ e
+    encoding-in Evt2 = refl
+    encoding-in Evt3 = refl
 
--- ---- slices
-
-module _ (e : Encoding) (recording entries : List ℕ) (given : PropheseeSource) (s : RawSliceSource) (is-s : s ≡ sourceOf e given)
-    (a : SliceAnswer) (r : PropheseeSlice) (is-r : r ≡ slicedOf (toldSlice a)) where
-  sliced : (f : RawSliceSource → List Event) {xs₀ ys₀ : List ℕ} {ts₀ : List ℤ} {ps₀ xs ys : List ℕ} {ts : List ℤ} {ps : List ℕ}
-      → Slice.SlicesFrom recording s (indexInRange s (recordsIn e entries)) (f s) a xs₀ ys₀ ts₀ ps₀ xs ys ts ps
-      → SlicedFrom recording (sourceOf e given) (indexInRange (sourceOf e given) (recordsIn e entries)) (f (sourceOf e given)) r xs₀ ys₀ ts₀ ps₀ xs ys ts ps
-  sliced f {xs₀} {ys₀} {ts₀} {ps₀} {xs} {ys} {ts} {ps} h =
-      subst (λ (k : RawSliceSource). SlicedFrom recording k (indexInRange k (recordsIn e entries)) (f k) r xs₀ ys₀ ts₀ ps₀ xs ys ts ps) is-s
-      (record { is-answer = is-r ∙ ap slicedOf (h .is-told); columns = h .columns })
-
--- the records are judged, and one of them is chosen to start at
-module _ (e : Encoding) (recording entries : List ℕ) (s : RawSliceSource) (asked : Asked) (fine : Bool) (start : Checkpoint)
-    (all : fine ≡ judgedAll (asked .judging) (recordsIn e entries) .ok) (is-start : start ≡ chosenOf (asked .choice) (recordsIn e entries)) where
-  abbrev records : List Checkpoint
-  records = recordsIn e entries
-
-  abbrev judged : Judging
-  judged = judgedAll (asked .judging) records
-
-  chose : Chose (asked .choice) records start
-  chose = chosen (asked .choice) records start is-start
-
-  module _ (i0 i1 : ℕ) (is : asked ≡ askedByNumber s (roomOf entries) i0 i1) where
-    by-number : asked ≡ askedByNumber s (length records) i0 i1
-    by-number = is ∙ ap (λ (n : ℕ). askedByNumber s n i0 i1) (sym (length-records e entries))
-
-    pub start-number : Startable s fine start
-    start-number = rw all (startable s records asked judged start (began-index recording s records asked judged start i0 i1 by-number refl chose))
-
-    pub slices-number : (given : PropheseeSource) → s ≡ sourceOf e given → (a : SliceAnswer) (r : PropheseeSlice) → r ≡ slicedOf (toldSlice a)
-        → {xs₀ ys₀ : List ℕ} {ts₀ : List ℤ} {ps₀ xs ys : List ℕ} {ts : List ℤ} {ps : List ℕ}
-        → SlicesFrom recording s fine (passedFrom recording (asked .window) start) a xs₀ ys₀ ts₀ ps₀ xs ys ts ps
-        → SlicesIndex recording e given entries i0 i1 r xs₀ ys₀ ts₀ ps₀ xs ys ts ps
-    slices-number given is-s a r is-r h =
-        sliced e recording entries given s is-s a r is-r (λ (k : RawSliceSource). Slice.indexEvents recording k records i0 i1)
-        (slices-index recording s records asked judged start i0 i1 by-number refl chose (rw all at h))
-
-  module _ (t0 t1 : ℤ) (is : asked ≡ askedByTime s (roomOf entries) t0 t1) where
-    by-time : asked ≡ askedByTime s (length records) t0 t1
-    by-time = is ∙ ap (λ (n : ℕ). askedByTime s n t0 t1) (sym (length-records e entries))
-
-    pub start-during : Startable s fine start
-    start-during = rw all (startable s records asked judged start (began-time recording s records asked judged start t0 t1 by-time refl chose))
-
-    pub slices-during : (given : PropheseeSource) → s ≡ sourceOf e given → (a : SliceAnswer) (r : PropheseeSlice) → r ≡ slicedOf (toldSlice a)
-        → {xs₀ ys₀ : List ℕ} {ts₀ : List ℤ} {ps₀ xs ys : List ℕ} {ts : List ℤ} {ps : List ℕ}
-        → SlicesFrom recording s fine (passedFrom recording (asked .window) start) a xs₀ ys₀ ts₀ ps₀ xs ys ts ps
-        → SlicesTime recording e given entries t0 t1 r xs₀ ys₀ ts₀ ps₀ xs ys ts ps
-    slices-during given is-s a r is-r h =
-        sliced e recording entries given s is-s a r is-r (λ (k : RawSliceSource). Slice.timeEvents recording k records t0 t1)
-        (slices-time recording s records asked judged start t0 t1 by-time refl chose (rw all at h))
+-- of a known encoding, a fresh decoder is the library's
+pub decoder-fresh : (n : ℕ) → isKnown n ≡ true → newDecoder n ≡ decoderOf (freshC (encodingOf n))
+decoder-fresh n h = ap newDecoder (sym (number-back n h)) ∙ go (encodingOf n)
+  where
+    go : (e : Encoding) → newDecoder (encodingNumber e) ≡ decoderOf (freshC e)
+    go Evt2 = refl
+    go Evt3 = refl

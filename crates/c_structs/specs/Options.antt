@@ -1,15 +1,10 @@
 -- What the numbers of an option mean.
-use mathlib.Core.Bool.{Bool, cond, not}
+use mathlib.Core.Bool.{cond}
 use Prim.Native.Nat.{ℕ}
-use lib.Dec.{eqb}
 use Rattle.evt_types.specs.declared.{Limit.Limit, Limit.the-variants.Unlimited, Limit.the-variants.AtMost, SensorSize.SensorSize}
 use Rattle.evt_types.specs.declared.{SensorSize.the-variants.Unknown, SensorSize.the-variants.Known}
 use Rattle.read_rules.specs.declared.LoadOptions.{LoadOptions}
-use Rattle.c_structs.specs.declared.options.PropheseeOptions.{PropheseeOptions}
-
--- a flag: any number but 0 is true
-abbrev pub flag : ℕ → Bool
-flag n = not (eqb n 0)
+use Rattle.c_structs.specs.{declared.options.PropheseeOptions.PropheseeOptions, Flags.flag}
 
 abbrev pub sizeOf : (sized width height : ℕ) → SensorSize
 sizeOf sized width height = cond (flag sized) (Known width height) Unknown

@@ -1,12 +1,15 @@
-// Opening in numbers: options and answers, and records made into lent entries.
+// Opening in numbers: options and answers, and records made into lent ones.
 ghost use mathlib.Core.Path.{_≡_};
-ghost use Rattle.index_build.specs.Build.{Begun};
+ghost use lib.ListN.{length};
+ghost use Rattle.index_build.specs.Build.{Begun, preparedBy};
 ghost use Rattle.index_build.specs.Index.{toldOpen};
 ghost use Rattle.c_structs.specs.Making.{Begins, Makes, Answers};
-ghost use Rattle.c_structs.specs.Records.{roomOf};
-ghost use Rattle.c_structs.specs.Opening.{optionsOf, wordsOptionsOf, openingOf};
+ghost use Rattle.c_structs.specs.Opening.{openOptionsOf, wordsOptionsOf, wordsOutcomeC, openedOf};
+use crate::encoding::behind_too_long;
+use crate::encoding::encoding_of;
+use crate::encoding::is_known;
 use crate::options::size_of;
-use crate::records::put_record;
+use crate::records::entries_of;
 use crate::refusal::count_of;
 use evt_types::Encoding;
 use evt_types::Refusal;
@@ -22,36 +25,36 @@ use index_build::WordsOptions;
 // `sized` 0: the size is unknown; else it is `width` by `height`.
 #[repr(C)]
 pub struct PropheseeOpenOptions {
-    pub sized: u8,
     pub width: usize,
     pub height: usize,
     pub spacing: usize,
+    pub sized: u8,
 }
 
-// An index without its records and its encoding.
+// An index but for its records, with how many they are.
 #[repr(C)]
 pub struct PropheseeSource {
+    pub records: usize,
     pub spacing: usize,
     pub data_offset: usize,
     pub len: usize,
     pub width: usize,
     pub height: usize,
     pub n_events: usize,
+    pub encoding: u32,
 }
 
-// `refusal` 0: opened, `encoding` (2 or 3), `source` and the number of `records` made tell what. Else
-// document 01's number, `told` being the count that a 9 tells.
+// `refusal` 0: opened, and `source` tells what. Else document 01's number, `told` being the count that
+// a 9 tells.
 #[repr(C)]
 pub struct PropheseeOpening {
-    pub refusal: u32,
-    pub encoding: u32,
-    pub told: usize,
-    pub records: usize,
     pub source: PropheseeSource,
+    pub told: usize,
+    pub refusal: u32,
 }
 
-pub fn options_of(o: PropheseeOpenOptions) -> OpenOptions
-    ensures { λ r. ⌜ r ≡ optionsOf o ⌝ }
+pub fn open_options_of(o: PropheseeOpenOptions) -> OpenOptions
+    ensures { λ r. ⌜ r ≡ openOptionsOf o ⌝ }
 {
     let sensor_size = size_of(o.sized, o.width, o.height);
     OpenOptions {
@@ -72,49 +75,49 @@ pub fn words_options_of(encoding: Encoding, o: PropheseeOpenOptions) -> WordsOpt
 }
 
 fn opened_numbers(o: Opening) -> PropheseeOpening
-    ensures { λ n. ⌜ n ≡ openingOf (toldOpen (OpenAnswer.Opened o)) ⌝ }
+    ensures { λ n. ⌜ n ≡ openedOf (toldOpen (OpenAnswer.Opened o)) ⌝ }
 {
     let s = o.source;
     let encoding = s.encoding;
     let source = PropheseeSource {
+        records: o.records,
         spacing: s.spacing,
         data_offset: s.data_offset,
         len: s.len,
         width: s.width,
         height: s.height,
         n_events: s.n_events,
+        encoding: encoding_number(encoding),
     };
     PropheseeOpening {
-        refusal: 0,
-        encoding: encoding_number(encoding),
-        told: 0,
-        records: o.records,
         source,
+        told: 0,
+        refusal: 0,
     }
 }
 
 fn refused_numbers(r: Refusal) -> PropheseeOpening
-    ensures { λ n. ⌜ n ≡ openingOf (toldOpen (OpenAnswer.Refused r)) ⌝ }
+    ensures { λ n. ⌜ n ≡ openedOf (toldOpen (OpenAnswer.Refused r)) ⌝ }
 {
     let source = PropheseeSource {
+        records: 0,
         spacing: 0,
         data_offset: 0,
         len: 0,
         width: 0,
         height: 0,
         n_events: 0,
+        encoding: 0,
     };
     PropheseeOpening {
-        refusal: refusal_number(r),
-        encoding: 0,
-        told: count_of(r),
-        records: 0,
         source,
+        told: count_of(r),
+        refusal: refusal_number(r),
     }
 }
 
 fn opening_of(answer: OpenAnswer) -> PropheseeOpening
-    ensures { λ n. ⌜ n ≡ openingOf (toldOpen answer) ⌝ }
+    ensures { λ n. ⌜ n ≡ openedOf (toldOpen answer) ⌝ }
 {
     match answer {
         OpenAnswer::Opened(o) => opened_numbers(o),
@@ -122,9 +125,25 @@ fn opening_of(answer: OpenAnswer) -> PropheseeOpening
     }
 }
 
+// Prepares the index of words whose encoding is a number.
+pub fn prepare_coded(
+    words: &[u8],
+    encoding: u32,
+    options: PropheseeOpenOptions,
+    room: usize,
+) -> Prepared
+    ensures { λ r. ⌜ r ≡ preparedBy (wordsOutcomeC (now (words .entry)) encoding options room) ⌝ }
+{
+    if is_known(encoding) {
+        let o = words_options_of(encoding_of(encoding), options);
+        return index_build::prepare_words(words, o, room);
+    }
+    Prepared::Refused(behind_too_long(words.len(), Refusal::UnknownEncoding))
+}
+
 // Makes the records of a builder that was prepared for that many. `requires`: such a builder.
-fn make_records(recording: &[u8], records: &mut [u64], first: Builder) -> Builder
-    requires { ⌜ Begun (now recording) (roomOf (now records)) first ⌝ }
+fn make_records(recording: &[u8], records: &mut [[u64; 10]], first: Builder) -> Builder
+    requires { ⌜ Begun (now recording) (length (now records)) first ⌝ }
     ensures { λ r. ⌜ Makes (now (recording .entry)) first (now (records .entry)) r (now (records .exit)) ⌝ }
 {
     let mut t = first;
@@ -132,15 +151,20 @@ fn make_records(recording: &[u8], records: &mut [u64], first: Builder) -> Builde
         let i = t.at;
         let m = index_build::advance(recording, t);
         let c = m.record;
-        put_record(&mut *records, i * 10, c);
+        let a = entries_of(c);
+        records[i] = a;
         t = m.next;
     }
     t
 }
 
 // Makes the index that was prepared. `requires`: prepared for that many records.
-pub fn open_entries(recording: &[u8], records: &mut [u64], prepared: Prepared) -> PropheseeOpening
-    requires { ⌜ Begins (now recording) (roomOf (now records)) prepared ⌝ }
+pub fn open_records(
+    recording: &[u8],
+    records: &mut [[u64; 10]],
+    prepared: Prepared,
+) -> PropheseeOpening
+    requires { ⌜ Begins (now recording) (length (now records)) prepared ⌝ }
     ensures { λ n. ⌜ Answers (now (recording .entry)) prepared (now (records .entry)) n (now (records .exit)) ⌝ }
 {
     match prepared {

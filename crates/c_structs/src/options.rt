@@ -1,6 +1,7 @@
 // A size that may be unknown and a limit that may be absent, as numbers.
 ghost use mathlib.Core.Path.{_≡_};
-ghost use Rattle.c_structs.specs.Options.{flag, sizeOf, limitOf, optionsOf};
+ghost use Rattle.c_structs.specs.Options.{sizeOf, limitOf, optionsOf};
+use crate::flags::is_set;
 use evt_types::Limit;
 use evt_types::SensorSize;
 use read::LoadOptions;
@@ -9,23 +10,11 @@ use read::LoadOptions;
 // it is `max_events`.
 #[repr(C)]
 pub struct PropheseeOptions {
-    pub sized: u8,
-    pub limited: u8,
     pub width: usize,
     pub height: usize,
     pub max_events: usize,
-}
-
-pub fn is_set(n: u8) -> bool
-    ensures { λ r. ⌜ r ≡ flag n ⌝ }
-{
-    n != 0
-}
-
-pub fn is_set_wide(n: u64) -> bool
-    ensures { λ r. ⌜ r ≡ flag n ⌝ }
-{
-    n != 0
+    pub sized: u8,
+    pub limited: u8,
 }
 
 pub fn size_of(sized: u8, width: usize, height: usize) -> SensorSize

@@ -1,13 +1,16 @@
-// An index and a slice's answer in numbers; judging and choosing among records that are entries.
+// An index and a slice's answer in numbers; judging and choosing among lent records.
 ghost use mathlib.Core.Path.{_≡_};
+ghost use Prim.Native.Nat.{_≤_};
+ghost use lib.ListN.{length};
 ghost use Rattle.index_records.specs.BinarySearch.{chosenOf};
 ghost use Rattle.index_records.specs.Judge.{judgedAll};
 ghost use Rattle.slice_rules.specs.Slice.{toldSlice};
-ghost use Rattle.c_structs.specs.Opening.{sourceOf};
-ghost use Rattle.c_structs.specs.Records.{recordsIn};
-ghost use Rattle.c_structs.specs.Slicing.{slicedOf};
+ghost use Rattle.c_structs.specs.Records.{checkpointsIn};
+ghost use Rattle.c_structs.specs.Slicing.{sourceOf, usedRecords, slicedOf};
+use crate::encoding::encoding_of;
+use crate::encoding::is_known;
 use crate::opening::PropheseeSource;
-use crate::records::record_at;
+use crate::records::checkpoint_in;
 use crate::refusal::count_of;
 use evt_types::Encoding;
 use evt_types::Refusal;
@@ -22,14 +25,15 @@ use slice_rules::SliceAnswer;
 // being the count that a 5 tells.
 #[repr(C)]
 pub struct PropheseeSlice {
-    pub refusal: u32,
     pub told: usize,
     pub count: usize,
+    pub refusal: u32,
 }
 
-pub fn source_of(encoding: Encoding, s: PropheseeSource) -> RawSliceSource
-    ensures { λ r. ⌜ r ≡ sourceOf encoding s ⌝ }
+pub fn source_of(s: PropheseeSource) -> RawSliceSource
+    ensures { λ r. ⌜ r ≡ sourceOf s ⌝ }
 {
+    let encoding = encoding_of(s.encoding);
     RawSliceSource {
         encoding,
         spacing: s.spacing,
@@ -41,15 +45,28 @@ pub fn source_of(encoding: Encoding, s: PropheseeSource) -> RawSliceSource
     }
 }
 
-// Whether all whole records are in range, one after another, up to the first that isn't.
-pub fn judge_entries(encoding: Encoding, records: &[u64], s: Judging) -> bool
-    ensures { λ r. ⌜ r ≡ judgedAll s (recordsIn encoding (now (records .entry))) .ok ⌝ }
+// How many of the lent records a slice uses.
+pub fn used_records(s: PropheseeSource, lent: usize) -> usize
+    ensures { λ n. ⌜ (n ≡ usedRecords s lent) × (n ≤ lent) ⌝ }
 {
-    let n = records.len() / 10;
+    if is_known(s.encoding) {
+        if s.records <= lent {
+            return s.records;
+        }
+    }
+    0
+}
+
+// Whether the first n records are in range, one after another, up to the first that isn't.
+pub fn judge_records(encoding: Encoding, records: &[[u64; 10]], n: usize, s: Judging) -> bool
+    requires { ⌜ n ≤ length (now records) ⌝ }
+    ensures { λ r. ⌜ r ≡ judgedAll s (checkpointsIn encoding n (now (records .entry))) .ok ⌝ }
+{
     let mut t = s;
     let mut i: usize = 0;
     while i < n {
-        let c = record_at(encoding, records, i * 10);
+        let a = records[i];
+        let c = checkpoint_in(encoding, a);
         t = index_records::judge(t, c);
         if t.ok {} else {
             return false;
@@ -59,15 +76,21 @@ pub fn judge_entries(encoding: Encoding, records: &[u64], s: Judging) -> bool
     t.ok
 }
 
-// The record that a slice starts at, by binary search.
-pub fn choose_entries(encoding: Encoding, records: &[u64], asked: Choice) -> Checkpoint
-    ensures { λ r. ⌜ r ≡ chosenOf asked (recordsIn encoding (now (records .entry))) ⌝ }
+// The one of the first n records that a slice starts at, by binary search.
+pub fn choose_record(
+    encoding: Encoding,
+    records: &[[u64; 10]],
+    n: usize,
+    asked: Choice,
+) -> Checkpoint
+    requires { ⌜ n ≤ length (now records) ⌝ }
+    ensures { λ r. ⌜ r ≡ chosenOf asked (checkpointsIn encoding n (now (records .entry))) ⌝ }
 {
-    let n = records.len() / 10;
     let mut t = index_records::first_search(n, asked);
     while t.more {
         let i = t.at;
-        let c = record_at(encoding, records, i * 10);
+        let a = records[i];
+        let c = checkpoint_in(encoding, a);
         t = index_records::narrow(t, c);
     }
     t.best

@@ -1,13 +1,19 @@
 // The writer and what an append answers, in numbers.
 ghost use mathlib.Core.Path.{_≡_};
-ghost use Rattle.evt_types.specs.declared.Encoding.the-variants.{Evt2, Evt3};
 ghost use Rattle.write_append.specs.Append.{toldAppend};
-ghost use Rattle.c_structs.specs.Writer.{versionOf, sentOf, lastOf, stateOf, sinkOf, bit, evt3Of, hasSent, sentValue, hasLast, lastValue, flatSink, appendedOf};
-use crate::options::is_set;
+ghost use Rattle.c_structs.specs.Writer.{isHeld, isLastHeld, isStateHeld, isSink, sentOf, lastOf, stateOf, sinkOf};
+ghost use Rattle.c_structs.specs.Writer.{hasSent, sentValue, hasLast, lastValue, flatSink, writerOf, appendedOf};
+use crate::encoding::encoding_of;
+use crate::encoding::is_known;
+use crate::flags::and2;
+use crate::flags::and3;
+use crate::flags::bit_of;
+use crate::flags::is_flag;
+use crate::flags::is_set;
 use crate::refusal::count_of;
-use evt_types::Encoding;
 use evt_types::Refusal;
 use evt_types::Sent;
+use evt_types::encoding_number;
 use evt_types::refusal_number;
 use write_append::AppendAnswer;
 use write_append::Appended;
@@ -15,8 +21,7 @@ use write_append::LastTime;
 use write_append::RawEventSink;
 use write_buffer::EncoderState;
 
-// A writer. `evt3` 0: EVT2, else EVT3. `last_t`, `time_high`, `time_low` and `y` count only where the
-// flag `has_..` beside isn't 0. All zeros: a fresh writer of EVT2, its header due.
+// A writer. `last_t`, `time_high`, `time_low` and `y` are 0 where the flag `has_..` beside is.
 #[repr(C)]
 pub struct PropheseeSink {
     pub n_events: usize,
@@ -24,7 +29,7 @@ pub struct PropheseeSink {
     pub time_high: u64,
     pub time_low: u64,
     pub y: u64,
-    pub evt3: u8,
+    pub encoding: u32,
     pub header_written: u8,
     pub has_last_t: u8,
     pub has_time_high: u8,
@@ -37,18 +42,47 @@ pub struct PropheseeSink {
 #[repr(C)]
 pub struct PropheseeAppended {
     pub sink: PropheseeSink,
-    pub refusal: u32,
     pub told: usize,
     pub written: usize,
+    pub refusal: u32,
 }
 
-fn version_of(evt3: u8) -> Encoding
-    ensures { λ r. ⌜ r ≡ versionOf evt3 ⌝ }
+fn is_held(has: u8, value: u64) -> bool
+    ensures { λ r. ⌜ r ≡ isHeld has value ⌝ }
 {
-    if is_set(evt3) {
-        return Encoding::Evt3;
+    if has == 0 {
+        return value == 0;
     }
-    Encoding::Evt2
+    has == 1
+}
+
+fn is_last_held(has: u8, t: i64) -> bool
+    ensures { λ r. ⌜ r ≡ isLastHeld has t ⌝ }
+{
+    if has == 0 {
+        return t == 0;
+    }
+    has == 1
+}
+
+fn is_state_held(flat: PropheseeSink) -> bool
+    ensures { λ r. ⌜ r ≡ isStateHeld flat ⌝ }
+{
+    let high = is_held(flat.has_time_high, flat.time_high);
+    let low = is_held(flat.has_time_low, flat.time_low);
+    let row = is_held(flat.has_y, flat.y);
+    and3(high, low, row)
+}
+
+// Whether some writer has these numbers.
+pub fn is_sink(flat: PropheseeSink) -> bool
+    ensures { λ r. ⌜ r ≡ isSink flat ⌝ }
+{
+    let known = is_known(flat.encoding);
+    let header = is_flag(flat.header_written);
+    let last = is_last_held(flat.has_last_t, flat.last_t);
+    let state = is_state_held(flat);
+    and2(and3(known, header, last), state)
 }
 
 fn sent_of(has: u8, value: u64) -> Sent
@@ -85,7 +119,7 @@ fn state_of(flat: PropheseeSink) -> EncoderState
 pub fn sink_of(flat: PropheseeSink) -> RawEventSink
     ensures { λ r. ⌜ r ≡ sinkOf flat ⌝ }
 {
-    let version = version_of(flat.evt3);
+    let version = encoding_of(flat.encoding);
     let header_written = is_set(flat.header_written);
     let last_t = last_of(flat.has_last_t, flat.last_t);
     let state = state_of(flat);
@@ -95,21 +129,6 @@ pub fn sink_of(flat: PropheseeSink) -> RawEventSink
         n_events: flat.n_events,
         last_t,
         state,
-    }
-}
-
-pub fn bit_of(b: bool) -> u8
-    ensures { λ r. ⌜ r ≡ bit b ⌝ }
-{
-    if b { 1 } else { 0 }
-}
-
-fn evt3_of(version: Encoding) -> u8
-    ensures { λ r. ⌜ r ≡ evt3Of version ⌝ }
-{
-    match version {
-        Encoding::Evt2 => 0,
-        Encoding::Evt3 => 1,
     }
 }
 
@@ -164,7 +183,7 @@ pub fn flat_of(s: RawEventSink) -> PropheseeSink
         time_high: sent_value(high),
         time_low: sent_value(low),
         y: sent_value(row),
-        evt3: evt3_of(version),
+        encoding: encoding_number(version),
         header_written: bit_of(s.header_written),
         has_last_t: has_last(last),
         has_time_high: has_sent(high),
@@ -173,14 +192,34 @@ pub fn flat_of(s: RawEventSink) -> PropheseeSink
     }
 }
 
+// A fresh writer; `header` isn't 0: it sends a header before its first words.
+pub fn writer_of(encoding: u32, header: u8) -> PropheseeSink
+    ensures { λ r. ⌜ r ≡ writerOf encoding header ⌝ }
+{
+    let header_written = bit_of(!is_set(header));
+    PropheseeSink {
+        n_events: 0,
+        last_t: 0,
+        time_high: 0,
+        time_low: 0,
+        y: 0,
+        encoding,
+        header_written,
+        has_last_t: 0,
+        has_time_high: 0,
+        has_time_low: 0,
+        has_y: 0,
+    }
+}
+
 pub fn refused_of(flat: PropheseeSink, next: RawEventSink, refusal: Refusal) -> PropheseeAppended
     ensures { λ r. ⌜ r ≡ appendedOf flat (toldAppend (AppendAnswer.Refused refusal)) next ⌝ }
 {
     PropheseeAppended {
         sink: flat,
-        refusal: refusal_number(refusal),
         told: count_of(refusal),
         written: 0,
+        refusal: refusal_number(refusal),
     }
 }
 
@@ -192,9 +231,9 @@ pub fn appended_of(flat: PropheseeSink, a: Appended) -> PropheseeAppended
     match answer {
         AppendAnswer::Written(n) => PropheseeAppended {
             sink: flat_of(next),
-            refusal: 0,
             told: 0,
             written: n,
+            refusal: 0,
         },
         AppendAnswer::Refused(r) => refused_of(flat, next, r),
     }

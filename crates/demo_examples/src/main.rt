@@ -20,6 +20,7 @@ fn main() {
     writing::write_recording();
     resuming::cut_and_resume();
     decoding::decode_singly();
+    decoding::decode_after();
     refusing::no_encoding();
     refusing::columns_too_short();
     refusing::records_too_few();

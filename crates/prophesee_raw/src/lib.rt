@@ -37,16 +37,14 @@
 //
 // Single words. `Evt2Decoder`, `Decoder` (EVT3) and `Codec` (either) step over one word, by value
 // (`step`) or lent (`decode`), and `EventVector::next` takes out the word's events one by one.
-// Example: `decode_singly`.
+// `decoder_after` has the decoder after all whole words of some bytes. Examples: `decode_singly`,
+// `decode_after`.
 //
 // Refusals. An answer is what was asked for or `Refused`, with the reason; `refusal_number` has its
-// number: 1 an invalid size (a side of 0, or none known and no event), 2 no known encoding, 3 a header
-// byte above 127, 4 too long (over 2^30 bytes, or over 2^28 events in an append), 5 columns too short,
-// 6 times out of order, 7 an event out of range, 8 an invalid spacing, 9 too few records, 10 a state out
-// of range, 11 an output too short, 12 columns of different lengths. 5, 9 and 11 tell how many places,
-// records or bytes are needed: lend as many, and call again. A refused call alters no buffer, and
-// returns the writer or the decoder as it was. An accepted one alters nothing behind what it hands over.
-// Examples: `no_encoding`, `columns_too_short`, `records_too_few`, `output_too_short`, `times_fall`.
+// number in the table of docs/RULES.md. 5, 9 and 11 tell how many places, records or bytes are needed:
+// lend as many, and call again. A refused call alters no buffer, and returns the writer or the decoder
+// as it was. An accepted one alters nothing behind what it hands over. Examples: `no_encoding`,
+// `columns_too_short`, `records_too_few`, `output_too_short`, `times_fall`.
 pub use evt_codec::Codec;
 pub use evt_codec::codec::CodecDecoded;
 pub use evt_types::DecodeAnswer;
@@ -80,6 +78,8 @@ pub use read::ReadAnswer;
 pub use read::Reading;
 pub use read::decode_words;
 pub use read::read_raw;
+pub use read_after::AfterAnswer;
+pub use read_after::decoder_after;
 pub use slice::slice_index;
 pub use slice::slice_time;
 pub use slice_rules::SliceAnswer;

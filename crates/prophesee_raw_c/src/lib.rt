@@ -2,7 +2,18 @@
 // out, and lent buffers. No exported function has a `requires`; a buffer that isn't there, or two that
 // overlap, lie outside of any contract (include/prophesee_raw.h). What each promises stands in the
 // specs of the crate `c_structs`, over the definitions that the library's own contracts cite.
+ghost use mathlib.Core.Path.{_≡_};
+
 mod opening;
 mod reading;
 mod slices;
+mod words;
 mod writer;
+
+// The number of this interface.
+#[no_mangle]
+pub extern "C" fn prophesee_version() -> u32
+    ensures { λ r. ⌜ r ≡ 1 ⌝ }
+{
+    1
+}

@@ -1,11 +1,33 @@
-// Reading a recording, or headerless words, into four lent columns.
-ghost use Rattle.evt_types.specs.declared.Encoding.the-variants.{Evt2, Evt3};
-ghost use Rattle.c_structs.specs.Reading.{DecodesWords, ReadsRaw};
+// Reading a header, a recording, or headerless words into four lent columns.
+ghost use mathlib.Core.Path.{_≡_};
+ghost use Rattle.header.specs.Header.{headerVerdict};
+ghost use Rattle.c_structs.specs.Options.{sizeOf};
+ghost use Rattle.c_structs.specs.Reading.{parsedOf, DecodesWordsC, ReadsRawC};
+use c_structs::encoding::behind_too_long;
+use c_structs::encoding::encoding_of;
+use c_structs::encoding::is_known;
 use c_structs::options::PropheseeOptions;
 use c_structs::options::options_of;
+use c_structs::options::size_of;
+use c_structs::reading::PropheseeHeader;
 use c_structs::reading::PropheseeReading;
+use c_structs::reading::parsed_of;
 use c_structs::reading::reading_of;
-use evt_types::Encoding;
+use evt_types::Refusal;
+use read::ReadAnswer;
+
+#[no_mangle]
+pub extern "C" fn prophesee_parse_header(
+    recording: &[u8],
+    sized: u8,
+    width: usize,
+    height: usize,
+) -> PropheseeHeader
+    ensures { λ r. ⌜ r ≡ parsedOf (headerVerdict (now (recording .entry)) (sizeOf sized width height)) ⌝ }
+{
+    let size = size_of(sized, width, height);
+    parsed_of(header::parse_header(recording, size))
+}
 
 // A recording: its header, then its body.
 #[no_mangle]
@@ -17,7 +39,7 @@ pub extern "C" fn prophesee_read_raw(
     ts: &mut [i64],
     ps: &mut [u8],
 ) -> PropheseeReading
-    ensures { λ r. ⌜ ReadsRaw (now (recording .entry)) options r (now (xs .entry)) (now (ys .entry)) (now (ts .entry)) (now (ps .entry))
+    ensures { λ r. ⌜ ReadsRawC (now (recording .entry)) options r (now (xs .entry)) (now (ys .entry)) (now (ts .entry)) (now (ps .entry))
         (now (xs .exit)) (now (ys .exit)) (now (ts .exit)) (now (ps .exit)) ⌝ }
 {
     let o = options_of(options);
@@ -26,79 +48,37 @@ pub extern "C" fn prophesee_read_raw(
 }
 
 // Headerless words: only the caller's encoding and size are used, and a first byte `%` is no header.
-fn decode(
-    words: &[u8],
-    encoding: Encoding,
-    options: PropheseeOptions,
-    xs: &mut [u16],
-    ys: &mut [u16],
-    ts: &mut [i64],
-    ps: &mut [u8],
-) -> PropheseeReading
-    ensures { λ r. ⌜ DecodesWords (now (words .entry)) encoding options r
-        (now (xs .entry)) (now (ys .entry)) (now (ts .entry)) (now (ps .entry))
-        (now (xs .exit)) (now (ys .exit)) (now (ts .exit)) (now (ps .exit)) ⌝ }
-{
-    let o = options_of(options);
-    let size = o.sensor_size;
-    let limit = o.max_events;
-    let answer = read::decode_words(
-        words,
-        encoding,
-        size,
-        limit,
-        &mut *xs,
-        &mut *ys,
-        &mut *ts,
-        &mut *ps,
-    );
-    reading_of(answer)
-}
-
 #[no_mangle]
-pub extern "C" fn prophesee_decode_evt2(
+pub extern "C" fn prophesee_decode_words(
     words: &[u8],
+    encoding: u32,
     options: PropheseeOptions,
     xs: &mut [u16],
     ys: &mut [u16],
     ts: &mut [i64],
     ps: &mut [u8],
 ) -> PropheseeReading
-    ensures { λ r. ⌜ DecodesWords (now (words .entry)) Evt2 options r
+    ensures { λ r. ⌜ DecodesWordsC (now (words .entry)) encoding options r
         (now (xs .entry)) (now (ys .entry)) (now (ts .entry)) (now (ps .entry))
         (now (xs .exit)) (now (ys .exit)) (now (ts .exit)) (now (ps .exit)) ⌝ }
 {
-    decode(
-        words,
-        Encoding::Evt2,
-        options,
-        &mut *xs,
-        &mut *ys,
-        &mut *ts,
-        &mut *ps,
-    )
-}
-
-#[no_mangle]
-pub extern "C" fn prophesee_decode_evt3(
-    words: &[u8],
-    options: PropheseeOptions,
-    xs: &mut [u16],
-    ys: &mut [u16],
-    ts: &mut [i64],
-    ps: &mut [u8],
-) -> PropheseeReading
-    ensures { λ r. ⌜ DecodesWords (now (words .entry)) Evt3 options r
-        (now (xs .entry)) (now (ys .entry)) (now (ts .entry)) (now (ps .entry))
-        (now (xs .exit)) (now (ys .exit)) (now (ts .exit)) (now (ps .exit)) ⌝ }
-{
-    decode(
-        words,
-        Encoding::Evt3,
-        options,
-        &mut *xs,
-        &mut *ys,
-        &mut *ts,
-        &mut *ps,
-    )
+    if is_known(encoding) {
+        let e = encoding_of(encoding);
+        let o = options_of(options);
+        let size = o.sensor_size;
+        let limit = o.max_events;
+        let answer = read::decode_words(
+            words,
+            e,
+            size,
+            limit,
+            &mut *xs,
+            &mut *ys,
+            &mut *ts,
+            &mut *ps,
+        );
+        return reading_of(answer);
+    }
+    let refusal = behind_too_long(words.len(), Refusal::UnknownEncoding);
+    reading_of(ReadAnswer::Refused(refusal))
 }

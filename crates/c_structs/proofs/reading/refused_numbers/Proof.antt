@@ -1,4 +1,4 @@
-use Rattle.c_structs.specs.Laws.{refused-reading}
+use Rattle.c_structs.specs.Reading.{refused-reading}
 use borrow.Author.Needs.{needs}
 use Rattle.c_structs.proofs.reading.refused_numbers.Statement.{statement}
 use Rattle.c_structs.proofs.reading.refused_numbers.Tie as tie

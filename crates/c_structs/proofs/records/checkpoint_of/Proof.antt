@@ -6,7 +6,8 @@ use Rattle.c_structs.proofs.records.checkpoint_of.Tie as tie
 
 returns : tie.Need-returns
 returns c =
-    rw (toZ-ofZ w64 (c .before .signed-time .result) (record { sfits = c .before .signed-time .ok }), c .before .signed-time .ensures, c .codec-of .ensures)
+    let time = c .before .time-of in
+    rw (toZ-ofZ w64 (time .result) (record { sfits = time .ok }), time .ensures, c .codec-of .ensures)
 
 pub checkpoint-of-spec : {M : Type 1} → statement M
 checkpoint-of-spec = tie.close (tie.spec (λ c κs. search needs) (λ c κs. search needs) returns)

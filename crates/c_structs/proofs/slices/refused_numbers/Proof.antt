@@ -1,4 +1,4 @@
-use Rattle.c_structs.specs.Laws.{refused-slice}
+use Rattle.c_structs.specs.Slicing.{refused-slice}
 use borrow.Author.Needs.{needs}
 use Rattle.c_structs.proofs.slices.refused_numbers.Statement.{statement}
 use Rattle.c_structs.proofs.slices.refused_numbers.Tie as tie

@@ -2,9 +2,6 @@ use borrow.Author.Needs.{needs}
 use Rattle.c_structs.proofs.writer.appended_of.Statement.{statement}
 use Rattle.c_structs.proofs.writer.appended_of.Tie as tie
 
-returns : tie.Need-returns
-returns c = rw (c .before .before .answer .given .1, c .flat-of .ensures)
-
 returns-2 : tie.Need-returns-2
 returns-2 c = rw (c .before .before .answer2 .given .1) (c .refused-of .ensures)
 
@@ -13,5 +10,4 @@ appended-of-spec =
     tie.close
     (tie.spec
     (λ c. search needs) (λ c κs. search needs) (λ c. search needs) (λ c κs. search needs)
-    returns
-    returns-2)
+    (λ c. rw (c .before .before .answer .given .1, c .flat-of .ensures)) returns-2)

@@ -14,7 +14,7 @@ returns c =
       b .before .before .before .sent-value .ensures,
       b .before .before .sent-value2 .ensures,
       b .before .sent-value3 .ensures,
-      b .evt3-of .ensures,
+      b .encoding-number .ensures,
       c .before .before .before .before .bit-of .ensures,
       c .before .before .before .has-last .ensures,
       c .before .before .has-sent .ensures,
@@ -26,6 +26,5 @@ pub flat-of-spec : {M : Type 1} → statement M
 flat-of-spec =
     tie.close
     (tie.spec
-    (λ c κs. search needs) (λ c κs. search needs) (λ c κs. search needs) (λ c κs. search needs) (λ c κs. search needs)
-    (λ c κs. search needs) (λ c κs. search needs) (λ c κs. search needs) (λ c κs. search needs) (λ c κs. search needs)
-    returns)
+    (λ c κs. search needs) (λ c κs. search needs) (λ c κs. search needs) (λ c κs. search needs) (λ c κs. search needs) (λ c κs. search needs)
+    (λ c κs. search needs) (λ c κs. search needs) (λ c κs. search needs) (λ c κs. search needs) returns)

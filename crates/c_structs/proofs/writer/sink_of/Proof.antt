@@ -6,17 +6,14 @@ use Rattle.c_structs.proofs.writer.sink_of.Tie as tie
 
 returns : tie.Need-returns
 returns c =
+    let b = c .before .before in
     rw (
-      c .before .before .before .before .version-of .ensures,
-      c .before .before .before .is-set .ensures,
+      b .before .before .encoding-of .ensures,
+      b .before .is-set .ensures,
       c .before .last-of .ensures,
       c .state-of .ensures,
-      toZ-ofZ w64 (c .before .before .before .before .before .args .flat .«last_t») (record { sfits = c .before .before .struct-told .given .1 .0 .1 }),
+      toZ-ofZ w64 (b .before .before .before .args .flat .«last_t») (record { sfits = b .struct-told .given .1 .0 .1 }),
     )
 
 pub sink-of-spec : {M : Type 1} → statement M
-sink-of-spec =
-    tie.close
-    (tie.spec
-    (λ c κs. search needs) (λ c κs. search needs) (λ c κs. search needs) (λ c κs. search needs)
-    returns)
+sink-of-spec = tie.close (tie.spec (λ c κs. search needs) (λ c κs. search needs) (λ c κs. search needs) (λ c κs. search needs) returns)

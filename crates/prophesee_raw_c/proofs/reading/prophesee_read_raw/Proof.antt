@@ -1,4 +1,4 @@
-use Rattle.c_structs.specs.Laws.{reads-raw}
+use Rattle.c_structs.specs.Promises.{reads-raw}
 use borrow.Author.Needs.{needs}
 use Rattle.prophesee_raw_c.proofs.reading.prophesee_read_raw.Statement.{statement}
 use Rattle.prophesee_raw_c.proofs.reading.prophesee_read_raw.Tie as tie
@@ -14,6 +14,5 @@ pub prophesee-read-raw-spec : {M : Type 1} → statement M
 prophesee-read-raw-spec =
     tie.close
     (tie.spec
-    (λ c κs. search needs) (λ c κs. search needs) (λ c κs. search needs) (λ c. search needs) (λ c. search needs)
-    (λ c. search needs) (λ c. search needs)
-    returns)
+    (λ c κs. search needs) (λ c κs. search needs) (λ c κs. search needs) (λ c. search needs) (λ c. search needs) (λ c. search needs)
+    (λ c. search needs) returns)

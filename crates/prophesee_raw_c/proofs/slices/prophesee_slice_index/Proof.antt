@@ -1,0 +1,31 @@
+use Rattle.c_structs.specs.Promises.{start-number, slices-number}
+use borrow.Author.Needs.{needs}
+use Rattle.prophesee_raw_c.proofs.slices.prophesee_slice_index.Statement.{statement}
+use Rattle.prophesee_raw_c.proofs.slices.prophesee_slice_index.Tie as tie
+
+slice-from-requires : tie.Need-slice-from-requires
+slice-from-requires c κs =
+    let b = c .before .before .before .before in
+    let b′ = b .before .before .before .before .before in
+    let a = b′ .before .before .before .before .before .before .before .args in
+    start-number (a .recording .now) (a .records .now) (a .source) (b′ .before .before .source-of .result) (b′ .before .before .source-of .ensures)
+    (b′ .before .used-records .result) (b′ .before .used-records .ensures) (b′ .by-number .result) (b .before .judge-records .result)
+    (b .choose-record .result) (b .before .judge-records .ensures) (b .choose-record .ensures) (a .i0) (a .i1) (b′ .by-number .ensures)
+
+returns : tie.Need-returns
+returns c =
+    let b″ = c .before .before .before .before .before .before .before .before in
+    let b = b″ .before .before .before .before .before in
+    let b′ = b .before .before .before .before .before in
+    let a = b′ .before .before .before .before .before .before .before .args in
+    slices-number (a .recording .now) (a .records .now) (a .source) (b′ .before .before .source-of .result) (b′ .before .before .source-of .ensures)
+    (b′ .before .used-records .result) (b′ .before .used-records .ensures) (b′ .by-number .result) (b .before .judge-records .result)
+    (b .choose-record .result) (b .before .judge-records .ensures) (b .choose-record .ensures) (a .i0) (a .i1) (b′ .by-number .ensures)
+    _ _ (c .slice-of .ensures) (b″ .slice-from .ensures)
+
+pub prophesee-slice-index-spec : {M : Type 1} → statement M
+prophesee-slice-index-spec =
+    tie.close
+    (tie.spec
+    (λ c κs. search needs) (λ c κs. search needs) (λ c κs. search needs) (λ c κs. search needs) (λ c κs. search needs) slice-from-requires
+    (λ c κs. search needs) (λ c. search needs) (λ c. search needs) (λ c. search needs) (λ c. search needs) returns)

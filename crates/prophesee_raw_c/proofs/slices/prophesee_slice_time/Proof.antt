@@ -1,0 +1,37 @@
+use mir.Syntax.{w64}
+use mir.ValLaws.{toZ-ofZ}
+use Rattle.c_structs.specs.Promises.{start-during, slices-during}
+use borrow.Author.Needs.{needs}
+use Rattle.prophesee_raw_c.proofs.slices.prophesee_slice_time.Statement.{statement}
+use Rattle.prophesee_raw_c.proofs.slices.prophesee_slice_time.Tie as tie
+
+slice-from-requires : tie.Need-slice-from-requires
+slice-from-requires c κs =
+    let b = c .before .before .before .before in
+    let b′ = b .before .before .before .before .before in
+    let s = b′ .before .before .before .before .before .before .before in
+    let a = s .args in
+    start-during (a .recording .now) (a .records .now) (a .source) (b′ .before .before .source-of .result) (b′ .before .before .source-of .ensures)
+    (b′ .before .used-records .result) (b′ .before .used-records .ensures) (b′ .by-time .result) (b .before .judge-records .result)
+    (b .choose-record .result) (b .before .judge-records .ensures) (b .choose-record .ensures) (a .t0) (a .t1)
+    (rw (toZ-ofZ w64 (a .t0) (s .fits .t0), toZ-ofZ w64 (a .t1) (s .fits .t1)) at (b′ .by-time .ensures))
+
+returns : tie.Need-returns
+returns c =
+    let b″ = c .before .before .before .before .before .before .before .before in
+    let b = b″ .before .before .before .before .before in
+    let b′ = b .before .before .before .before .before in
+    let s = b′ .before .before .before .before .before .before .before in
+    let a = s .args in
+    slices-during (a .recording .now) (a .records .now) (a .source) (b′ .before .before .source-of .result) (b′ .before .before .source-of .ensures)
+    (b′ .before .used-records .result) (b′ .before .used-records .ensures) (b′ .by-time .result) (b .before .judge-records .result)
+    (b .choose-record .result) (b .before .judge-records .ensures) (b .choose-record .ensures) (a .t0) (a .t1)
+    (rw (toZ-ofZ w64 (a .t0) (s .fits .t0), toZ-ofZ w64 (a .t1) (s .fits .t1)) at (b′ .by-time .ensures))
+    _ _ (c .slice-of .ensures) (b″ .slice-from .ensures)
+
+pub prophesee-slice-time-spec : {M : Type 1} → statement M
+prophesee-slice-time-spec =
+    tie.close
+    (tie.spec
+    (λ c κs. search needs) (λ c κs. search needs) (λ c κs. search needs) (λ c κs. search needs) (λ c κs. search needs) slice-from-requires
+    (λ c κs. search needs) (λ c. search needs) (λ c. search needs) (λ c. search needs) (λ c. search needs) returns)

@@ -1,0 +1,2 @@
+-- What each file is stands at its head.
+pub mod After

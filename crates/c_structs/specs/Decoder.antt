@@ -1,5 +1,4 @@
 -- A decoder, the events of a word and one of them as numbers and back, and what decoding promises.
-use mathlib.Core.Path.{_≡_}
 use mathlib.Core.Bool.{Bool, cond, _&&_}
 use mathlib.Core.List.{List}
 use Prim.Native.Nat.{ℕ}

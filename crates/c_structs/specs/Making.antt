@@ -8,15 +8,16 @@ use lib.Dec.{ltb}
 use lib.ListN.{length, drop, set, length-set, length-map, getD}
 use lib.Seq.{set-at, drop-cons, append-snoc}
 use borrow.Author.Tests.{ltb-true, ltb-false}
-use Rattle.evt_types.specs.{declared.Refusal.Refusal, declared.Refusal.the-variants.UnknownEncoding, Outcome.Outcome, Outcome.refuse, Outcome.give, Told.told}
+use Rattle.evt_types.specs.declared.{Refusal.Refusal, Refusal.the-variants.UnknownEncoding}
+use Rattle.evt_types.specs.{Outcome.Outcome, Outcome.refuse, Outcome.give, Told.told}
 use Rattle.index_build.specs.declared.{BuildStep.BuildStep, Builder.Builder, Checkpoint.Checkpoint, OpenAnswer.OpenAnswer}
 use Rattle.index_build.specs.declared.{OpenAnswer.the-variants.Opened, Prepared.Prepared, Prepared.the-variants.Ready}
-use Rattle.index_build.specs.{declared.Prepared.the-variants.Refused as NotReady, Index.Body, Index.firsts, Index.openAnswer, Index.openRecords, Index.openWordsOutcome}
-use Rattle.index_build.specs.{Index.toldOpen, Index.told-answer, Laws.builder-next, Laws.builder-fit, Laws.length-firsts, Open.Accepted, Open.IfGiven}
-use Rattle.index_build.specs.Open.{Builds, builds, accepted-words}
+use Rattle.index_build.specs.{declared.Prepared.the-variants.Refused as NotReady, Index.Body, Index.firsts, Index.openAnswer, Index.openRecords}
+use Rattle.index_build.specs.{Index.toldOpen, Index.told-answer, Index.openWordsOutcome, Laws.builder-next, Laws.builder-fit, Laws.length-firsts}
+use Rattle.index_build.specs.Open.{Accepted, IfGiven, Builds, builds, accepted-words}
 use Rattle.index_build.specs.Build.{recordOf, nextOf, Fit, Advanced, Begun, builderAt, madeAt, preparedBy, concluded}
 use Rattle.c_structs.specs.declared.{opening.PropheseeOpenOptions.PropheseeOpenOptions, opening.PropheseeOpening.PropheseeOpening}
-use Rattle.c_structs.specs.{Encoding.isKnown, Encoding.encodingOf, Encoding.behindTooLong, Opening.wordsOptionsOf, Opening.wordsOutcomeC}
+use Rattle.c_structs.specs.{Encoding.isKnown, Encoding.encodingOf, Encoding.behindTooLong, Opening.wordsOptionsOf, Opening.openWordsOutcomeC}
 use Rattle.c_structs.specs.{Opening.openedOf, Opening.OpensC}
 use Rattle.c_structs.specs.Records.{flatRecord, entriesOf, entriesAll}
 
@@ -118,7 +119,7 @@ begins l room outcome ok (NotReady r) is = tt
 begins l room outcome ok (Ready t) is = builds l room outcome ok t is .begun
 
 -- whatever the number of the encoding
-pub accepted-coded : (words : List ℕ) (n : ℕ) (o : PropheseeOpenOptions) (room : ℕ) → IfGiven (Accepted words room) (wordsOutcomeC words n o room)
+pub accepted-coded : (words : List ℕ) (n : ℕ) (o : PropheseeOpenOptions) (room : ℕ) → IfGiven (Accepted words room) (openWordsOutcomeC words n o room)
 accepted-coded words n o room = go (isKnown n)
   where
     go : (b : Bool) → IfGiven (Accepted words room)

@@ -41,11 +41,11 @@ abbrev pub OpensRawC : List ℕ → PropheseeOpenOptions → PropheseeOpening �
 OpensRawC recording o r records₀ = OpensC (openRawOutcome recording (openOptionsOf o) (length records₀)) r records₀
 
 -- of words of encoding n, with room for so many records
-abbrev pub wordsOutcomeC : List ℕ → (n : ℕ) → PropheseeOpenOptions → (room : ℕ) → Outcome Body
-wordsOutcomeC words n o room = codedOutcome n words (λ e. openWordsOutcome words (wordsOptionsOf e o) room)
+abbrev pub openWordsOutcomeC : List ℕ → (n : ℕ) → PropheseeOpenOptions → (room : ℕ) → Outcome Body
+openWordsOutcomeC words n o room = codedOutcome n words (λ e. openWordsOutcome words (wordsOptionsOf e o) room)
 
 abbrev pub OpensWordsC : List ℕ → (encoding : ℕ) → PropheseeOpenOptions → PropheseeOpening → (records₀ records : List (List ℕ)) → Type 0
-OpensWordsC words n o r records₀ = OpensC (wordsOutcomeC words n o (length records₀)) r records₀
+OpensWordsC words n o r records₀ = OpensC (openWordsOutcomeC words n o (length records₀)) r records₀
 
 -- ---- laws
 

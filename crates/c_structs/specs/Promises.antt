@@ -1,7 +1,7 @@
 -- From what the library promises to what the C interface does.
 use mathlib.Core.Path.{_≡_, refl, sym, ap, subst, _∙_}
 use mathlib.Core.Bool.{Bool, true, false, cond}
-use mathlib.Core.List.{List, []}
+use mathlib.Core.List.{List}
 use Prim.Native.Nat.{ℕ, _≤_}
 use lib.IntN.{ℤ}
 use lib.ListN.{length}
@@ -21,11 +21,11 @@ use Rattle.write_append.specs.Append.{AppendedBytes, appendOutcome, toldAppend,
 use Rattle.c_structs.specs.declared.{opening.PropheseeSource.PropheseeSource, options.PropheseeOptions.PropheseeOptions}
 use Rattle.c_structs.specs.declared.{reading.PropheseeReading.PropheseeReading, slices.PropheseeSlice.PropheseeSlice}
 use Rattle.c_structs.specs.declared.{writer.PropheseeAppended.PropheseeAppended, writer.PropheseeSink.PropheseeSink}
-use Rattle.c_structs.specs.{Encoding.isKnown, Encoding.encodingOf, Encoding.behindTooLong, Encoding.codedOutcome, Laws.sink-back}
+use Rattle.c_structs.specs.{Encoding.isKnown, Encoding.encodingOf, Encoding.behindTooLong, Laws.sink-back}
 use Rattle.c_structs.specs.{Lookup.length-records, Options.optionsOf, Reading.readingOf, Reading.ReadsC, Reading.ReadsRawC}
 use Rattle.c_structs.specs.{Reading.DecodesWordsC, Reading.refused-not, Records.checkpointsIn}
 use Rattle.c_structs.specs.Slicing.{sourceOf, usedRecords, recordsIn, slicedOf, SlicesFromC, SlicesIndexC, SlicesTimeC}
-use Rattle.c_structs.specs.Writer.{isSink, sinkOf, flatSink, appendOutcomeC, appendedOf, AppendsC, AppendOwedC}
+use Rattle.c_structs.specs.Writer.{isSink, sinkOf, flatSink, appendedOf, AppendsC, AppendOwedC}
 
 -- ---- reading
 
@@ -59,7 +59,8 @@ reads-unknown o words n unknown refusal is r is-r {xs} {ys} {ts} {ps} =
     let g = optionsOf o in
     subst (λ (k : Outcome ReadEvents). ReadsC k r xs ys ts ps xs ys ts ps)
     (ap refuse is ∙ ap (λ (b : Bool). cond b (wordsOutcome words (encodingOf n) (g .«sensor_size») (g .«max_events») room)
-    (refuse (behindTooLong (length words) UnknownEncoding))) (sym unknown)) (record { is-answer = is-r; columns = record { column-x = refl; column-y = refl; column-t = refl; column-p = refl } })
+    (refuse (behindTooLong (length words) UnknownEncoding))) (sym unknown))
+    (record { is-answer = is-r; columns = record { column-x = refl; column-y = refl; column-t = refl; column-p = refl } })
 
 -- ---- the writer
 

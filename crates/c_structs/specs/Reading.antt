@@ -56,7 +56,8 @@ DecodesWordsC words n options r xs₀ ys₀ ts₀ ps₀ =
     let room = shortest xs₀ ys₀ ts₀ ps₀ in
     ReadsC (codedOutcome n words (λ e. wordsOutcome words e (o .«sensor_size») (o .«max_events») room)) r xs₀ ys₀ ts₀ ps₀
 
-abbrev pub ReadsRawC : List ℕ → PropheseeOptions → PropheseeReading → (xs₀ ys₀ : List ℕ) (ts₀ : List ℤ) (ps₀ xs ys : List ℕ) (ts : List ℤ) (ps : List ℕ) → Type 0
+abbrev pub ReadsRawC : List ℕ → PropheseeOptions → PropheseeReading
+    → (xs₀ ys₀ : List ℕ) (ts₀ : List ℤ) (ps₀ xs ys : List ℕ) (ts : List ℤ) (ps : List ℕ) → Type 0
 ReadsRawC recording options r xs₀ ys₀ ts₀ ps₀ = ReadsC (rawOutcome recording (optionsOf options) (shortest xs₀ ys₀ ts₀ ps₀)) r xs₀ ys₀ ts₀ ps₀
 
 -- ---- laws: a refusal is no acceptance, and has none of its values

@@ -1,11 +1,12 @@
 -- What a slice returns, in numbers, and promises.
 use mathlib.Core.Path.{_≡_, sym}
-use mathlib.Core.Bool.{Bool, cond, _&&_}
+use mathlib.Core.Bool.{Bool, true, false, cond, _&&_}
 use mathlib.Core.List.{List}
-use Prim.Native.Nat.{ℕ}
+use Prim.Native.Nat.{ℕ, _≤_, _<_}
 use lib.Dec.{leb}
 use lib.IntN.{ℤ}
 use lib.ListN.{length}
+use borrow.Author.Tests.{le-leb, lt-leb}
 use Rattle.evt_types.specs.{declared.Refusal.Refusal, Event.Event, Outcome.Outcome, Told.Told, Told.told}
 use Rattle.read_rules.specs.Read.{shortest, Handed}
 use Rattle.index_build.specs.declared.{Checkpoint.Checkpoint, RawSliceSource.RawSliceSource}
@@ -30,6 +31,16 @@ sourceOf s = record {
 -- how many of the lent records are used: none where the encoding is unknown or fewer are lent than the source tells
 abbrev pub usedRecords : PropheseeSource → (lent : ℕ) → ℕ
 usedRecords s lent = cond (isKnown (s .encoding) && leb (s .records) lent) (s .records) 0
+
+module _ (s : PropheseeSource) (lent : ℕ) where
+  pub used-unknown : isKnown (s .encoding) ≡ false → 0 ≡ usedRecords s lent
+  used-unknown known = rw known
+
+  pub used-few : isKnown (s .encoding) ≡ true → lent < s .records → 0 ≡ usedRecords s lent
+  used-few known few = rw (known, lt-leb (s .records) lent few)
+
+  pub used-all : isKnown (s .encoding) ≡ true → s .records ≤ lent → s .records ≡ usedRecords s lent
+  used-all known enough = rw (known, le-leb (s .records) lent enough)
 
 -- without a record the index is out of range (10)
 abbrev pub recordsIn : PropheseeSource → List (List ℕ) → List Checkpoint

@@ -4,7 +4,7 @@ use mathlib.Core.Bool.{Bool, true, false, cond}
 use mathlib.Core.List.{List}
 use Prim.Native.Nat.{ℕ}
 use Rattle.evt_types.specs.declared.{DecodeAnswer.DecodeAnswer, DecodeAnswer.the-variants.Events, DecodeAnswer.the-variants.Refused}
-use Rattle.evt_types.specs.{declared.Refusal.the-variants.StateOutOfRange, declared.vector.Vector.Vector, Event.narrowed, Owed.decodeAnswer}
+use Rattle.evt_types.specs.{declared.Refusal.the-variants.StateOutOfRange, Event.narrowed, Owed.decodeAnswer}
 use Rattle.evt_types.specs.Outcome.{Outcome, refuse, give}
 use Rattle.evt_codec.specs.{declared.codec.Codec.Codec, declared.codec.CodecDecoded.CodecDecoded, Codec.inRangeC, Codec.stepC, Codec.vectorC}
 use Rattle.evt_codec.specs.Decode.{DecodedC}

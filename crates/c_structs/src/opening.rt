@@ -4,7 +4,7 @@ ghost use lib.ListN.{length};
 ghost use Rattle.index_build.specs.Build.{Begun, preparedBy};
 ghost use Rattle.index_build.specs.Index.{toldOpen};
 ghost use Rattle.c_structs.specs.Making.{Begins, Makes, Answers};
-ghost use Rattle.c_structs.specs.Opening.{openOptionsOf, wordsOptionsOf, wordsOutcomeC, openedOf};
+ghost use Rattle.c_structs.specs.Opening.{openOptionsOf, wordsOptionsOf, openWordsOutcomeC, openedOf};
 use crate::encoding::behind_too_long;
 use crate::encoding::encoding_of;
 use crate::encoding::is_known;
@@ -132,7 +132,7 @@ pub fn prepare_coded(
     options: PropheseeOpenOptions,
     room: usize,
 ) -> Prepared
-    ensures { λ r. ⌜ r ≡ preparedBy (wordsOutcomeC (now (words .entry)) encoding options room) ⌝ }
+    ensures { λ r. ⌜ r ≡ preparedBy (openWordsOutcomeC (now (words .entry)) encoding options room) ⌝ }
 {
     if is_known(encoding) {
         let o = words_options_of(encoding_of(encoding), options);

@@ -56,13 +56,13 @@ fn is_held(has: u8, value: u64) -> bool
     has == 1
 }
 
-fn is_last_held(has: u8, t: i64) -> bool
-    ensures { λ r. ⌜ r ≡ isLastHeld has t ⌝ }
+fn is_last_held(flag: u8, t: i64) -> bool
+    ensures { λ r. ⌜ r ≡ isLastHeld flag t ⌝ }
 {
-    if has == 0 {
+    if flag == 0 {
         return t == 0;
     }
-    has == 1
+    flag == 1
 }
 
 fn is_state_held(flat: PropheseeSink) -> bool

@@ -1,6 +1,5 @@
 use mathlib.Core.Path.{sym, ap, _∙_}
 use Rattle.evt_types.specs.declared.Encoding.{Encoding}
-use Rattle.evt_types.specs.declared.Refusal.{Refusal}
 use Rattle.index_build.specs.declared.WordsOptions.{WordsOptions}
 use Rattle.index_build.specs.declared.Prepared.the-variants.{Refused}
 use Rattle.index_build.specs.Build.{preparedBy}

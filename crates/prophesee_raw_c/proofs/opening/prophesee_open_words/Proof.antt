@@ -1,6 +1,6 @@
 use lib.ListN.{length}
 use Rattle.c_structs.specs.Making.{begins, accepted-coded}
-use Rattle.c_structs.specs.Opening.{wordsOutcomeC}
+use Rattle.c_structs.specs.Opening.{openWordsOutcomeC}
 use borrow.Author.Needs.{needs}
 use Rattle.prophesee_raw_c.proofs.opening.prophesee_open_words.Statement.{statement}
 use Rattle.prophesee_raw_c.proofs.opening.prophesee_open_words.Tie as tie
@@ -10,7 +10,7 @@ open-records-requires c κs =
     let a = c .before .before .before .args in
     let l = a .words .now in
     let room = length (a .records .now) in
-    begins l room (wordsOutcomeC l (a .encoding) (a .options) room) (accepted-coded l (a .encoding) (a .options) room) _ (c .before .prepare-coded .ensures)
+    begins l room (openWordsOutcomeC l (a .encoding) (a .options) room) (accepted-coded l (a .encoding) (a .options) room) _ (c .before .prepare-coded .ensures)
 
 returns : tie.Need-returns
 returns c =
@@ -18,7 +18,7 @@ returns c =
     let a = b .before .before .args in
     let l = a .words .now in
     let room = length (a .records .now) in
-    c .before .open-records .ensures (wordsOutcomeC l (a .encoding) (a .options) room) (accepted-coded l (a .encoding) (a .options) room)
+    c .before .open-records .ensures (openWordsOutcomeC l (a .encoding) (a .options) room) (accepted-coded l (a .encoding) (a .options) room)
     (b .prepare-coded .ensures)
 
 pub prophesee-open-words-spec : {M : Type 1} → statement M

@@ -2,7 +2,8 @@
  *
  * `rt staticlib prophesee_raw_c` proves the library and writes target/staticlib/libprophesee_raw_c.a
  * (x86-64 Linux). Every function is proved to return and to write exactly what its contract says
- * (crates/prophesee_raw_c/src cites it, crates/c_structs/specs defines it), whatever numbers it is given.
+ * (crates/prophesee_raw_c/src cites it, the specs of the crates c_values, c_decoder, c_index and c_writer
+ * define it), whatever numbers it is given.
  *
  * There is no global state and no memory is kept: all that a later call needs is in the values that
  * an earlier one returned and in the buffers of the caller. Calls on different buffers may run at the

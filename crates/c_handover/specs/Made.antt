@@ -13,7 +13,8 @@ use Rattle.read_fill.specs.Decode.{Bounded}
 use Rattle.index_build.specs.declared.{Builder.Builder}
 use Rattle.index_build.specs.{Index.Body, Index.firsts, Index.openRecords, Build.frontOf, Build.madeAt, Build.firstOf, Build.Begun, Laws.builder-fit}
 use Rattle.index_build.specs.Open.{Accepted, IfGiven, builds}
-use Rattle.c_structs.specs.{Codec.Narrow, Back.checkpoint-back, Records.flatRecord, Records.entriesOf, Records.entriesAll, Records.checkpointIn}
+use Rattle.c_values.specs.{Codec.Narrow}
+use Rattle.c_index.specs.{Back.checkpoint-back, Records.flatRecord, Records.entriesOf, Records.entriesAll, Records.checkpointIn}
 
 -- ---- those of a builder
 

@@ -2,7 +2,7 @@
 use mathlib.Core.Path.{_≡_, refl}
 use Rattle.evt_types.specs.declared.Encoding.{Encoding}
 use Rattle.laws_handover.specs.{Handover.fresh, Called.demand-three-ran}
-use Rattle.c_structs.specs.{Writer.flatSink}
+use Rattle.c_writer.specs.{Writer.flatSink}
 use Rattle.c_handover.specs.{Statement.freshNumbers, Statement.DemandThreeC, Reading.read-back, Writing.chained, Writing.written, Writing.calls-are}
 use Rattle.c_handover.specs.Writing.{ranFrom}
 

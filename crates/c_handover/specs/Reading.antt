@@ -22,10 +22,11 @@ use Rattle.index_build.specs.{Index.sourceOf as sourceAs, Laws.length-firsts, N
 use Rattle.slice_rules.specs.{declared.SliceAnswer.SliceAnswer, declared.SliceAnswer.the-variants.Sliced, Slice.toldSlice, Slice.sliceAnswer, Slice.sliceVerdict}
 use Rattle.slice_rules.specs.Slice.{Slices}
 use Rattle.laws_handover.specs.Handover.{Columns, room, HoldsEvents, numbered, duringTimes, widest, optionsOf, Index, ReadBack}
-use Rattle.c_structs.specs.declared.{reading.PropheseeReading.PropheseeReading, slices.PropheseeSlice.PropheseeSlice, opening.PropheseeSource.PropheseeSource}
-use Rattle.c_structs.specs.{Encoding.number-known, Encoding.encoding-back, Reading.readingOf, Reading.DecodesWordsC}
-use Rattle.c_structs.specs.{Reading.ReadsC, Opening.openedOf, Opening.OpensC, Records.entriesAll, Records.checkpointIn, Records.checkpointsIn}
-use Rattle.c_structs.specs.Slicing.{sourceOf, recordsIn, slicedOf, SlicesC, SlicesIndexC, SlicesTimeC}
+use Rattle.c_values.specs.{declared.reading.PropheseeReading.PropheseeReading, Encoding.number-known, Encoding.encoding-back, Reading.readingOf}
+use Rattle.c_values.specs.{Reading.DecodesWordsC, Reading.ReadsC}
+use Rattle.c_index.specs.{declared.slices.PropheseeSlice.PropheseeSlice, declared.opening.PropheseeSource.PropheseeSource, Opening.openedOf}
+use Rattle.c_index.specs.{Opening.OpensC, Records.entriesAll, Records.checkpointIn, Records.checkpointsIn, Slicing.sourceOf, Slicing.recordsIn}
+use Rattle.c_index.specs.{Slicing.slicedOf, Slicing.SlicesC, Slicing.SlicesIndexC, Slicing.SlicesTimeC}
 use Rattle.c_handover.specs.{Made.made-back, Statement.wholeSensor, Statement.IndexC, Statement.GivesC, Statement.ReadBackC}
 
 told-read : (o : Outcome ReadEvents) → toldRead (readAnswer o) ≡ readVerdict o

@@ -10,10 +10,11 @@ use Rattle.evt_types.specs.{declared.Encoding.Encoding, Event.Event, Num.encodi
 use Rattle.index_build.specs.Index.{recordCount, spacingOk}
 use Rattle.write_words.specs.Encode.{encodeSize}
 use Rattle.laws_handover.specs.Handover.{Columns, room, HoldsEvents, numbered, duringTimes, Call, fresh, acceptedEvents, streamWords, whole, others}
-use Rattle.c_structs.specs.declared.{options.PropheseeOptions.PropheseeOptions, reading.PropheseeReading.PropheseeReading, slices.PropheseeSlice.PropheseeSlice}
-use Rattle.c_structs.specs.declared.{opening.PropheseeOpenOptions.PropheseeOpenOptions, opening.PropheseeOpening.PropheseeOpening}
-use Rattle.c_structs.specs.declared.{writer.PropheseeAppended.PropheseeAppended, writer.PropheseeSink.PropheseeSink}
-use Rattle.c_structs.specs.{Reading.DecodesWordsC, Opening.OpensWordsC, Slicing.SlicesIndexC, Slicing.SlicesTimeC, Writer.writerOf, Writer.AppendOwedC}
+use Rattle.c_values.specs.{declared.options.PropheseeOptions.PropheseeOptions, declared.reading.PropheseeReading.PropheseeReading, Reading.DecodesWordsC}
+use Rattle.c_index.specs.{declared.slices.PropheseeSlice.PropheseeSlice, declared.opening.PropheseeOpenOptions.PropheseeOpenOptions}
+use Rattle.c_index.specs.{declared.opening.PropheseeOpening.PropheseeOpening, Opening.OpensWordsC, Slicing.SlicesIndexC, Slicing.SlicesTimeC}
+use Rattle.c_writer.specs.{declared.writer.PropheseeAppended.PropheseeAppended, declared.writer.PropheseeSink.PropheseeSink, Writer.writerOf}
+use Rattle.c_writer.specs.{Writer.AppendOwedC}
 
 -- ---- what is read
 

@@ -7,9 +7,9 @@ use Rattle.evt_types.specs.{Outcome.Outcome, Outcome.refuse, Outcome.give}
 use Rattle.write_rules.specs.declared.RawEventSink.{RawEventSink}
 use Rattle.write_append.specs.Append.{AppendedBytes, appendAnswer, appendVerdict, toldAppend, sinkAfter, AppendOwed}
 use Rattle.laws_handover.specs.Handover.{Call, Ran, Chained, callOutcome, next, callsOf, bytesTold, allWritten}
-use Rattle.c_structs.specs.declared.{writer.PropheseeAppended.PropheseeAppended, writer.PropheseeSink.PropheseeSink}
-use Rattle.c_structs.specs.{Reading.no-value, Reading.refused-not, Writer.flatSink, Writer.appendedOf}
-use Rattle.c_structs.specs.{Laws.sink-back, Laws.sink-flat, Writer.AppendsC, Writer.AppendOwedC}
+use Rattle.c_values.specs.{Reading.no-value, Reading.refused-not}
+use Rattle.c_writer.specs.{declared.writer.PropheseeAppended.PropheseeAppended, declared.writer.PropheseeSink.PropheseeSink, Writer.flatSink}
+use Rattle.c_writer.specs.{Writer.appendedOf, Laws.sink-back, Laws.sink-flat, Writer.AppendsC, Writer.AppendOwedC}
 use Rattle.c_handover.specs.Statement.{RanC, ChainedC, callsC, allWrittenC}
 
 -- the same appends, as the library returns them, from a writer s on

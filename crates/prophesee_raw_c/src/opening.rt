@@ -1,10 +1,10 @@
 // Opening a recording, or headerless words: the index's records are made into lent ones.
-ghost use Rattle.c_structs.specs.Opening.{OpensRawC, OpensWordsC};
-use c_structs::opening::PropheseeOpenOptions;
-use c_structs::opening::PropheseeOpening;
-use c_structs::opening::open_options_of;
-use c_structs::opening::open_records;
-use c_structs::opening::prepare_coded;
+ghost use Rattle.c_index.specs.{Opening.OpensRawC, Opening.OpensWordsC};
+use c_index::opening::PropheseeOpenOptions;
+use c_index::opening::PropheseeOpening;
+use c_index::opening::open_options_of;
+use c_index::opening::open_records;
+use c_index::opening::prepare_coded;
 
 #[no_mangle]
 pub extern "C" fn prophesee_open(

@@ -1,18 +1,17 @@
 // Reading a header, a recording, or headerless words into four lent columns.
 ghost use mathlib.Core.Path.{_≡_};
 ghost use Rattle.header.specs.Header.{headerVerdict};
-ghost use Rattle.c_structs.specs.Options.{sizeOf};
-ghost use Rattle.c_structs.specs.Reading.{parsedOf, DecodesWordsC, ReadsRawC};
-use c_structs::encoding::behind_too_long;
-use c_structs::encoding::encoding_of;
-use c_structs::encoding::is_known;
-use c_structs::options::PropheseeOptions;
-use c_structs::options::options_of;
-use c_structs::options::size_of;
-use c_structs::reading::PropheseeHeader;
-use c_structs::reading::PropheseeReading;
-use c_structs::reading::parsed_of;
-use c_structs::reading::reading_of;
+ghost use Rattle.c_values.specs.{Options.sizeOf, Reading.parsedOf, Reading.DecodesWordsC, Reading.ReadsRawC};
+use c_values::encoding::behind_too_long;
+use c_values::encoding::encoding_of;
+use c_values::encoding::is_known;
+use c_values::options::PropheseeOptions;
+use c_values::options::options_of;
+use c_values::options::size_of;
+use c_values::reading::PropheseeHeader;
+use c_values::reading::PropheseeReading;
+use c_values::reading::parsed_of;
+use c_values::reading::reading_of;
 use evt_types::Refusal;
 use read::ReadAnswer;
 

@@ -1,12 +1,12 @@
 // Slices by number and by time, over lent records.
-ghost use Rattle.c_structs.specs.Slicing.{SlicesIndexC, SlicesTimeC};
-use c_structs::opening::PropheseeSource;
-use c_structs::slices::PropheseeSlice;
-use c_structs::slices::choose_record;
-use c_structs::slices::judge_records;
-use c_structs::slices::slice_of;
-use c_structs::slices::source_of;
-use c_structs::slices::used_records;
+ghost use Rattle.c_index.specs.{Slicing.SlicesIndexC, Slicing.SlicesTimeC};
+use c_index::opening::PropheseeSource;
+use c_index::slices::PropheseeSlice;
+use c_index::slices::choose_record;
+use c_index::slices::judge_records;
+use c_index::slices::slice_of;
+use c_index::slices::source_of;
+use c_index::slices::used_records;
 
 // The events from number i0 to before i1, the ends clamped to the total.
 #[no_mangle]

@@ -1,22 +1,23 @@
 // Single words: decoders, the events of a word one by one, and the decoder after words.
 ghost use mathlib.Core.Path.{_≡_};
 ghost use Rattle.evt_types.specs.Event.{nextOf};
-ghost use Rattle.c_structs.specs.Decoder.{newDecoder, vectorIn, nextNumbers, wordOutcomeC, decodedOf, afterOutcomeC, steppedOf};
-use c_structs::decoder::PropheseeDecoded;
-use c_structs::decoder::PropheseeDecoder;
-use c_structs::decoder::PropheseeNext;
-use c_structs::decoder::PropheseeStepped;
-use c_structs::decoder::PropheseeVector;
-use c_structs::decoder::codec_in;
-use c_structs::decoder::decoded_of;
-use c_structs::decoder::is_decoder;
-use c_structs::decoder::new_decoder;
-use c_structs::decoder::next_numbers;
-use c_structs::decoder::refused_decoded;
-use c_structs::decoder::refused_stepped;
-use c_structs::decoder::stepped_of;
-use c_structs::decoder::vector_in;
-use c_structs::encoding::behind_too_long;
+ghost use Rattle.c_decoder.specs.{Decoder.newDecoder, Decoder.vectorIn, Decoder.nextNumbers, Decoder.wordOutcomeC, Decoder.decodedOf, Decoder.afterOutcomeC};
+ghost use Rattle.c_decoder.specs.{Decoder.steppedOf};
+use c_decoder::decoder::PropheseeDecoded;
+use c_decoder::decoder::PropheseeDecoder;
+use c_decoder::decoder::PropheseeNext;
+use c_decoder::decoder::PropheseeStepped;
+use c_decoder::decoder::PropheseeVector;
+use c_decoder::decoder::codec_in;
+use c_decoder::decoder::decoded_of;
+use c_decoder::decoder::is_decoder;
+use c_decoder::decoder::new_decoder;
+use c_decoder::decoder::next_numbers;
+use c_decoder::decoder::refused_decoded;
+use c_decoder::decoder::refused_stepped;
+use c_decoder::decoder::stepped_of;
+use c_decoder::decoder::vector_in;
+use c_values::encoding::behind_too_long;
 use evt_types::Refusal;
 
 #[no_mangle]

@@ -1,13 +1,13 @@
 // The writer: fresh ones, and appending.
 ghost use mathlib.Core.Path.{_≡_};
-ghost use Rattle.c_structs.specs.Writer.{writerOf, AppendOwedC};
-use c_structs::writer::PropheseeAppended;
-use c_structs::writer::PropheseeSink;
-use c_structs::writer::appended_of;
-use c_structs::writer::is_sink;
-use c_structs::writer::refused_of;
-use c_structs::writer::sink_of;
-use c_structs::writer::writer_of;
+ghost use Rattle.c_writer.specs.{Writer.writerOf, Writer.AppendOwedC};
+use c_writer::writer::PropheseeAppended;
+use c_writer::writer::PropheseeSink;
+use c_writer::writer::appended_of;
+use c_writer::writer::is_sink;
+use c_writer::writer::refused_of;
+use c_writer::writer::sink_of;
+use c_writer::writer::writer_of;
 use evt_types::Refusal;
 
 // A fresh writer; `header` 0: it sends no header, else one before its first words.

@@ -4,8 +4,7 @@ use Rattle.index_build.specs.declared.OpenOptions.{OpenOptions}
 use Rattle.index_build.specs.Build.{preparedBy}
 use Rattle.index_build.specs.Index.{openRawOutcome}
 use Rattle.index_build.specs.Open.{accepted-raw}
-use Rattle.c_structs.specs.Making.{begins}
-use Rattle.c_structs.specs.Opening.{openOptionsOf}
+use Rattle.c_index.specs.{Making.begins, Opening.openOptionsOf}
 use borrow.Author.Needs.{needs}
 use Rattle.prophesee_raw_c.proofs.opening.prophesee_open.Statement.{statement}
 use Rattle.prophesee_raw_c.proofs.opening.prophesee_open.Tie as tie

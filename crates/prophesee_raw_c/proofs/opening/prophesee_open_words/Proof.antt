@@ -1,6 +1,5 @@
 use lib.ListN.{length}
-use Rattle.c_structs.specs.Making.{begins, accepted-coded}
-use Rattle.c_structs.specs.Opening.{openWordsOutcomeC}
+use Rattle.c_index.specs.{Making.begins, Making.accepted-coded, Opening.openWordsOutcomeC}
 use borrow.Author.Needs.{needs}
 use Rattle.prophesee_raw_c.proofs.opening.prophesee_open_words.Statement.{statement}
 use Rattle.prophesee_raw_c.proofs.opening.prophesee_open_words.Tie as tie

@@ -1,5 +1,5 @@
 use mathlib.Core.Path.{sym, _∙_}
-use Rattle.c_structs.specs.Promises.{reads-words, reads-unknown}
+use Rattle.c_values.specs.{Promises.reads-words, Promises.reads-unknown}
 use borrow.Author.Needs.{needs}
 use Rattle.prophesee_raw_c.proofs.reading.prophesee_decode_words.Statement.{statement}
 use Rattle.prophesee_raw_c.proofs.reading.prophesee_decode_words.Tie as tie

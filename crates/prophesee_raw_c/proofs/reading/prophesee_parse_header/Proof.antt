@@ -1,7 +1,7 @@
 use mathlib.Core.Path.{ap, _∙_}
 use Rattle.evt_types.specs.declared.SensorSize.{SensorSize}
 use Rattle.header.specs.Header.{headerVerdict}
-use Rattle.c_structs.specs.Reading.{parsedOf}
+use Rattle.c_values.specs.{Reading.parsedOf}
 use borrow.Author.Needs.{needs}
 use Rattle.prophesee_raw_c.proofs.reading.prophesee_parse_header.Statement.{statement}
 use Rattle.prophesee_raw_c.proofs.reading.prophesee_parse_header.Tie as tie

@@ -1,4 +1,4 @@
-use Rattle.c_structs.specs.Promises.{reads-raw}
+use Rattle.c_values.specs.{Promises.reads-raw}
 use borrow.Author.Needs.{needs}
 use Rattle.prophesee_raw_c.proofs.reading.prophesee_read_raw.Statement.{statement}
 use Rattle.prophesee_raw_c.proofs.reading.prophesee_read_raw.Tie as tie

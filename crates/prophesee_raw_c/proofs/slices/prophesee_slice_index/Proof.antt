@@ -1,4 +1,4 @@
-use Rattle.c_structs.specs.Promises.{start-number, slices-number}
+use Rattle.c_index.specs.{Promises.start-number, Promises.slices-number}
 use borrow.Author.Needs.{needs}
 use Rattle.prophesee_raw_c.proofs.slices.prophesee_slice_index.Statement.{statement}
 use Rattle.prophesee_raw_c.proofs.slices.prophesee_slice_index.Tie as tie

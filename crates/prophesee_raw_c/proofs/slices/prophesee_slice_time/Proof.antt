@@ -1,6 +1,6 @@
 use mir.Syntax.{w64}
 use mir.ValLaws.{toZ-ofZ}
-use Rattle.c_structs.specs.Promises.{start-during, slices-during}
+use Rattle.c_index.specs.{Promises.start-during, Promises.slices-during}
 use borrow.Author.Needs.{needs}
 use Rattle.prophesee_raw_c.proofs.slices.prophesee_slice_time.Statement.{statement}
 use Rattle.prophesee_raw_c.proofs.slices.prophesee_slice_time.Tie as tie

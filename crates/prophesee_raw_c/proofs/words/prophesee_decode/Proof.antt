@@ -1,7 +1,6 @@
 use mathlib.Core.Path.{sym, ap, _∙_}
 use Rattle.evt_codec.specs.declared.codec.Codec.{Codec}
-use Rattle.c_structs.specs.Decoder.{wordOutcome, decodedOf}
-use Rattle.c_structs.specs.Stepping.{word-by}
+use Rattle.c_decoder.specs.{Decoder.wordOutcome, Decoder.decodedOf, Stepping.word-by}
 use borrow.Author.Needs.{needs}
 use Rattle.prophesee_raw_c.proofs.words.prophesee_decode.Statement.{statement}
 use Rattle.prophesee_raw_c.proofs.words.prophesee_decode.Tie as tie

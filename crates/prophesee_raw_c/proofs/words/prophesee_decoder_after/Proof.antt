@@ -3,8 +3,7 @@ use Rattle.evt_types.specs.declared.Refusal.{Refusal}
 use Rattle.evt_types.specs.Outcome.{refuse}
 use Rattle.evt_codec.specs.declared.codec.Codec.{Codec}
 use Rattle.read_after.specs.After.{afterOutcome}
-use Rattle.c_structs.specs.Decoder.{steppedOf}
-use Rattle.c_structs.specs.Stepping.{codec-by}
+use Rattle.c_decoder.specs.{Decoder.steppedOf, Stepping.codec-by}
 use borrow.Author.Needs.{needs}
 use Rattle.prophesee_raw_c.proofs.words.prophesee_decoder_after.Statement.{statement}
 use Rattle.prophesee_raw_c.proofs.words.prophesee_decoder_after.Tie as tie

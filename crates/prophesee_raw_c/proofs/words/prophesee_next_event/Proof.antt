@@ -1,7 +1,7 @@
 use mathlib.Core.Path.{ap, _∙_}
 use Rattle.evt_types.specs.declared.vector.EventVector.{EventVector}
 use Rattle.evt_types.specs.Event.{nextOf}
-use Rattle.c_structs.specs.Decoder.{nextNumbers}
+use Rattle.c_decoder.specs.{Decoder.nextNumbers}
 use borrow.Author.Needs.{needs}
 use Rattle.prophesee_raw_c.proofs.words.prophesee_next_event.Statement.{statement}
 use Rattle.prophesee_raw_c.proofs.words.prophesee_next_event.Tie as tie

@@ -1,5 +1,5 @@
 use mathlib.Core.Path.{sym, _∙_}
-use Rattle.c_structs.specs.Promises.{appends, appends-not}
+use Rattle.c_writer.specs.{Promises.appends, Promises.appends-not}
 use borrow.Author.Needs.{needs}
 use Rattle.prophesee_raw_c.proofs.writer.prophesee_append.Statement.{statement}
 use Rattle.prophesee_raw_c.proofs.writer.prophesee_append.Tie as tie

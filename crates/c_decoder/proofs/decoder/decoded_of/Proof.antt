@@ -1,0 +1,15 @@
+use borrow.Author.Needs.{needs}
+use Rattle.c_decoder.proofs.decoder.decoded_of.Statement.{statement}
+use Rattle.c_decoder.proofs.decoder.decoded_of.Tie as tie
+
+returns : tie.Need-returns
+returns c = rw (c .before .before .before .answer .given .1, c .before .decoder-of .ensures, c .vector-of .ensures)
+
+returns-2 : tie.Need-returns-2
+returns-2 c = rw (c .before .before .answer2 .given .1) (c .refused-decoded .ensures)
+
+pub decoded-of-spec : {M : Type 1} → statement M
+decoded-of-spec =
+    tie.close
+    (tie.spec
+    (λ c. search needs) (λ c κs. search needs) (λ c κs. search needs) (λ c. search needs) (λ c κs. search needs) returns returns-2)

@@ -1,6 +1,0 @@
-use borrow.Author.Tests.{eq-eqb, ne-eqb}
-use Rattle.c_structs.proofs.encoding.is_known.Statement.{statement}
-use Rattle.c_structs.proofs.encoding.is_known.Tie as tie
-
-pub is-known-spec : {M : Type 1} → statement M
-is-known-spec = tie.close (tie.spec (λ c. rw (eq-eqb _ 2 (c .if1 .taken))) (λ c. rw (ne-eqb _ 2 (c .if1 .left))))

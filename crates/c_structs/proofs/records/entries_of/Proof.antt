@@ -1,8 +1,0 @@
-use mathlib.Core.Path.{ap}
-use Rattle.c_structs.specs.Records.{entriesOf}
-use borrow.Author.Needs.{needs}
-use Rattle.c_structs.proofs.records.entries_of.Statement.{statement}
-use Rattle.c_structs.proofs.records.entries_of.Tie as tie
-
-pub entries-of-spec : {M : Type 1} → statement M
-entries-of-spec = tie.close (tie.spec (λ c κs. search needs) (λ c. ap entriesOf (c .before .flat-record .ensures)))

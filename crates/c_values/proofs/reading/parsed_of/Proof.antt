@@ -1,0 +1,12 @@
+use borrow.Author.Needs.{needs}
+use Rattle.c_values.proofs.reading.parsed_of.Statement.{statement}
+use Rattle.c_values.proofs.reading.parsed_of.Tie as tie
+
+returns : tie.Need-returns
+returns c = rw (c .before .before .answer .given .1) (c .header-numbers .ensures)
+
+returns-2 : tie.Need-returns-2
+returns-2 c = rw (c .before .before .answer2 .given .1) (c .refused-header .ensures)
+
+pub parsed-of-spec : {M : Type 1} → statement M
+parsed-of-spec = tie.close (tie.spec (λ c. search needs) (λ c κs. search needs) (λ c. search needs) (λ c κs. search needs) returns returns-2)

@@ -1,15 +1,25 @@
 #!/bin/sh
-# Proves the C interface, builds its archive, and runs tests/c/calls.c against tests/c/calls.out.
-# Exit status 0: as stored; 1: it differs; 2: it wasn't built. `--store` writes what is printed instead.
+# Proves the C interface, builds its archive, and runs tests/c/calls.c against tests/c/calls.out and the
+# program of README.md against what is printed below it there; compiles the header file as C++ too.
+# Exit status 0: as stored; 1: it differs; 2: it wasn't built. `--store` writes what calls.c prints instead.
 cd "$(dirname "$0")/.." || exit 2
 rt staticlib prophesee_raw_c || exit 2
+archive=target/staticlib/libprophesee_raw_c.a
 out=target/c_interface
 mkdir -p "$out" || exit 2
-${CC:-cc} -std=c11 -Wall -Wextra -Werror -O1 -Iinclude tests/c/calls.c target/staticlib/libprophesee_raw_c.a -o "$out/calls" || exit 2
-"$out/calls" > "$out/calls.out" || exit 2
+compile() { ${CC:-cc} -std=c11 -Wall -Wextra -Werror -O1 -Iinclude "$1" "$archive" -o "$2"; }
+
+${CXX:-c++} -std=c++17 -Wall -Wextra -Werror -Iinclude -fsyntax-only tests/c/header.cpp || exit 2
+compile tests/c/calls.c "$out/calls" && "$out/calls" >"$out/calls.out" || exit 2
 if [ "$1" = --store ]; then
-    cp "$out/calls.out" tests/c/calls.out || exit 2
-    exit 0
+    cp "$out/calls.out" tests/c/calls.out
+    exit
 fi
 diff tests/c/calls.out "$out/calls.out" || exit 1
+
+# the first block of C in README.md, and the first block behind 'It prints'
+awk '/^```c$/ { p = 1; next } p && /^```$/ { exit } p' README.md >"$out/readme.c"
+awk '/^It prints$/ { p = 1; next } p && /^```$/ { if (n++) exit; next } n' README.md >"$out/readme.expected"
+[ -s "$out/readme.expected" ] && compile "$out/readme.c" "$out/readme" && "$out/readme" >"$out/readme.out" || exit 2
+diff "$out/readme.expected" "$out/readme.out" || exit 1
 echo "c_interface: ok"

@@ -9,6 +9,8 @@
 
 #define ROOM 8
 #define LONGEST 1073741824u
+#define COLUMNS xs, ROOM, ys, ROOM, ts, ROOM, ps, ROOM
+#define NO_COLUMNS NULL, 0, NULL, 0, NULL, 0, NULL, 0
 
 static uint16_t xs[ROOM], ys[ROOM];
 static int64_t ts[ROOM];
@@ -22,13 +24,55 @@ static void clear(void)
     memset(ps, 0xee, sizeof ps);
 }
 
-/* The events, and that the place behind them is as it was. */
+/* Whether all bytes of a buffer from one on are as `clear` left them. */
+static int untouched(const void *buffer, size_t from, size_t end)
+{
+    const uint8_t *bytes = buffer;
+    for (size_t i = from; i < end; i++)
+        if (bytes[i] != 0xee)
+            return 0;
+    return 1;
+}
+
+static const char *column(const void *buffer, size_t count, size_t size)
+{
+    return untouched(buffer, count * size, ROOM * size) ? "untouched" : "altered";
+}
+
+/* The events, and what stands behind them in each column. */
 static void print_events(size_t count)
 {
     for (size_t i = 0; i < count; i++)
         printf("  %lld %u %u %u\n", (long long)ts[i], xs[i], ys[i], ps[i]);
-    if (count < ROOM)
-        printf("  behind: %s\n", xs[count] == 0xeeee && ys[count] == 0xeeee && ps[count] == 0xee ? "untouched" : "altered");
+    printf("  behind: x %s, y %s, t %s, p %s\n", column(xs, count, sizeof *xs), column(ys, count, sizeof *ys), column(ts, count, sizeof *ts),
+           column(ps, count, sizeof *ps));
+    clear();
+}
+
+/* ---- headers and reading */
+
+/* 4097: columns 10, 11 and 13 of row 7. */
+static const uint8_t evt3[] = {0x01, 0x80, 0x01, 0x60, 0x07, 0x00, 0x0a, 0x30, 0x0b, 0x40};
+/* 100: column 5 of row 7, polarity 1. */
+static const uint8_t evt2[] = {0x01, 0x00, 0x00, 0x80, 0x07, 0x28, 0x00, 0x19};
+static const char header[] = "% format EVT3\n% geometry 64x48\n";
+static uint8_t recording[sizeof header - 1 + sizeof evt3];
+
+static void print_header(const char *what, prophesee_header h)
+{
+    printf("%s: refusal %u encoding %u from %zu sized %u %zux%zu\n", what, h.refusal, h.encoding, h.data_offset, h.sized, h.width, h.height);
+}
+
+static void headers(void)
+{
+    const uint8_t plain[] = "% evt 2\n", wide[] = "% format EVT3 \x80\n", zero[] = "% evt 2\n% geometry 0x5\n";
+    print_header("parse_header", prophesee_parse_header(recording, sizeof recording, 0, 0, 0));
+    print_header("parse_header, 12x8", prophesee_parse_header(recording, sizeof recording, 255, 12, 8));
+    print_header("parse_header, no size", prophesee_parse_header(plain, sizeof plain - 1, 0, 1, 1));
+    print_header("parse_header, a byte 80", prophesee_parse_header(wide, sizeof wide - 1, 0, 0, 0));
+    print_header("parse_header, 0x5", prophesee_parse_header(zero, sizeof zero - 1, 0, 0, 0));
+    print_header("parse_header, 0x5, 12x8", prophesee_parse_header(zero, sizeof zero - 1, 1, 12, 8));
+    print_header("parse_header, empty", prophesee_parse_header(NULL, 0, 0, 0, 0));
 }
 
 static void print_reading(const char *what, prophesee_reading r)
@@ -37,47 +81,47 @@ static void print_reading(const char *what, prophesee_reading r)
     print_events(r.count);
 }
 
-/* 4097: columns 10, 11 and 13 of row 7. */
-static const uint8_t evt3[] = {0x01, 0x80, 0x01, 0x60, 0x07, 0x00, 0x0a, 0x30, 0x0b, 0x40};
-/* 100: column 5 of row 7, polarity 1. */
-static const uint8_t evt2[] = {0x01, 0x00, 0x00, 0x80, 0x07, 0x28, 0x00, 0x19};
-static const char header[] = "% format EVT3\n% geometry 64x48\n";
-
 static void reading(void)
 {
-    const prophesee_options none = {0};
-    const prophesee_options zero = {.sized = 1, .width = 0, .height = 5};
+    const prophesee_options none = {0}, zero = {.sized = 1, .width = 0, .height = 5}, sized = {.sized = 1, .width = 12, .height = 48};
     const prophesee_options two = {.sized = 255, .limited = 1, .width = 12, .height = 48, .max_events = 2};
-    uint8_t recording[sizeof header - 1 + sizeof evt3];
-    memcpy(recording, header, sizeof header - 1);
-    memcpy(recording + sizeof header - 1, evt3, sizeof evt3);
 
-    clear();
-    print_reading("read_raw", prophesee_read_raw(recording, sizeof recording, none, xs, ROOM, ys, ROOM, ts, ROOM, ps, ROOM));
-    clear();
-    print_reading("read_raw, 12x48, at most 2", prophesee_read_raw(recording, sizeof recording, two, xs, ROOM, ys, ROOM, ts, ROOM, ps, ROOM));
-    clear();
+    print_reading("read_raw", prophesee_read_raw(recording, sizeof recording, none, COLUMNS));
+    print_reading("read_raw, 12x48, at most 2", prophesee_read_raw(recording, sizeof recording, two, COLUMNS));
     print_reading("read_raw, a column of 2", prophesee_read_raw(recording, sizeof recording, none, xs, ROOM, ys, ROOM, ts, 2, ps, ROOM));
-    print_reading("read_raw, empty", prophesee_read_raw(recording, 0, none, xs, ROOM, ys, ROOM, ts, ROOM, ps, ROOM));
-    print_reading("decode_evt2", prophesee_decode_evt2(evt2, sizeof evt2, none, xs, ROOM, ys, ROOM, ts, ROOM, ps, ROOM));
-    clear();
-    print_reading("decode_evt3", prophesee_decode_evt3(evt3, sizeof evt3, none, xs, ROOM, ys, ROOM, ts, ROOM, ps, ROOM));
-    clear();
-    print_reading("decode_evt3, cut at byte 9", prophesee_decode_evt3(evt3, 9, none, xs, ROOM, ys, ROOM, ts, ROOM, ps, ROOM));
-    print_reading("decode_evt3, 0x5", prophesee_decode_evt3(evt3, sizeof evt3, zero, xs, ROOM, ys, ROOM, ts, ROOM, ps, ROOM));
+    print_reading("read_raw, nothing", prophesee_read_raw(NULL, 0, none, NO_COLUMNS));
+    print_reading("decode_words, 2", prophesee_decode_words(evt2, sizeof evt2, PROPHESEE_EVT2, none, COLUMNS));
+    print_reading("decode_words, 3", prophesee_decode_words(evt3, sizeof evt3, PROPHESEE_EVT3, none, COLUMNS));
+    print_reading("decode_words, 3, cut at byte 9", prophesee_decode_words(evt3, 9, PROPHESEE_EVT3, none, COLUMNS));
+    print_reading("decode_words, 3, 0x5", prophesee_decode_words(evt3, sizeof evt3, PROPHESEE_EVT3, zero, COLUMNS));
+    print_reading("decode_words, 7", prophesee_decode_words(evt3, sizeof evt3, 7, none, COLUMNS));
+    print_reading("decode_words, 7, 0x5", prophesee_decode_words(evt3, sizeof evt3, 7, zero, COLUMNS));
+    print_reading("decode_words, 0, nothing", prophesee_decode_words(NULL, 0, 0, none, NO_COLUMNS));
+    print_reading("decode_words, 3, no places", prophesee_decode_words(evt3, sizeof evt3, PROPHESEE_EVT3, none, NO_COLUMNS));
+    print_reading("decode_words, 3, 12x48, nothing", prophesee_decode_words(NULL, 0, PROPHESEE_EVT3, sized, NO_COLUMNS));
 }
 
-static void print_opening(const char *what, prophesee_opening o)
+/* ---- indexes and slices */
+
+static void print_source(prophesee_source s)
 {
-    printf("%s: refusal %u told %zu encoding %u records %zu spacing %zu from %zu of %zu size %zux%zu events %zu\n", what, o.refusal, o.told, o.encoding,
-           o.records, o.source.spacing, o.source.data_offset, o.source.len, o.source.width, o.source.height, o.source.n_events);
+    printf("  source: encoding %u records %zu spacing %zu from %zu of %zu size %zux%zu events %zu\n", s.encoding, s.records, s.spacing, s.data_offset, s.len,
+           s.width, s.height, s.n_events);
 }
 
-static void print_record(prophesee_record r)
+static prophesee_opening print_opening(const char *what, prophesee_opening o, const prophesee_record *records, size_t lent)
 {
-    printf("  at %llu: %llu before, time %llu; decoder %llu %llu %llu %llu %llu %llu %llu\n", (unsigned long long)r.byte_offset, (unsigned long long)r.event_index,
-           (unsigned long long)r.time, (unsigned long long)r.initialised, (unsigned long long)r.time_base, (unsigned long long)r.decoder_time,
-           (unsigned long long)r.high_loops, (unsigned long long)r.y, (unsigned long long)r.base_x, (unsigned long long)r.polarity);
+    printf("%s: refusal %u told %zu\n", what, o.refusal, o.told);
+    print_source(o.source);
+    for (size_t i = 0; i < o.source.records; i++) {
+        prophesee_record r = records[i];
+        printf("  at %llu: %llu before, time %llu; decoder %llu %llu %llu %llu %llu %llu %llu\n", (unsigned long long)r.byte_offset,
+               (unsigned long long)r.event_index, (unsigned long long)r.time, (unsigned long long)r.initialised, (unsigned long long)r.time_base,
+               (unsigned long long)r.decoder_time, (unsigned long long)r.high_loops, (unsigned long long)r.y, (unsigned long long)r.base_x,
+               (unsigned long long)r.polarity);
+    }
+    printf("  behind: %s\n", untouched(records, o.source.records * sizeof *records, lent * sizeof *records) ? "untouched" : "altered");
+    return o;
 }
 
 static void print_slice(const char *what, prophesee_slice s)
@@ -86,54 +130,105 @@ static void print_slice(const char *what, prophesee_slice s)
     print_events(s.count);
 }
 
-static void slices(void)
+#define BY_NUMBER(s, lent, n, i0, i1) prophesee_slice_index(recording, sizeof recording, s, lent, n, i0, i1, COLUMNS)
+#define BY_TIME(s, lent, n, t0, t1) prophesee_slice_time(recording, sizeof recording, s, lent, n, t0, t1, COLUMNS)
+
+/* An index of which one number is another. */
+static void altered(prophesee_source source, const prophesee_record *made)
 {
-    const prophesee_open_options four = {.sized = 0, .spacing = 4};
-    const prophesee_open_options six = {.sized = 0, .spacing = 6};
-    uint8_t recording[sizeof header - 1 + sizeof evt3];
-    prophesee_record records[4];
-    memcpy(recording, header, sizeof header - 1);
-    memcpy(recording + sizeof header - 1, evt3, sizeof evt3);
-    memset(records, 0xee, sizeof records);
+    prophesee_record r[4];
+    prophesee_source s = source;
+    memcpy(r, made, sizeof r);
 
-    print_opening("open, spacing 6", prophesee_open(recording, sizeof recording, (uint64_t *)records, 4 * PROPHESEE_ENTRIES, six));
-    print_opening("open, 29 entries", prophesee_open(recording, sizeof recording, (uint64_t *)records, 29, four));
-    printf("  records: %s\n", records[0].byte_offset == 0xeeeeeeeeeeeeeeee ? "untouched" : "altered");
-    prophesee_opening o = prophesee_open(recording, sizeof recording, (uint64_t *)records, 4 * PROPHESEE_ENTRIES, four);
-    print_opening("open", o);
-    for (size_t i = 0; i < o.records; i++)
-        print_record(records[i]);
-    printf("  behind: %s\n", records[o.records].byte_offset == 0xeeeeeeeeeeeeeeee ? "untouched" : "altered");
+    s.encoding = PROPHESEE_EVT2;
+    print_slice("slice_index, an index of EVT3 as EVT2", BY_NUMBER(s, r, 4, 0, 9));
+    s.encoding = 7;
+    print_slice("slice_index, encoding 7", BY_NUMBER(s, r, 4, 0, 9));
+    print_slice("slice_time, encoding 7", BY_TIME(s, r, 4, 0, 5000));
+    s = source;
+    s.records = 5;
+    print_slice("slice_index, fewer lent than told", BY_NUMBER(s, r, 4, 0, 9));
+    print_slice("slice_time, fewer lent than told", BY_TIME(s, r, 4, 0, 5000));
+    s.records = 0;
+    print_slice("slice_index, no record told", BY_NUMBER(s, r, 4, 0, 9));
+    s.records = 2;
+    print_slice("slice_index, 2 records told", BY_NUMBER(s, r, 4, 0, 9));
+    s = source;
+    s.width = 0;
+    s.encoding = 7;
+    print_slice("slice_index, width 0 and encoding 7", BY_NUMBER(s, r, 4, 0, 9));
+    s = source;
+    s.spacing = 6;
+    s.encoding = 7;
+    print_slice("slice_index, spacing 6 and encoding 7", BY_NUMBER(s, r, 4, 0, 9));
 
-    const uint64_t *lent = (const uint64_t *)records;
-    const size_t n = o.records * PROPHESEE_ENTRIES;
-    clear();
-    print_slice("slice_index 1..9", prophesee_slice_index_evt3(recording, sizeof recording, o.source, lent, n, 1, 9, xs, ROOM, ys, ROOM, ts, ROOM, ps, ROOM));
-    clear();
-    print_slice("slice_time 4097..4098", prophesee_slice_time_evt3(recording, sizeof recording, o.source, lent, n, 4097, 4098, xs, ROOM, ys, ROOM, ts, ROOM, ps, ROOM));
-    clear();
-    print_slice("slice_time -5..4097", prophesee_slice_time_evt3(recording, sizeof recording, o.source, lent, n, -5, 4097, xs, ROOM, ys, ROOM, ts, ROOM, ps, ROOM));
-    print_slice("slice_index, a column of 1", prophesee_slice_index_evt3(recording, sizeof recording, o.source, lent, n, 0, 9, xs, ROOM, ys, 1, ts, ROOM, ps, ROOM));
-    print_slice("slice_index of EVT2", prophesee_slice_index_evt2(recording, sizeof recording, o.source, lent, n, 0, 9, xs, ROOM, ys, ROOM, ts, ROOM, ps, ROOM));
-    print_slice("slice_index, no record", prophesee_slice_index_evt3(recording, sizeof recording, o.source, lent, 9, 0, 9, xs, ROOM, ys, ROOM, ts, ROOM, ps, ROOM));
-    records[2].y = 2048;
-    print_slice("slice_index, row 2048", prophesee_slice_index_evt3(recording, sizeof recording, o.source, lent, n, 0, 9, xs, ROOM, ys, ROOM, ts, ROOM, ps, ROOM));
-    records[2].y = 7;
-    records[2].time = UINT64_MAX;
-    print_slice("slice_time, a negative time", prophesee_slice_time_evt3(recording, sizeof recording, o.source, lent, n, 0, 9, xs, ROOM, ys, ROOM, ts, ROOM, ps, ROOM));
-
-    prophesee_opening w = prophesee_open_evt2(evt2, sizeof evt2, (uint64_t *)records, 2 * PROPHESEE_ENTRIES, four);
-    print_opening("open_evt2", w);
-    for (size_t i = 0; i < w.records; i++)
-        print_record(records[i]);
-    clear();
-    print_slice("slice_index", prophesee_slice_index_evt2(evt2, sizeof evt2, w.source, lent, w.records * PROPHESEE_ENTRIES, 0, 1, xs, ROOM, ys, ROOM, ts, ROOM, ps, ROOM));
-    clear();
-    print_slice("slice_time", prophesee_slice_time_evt2(evt2, sizeof evt2, w.source, lent, w.records * PROPHESEE_ENTRIES, 100, 101, xs, ROOM, ys, ROOM, ts, ROOM, ps, ROOM));
-    print_opening("open_evt3", prophesee_open_evt3(evt3, sizeof evt3, (uint64_t *)records, 4 * PROPHESEE_ENTRIES, four));
+    r[2].base_x = 65536;
+    print_slice("slice_index, base column 65536", BY_NUMBER(source, r, 3, 0, 9));
+    r[2].base_x = 65535;
+    print_slice("slice_index, base column 65535", BY_NUMBER(source, r, 3, 0, 2));
+    r[2] = made[2];
+    r[2].y = 65543;
+    print_slice("slice_index, row 65543", BY_NUMBER(source, r, 3, 0, 9));
+    r[2].y = 2048;
+    print_slice("slice_index, row 2048", BY_NUMBER(source, r, 3, 0, 9));
+    r[2] = made[2];
+    r[2].initialised = 2;
+    print_slice("slice_index, initialised 2", BY_NUMBER(source, r, 3, 0, 9));
+    r[2] = made[2];
+    r[2].polarity = 2;
+    print_slice("slice_time, polarity 2", BY_TIME(source, r, 3, 0, 5000));
+    r[2] = made[2];
+    r[2].time = 9223372036854775808u;
+    print_slice("slice_time, time 2^63", BY_TIME(source, r, 3, 0, 5000));
 }
 
+static void slices(void)
+{
+    const prophesee_open_options four = {.spacing = 4}, six = {.spacing = 6};
+    prophesee_record records[4];
+    memset(records, 0xee, sizeof records);
+
+    print_opening("open, spacing 6", prophesee_open(recording, sizeof recording, records, 4, six), records, 4);
+    print_opening("open, 2 records", prophesee_open(recording, sizeof recording, records, 2, four), records, 4);
+    print_opening("open, no records", prophesee_open(recording, sizeof recording, NULL, 0, four), records, 4);
+    print_opening("open, nothing", prophesee_open(NULL, 0, NULL, 0, four), records, 4);
+    prophesee_source s = print_opening("open", prophesee_open(recording, sizeof recording, records, 4, four), records, 4).source;
+
+    print_slice("slice_index 1..9", BY_NUMBER(s, records, 4, 1, 9));
+    print_slice("slice_index 1..9, 3 records", BY_NUMBER(s, records, 3, 1, 9));
+    print_slice("slice_time 4097..4098", BY_TIME(s, records, 4, 4097, 4098));
+    print_slice("slice_time -5..4097", BY_TIME(s, records, 4, -5, 4097));
+    print_slice("slice_index, a column of 1", prophesee_slice_index(recording, sizeof recording, s, records, 3, 0, 9, xs, ROOM, ys, 1, ts, ROOM, ps, ROOM));
+    print_slice("slice_index, no places", prophesee_slice_index(recording, sizeof recording, s, records, 3, 0, 0, NO_COLUMNS));
+    print_slice("slice_time, no records", BY_TIME(s, NULL, 0, 0, 5000));
+    print_slice("slice_index, nothing", prophesee_slice_index(NULL, 0, s, NULL, 0, 0, 0, NO_COLUMNS));
+    altered(s, records);
+
+    memset(records, 0xee, sizeof records);
+    print_opening("open_words, 7", prophesee_open_words(evt2, sizeof evt2, 7, records, 4, six), records, 4);
+    print_opening("open_words, 7, nothing", prophesee_open_words(NULL, 0, 7, NULL, 0, four), records, 4);
+    print_opening("open_words, 3", prophesee_open_words(evt3, sizeof evt3, PROPHESEE_EVT3, records, 4, four), records, 4);
+    memset(records, 0xee, sizeof records);
+    s = print_opening("open_words, 2", prophesee_open_words(evt2, sizeof evt2, PROPHESEE_EVT2, records, 4, four), records, 4).source;
+    print_slice("slice_index, EVT2", prophesee_slice_index(evt2, sizeof evt2, s, records, 2, 0, 1, COLUMNS));
+    print_slice("slice_time, EVT2", prophesee_slice_time(evt2, sizeof evt2, s, records, 2, 100, 101, COLUMNS));
+    records[1].y = 7;
+    print_slice("slice_index, EVT2 with a row", prophesee_slice_index(evt2, sizeof evt2, s, records, 2, 0, 1, COLUMNS));
+    records[1].y = 0;
+    records[1].polarity = 1;
+    print_slice("slice_index, EVT2 with a polarity", prophesee_slice_index(evt2, sizeof evt2, s, records, 2, 0, 1, COLUMNS));
+}
+
+/* ---- writing */
+
 static uint8_t output[256];
+
+static void print_sink(prophesee_sink s)
+{
+    printf("  sink: encoding %u events %zu header %u last %u %lld high %u %llu low %u %llu row %u %llu\n", s.encoding, s.n_events, s.header_written,
+           s.has_last_t, (long long)s.last_t, s.has_time_high, (unsigned long long)s.time_high, s.has_time_low, (unsigned long long)s.time_low, s.has_y,
+           (unsigned long long)s.y);
+}
 
 static prophesee_sink print_appended(const char *what, prophesee_appended a)
 {
@@ -143,33 +238,136 @@ static prophesee_sink print_appended(const char *what, prophesee_appended a)
             printf(" %c", output[i]);
         else
             printf(" %02x", output[i]);
-    prophesee_sink s = a.sink;
-    printf("\n  sink: %u events %zu header %u last %u %lld high %u %llu low %u %llu row %u %llu\n", s.evt3 + 2u, s.n_events, s.header_written, s.has_last_t,
-           (long long)s.last_t, s.has_time_high, (unsigned long long)s.time_high, s.has_time_low, (unsigned long long)s.time_low, s.has_y, (unsigned long long)s.y);
-    return s;
+    printf("\n  behind: %s\n", untouched(output, a.written, sizeof output) ? "untouched" : "altered");
+    memset(output, 0xee, sizeof output);
+    print_sink(a.sink);
+    return a.sink;
+}
+
+static const uint16_t cx[] = {10, 11, 13}, cy[] = {7, 7, 7}, far[] = {2048};
+static const int64_t ct[] = {4097, 4097, 4097}, early[] = {4096}, late[] = {4098};
+static const uint8_t cp[] = {0, 0, 0}, one[] = {1};
+
+static prophesee_appended append(prophesee_sink s)
+{
+    return prophesee_append(s, 64, 48, cx, 1, cy, 1, late, 1, one, 1, output, sizeof output);
+}
+
+/* A writer of which one number is another. */
+static void altered_writer(prophesee_sink s)
+{
+    prophesee_sink w = s;
+    w.encoding = 7;
+    print_appended("append, encoding 7", append(w));
+    w = s;
+    w.header_written = 2;
+    print_appended("append, header_written 2", append(w));
+    w = s;
+    w.has_y = 2;
+    print_appended("append, has_y 2", append(w));
+    w = s;
+    w.has_time_low = 0;
+    print_appended("append, a low half that isn't sent", append(w));
+    w = s;
+    w.has_last_t = 0;
+    print_appended("append, a last time that isn't there", append(w));
+    w = s;
+    w.y = 2048;
+    print_appended("append, row 2048", append(w));
 }
 
 static void writing(void)
 {
-    const uint16_t cx[] = {10, 11, 13}, cy[] = {7, 7, 7}, far[] = {2048};
-    const int64_t ct[] = {4097, 4097, 4097}, early[] = {4096}, late[] = {4098};
-    const uint8_t cp[] = {0, 0, 0}, one[] = {1};
-
-    prophesee_sink s = prophesee_writer_evt3(1);
+    memset(output, 0xee, sizeof output);
+    prophesee_sink s = prophesee_writer(PROPHESEE_EVT3, 1);
+    print_sink(s);
     print_appended("append, 3 bytes", prophesee_append(s, 64, 48, cx, 3, cy, 3, ct, 3, cp, 3, output, 3));
+    print_appended("append, no bytes", prophesee_append(s, 64, 48, cx, 3, cy, 3, ct, 3, cp, 3, NULL, 0));
     s = print_appended("append", prophesee_append(s, 64, 48, cx, 3, cy, 3, ct, 3, cp, 3, output, sizeof output));
     print_appended("append, a time that falls", prophesee_append(s, 64, 48, cx, 1, cy, 1, early, 1, cp, 1, output, sizeof output));
     print_appended("append, x 2048", prophesee_append(s, 64, 48, far, 1, cy, 1, late, 1, cp, 1, output, sizeof output));
     print_appended("append, columns of 2 and 1", prophesee_append(s, 64, 48, cx, 2, cy, 1, late, 1, cp, 1, output, sizeof output));
-    s = print_appended("append", prophesee_append(s, 64, 48, cx, 1, cy, 1, late, 1, one, 1, output, sizeof output));
-    s.y = 2048;
-    print_appended("append, row 2048", prophesee_append(s, 64, 48, cx, 1, cy, 1, late, 1, one, 1, output, sizeof output));
-    s = prophesee_writer_evt2(0);
+    s = print_appended("append", append(s));
+    altered_writer(s);
+    s = prophesee_writer(PROPHESEE_EVT2, 0);
+    print_sink(s);
     print_appended("append, EVT2", prophesee_append(s, 64, 48, cx, 1, cy, 1, early, 1, one, 1, output, sizeof output));
-    print_appended("append, nothing", prophesee_append(s, 64, 48, cx, 0, cy, 0, early, 0, one, 0, output, sizeof output));
+    print_appended("append, nothing", prophesee_append(s, 64, 48, NULL, 0, NULL, 0, NULL, 0, NULL, 0, NULL, 0));
+    s = prophesee_writer(7, 255);
+    print_sink(s);
+    print_appended("append, a writer of 7", append(s));
 }
 
-/* Refusal 4 comes before each other one: what is answered at 2^30 bytes, and at one more. */
+/* ---- single words */
+
+static void print_decoder(prophesee_decoder d)
+{
+    printf("  decoder: encoding %u initialised %u base %llu time %llu loops %llu row %u column %u polarity %u\n", d.encoding, d.initialised,
+           (unsigned long long)d.time_base, (unsigned long long)d.time, (unsigned long long)d.high_loops, d.y, d.base_x, d.polarity);
+}
+
+static prophesee_vector print_decoded(const char *what, prophesee_decoded r)
+{
+    printf("%s: refusal %u, mask %x from column %u of row %u, time %lld, polarity %u\n", what, r.refusal, (unsigned)r.events.mask, r.events.x, r.events.y,
+           (long long)r.events.t, r.events.p);
+    print_decoder(r.decoder);
+    return r.events;
+}
+
+static void print_all(prophesee_vector v)
+{
+    for (;;) {
+        prophesee_next n = prophesee_next_event(v);
+        printf("  next: some %u, %lld %u %u %u, mask %x left\n", n.some, (long long)n.event.t, n.event.x, n.event.y, n.event.p, (unsigned)n.rest.mask);
+        if (!n.some)
+            return;
+        v = n.rest;
+    }
+}
+
+static prophesee_decoder print_stepped(const char *what, prophesee_stepped s)
+{
+    printf("%s: refusal %u\n", what, s.refusal);
+    print_decoder(s.decoder);
+    return s.decoder;
+}
+
+static void words(void)
+{
+    prophesee_decoder fresh = prophesee_new_decoder(PROPHESEE_EVT3), d = fresh;
+    print_decoder(fresh);
+    for (size_t i = 0; i < sizeof evt3; i += 2) {
+        prophesee_decoded r = prophesee_decode(d, evt3 + i, sizeof evt3 - i);
+        print_all(print_decoded("decode, EVT3", r));
+        d = r.decoder;
+    }
+    print_decoded("decode, one byte", prophesee_decode(d, evt3, 1));
+    print_decoded("decode, nothing", prophesee_decode(d, NULL, 0));
+    print_stepped("decoder_after", prophesee_decoder_after(fresh, evt3, sizeof evt3));
+    print_stepped("decoder_after, cut at byte 9", prophesee_decoder_after(fresh, evt3, 9));
+    print_stepped("decoder_after, nothing", prophesee_decoder_after(fresh, NULL, 0));
+
+    prophesee_decoder x = d;
+    x.initialised = 2;
+    print_decoded("decode, initialised 2", prophesee_decode(x, evt3, sizeof evt3));
+    print_stepped("decoder_after, initialised 2", prophesee_decoder_after(x, evt3, sizeof evt3));
+    x = d;
+    x.y = 2048;
+    print_decoded("decode, row 2048", prophesee_decode(x, evt3, sizeof evt3));
+    print_stepped("decoder_after, row 2048", prophesee_decoder_after(x, evt3, sizeof evt3));
+
+    d = prophesee_new_decoder(PROPHESEE_EVT2);
+    d = print_stepped("decoder_after, EVT2", prophesee_decoder_after(d, evt2, 4));
+    print_all(print_decoded("decode, EVT2", prophesee_decode(d, evt2 + 4, 4)));
+    d.base_x = 1;
+    print_decoded("decode, EVT2 with a base column", prophesee_decode(d, evt2 + 4, 4));
+    print_decoded("decode, a decoder of 7", prophesee_decode(prophesee_new_decoder(7), evt2, sizeof evt2));
+    print_stepped("decoder_after, a decoder of 7", prophesee_decoder_after(prophesee_new_decoder(7), evt2, sizeof evt2));
+    print_all((prophesee_vector){.t = 5, .mask = 0x80000001u, .x = 65534, .y = 3, .p = 1});
+}
+
+/* ---- refusal 4 comes before each other one: what is answered at 2^30 bytes, and at one more */
+
 static void told(size_t n, const char *what, uint32_t refusal)
 {
     printf("%zu bytes, %s: refusal %u\n", n, what, refusal);
@@ -181,69 +379,63 @@ static void longest_events(const uint8_t *bytes, size_t n)
     const prophesee_options sized = {.sized = 1, .width = 64, .height = 48}, zero = {.sized = 1};
     const prophesee_open_options open = {.sized = 1, .width = 64, .height = 48, .spacing = 4194304}, none = {.sized = 1, .spacing = 4194304};
     const prophesee_open_options odd = {.sized = 1, .width = 64, .height = 48, .spacing = 2};
-    const prophesee_source index = {.spacing = 4, .width = 64, .height = 48, .n_events = 1}, flat = {.spacing = 4, .n_events = 1};
-    const prophesee_source close = {.spacing = 2, .width = 64, .height = 48, .n_events = 1};
-    const uint64_t first[PROPHESEE_ENTRIES] = {0};
-    uint64_t records[PROPHESEE_ENTRIES];
+    const prophesee_source index = {.encoding = 2, .records = 1, .spacing = 4, .width = 64, .height = 48, .n_events = 1};
+    const prophesee_source unknown = {.encoding = 7, .records = 1, .spacing = 4, .width = 64, .height = 48, .n_events = 1};
+    const prophesee_source flat = {.encoding = 2, .records = 1, .spacing = 4, .n_events = 1};
+    const prophesee_source close = {.encoding = 2, .records = 1, .spacing = 2, .width = 64, .height = 48, .n_events = 1};
+    const prophesee_record first = {0};
+    prophesee_record made;
 
-    told(n, "decode, size 0", prophesee_decode_evt2(bytes, n, zero, xs, ROOM, ys, ROOM, ts, ROOM, ps, ROOM).refusal);
-    told(n, "decode, no places", prophesee_decode_evt2(bytes, n, sized, xs, 0, ys, 0, ts, 0, ps, 0).refusal);
-    told(n, "open, size 0", prophesee_open_evt2(bytes, n, records, PROPHESEE_ENTRIES, none).refusal);
-    told(n, "open, spacing 2", prophesee_open_evt2(bytes, n, records, PROPHESEE_ENTRIES, odd).refusal);
-    told(n, "open, one record", prophesee_open_evt2(bytes, n, records, PROPHESEE_ENTRIES, open).refusal);
-    told(n, "slice_index, size 0", prophesee_slice_index_evt2(bytes, n, flat, first, PROPHESEE_ENTRIES, 0, 1, xs, ROOM, ys, ROOM, ts, ROOM, ps, ROOM).refusal);
-    told(n, "slice_index, spacing 2", prophesee_slice_index_evt2(bytes, n, close, first, PROPHESEE_ENTRIES, 0, 1, xs, ROOM, ys, ROOM, ts, ROOM, ps, ROOM).refusal);
-    told(n, "slice_index, no record", prophesee_slice_index_evt2(bytes, n, index, first, 0, 0, 1, xs, ROOM, ys, ROOM, ts, ROOM, ps, ROOM).refusal);
-    told(n, "slice_index, no places", prophesee_slice_index_evt2(bytes, n, index, first, PROPHESEE_ENTRIES, 0, 1, xs, 0, ys, 0, ts, 0, ps, 0).refusal);
-    told(n, "slice_time, size 0", prophesee_slice_time_evt2(bytes, n, flat, first, PROPHESEE_ENTRIES, 0, 200, xs, ROOM, ys, ROOM, ts, ROOM, ps, ROOM).refusal);
-    told(n, "slice_time, spacing 2", prophesee_slice_time_evt2(bytes, n, close, first, PROPHESEE_ENTRIES, 0, 200, xs, ROOM, ys, ROOM, ts, ROOM, ps, ROOM).refusal);
-    told(n, "slice_time, no record", prophesee_slice_time_evt2(bytes, n, index, first, 0, 0, 200, xs, ROOM, ys, ROOM, ts, ROOM, ps, ROOM).refusal);
-    told(n, "slice_time, no places", prophesee_slice_time_evt2(bytes, n, index, first, PROPHESEE_ENTRIES, 0, 200, xs, 0, ys, 0, ts, 0, ps, 0).refusal);
+    told(n, "decode_words, encoding 7", prophesee_decode_words(bytes, n, 7, zero, COLUMNS).refusal);
+    told(n, "decode_words, size 0", prophesee_decode_words(bytes, n, 2, zero, COLUMNS).refusal);
+    told(n, "decode_words, no places", prophesee_decode_words(bytes, n, 2, sized, NO_COLUMNS).refusal);
+    told(n, "open_words, encoding 7", prophesee_open_words(bytes, n, 7, &made, 1, none).refusal);
+    told(n, "open_words, size 0", prophesee_open_words(bytes, n, 2, &made, 1, none).refusal);
+    told(n, "open_words, spacing 2", prophesee_open_words(bytes, n, 2, &made, 1, odd).refusal);
+    told(n, "open_words, one record", prophesee_open_words(bytes, n, 2, &made, 1, open).refusal);
+    told(n, "slice_index, size 0", prophesee_slice_index(bytes, n, flat, &first, 1, 0, 1, COLUMNS).refusal);
+    told(n, "slice_index, spacing 2", prophesee_slice_index(bytes, n, close, &first, 1, 0, 1, COLUMNS).refusal);
+    told(n, "slice_index, encoding 7", prophesee_slice_index(bytes, n, unknown, &first, 1, 0, 1, COLUMNS).refusal);
+    told(n, "slice_index, no record", prophesee_slice_index(bytes, n, index, NULL, 0, 0, 1, COLUMNS).refusal);
+    told(n, "slice_index, no places", prophesee_slice_index(bytes, n, index, &first, 1, 0, 1, NO_COLUMNS).refusal);
+    told(n, "slice_time, size 0", prophesee_slice_time(bytes, n, flat, &first, 1, 0, 200, COLUMNS).refusal);
+    told(n, "slice_time, spacing 2", prophesee_slice_time(bytes, n, close, &first, 1, 0, 200, COLUMNS).refusal);
+    told(n, "slice_time, encoding 7", prophesee_slice_time(bytes, n, unknown, &first, 1, 0, 200, COLUMNS).refusal);
+    told(n, "slice_time, no record", prophesee_slice_time(bytes, n, index, NULL, 0, 0, 200, COLUMNS).refusal);
+    told(n, "slice_time, no places", prophesee_slice_time(bytes, n, index, &first, 1, 0, 200, NO_COLUMNS).refusal);
+    told(n, "decoder_after", prophesee_decoder_after(prophesee_new_decoder(2), bytes, n).refusal);
+    told(n, "decoder_after, encoding 7", prophesee_decoder_after(prophesee_new_decoder(7), bytes, n).refusal);
 }
 
-static void longest_pairs(uint8_t *bytes)
-{
-    const prophesee_options plain = {0};
-    const prophesee_open_options open = {.spacing = 4194304};
-    uint64_t records[256 * PROPHESEE_ENTRIES];
-    for (size_t n = LONGEST; n <= LONGEST + 1u; n++) {
-        memset(bytes, 0, sizeof evt2);
-        told(n, "decode, no size, no event", prophesee_decode_evt2(bytes, n, plain, xs, ROOM, ys, ROOM, ts, ROOM, ps, ROOM).refusal);
-        told(n, "open, no size, no event", prophesee_open_evt2(bytes, n, records, sizeof records / sizeof *records, open).refusal);
-        memcpy(bytes, evt2, sizeof evt2);
-        longest_events(bytes, n);
-        memcpy(bytes, "%\n", 2);
-        told(n, "read_raw, no encoding", prophesee_read_raw(bytes, n, plain, xs, ROOM, ys, ROOM, ts, ROOM, ps, ROOM).refusal);
-        told(n, "open, no encoding", prophesee_open(bytes, n, records, 0, open).refusal);
-        bytes[1] = 0x80;
-        told(n, "open, a header byte 80", prophesee_open(bytes, n, records, 0, open).refusal);
-    }
-}
-
-/* Refusal 4: one byte over 2^30, and not at 2^30. */
 static void longest(void)
 {
-    const prophesee_options sized = {.sized = 1, .width = 64, .height = 48};
+    static prophesee_record records[256];
+    const prophesee_options plain = {0}, sized = {.sized = 1, .width = 64, .height = 48};
+    const prophesee_open_options open = {.spacing = 4194304};
     uint8_t *bytes = mmap(NULL, LONGEST + 1u, PROT_READ | PROT_WRITE, MAP_PRIVATE | MAP_ANONYMOUS | MAP_NORESERVE, -1, 0);
     if (bytes == MAP_FAILED) {
         perror("mmap");
         return;
     }
-    for (size_t over = 0; over < 2; over++) {
-        const size_t n = LONGEST + over;
-        printf("%zu bytes\n", n);
-        print_reading("decode_evt2", prophesee_decode_evt2(bytes, n, sized, xs, ROOM, ys, ROOM, ts, ROOM, ps, ROOM));
-        print_reading("decode_evt3", prophesee_decode_evt3(bytes, n, sized, xs, ROOM, ys, ROOM, ts, ROOM, ps, ROOM));
+    for (size_t n = LONGEST; n <= LONGEST + 1u; n++) {
+        memset(bytes, 0, sizeof evt2);
+        print_reading("decode_words, 2, zeros", prophesee_decode_words(bytes, n, 2, sized, COLUMNS));
+        print_reading("decode_words, 3, zeros", prophesee_decode_words(bytes, n, 3, sized, COLUMNS));
+        told(n, "decode_words, no size, no event", prophesee_decode_words(bytes, n, 2, plain, COLUMNS).refusal);
+        told(n, "open_words, no size, no event", prophesee_open_words(bytes, n, 2, records, 256, open).refusal);
+        memcpy(bytes, evt2, sizeof evt2);
+        longest_events(bytes, n);
+        memcpy(bytes, "%\n", 2);
+        told(n, "parse_header, no encoding", prophesee_parse_header(bytes, n, 0, 0, 0).refusal);
+        told(n, "read_raw, no encoding", prophesee_read_raw(bytes, n, plain, COLUMNS).refusal);
+        told(n, "open, no encoding", prophesee_open(bytes, n, NULL, 0, open).refusal);
+        bytes[1] = 0x80;
+        told(n, "parse_header, a header byte 80", prophesee_parse_header(bytes, n, 0, 0, 0).refusal);
+        told(n, "read_raw, a header byte 80", prophesee_read_raw(bytes, n, plain, COLUMNS).refusal);
+        told(n, "open, a header byte 80", prophesee_open(bytes, n, NULL, 0, open).refusal);
     }
-    bytes[0] = 0x25;
-    bytes[1] = 0x80;
-    for (size_t over = 0; over < 2; over++) {
-        const size_t n = LONGEST + over;
-        printf("%zu bytes, the first 25 80\n", n);
-        print_reading("read_raw", prophesee_read_raw(bytes, n, sized, xs, ROOM, ys, ROOM, ts, ROOM, ps, ROOM));
-    }
-    longest_pairs(bytes);
     munmap(bytes, LONGEST + 1u);
+    clear();
 }
 
 /* Refusal 4 of an append: one event over 2^28, and not at 2^28, where the output is too short (11). */
@@ -256,18 +448,33 @@ static void longest_append(void)
         return;
     }
     for (size_t n = most; n <= most + 1; n++) {
-        prophesee_appended a = prophesee_append(prophesee_writer_evt3(0), 64, 48, zeros, n, zeros, n, zeros, n, zeros, n, output, 8);
+        prophesee_appended a = prophesee_append(prophesee_writer(3, 0), 64, 48, zeros, n, zeros, n, zeros, n, zeros, n, output, 8);
         printf("append, %zu events: refusal %u told %zu written %zu\n", n, a.refusal, a.told, a.written);
     }
     munmap(zeros, bytes);
 }
 
+static void bounds(void)
+{
+    for (uint32_t n = 0; n <= 13; n++)
+        printf("refusal %u: %s\n", n, prophesee_refusal_text(n));
+    printf("most events: %zu of EVT2, %zu of EVT3\n", prophesee_most_events(2, 11), prophesee_most_events(3, 11));
+    printf("most records: %zu, %zu, %zu, %zu\n", prophesee_most_records(0, 4), prophesee_most_records(1, 4), prophesee_most_records(4, 4), prophesee_most_records(5, 4));
+    printf("most bytes: %zu, with a header %zu\n", prophesee_most_bytes(3), prophesee_most_bytes_with_header(3));
+}
+
 int main(void)
 {
+    memcpy(recording, header, sizeof header - 1);
+    memcpy(recording + sizeof header - 1, evt3, sizeof evt3);
+    clear();
+    printf("version %u, %u\n", prophesee_version(), PROPHESEE_RAW_VERSION);
+    bounds();
+    headers();
     reading();
     slices();
     writing();
-    clear();
+    words();
     longest();
     longest_append();
     return 0;

@@ -2,6 +2,7 @@
 ghost use mathlib.Core.Path.{_≡_};
 ghost use Prim.Native.Nat.{_≤_};
 ghost use lib.ListN.{length};
+ghost use Rattle.evt_types.specs.declared.Encoding.the-variants.{Evt2, Evt3};
 ghost use Rattle.index_records.specs.BinarySearch.{chosenOf};
 ghost use Rattle.index_records.specs.Judge.{judgedAll};
 ghost use Rattle.slice_rules.specs.Slice.{toldSlice};
@@ -56,17 +57,52 @@ pub fn used_records(s: PropheseeSource, lent: usize) -> usize
     0
 }
 
-// Whether the first n records are in range, one after another, up to the first that isn't.
+// Whether the first n records are in range, one after another, up to the first that isn't. There is a
+// loop for each encoding, so that the compiler knows which kind of decoder a record has.
 pub fn judge_records(encoding: Encoding, records: &[[u64; 10]], n: usize, s: Judging) -> bool
     requires { ⌜ n ≤ length (now records) ⌝ }
     ensures { λ r. ⌜ r ≡ judgedAll s (checkpointsIn encoding n (now (records .entry))) .ok ⌝ }
+{
+    match encoding {
+        Encoding::Evt2 => judge_evt2(records, n, s),
+        Encoding::Evt3 => judge_evt3(records, n, s),
+    }
+}
+
+fn judge_evt2(records: &[[u64; 10]], n: usize, s: Judging) -> bool
+    requires { ⌜ n ≤ length (now records) ⌝ }
+    ensures { λ r. ⌜ r ≡ judgedAll s (checkpointsIn Evt2 n (now (records .entry))) .ok ⌝ }
 {
     let mut t = s;
     let mut i: usize = 0;
     while i < n {
         let a = records[i];
-        let c = checkpoint_in(encoding, a);
-        t = index_records::judge(t, c);
+        let c = checkpoint_in(Encoding::Evt2, a);
+        let placed = index_records::places(t, c);
+        let codec = c.codec;
+        let ok = index_records::in_range_if(placed, codec);
+        t = index_records::onward(t, c, ok);
+        if t.ok {} else {
+            return false;
+        }
+        i += 1;
+    }
+    t.ok
+}
+
+fn judge_evt3(records: &[[u64; 10]], n: usize, s: Judging) -> bool
+    requires { ⌜ n ≤ length (now records) ⌝ }
+    ensures { λ r. ⌜ r ≡ judgedAll s (checkpointsIn Evt3 n (now (records .entry))) .ok ⌝ }
+{
+    let mut t = s;
+    let mut i: usize = 0;
+    while i < n {
+        let a = records[i];
+        let c = checkpoint_in(Encoding::Evt3, a);
+        let placed = index_records::places(t, c);
+        let codec = c.codec;
+        let ok = index_records::in_range_if(placed, codec);
+        t = index_records::onward(t, c, ok);
         if t.ok {} else {
             return false;
         }

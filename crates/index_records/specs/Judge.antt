@@ -1,5 +1,5 @@
 -- When a record is out of range (rule 10), given what the record before it was.
-use mathlib.Core.Path.{_≡_}
+use mathlib.Core.Path.{_≡_, refl}
 use mathlib.Core.Bool.{Bool, true, false, cond}
 use mathlib.Core.List.{List, [], _∷_}
 use Prim.Native.Nat.{ℕ, _+_, _-_, _%_, _^_}
@@ -59,7 +59,11 @@ aheadOf s c ok past offset = record {
 abbrev pub onwardOf : Judging → Checkpoint → Bool → Judging
 onwardOf s c ok = cond (ltb (18446744073709551615 - s .spacing) (s .offset)) (aheadOf s c ok true 0) (aheadOf s c ok false (s .offset + s .spacing))
 
--- the right encoding, standing where it should, with a decoder in range, after records that were all fine
+-- the right encoding, standing where it should, after records that were all fine
+abbrev pub placesOf : Judging → Checkpoint → Bool
+placesOf s c = cond (isOther (c .codec) (s .encoding)) false (cond (standsOf s c) (s .ok) false)
+
+-- and with a decoder in range
 abbrev pub admitsOf : Judging → Checkpoint → Bool
 admitsOf s c = cond (isOther (c .codec) (s .encoding)) false (cond (standsOf s c) (cond (s .ok) (inRangeC (c .codec)) false) false)
 
@@ -77,6 +81,15 @@ judgeAt at n s = record { more = ltb at n; at = at; judging = s; n = n }
 
 abbrev pub judgedNext : JudgeState → Checkpoint → JudgeState
 judgedNext s c = judgeAt ((s .at + 1) % 2 ^ 64) (s .n) (judgedOf (s .judging) c)
+
+pub admits-places : (s : Judging) (c : Checkpoint) → cond (placesOf s c) (inRangeC (c .codec)) false ≡ admitsOf s c
+admits-places s c = go (isOther (c .codec) (s .encoding)) (standsOf s c)
+  where
+    go : (a b : Bool) → cond (cond a false (cond b (s .ok) false)) (inRangeC (c .codec)) false
+        ≡ cond a false (cond b (cond (s .ok) (inRangeC (c .codec)) false) false)
+    go true b = refl
+    go false true = refl
+    go false false = refl
 
 -- by the outcome of each test
 pub admits-by : (s : Judging) (c : Checkpoint) (a b k : Bool) → isOther (c .codec) (s .encoding) ≡ a → standsOf s c ≡ b → s .ok ≡ k

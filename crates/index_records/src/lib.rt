@@ -4,10 +4,12 @@
 // the binary search, which finds it (specs/Search.antt). The functions take a record by value, but for
 // `judge_all` and `choose`, which are lent records: one proof by hand, proofs/Scan.antt, has both.
 ghost use mathlib.Core.Path.{_≡_};
+ghost use mathlib.Core.Bool.{false, cond};
 ghost use Prim.Native.Nat.{_<_};
+ghost use Rattle.evt_codec.specs.Codec.{inRangeC};
 ghost use Rattle.index_records.specs.Choose.{passesOf};
 ghost use Rattle.index_records.specs.BinarySearch.{middleOf, placeOf, bracketOf, narrowed, firstSearch, chosenOf};
-ghost use Rattle.index_records.specs.Judge.{isOther, standsOf, aheadOf, onwardOf, admitsOf, judgedOf, judgedAll, judgeAt, judgedNext};
+ghost use Rattle.index_records.specs.Judge.{isOther, standsOf, aheadOf, onwardOf, placesOf, admitsOf, judgedOf, judgedAll, judgeAt, judgedNext};
 use evt_codec::Codec;
 use evt_types::Encoding;
 use index_build::Checkpoint;
@@ -188,7 +190,7 @@ fn ahead(s: Judging, c: Checkpoint, ok: bool, past: bool, offset: usize) -> Judg
 }
 
 // Goes on behind a record.
-fn onward(s: Judging, c: Checkpoint, ok: bool) -> Judging
+pub fn onward(s: Judging, c: Checkpoint, ok: bool) -> Judging
     ensures { λ r. ⌜ r ≡ onwardOf s c ok ⌝ }
 {
     let most = 18446744073709551615 - s.spacing;
@@ -198,9 +200,9 @@ fn onward(s: Judging, c: Checkpoint, ok: bool) -> Judging
     ahead(s, c, ok, false, s.offset + s.spacing)
 }
 
-// Whether a record may stand there, and all before it might.
-fn admits(s: Judging, c: Checkpoint) -> bool
-    ensures { λ r. ⌜ r ≡ admitsOf s c ⌝ }
+// Whether a record of this encoding may stand there, and all before it might, its decoder aside.
+pub fn places(s: Judging, c: Checkpoint) -> bool
+    ensures { λ r. ⌜ r ≡ placesOf s c ⌝ }
 {
     let codec = c.codec;
     let encoding = s.encoding;
@@ -208,11 +210,28 @@ fn admits(s: Judging, c: Checkpoint) -> bool
         return false;
     }
     if stands(s, c) {
-        if s.ok {
-            return codec.in_range();
-        }
+        return s.ok;
     }
     false
+}
+
+// Whether a decoder is in range, if it is asked for.
+pub fn in_range_if(asked: bool, codec: Codec) -> bool
+    ensures { λ r. ⌜ r ≡ cond asked (inRangeC codec) false ⌝ }
+{
+    if asked {
+        return codec.in_range();
+    }
+    false
+}
+
+// Whether a record may stand there, and all before it might.
+fn admits(s: Judging, c: Checkpoint) -> bool
+    ensures { λ r. ⌜ r ≡ admitsOf s c ⌝ }
+{
+    let placed = places(s, c);
+    let codec = c.codec;
+    in_range_if(placed, codec)
 }
 
 // One record more.

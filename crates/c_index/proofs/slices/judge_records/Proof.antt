@@ -1,46 +1,12 @@
-use mathlib.Core.Path.{refl, sym, ap}
-use Prim.Native.Nat.{_+_, _≤_, _-_}
-use native.Mathlib.Omega.{arith}
-use Rattle.index_records.specs.declared.Judging.{Judging}
-use Rattle.c_index.specs.{Lookup.Judged, Lookup.judged-next, Lookup.judged-stop, Lookup.judged-end}
 use borrow.Author.Needs.{needs}
 use Rattle.c_index.proofs.slices.judge_records.Statement.{statement}
 use Rattle.c_index.proofs.slices.judge_records.Tie as tie
 
-abbrev Inv-loop : tie.InvT-loop
-Inv-loop encoding records n t₀ i₀ t i = (i ≤ n) × Judged encoding n records t₀ i t
+returns : tie.Need-returns
+returns c = rw (c .before .enum-told .given .1) (c .judge-evt2 .ensures)
 
-abbrev μ-loop : tie.MeasureT-loop
-μ-loop encoding records n t₀ i₀ t i = n - i
-
-returns : tie.Need-returns Inv-loop μ-loop
-returns c =
-    let b = c .before .before .before .before in
-    let s = b .before .before in
-    let a = s .args in
-    let next = judged-next (a .encoding) (a .n) (a .records .now) (s .pre) (a .s) (b .before .loop .i) (b .loop-test .taken) _ _ _
-    (b .before .loop .inv .1) (c .before .before .checkpoint-in .ensures) (c .before .judge .ensures) in
-    sym (judged-stop (a .encoding) (a .n) (a .records .now) (s .pre) (a .s) (b .before .loop .i + 1) _ next (c .if1 .left))
-
-loop-again : tie.Need-loop-again Inv-loop μ-loop
-loop-again c =
-    let b = c .before .before .before .before in
-    let s = b .before .before in
-    let a = s .args in
-    let next = judged-next (a .encoding) (a .n) (a .records .now) (s .pre) (a .s) (b .before .loop .i) (b .loop-test .taken) _ _ _
-    (b .before .loop .inv .1) (c .before .before .checkpoint-in .ensures) (c .before .judge .ensures) in
-    (omega arith, next)
-
-returns-2 : tie.Need-returns-2 Inv-loop μ-loop
-returns-2 c =
-    let s = c .before .before in
-    let a = s .args in
-    ap (λ (j : Judging). j .ok)
-    (judged-end (a .encoding) (a .n) (a .records .now) (s .pre) (a .s) (c .before .loop .i) _ (c .loop-test .left) (c .before .loop .inv .1))
+returns-2 : tie.Need-returns-2
+returns-2 c = rw (c .before .enum-told2 .given .1) (c .judge-evt3 .ensures)
 
 pub judge-records-spec : {M : Type 1} → statement M
-judge-records-spec =
-    tie.close
-    (tie.spec
-    Inv-loop μ-loop (λ c. (omega arith, refl)) (λ c. search needs) (λ c. search needs) (λ c κs. search needs) (λ c κs. search needs) returns
-    (λ c. omega arith) (λ c. omega arith) loop-again returns-2)
+judge-records-spec = tie.close (tie.spec (λ c. search needs) (λ c κs. search needs) (λ c. search needs) (λ c κs. search needs) returns returns-2)

@@ -19,7 +19,8 @@ use Rattle.index_build.specs.{Index.Body, Index.openAnswer, Index.openRecords, 
 use Rattle.index_build.specs.Index.{recordsOf, openingOf, needOf, indexOutcome, wordsBody, bodyKept, spacingOk}
 use Rattle.header.specs.Header.{hasZero}
 use Rattle.index_build.specs.{Index.sourceOf as sourceAs, Laws.length-firsts, Nth.blank, Open.IfGiven, Open.accepted-words}
-use Rattle.slice_rules.specs.{declared.SliceAnswer.SliceAnswer, declared.SliceAnswer.the-variants.Sliced, Slice.toldSlice, Slice.sliceAnswer, Slice.sliceVerdict}
+use Rattle.slice_rules.specs.{declared.SliceAnswer.SliceAnswer, declared.SliceAnswer.the-variants.Sliced, Slice.toldSlice, Slice.sliceAnswer}
+use Rattle.slice_rules.specs.{Slice.sliceVerdict}
 use Rattle.slice_rules.specs.Slice.{Slices}
 use Rattle.laws_handover.specs.Handover.{Columns, room, HoldsEvents, numbered, duringTimes, widest, optionsOf, Index, ReadBack}
 use Rattle.c_values.specs.{declared.reading.PropheseeReading.PropheseeReading, Encoding.number-known, Encoding.encoding-back, Reading.readingOf}

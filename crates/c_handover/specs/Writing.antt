@@ -28,7 +28,8 @@ told-append (refuse r) = refl
 told-append (give a) = refl
 
 -- the bytes that were told
-written-is : (given : PropheseeSink) (s : RawEventSink) (o : Outcome AppendedBytes) → appendedOf given (appendVerdict o) (sinkAfter s o) .written ≡ bytesTold (appendAnswer o)
+written-is : (given : PropheseeSink) (s : RawEventSink) (o : Outcome AppendedBytes)
+    → appendedOf given (appendVerdict o) (sinkAfter s o) .written ≡ bytesTold (appendAnswer o)
 written-is given s (refuse r) = no-value r 0
 written-is given s (give a) = refl
 

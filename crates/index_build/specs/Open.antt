@@ -29,7 +29,8 @@ use Rattle.index_build.specs.declared.{Builder.Builder, Checkpoint.Check
 use Rattle.index_build.specs.declared.{OpenAnswer.the-variants.Refused, OpenOptions.OpenOptions, Prepared.Prepared, Prepared.the-variants.Ready}
 use Rattle.index_build.specs.declared.{Prepared.the-variants.Refused as NotReady, RawSliceSource.RawSliceSource, WordsOptions.WordsOptions}
 use Rattle.index_build.specs.Index.{keptEvents, recordAt, firsts, recordCount, recordsOf, alignment, spacingOk, Body, bodyAt, bodyBytes, bodyKept, needOf}
-use Rattle.index_build.specs.Index.{openingOf, recordsBy, indexOutcome, openAfterHeader, openRawOutcome, wordsBody, openWordsOutcome, openAnswer, openRecords}
+use Rattle.index_build.specs.Index.{openingOf, recordsBy, indexOutcome, openAfterHeader, openRawOutcome, wordsBody, openWordsOutcome}
+use Rattle.index_build.specs.Index.{openAnswer, openRecords}
 use Rattle.index_build.specs.{Index.Opens, Index.toldOpen, Index.told-answer, Laws.builder-start, Laws.Laid, Laws.laid-end}
 use Rattle.index_build.specs.Build.{Begun, builderAt, madeAt, spanWidth, spanHeight, wholeWindow, firstFor, uncounted, firstOf, preparedBy, concluded}
 

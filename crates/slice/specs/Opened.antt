@@ -21,7 +21,8 @@ use Rattle.read_rules.specs.Read.{widthOf, heightOf, sizeless}
 use Rattle.index_build.specs.declared.{Checkpoint.Checkpoint, OpenAnswer.OpenAnswer, OpenAnswer.the-variants.Opened, OpenAnswer.the-variants.Refused}
 use Rattle.index_build.specs.{declared.OpenOptions.OpenOptions, declared.Opening.Opening, declared.WordsOptions.WordsOptions, Index.openAnswer}
 use Rattle.index_build.specs.{Index.openRecords, Index.OpensRaw, Index.OpensWords, Laws.length-firsts}
-use Rattle.index_build.specs.Index.{keptEvents, recordCount, recordsOf, spacingOk, Body, bodyAt, indexOutcome, openAfterHeader, openRawOutcome, wordsBody, openWordsOutcome}
+use Rattle.index_build.specs.Index.{keptEvents, recordCount, recordsOf, spacingOk, Body, bodyAt, indexOutcome, openAfterHeader, openRawOutcome}
+use Rattle.index_build.specs.Index.{wordsBody, openWordsOutcome}
 use Rattle.index_records.specs.InRange.{indexInRange}
 use Rattle.slice_rules.specs.Slice.{sizeOf, firstOf, endOf, indexEvents, isDuring, timeEvents, sliceCheck}
 use Rattle.slice.specs.Own.{ownEvents, ownSource, ownRecords, OwnPast, own-in-range, own-number, own-time, own-rules}

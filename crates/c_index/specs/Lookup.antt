@@ -11,7 +11,9 @@ use lib.Seq.{length-take-le, getD-take, drop-cons}
 use Rattle.evt_types.specs.declared.Encoding.{Encoding}
 use Rattle.index_build.specs.{declared.Checkpoint.Checkpoint, Nth.nth, Nth.blank}
 use Rattle.index_records.specs.{declared.Choice.Choice, declared.Judging.Judging, declared.Search.Search, BinarySearch.narrowed}
+use Rattle.evt_codec.specs.Codec.{inRangeC}
 use Rattle.index_records.specs.{BinarySearch.firstSearch, BinarySearch.chosenOf, Judge.judgedOf, Judge.judgedAll, JudgeLaws.judged-failed}
+use Rattle.index_records.specs.Judge.{placesOf, onwardOf, admits-places}
 use Rattle.index_records.specs.Search.{Searching, enough, Finds, finds-first, finds-place, finds-next, finds-end}
 use Rattle.c_index.specs.{Records.checkpointIn, Records.checkpointsIn}
 
@@ -51,12 +53,20 @@ module _ (e : Encoding) (n : ℕ) (l : List (List ℕ)) where
 
     -- ---- judging
 
-    pub judged-next : (s : Judging) (i : ℕ) → i < n → (t r : Judging) (c : Checkpoint) → Judged s i t → c ≡ checkpointIn e (getD l i []) → r ≡ judgedOf t c
+    judged-next : (s : Judging) (i : ℕ) → i < n → (t r : Judging) (c : Checkpoint) → Judged s i t → c ≡ checkpointIn e (getD l i []) → r ≡ judgedOf t c
         → Judged s (i + 1) r
     judged-next s i h t r c before is-c is-r =
         let is : c ≡ nth records i = is-c ∙ sym (nth-records i h) in
         (λ k. judgedAll (is-r k) (drop (add-one i k) records)) ∙ (λ k. judgedAll (judgedOf t (is k)) (drop (suc i) records))
         ∙ sym (ap (judgedAll t) (drop-cons records i blank (omega (arith, length-records)))) ∙ before
+
+    -- by the tests that the code makes one after another
+    pub judged-parts : (s : Judging) (i : ℕ) → i < n → (t r : Judging) (c : Checkpoint) (placed ok : Bool) → Judged s i t
+        → c ≡ checkpointIn e (getD l i []) → placed ≡ placesOf t c → ok ≡ cond placed (inRangeC (c .codec)) false → r ≡ onwardOf t c ok
+        → Judged s (i + 1) r
+    judged-parts s i h t r c placed ok before is-c is-placed is-ok is-r =
+        judged-next s i h t r c before is-c
+        (is-r ∙ ap (onwardOf t c) (is-ok ∙ ap (λ b. cond b (inRangeC (c .codec)) false) is-placed ∙ admits-places t c))
 
     pub judged-stop : (s : Judging) (i : ℕ) (t : Judging) → Judged s i t → t .ok ≡ false → judgedAll s records .ok ≡ false
     judged-stop s i t before failed = sym (ap (λ (j : Judging). j .ok) before) ∙ judged-failed t (drop i records) failed

@@ -156,7 +156,8 @@ module _ {xs ys : List ℕ} {ts : List ℤ} {ps : List ℕ} (sized : Sized xs ys
         )
 
     -- with what the code has, and the index as the code writes it
-    pub under-same2 : {out′ : List ℕ} {high′ at′ : ℕ} (j : ℕ) → out′ ≡ out → high′ ≡ high → at′ ≡ at → i ≡ j → Under2 v₀ xs ys ts ps at₀ out₀ out′ high′ at′ j
+    pub under-same2 : {out′ : List ℕ} {high′ at′ : ℕ} (j : ℕ) → out′ ≡ out → high′ ≡ high
+        → at′ ≡ at → i ≡ j → Under2 v₀ xs ys ts ps at₀ out₀ out′ high′ at′ j
     under-same2 j o h a n = rw (o, h, a, ← n) u
 
     pub under-end2 : length xs ≤ i → (v : EncoderState) → v ≡ stateAt2 v₀ (length xs) high

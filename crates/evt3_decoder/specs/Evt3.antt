@@ -162,7 +162,8 @@ module _ (d : Decoder) (w k : ℕ) (is-type : k ≡ type3 w) where
   pub started-word : (n : ℕ) → k ≡ n → d .initialised ≡ true → By (kindOn n)
   started-word n h s = by-rule (kindOn n) (rw (s, h))
 
-  pub started-other : d .initialised ≡ true → (k ≡ 0 → ⊥) → (k ≡ 2 → ⊥) → (k ≡ 3 → ⊥) → (k ≡ 4 → ⊥) → (k ≡ 5 → ⊥) → (k ≡ 6 → ⊥) → (k ≡ 8 → ⊥) → By skip
+  pub started-other : d .initialised ≡ true → (k ≡ 0 → ⊥) → (k ≡ 2 → ⊥) → (k ≡ 3 → ⊥) → (k ≡ 4 → ⊥)
+      → (k ≡ 5 → ⊥) → (k ≡ 6 → ⊥) → (k ≡ 8 → ⊥) → By skip
   started-other s a b c e f g h = by-rule skip (rw (s, ne-eqb k 0 a, ne-eqb k 2 b, ne-eqb k 3 c, ne-eqb k 4 e, ne-eqb k 5 f, ne-eqb k 6 g, ne-eqb k 8 h))
 
   pub first-word : k ≡ 8 → d .initialised ≡ false → By firstTime

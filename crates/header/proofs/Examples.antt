@@ -17,7 +17,8 @@ listing =
 
 -- `%evt 2.0`, `%geometry 0012X 0`
 abbrev flat : List ℕ
-flat = 37 ∷ 101 ∷ 118 ∷ 116 ∷ 32 ∷ 50 ∷ 46 ∷ 48 ∷ 10 ∷ 37 ∷ 103 ∷ 101 ∷ 111 ∷ 109 ∷ 101 ∷ 116 ∷ 114 ∷ 121 ∷ 32 ∷ 48 ∷ 48 ∷ 49 ∷ 50 ∷ 88 ∷ 32 ∷ 48 ∷ 10 ∷ []
+flat = 37 ∷ 101 ∷ 118 ∷ 116 ∷ 32 ∷ 50 ∷ 46 ∷ 48 ∷ 10 ∷ 37
+    ∷ 103 ∷ 101 ∷ 111 ∷ 109 ∷ 101 ∷ 116 ∷ 114 ∷ 121 ∷ 32 ∷ 48 ∷ 48 ∷ 49 ∷ 50 ∷ 88 ∷ 32 ∷ 48 ∷ 10 ∷ []
 
 pub worked :
     headerVerdict listing Unknown ∷ headerVerdict (37 ∷ 128 ∷ []) Unknown ∷ headerVerdict [] Unknown ∷ headerVerdict flat Unknown

@@ -289,14 +289,16 @@ module _ (𝓑 : Bound) where
 
     abbrev Owned : ℕ → ℕ → GName → SProp 𝓤
     Owned b ν γ =
-        ⋆ 𝓤 H A (‵ (flft κ q) ∷ ‵ (flft (ν ∷ []) fullShare) ∷ ‵ (flft κ₁ q₁) ∷ ‵ (flft κ₂ q₂) ∷ ‵ (flft κ₃ q₃) ∷ ‵ (flft κ₄ q₄) ∷ ‵ OwnB ∷ ‵ (OwnS b ν γ)
+        ⋆ 𝓤 H A (‵ (flft κ q) ∷ ‵ (flft (ν ∷ []) fullShare) ∷ ‵ (flft κ₁ q₁) ∷ ‵ (flft κ₂ q₂) ∷ ‵ (flft κ₃ q₃) ∷ ‵ (flft κ₄ q₄)
+        ∷ ‵ OwnB ∷ ‵ (OwnS b ν γ)
         ∷ ‵ (MutSlice (named 1) κ₁ u16 .own x₁ (cval x₁ ∷ [])) ∷ ‵ (MutSlice (named 2) κ₂ u16 .own x₂ (cval x₂ ∷ []))
         ∷ ‵ (MutSlice (named 3) κ₃ i64 .own x₃ (cval x₃ ∷ [])) ∷ ‵ (MutSlice (named 4) κ₄ u8 .own x₄ (cval x₄ ∷ [])) ∷ [])
 
     goes-callee : (b ν : ℕ) (γ : GName) → IsP s → IsB b₀ → IsB b₁
         → ent 𝓤 (Owned b ν γ) (Callee 𝓤 H A .pre (to-callee b ν γ))
     goes-callee b ν γ gs ga₀ ga₁ =
-        qed W (‵ (flft κ q) ∷ ‵ (flft (ν ∷ []) fullShare) ∷ ‵ (flft κ₁ q₁) ∷ ‵ (flft κ₂ q₂) ∷ ‵ (flft κ₃ q₃) ∷ ‵ (flft κ₄ q₄) ∷ ‵ OwnB ∷ ‵ (OwnS b ν γ)
+        qed W (‵ (flft κ q) ∷ ‵ (flft (ν ∷ []) fullShare) ∷ ‵ (flft κ₁ q₁) ∷ ‵ (flft κ₂ q₂) ∷ ‵ (flft κ₃ q₃) ∷ ‵ (flft κ₄ q₄)
+        ∷ ‵ OwnB ∷ ‵ (OwnS b ν γ)
         ∷ ‵ (MutSlice (named 1) κ₁ u16 .own x₁ (cval x₁ ∷ [])) ∷ ‵ (MutSlice (named 2) κ₂ u16 .own x₂ (cval x₂ ∷ []))
         ∷ ‵ (MutSlice (named 3) κ₃ i64 .own x₃ (cval x₃ ∷ [])) ∷ ‵ (MutSlice (named 4) κ₄ u8 .own x₄ (cval x₄ ∷ [])) ∷ []) ∵
         nothing ! $ move ! (6 ∷ 0 ∷ []) $ join ! $ move ! (5 ∷ 0 ∷ []) $ join ! $ move ! (4 ∷ 0 ∷ []) $ join ! $ move ! (3 ∷ 0 ∷ []) $

@@ -437,7 +437,8 @@ module _ (𝓕 : Scan) where
           looks-slice ! tt T.the-row (Is T.the-row) (shows 𝓤 H A T.the-row) (LL.vals T.the-type T′.the-laws) (LL.tells T.the-type T′.the-laws)
           (LL.copy T.the-type T′.the-copy 𝓤 H A W) ys b o (λ q′.
           -- [the row; what shuts; the fractured borrow; true; res; the fact; what p owns; _10; …; _9; …; … ; _0; …]
-          keep ! (0 ∷ 19 ∷ 17 ∷ 15 ∷ 13 ∷ 11 ∷ 9 ∷ 7 ∷ 25 ∷ 23 ∷ 27 ∷ 1 ∷ 2 ∷ 4 ∷ 5 ∷ 21 ∷ 28 ∷ 26 ∷ 24 ∷ 22 ∷ 20 ∷ 18 ∷ 16 ∷ 14 ∷ 12 ∷ 10 ∷ 8 ∷ []) $
+          keep ! (0 ∷ 19 ∷ 17 ∷ 15 ∷ 13 ∷ 11 ∷ 9 ∷ 7 ∷ 25 ∷ 23 ∷ 27 ∷ 1 ∷ 2 ∷ 4 ∷ 5
+          ∷ 21 ∷ 28 ∷ 26 ∷ 24 ∷ 22 ∷ 20 ∷ 18 ∷ 16 ∷ 14 ∷ 12 ∷ 10 ∷ 8 ∷ []) $
           begins q′ l₀ l₁ l₂ l₃ l₄ l₅ l₆ l₇ l₈ l₉ l₁₀))))))))))))
 
   module _ {M : Type 1} (𝓤 : URA M) (H : Heap 𝓤) (A : Atoms 𝓤) (W : Given 𝓤 H A) (𝓣 : Tables 𝓤 H)

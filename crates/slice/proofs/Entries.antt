@@ -544,7 +544,8 @@ module _ (𝓔 : Entry) where
             (and-then ! (load ! (from ! (stop !)) (look ! 22 refl)) (and-then ! (load ! (from ! (stop !)) (look ! 24 refl)) (no-more !))))))))))
             (λ vr.
             use1 W (later (some (λ (r : SliceAnswer).
-            ((‵ (flft κ₀ q₀) ⊛ (‵ (flft κ₂ q₂) ⊛ (‵ (flft κ₃ q₃) ⊛ (‵ (flft κ₄ q₄) ⊛ (‵ (flft κ₅ q₅) ⊛ ‵ ftrue))))) ⊛ ‵ (E.the-row .own r (vr ∷ [])))
+            ((‵ (flft κ₀ q₀) ⊛ (‵ (flft κ₂ q₂) ⊛ (‵ (flft κ₃ q₃) ⊛ (‵ (flft κ₄ q₄) ⊛ (‵ (flft κ₅ q₅) ⊛ ‵ ftrue)))))
+            ⊛ ‵ (E.the-row .own r (vr ∷ [])))
             ⊛ some (λ (ws : Lasts slicing.ended lfts (args-from a j c)). ‵ (lasts slicing.ended lfts (args-from a j c) ws) ⊛ raw
             (fact 𝓤 (Sliced-from a j c r (ws .1 .1 .1 .1 .1 .0) (ws .1 .1 .1 .1 .1 .1 .0) (ws .1 .1 .1 .1 .1 .1 .1 .0) (ws .1 .1 .1 .1 .1 .1 .1 .1 .0)))))))
             (id⊢ 𝓤 _) $ await ! tt $ pick ! (λ r.

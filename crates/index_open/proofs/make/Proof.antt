@@ -168,7 +168,8 @@ module _ {M : Type 1} (𝓤 : URA M) (H : Heap 𝓤) (A : Atoms 𝓤) (W : Given
     Λ = 𝓣 .Λ
 
     abbrev En : Env 𝓤 H
-    En = (E′.mir, l₀) ∷ (bslice, l₁) ∷ (rslice, l₂) ∷ (S′.mir, l₃) ∷ (S′.mir, l₄) ∷ (word, l₅) ∷ (D′.mir, l₆) ∷ (tyBool, l₇) ∷ (word, l₈) ∷ (tyPtr, l₉) ∷ []
+    En = (E′.mir, l₀) ∷ (bslice, l₁) ∷ (rslice, l₂) ∷ (S′.mir, l₃) ∷ (S′.mir, l₄)
+        ∷ (word, l₅) ∷ (D′.mir, l₆) ∷ (tyBool, l₇) ∷ (word, l₈) ∷ (tyPtr, l₉) ∷ []
 
     abbrev Dies : List (Item 𝓤)
     Dies =
@@ -232,7 +233,8 @@ module _ {M : Type 1} (𝓤 : URA M) (H : Heap 𝓤) (A : Atoms 𝓤) (W : Given
         peeks ! D.the-row (Is D.the-row) (shows 𝓤 H A D.the-row) r (v ∷ []) (λ is.
         land ! (from ! (stop !)) (init ! 6 refl (LL.lawful D.the-type D′.the-laws 𝓤 H A W .typed r _ is .0)) $
         rewrite ! 6 (λ (u : Val). ‵ (fat fullShare D′.mir l₆ 0 u)) (ap only (LL.tells D.the-type D′.the-laws r _ is)) refl $ drop ! $ split ! $
-        keep ! (3 ∷ 4 ∷ 5 ∷ 6 ∷ 7 ∷ 8 ∷ 9 ∷ 10 ∷ 11 ∷ 12 ∷ 13 ∷ 14 ∷ 15 ∷ 16 ∷ 17 ∷ 0 ∷ 2 ∷ 18 ∷ 19 ∷ 20 ∷ 21 ∷ 22 ∷ 23 ∷ 24 ∷ 25 ∷ 26 ∷ 27 ∷ []) $
+        keep ! (3 ∷ 4 ∷ 5 ∷ 6 ∷ 7 ∷ 8 ∷ 9 ∷ 10 ∷ 11 ∷ 12 ∷ 13 ∷ 14 ∷ 15 ∷ 16
+        ∷ 17 ∷ 0 ∷ 2 ∷ 18 ∷ 19 ∷ 20 ∷ 21 ∷ 22 ∷ 23 ∷ 24 ∷ 25 ∷ 26 ∷ 27 ∷ []) $
         assigns ! (bin ! (load ! (from ! (stop !)) (look ! 2 refl)) (lit ! tt) (record { fits = far (t .at) n small (g .1) }))
         (from ! (stop !)) (init ! 5 refl (tt, record { fits = far (t .at) n small (g .1) })) $
         assigns !

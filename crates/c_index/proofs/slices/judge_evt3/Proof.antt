@@ -1,11 +1,9 @@
-use mathlib.Core.Path.{refl, sym, ap, _∙_}
-use mathlib.Core.Bool.{false, cond}
+use mathlib.Core.Path.{refl, sym, ap}
 use Prim.Native.Nat.{_+_, _≤_, _-_}
 use native.Mathlib.Omega.{arith}
 use Rattle.evt_types.specs.declared.Encoding.the-variants.{Evt3}
-use Rattle.index_records.specs.{declared.Judging.Judging, Judge.onwardOf, Judge.admits-places}
-use Rattle.evt_codec.specs.Codec.{inRangeC}
-use Rattle.c_index.specs.{Lookup.Judged, Lookup.judged-next, Lookup.judged-stop, Lookup.judged-end}
+use Rattle.index_records.specs.declared.Judging.{Judging}
+use Rattle.c_index.specs.{Lookup.Judged, Lookup.judged-parts, Lookup.judged-stop, Lookup.judged-end}
 use borrow.Author.Needs.{needs}
 use Rattle.c_index.proofs.slices.judge_evt3.Statement.{statement}
 use Rattle.c_index.proofs.slices.judge_evt3.Tie as tie
@@ -18,29 +16,26 @@ abbrev μ-loop : tie.MeasureT-loop
 
 returns : tie.Need-returns Inv-loop μ-loop
 returns c =
-    let b = c .before .before .before .before .before .before in
+    let o = c .before in
+    let b = o .before .before .before .before .before in
     let s = b .before .before in
     let a = s .args in
-    let k = c .before .before .before .before .checkpoint-in in
-    let next = judged-next Evt3 (a .n) (a .records .now) (s .pre) (a .s) (b .before .loop .i) (b .loop-test .taken) _ _ _
-    (b .before .loop .inv .1) (k .ensures)
-    (c .before .onward .ensures ∙ ap (onwardOf (b .before .loop .t) (k .result))
-    (c .before .before .in-range-if .ensures ∙ ap (λ p. cond p (inRangeC (k .result .codec)) false) (c .before .before .before .places .ensures)
-    ∙ admits-places (b .before .loop .t) (k .result))) in
+    let next = judged-parts Evt3 (a .n) (a .records .now) (s .pre) (a .s) (b .before .loop .i) (b .loop-test .taken) _ _ _ _ _
+    (b .before .loop .inv .1) (o .before .before .before .checkpoint-in .ensures) (o .before .before .places .ensures)
+    (o .before .in-range-if .ensures) (o .onward .ensures) in
     sym (judged-stop Evt3 (a .n) (a .records .now) (s .pre) (a .s) (b .before .loop .i + 1) _ next (c .if1 .left))
 
 loop-again : tie.Need-loop-again Inv-loop μ-loop
 loop-again c =
-    let b = c .before .before .before .before .before .before in
+    let o = c .before in
+    let b = o .before .before .before .before .before in
     let s = b .before .before in
-    let a = s .args in
-    let k = c .before .before .before .before .checkpoint-in in
-    let next = judged-next Evt3 (a .n) (a .records .now) (s .pre) (a .s) (b .before .loop .i) (b .loop-test .taken) _ _ _
-    (b .before .loop .inv .1) (k .ensures)
-    (c .before .onward .ensures ∙ ap (onwardOf (b .before .loop .t) (k .result))
-    (c .before .before .in-range-if .ensures ∙ ap (λ p. cond p (inRangeC (k .result .codec)) false) (c .before .before .before .places .ensures)
-    ∙ admits-places (b .before .loop .t) (k .result))) in
-    (omega arith, next)
+    let a = s .args in (
+      omega arith,
+      judged-parts Evt3 (a .n) (a .records .now) (s .pre) (a .s) (b .before .loop .i) (b .loop-test .taken) _ _ _ _ _
+          (b .before .loop .inv .1) (o .before .before .before .checkpoint-in .ensures) (o .before .before .places .ensures)
+          (o .before .in-range-if .ensures) (o .onward .ensures),
+    )
 
 returns-2 : tie.Need-returns-2 Inv-loop μ-loop
 returns-2 c =

@@ -1,0 +1,266 @@
+/* Makes the calls that it is told on standard input and tells what they gave on standard output, for
+ * tools/model/compare.py. Both are in batches: the number of bytes that follow, in 32 bits, then these bytes. A batch
+ * in is requests, each a `struct request` and the bytes of the recording; a batch out is an answer for each, its length
+ * in 32 bits and then its numbers without padding, in the order of the `put` below. A column is told in full, as long
+ * as it was lent. tools/model/calls.py has the same layouts. */
+#define _DEFAULT_SOURCE
+#include "prophesee_raw.h"
+
+#include <stdio.h>
+#include <stdlib.h>
+#include <string.h>
+#include <sys/mman.h>
+#include <unistd.h>
+
+enum { PARSE_HEADER, READ_RAW, DECODE_WORDS, READ_RAW_TRIGGERS, DECODE_WORDS_TRIGGERS, DECODE, DECODER_AFTER, WORD_TRIGGER };
+
+#define COLUMNS 7
+#define CANARY 64
+#define MARK 0xa5
+#define ARENA (1 << 24)
+#define RECORDING (1 << 20)
+#define LONGEST ((size_t)1 << 30)
+#define SECONDS_A_BATCH 300
+
+struct request {
+    uint64_t width, height, max_events;
+    uint64_t zeros; /* bytes 0 behind those given */
+    prophesee_decoder decoder;
+    uint32_t rooms[COLUMNS]; /* places lent: x, y, t, p, trigger time, id, value */
+    uint32_t encoding;
+    uint32_t given; /* bytes of the recording that follow */
+    uint8_t call, sized, limited;
+    uint8_t fill; /* every byte of a column beforehand; an odd one lends NULL for what is empty */
+};
+_Static_assert(sizeof(struct request) == 112, "as calls.py packs it");
+
+static const size_t sizes[COLUMNS] = {2, 2, 8, 1, 8, 1, 1};
+
+static void stop(const char *why)
+{
+    fprintf(stderr, "driver: %s\n", why);
+    exit(2);
+}
+
+/* ---- the batch out */
+
+static uint8_t *out;
+static size_t out_len, out_room;
+
+static void put(const void *from, size_t n)
+{
+    if (out_len + n > out_room) {
+        out_room = 2 * (out_len + n);
+        out = realloc(out, out_room);
+        if (!out)
+            stop("no memory");
+    }
+    if (n)
+        memcpy(out + out_len, from, n);
+    out_len += n;
+}
+
+#define PUT(value) put(&(value), sizeof(value))
+
+/* ---- lent memory */
+
+static uint8_t *recording_end; /* a page that can't be touched follows */
+static uint8_t *long_recording; /* all 0, longer than any that is read */
+static const uint8_t *recording;
+static size_t recording_len;
+static _Alignas(8) uint8_t arena[ARENA]; /* each column between canaries */
+static uint8_t *columns[COLUMNS];
+static void *lent_columns[COLUMNS];
+
+static void *mapped(size_t n)
+{
+    void *at = mmap(NULL, n, PROT_READ | PROT_WRITE, MAP_PRIVATE | MAP_ANONYMOUS | MAP_NORESERVE, -1, 0);
+    if (at == MAP_FAILED)
+        stop("no memory");
+    return at;
+}
+
+static void map_memory(void)
+{
+    recording_end = (uint8_t *)mapped(RECORDING + 4096) + RECORDING;
+    if (mprotect(recording_end, 4096, PROT_NONE))
+        stop("no page that can't be touched");
+    long_recording = mapped(LONGEST + RECORDING);
+}
+
+static void lend_recording(const struct request *r, const uint8_t *given)
+{
+    if (r->given > RECORDING - CANARY || r->given + r->zeros > LONGEST + RECORDING)
+        stop("a recording too long");
+    uint8_t *at = r->zeros ? long_recording : recording_end - r->given;
+    memset(recording_end - r->given - CANARY, MARK, CANARY);
+    memcpy(at, given, r->given);
+    recording = at;
+    recording_len = r->given + r->zeros;
+    if (recording_len == 0 && r->fill % 2)
+        recording = NULL;
+}
+
+static int recording_altered(const struct request *r, const uint8_t *given)
+{
+    uint8_t *at = r->zeros ? long_recording : recording_end - r->given;
+    int altered = memcmp(at, given, r->given) != 0;
+    if (r->zeros)
+        memset(at, 0, r->given);
+    for (int i = 1; i <= CANARY; i++)
+        altered |= (recording_end - r->given)[-i] != MARK;
+    return altered;
+}
+
+static size_t column_bytes(const struct request *r, int i)
+{
+    return r->rooms[i] * sizes[i];
+}
+
+static void lend_columns(const struct request *r)
+{
+    size_t at = CANARY, end = 0;
+    for (int i = 0; i < COLUMNS; i++) {
+        end = at + (column_bytes(r, i) + 7) / 8 * 8 + CANARY;
+        if (end > ARENA)
+            stop("columns too long");
+        columns[i] = arena + at;
+        lent_columns[i] = r->rooms[i] == 0 && r->fill % 2 ? NULL : columns[i];
+        at = end;
+    }
+    memset(arena, MARK, end);
+    for (int i = 0; i < COLUMNS; i++)
+        memset(columns[i], r->fill, column_bytes(r, i));
+}
+
+/* Whether a byte between the columns changed. */
+static int canaries_altered(const struct request *r)
+{
+    int altered = 0;
+    const uint8_t *at = arena;
+    for (int i = 0; i < COLUMNS; i++) {
+        while (at < columns[i])
+            altered |= *at++ != MARK;
+        at += column_bytes(r, i);
+    }
+    for (int i = 0; i < CANARY; i++)
+        altered |= at[i] != MARK;
+    return altered;
+}
+
+/* ---- the calls */
+
+#define LENT(i) lent_columns[i], r->rooms[i]
+#define EVENT_COLUMNS LENT(0), LENT(1), LENT(2), LENT(3)
+#define TRIGGER_COLUMNS LENT(4), LENT(5), LENT(6)
+
+static void put_header(const struct request *r)
+{
+    prophesee_header h = prophesee_parse_header(recording, recording_len, r->sized, r->width, r->height);
+    PUT(h.refusal), PUT(h.encoding), PUT(h.data_offset), PUT(h.width), PUT(h.height), PUT(h.sized);
+}
+
+static void put_reading(const struct request *r, prophesee_options options)
+{
+    size_t no_triggers = 0;
+    prophesee_reading a = r->call == READ_RAW ? prophesee_read_raw(recording, recording_len, options, EVENT_COLUMNS)
+                                              : prophesee_decode_words(recording, recording_len, r->encoding, options, EVENT_COLUMNS);
+    PUT(a.refusal), PUT(a.encoding), PUT(a.told), PUT(a.width), PUT(a.height), PUT(a.count), PUT(no_triggers);
+}
+
+static void put_trigger_reading(const struct request *r, prophesee_options options)
+{
+    prophesee_trigger_reading a =
+        r->call == READ_RAW_TRIGGERS
+            ? prophesee_read_raw_triggers(recording, recording_len, options, EVENT_COLUMNS, TRIGGER_COLUMNS)
+            : prophesee_decode_words_triggers(recording, recording_len, r->encoding, options, EVENT_COLUMNS, TRIGGER_COLUMNS);
+    PUT(a.refusal), PUT(a.encoding), PUT(a.told), PUT(a.width), PUT(a.height), PUT(a.count), PUT(a.triggers);
+}
+
+static void put_trigger(const struct request *r)
+{
+    prophesee_trigger a = prophesee_word_trigger(r->decoder, recording, recording_len);
+    PUT(a.refusal), PUT(a.some), PUT(a.t), PUT(a.id), PUT(a.value);
+}
+
+static void put_decoder(prophesee_decoder d)
+{
+    PUT(d.time_base), PUT(d.time), PUT(d.high_loops), PUT(d.encoding), PUT(d.y), PUT(d.base_x), PUT(d.initialised), PUT(d.polarity);
+}
+
+/* The decoder after the first word, and the word's events one by one. */
+static void put_decoded(const struct request *r)
+{
+    prophesee_decoded a = prophesee_decode(r->decoder, recording, recording_len);
+    PUT(a.refusal), put_decoder(a.decoder);
+    for (prophesee_next n = prophesee_next_event(a.events); n.some; n = prophesee_next_event(n.rest))
+        PUT(n.event.x), PUT(n.event.y), PUT(n.event.t), PUT(n.event.p);
+}
+
+static void put_decoder_after(const struct request *r)
+{
+    prophesee_stepped a = prophesee_decoder_after(r->decoder, recording, recording_len);
+    PUT(a.refusal), put_decoder(a.decoder);
+}
+
+static void call(const struct request *r)
+{
+    prophesee_options options = {r->width, r->height, r->max_events, r->sized, r->limited};
+    switch (r->call) {
+    case PARSE_HEADER: put_header(r); break;
+    case READ_RAW:
+    case DECODE_WORDS: put_reading(r, options); break;
+    case READ_RAW_TRIGGERS:
+    case DECODE_WORDS_TRIGGERS: put_trigger_reading(r, options); break;
+    case WORD_TRIGGER: put_trigger(r); break;
+    case DECODE: put_decoded(r); break;
+    case DECODER_AFTER: put_decoder_after(r); break;
+    default: stop("no such call");
+    }
+}
+
+static void answer(const struct request *r, const uint8_t *given)
+{
+    uint32_t length = 0;
+    size_t start = out_len;
+    PUT(length);
+    lend_recording(r, given);
+    lend_columns(r);
+    call(r);
+    uint8_t altered = recording_altered(r, given) | canaries_altered(r);
+    PUT(altered);
+    for (int i = 0; i < COLUMNS; i++)
+        put(columns[i], column_bytes(r, i));
+    length = out_len - start - sizeof length;
+    memcpy(out + start, &length, sizeof length);
+}
+
+static uint8_t *read_batch(uint32_t *n)
+{
+    if (fread(n, sizeof *n, 1, stdin) != 1)
+        return NULL;
+    uint8_t *batch = malloc(*n + 1);
+    if (!batch || fread(batch, 1, *n, stdin) != *n)
+        stop("a batch that isn't whole");
+    return batch;
+}
+
+int main(void)
+{
+    uint32_t n;
+    map_memory();
+    for (uint8_t *batch; (batch = read_batch(&n)); free(batch)) {
+        out_len = 0;
+        alarm(SECONDS_A_BATCH); /* a call that doesn't return ends the driver, which compare.py tells */
+        for (size_t at = 0; at < n;) {
+            struct request r;
+            memcpy(&r, batch + at, sizeof r);
+            answer(&r, batch + at + sizeof r);
+            at += sizeof r + r.given;
+        }
+        uint32_t told = out_len;
+        if (fwrite(&told, sizeof told, 1, stdout) != 1 || fwrite(out, 1, out_len, stdout) != out_len || fflush(stdout))
+            stop("nobody reads the answers");
+    }
+    return 0;
+}

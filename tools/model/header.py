@@ -1,0 +1,94 @@
+"""The header of a recording: its lines, its encoding and its size, and the refusals 4, 3, 2 and 1."""
+from collections import namedtuple
+
+from refusal import Refused, check_length
+
+BLANKS = bytes([9, 10, 11, 12, 13, 32])
+DIGITS = b'0123456789'
+
+# `size` is (width, height), or None where no size is known.
+Header = namedtuple('Header', 'encoding body size')
+
+
+def header_lines(data):
+    """While the next byte is `%`, a line runs through its newline, or to the end of the file. Told with where the body starts."""
+    lines, at = [], 0
+    while data[at:at + 1] == b'%':
+        newline = data.find(b'\n', at)
+        end = len(data) if newline < 0 else newline + 1
+        lines.append(data[at:end])
+        at = end
+    return lines, at
+
+
+def key_and_value(line):
+    """Trim the line, drop all leading `%`, trim; the key runs up to the first blank, the value is the trimmed remainder."""
+    line = line.strip(BLANKS).lstrip(b'%').strip(BLANKS)
+    end = next((at for at, byte in enumerate(line) if byte in BLANKS), len(line))
+    return line[:end].lower(), line[end:].strip(BLANKS)
+
+
+def number(text):
+    """An optional `+` and one or more decimal digits, below 2^64; None for any other text."""
+    digits = text[1:] if text[:1] == b'+' else text
+    if not digits or any(byte not in DIGITS for byte in digits):
+        return None
+    value = 0
+    for byte in digits:
+        value = value * 10 + byte - DIGITS[0]
+        if value >= 2**64:
+            return None
+    return value
+
+
+def geometry(value, size):
+    """The size after a geometry line. It parts at its first `x`, or if it has none at its first `X`; without either it changes nothing."""
+    at = value.find(b'x')
+    if at < 0:
+        at = value.find(b'X')
+    if at < 0:
+        return size
+    width, height = number(value[:at].strip(BLANKS)), number(value[at + 1:].strip(BLANKS))
+    return None if width is None or height is None else (width, height)
+
+
+def encoding_of(form, evt):
+    """EVT3 if format begins `evt3` or evt begins `3`; else EVT2 for `evt2` or `2`; None if neither names one."""
+    if form.startswith(b'evt3') or evt.startswith(b'3'):
+        return 3
+    if form.startswith(b'evt2') or evt.startswith(b'2'):
+        return 2
+    return None
+
+
+def header_values(lines):
+    """The encoding and the size that the lines tell. Of `format` and `evt` the last line wins."""
+    form, evt, size = b'', b'', None
+    for line in lines:
+        key, value = key_and_value(line)
+        if key == b'format':
+            form = value.lower()
+        elif key == b'evt':
+            evt = value.lower()
+        elif key == b'geometry':
+            size = geometry(value, size)
+    return encoding_of(form, evt), size
+
+
+def check_size(size):
+    if size is not None and 0 in size:
+        raise Refused(1)
+
+
+def parse_header(data, given=None, zeros=0):
+    """4, 3, 2, 1 for a zero size. `given` is the caller's size, which overrides the header's."""
+    check_length(data, zeros)
+    lines, body = header_lines(data)
+    if any(byte >= 128 for byte in data[:body]):
+        raise Refused(3)
+    encoding, size = header_values(lines)
+    if encoding is None:
+        raise Refused(2)
+    size = size if given is None else given
+    check_size(size)
+    return Header(encoding, body, size)

@@ -1,4 +1,5 @@
 pub mod Evt2
 pub mod Decode
 pub mod Range
+pub mod Triggers
 pub mod Loops

@@ -2,11 +2,15 @@
 ghost use mathlib.Core.Path.{_≡_};
 ghost use Rattle.evt2_decoder.specs.Evt2.{fresh2, step2, vector2, Sane2, inRange2};
 ghost use Rattle.evt2_decoder.specs.Decode.{Decoded2};
+ghost use Rattle.evt2_decoder.specs.Triggers.{trigger2};
 ghost use Rattle.evt_types.specs.Owed.{Owed};
+ghost use Rattle.evt_types.specs.Trigger.{triggerOutcome, OwedTrigger};
 use evt_types::DecodeAnswer;
 use evt_types::Refusal;
+use evt_types::TriggerAnswer;
 use evt_types::clock;
 use evt_types::fields::bits;
+use evt_types::trigger;
 use evt_types::vector;
 use evt_types::vector::Vector;
 
@@ -102,6 +106,25 @@ impl Evt2Decoder {
         let s = (*self).step(word);
         *self = s.next;
         s.answer
+    }
+
+    // The trigger that a word carries, if it does. No word's trigger alters the decoder, so a by-value
+    // method is enough. A decoder out of range is refused.
+    pub fn trigger(self, word: u32) -> TriggerAnswer
+        ensures { λ r. ⌜ OwedTrigger (triggerOutcome (inRange2 self) (trigger2 self word)) r ⌝ }
+    {
+        if self.in_range() {
+            let w = word as u64;
+            let t = self.time_high + bits(w, 22, 6);
+            return trigger::of_word(
+                self.initialised,
+                bits(w, 28, 4),
+                t,
+                bits(w, 8, 5),
+                bits(w, 0, 1),
+            );
+        }
+        TriggerAnswer::Refused(Refusal::StateOutOfRange)
     }
 }
 

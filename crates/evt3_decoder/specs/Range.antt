@@ -61,7 +61,7 @@ below3 d r = go (d .initialised) refl
     go true h = r .started h .0 .high
     go false h = rw (r .unstarted h) (omega arith)
 
-near3 : (d : Decoder) → Regular3 d → d .time < d .«time_base» + grain3
+pub near3 : (d : Decoder) → Regular3 d → d .time < d .«time_base» + grain3
 near3 d r = go (d .initialised) refl
   where
     go : (b : Bool) → d .initialised ≡ b → d .time < d .«time_base» + grain3

@@ -2,12 +2,16 @@
 ghost use mathlib.Core.Path.{_≡_};
 ghost use Rattle.evt3_decoder.specs.Evt3.{fresh3, step3, vector3, Sane3, Slim, widened, slimmed, inRange3, isZero, single, several};
 ghost use Rattle.evt3_decoder.specs.Decode.{Decoded3};
+ghost use Rattle.evt3_decoder.specs.Triggers.{trigger3};
 ghost use Rattle.evt_types.specs.Owed.{Owed};
+ghost use Rattle.evt_types.specs.Trigger.{triggerOutcome, OwedTrigger};
 use evt_types::DecodeAnswer;
 use evt_types::Refusal;
+use evt_types::TriggerAnswer;
 use evt_types::clock;
 use evt_types::fields::bits;
 use evt_types::num::saturating_add;
+use evt_types::trigger;
 use evt_types::vector;
 use evt_types::vector::Vector;
 
@@ -140,6 +144,24 @@ impl Decoder {
         let s = (*self).step(word);
         *self = s.next;
         s.answer
+    }
+
+    // The trigger that a word carries, if it does. No word's trigger alters the decoder, so a by-value
+    // method is enough. A decoder out of range is refused.
+    pub fn trigger(self, word: u16) -> TriggerAnswer
+        ensures { λ r. ⌜ OwedTrigger (triggerOutcome (inRange3 self) (trigger3 self word)) r ⌝ }
+    {
+        if self.in_range() {
+            let w = word as u64;
+            return trigger::of_word(
+                self.initialised,
+                bits(w, 12, 4),
+                self.time,
+                bits(w, 8, 4),
+                bits(w, 0, 1),
+            );
+        }
+        TriggerAnswer::Refused(Refusal::StateOutOfRange)
     }
 }
 

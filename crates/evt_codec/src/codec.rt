@@ -1,12 +1,16 @@
 // A decoder of either encoding.
 ghost use mathlib.Core.Path.{_≡_};
+ghost use mathlib.Core.List.{[]};
 ghost use Rattle.evt_types.specs.Event.{noEvents};
 ghost use Rattle.evt_codec.specs.Codec.{freshC, wordSize, inRangeC, stepC, vectorC};
 ghost use Rattle.evt_codec.specs.Decode.{DecodedC};
+ghost use Rattle.evt_codec.specs.Triggers.{triggerC};
 ghost use Rattle.evt_types.specs.Owed.{Owed};
+ghost use Rattle.evt_types.specs.Trigger.{triggerOutcome, OwedTrigger};
 use evt_types::DecodeAnswer;
 use evt_types::Encoding;
 use evt_types::Refusal;
+use evt_types::TriggerAnswer;
 use evt_types::fields::word16;
 use evt_types::fields::word32;
 use evt_types::vector;
@@ -89,6 +93,45 @@ impl Codec {
         *self = s.next;
         s.answer
     }
+
+    // The trigger that the first word of `bytes` carries, if it does. A decoder out of range is refused;
+    // else fewer bytes than a word carry none.
+    pub fn trigger(self, bytes: &[u8]) -> TriggerAnswer
+        ensures { λ r. ⌜ OwedTrigger (triggerOutcome (inRangeC self) (triggerC self (now (bytes .entry)))) r ⌝ }
+    {
+        match self {
+            Codec::Evt2(d) => trigger_evt2(d, bytes),
+            Codec::Evt3(d) => trigger_evt3(d, bytes),
+        }
+    }
+
+    // No word.
+    fn no_trigger(self) -> TriggerAnswer
+        ensures { λ r. ⌜ OwedTrigger (triggerOutcome (inRangeC self) []) r ⌝ }
+    {
+        if self.in_range() {
+            return TriggerAnswer::Nothing;
+        }
+        TriggerAnswer::Refused(Refusal::StateOutOfRange)
+    }
+}
+
+fn trigger_evt2(d: Evt2Decoder, bytes: &[u8]) -> TriggerAnswer
+    ensures { λ r. ⌜ OwedTrigger (triggerOutcome (inRangeC (Codec.Evt2 d)) (triggerC (Codec.Evt2 d) (now (bytes .entry)))) r ⌝ }
+{
+    if bytes.len() < Evt2Decoder::WORD_SIZE {
+        return Codec::Evt2(d).no_trigger();
+    }
+    d.trigger(word32(bytes[0], bytes[1], bytes[2], bytes[3]))
+}
+
+fn trigger_evt3(d: Decoder, bytes: &[u8]) -> TriggerAnswer
+    ensures { λ r. ⌜ OwedTrigger (triggerOutcome (inRangeC (Codec.Evt3 d)) (triggerC (Codec.Evt3 d) (now (bytes .entry)))) r ⌝ }
+{
+    if bytes.len() < Decoder::WORD_SIZE {
+        return Codec::Evt3(d).no_trigger();
+    }
+    d.trigger(word16(bytes[0], bytes[1]))
 }
 
 fn first_evt2(d: Evt2Decoder, bytes: &[u8]) -> CodecDecoded

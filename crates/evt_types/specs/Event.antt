@@ -34,6 +34,9 @@ eventsOf v = map (eventAt v) (bits 32 (v .x) (v .mask))
 abbrev pub noEvents : Vector
 noEvents = record { x = 0; y = 0; t = 0; p = 0; mask = 0 }
 
+pub no-events : eventsOf noEvents ≡ []
+no-events = ap (map (eventAt noEvents)) (bits-zero 32 0)
+
 -- it fits the smaller struct
 pub record Narrow (v : Vector) : Type 0 where
   pub x< : v .x < 2 ^ 16

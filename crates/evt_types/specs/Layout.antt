@@ -33,6 +33,13 @@ y2 = field 10 0
 abbrev pub timeHigh2 : ℕ → ℕ
 timeHigh2 = field 27 0
 
+-- EXT_TRIGGER (10): low bits of the time as of an event, channel, value
+abbrev pub triggerId2 : ℕ → ℕ
+triggerId2 = field 12 8
+
+abbrev pub triggerValue2 : ℕ → ℕ
+triggerValue2 = field 0 0
+
 -- ---- EVT 3.0, words of 16 bits
 
 abbrev pub wordSize3 : ℕ
@@ -66,6 +73,17 @@ mask8 = field 7 0
 abbrev pub time3 : ℕ → ℕ
 time3 = field 11 0
 
+-- EXT_TRIGGER (10): channel, value
+abbrev pub triggerId3 : ℕ → ℕ
+triggerId3 = field 11 8
+
+abbrev pub triggerValue3 : ℕ → ℕ
+triggerValue3 = field 0 0
+
+-- the type of a trigger, in both
+abbrev pub triggerType : ℕ
+triggerType = 10
+
 -- ---- words, built of their fields
 
 abbrev pub eventWord2 : (p low x y : ℕ) → ℕ
@@ -74,6 +92,9 @@ eventWord2 p low x y = p * 2 ^ 28 + low * 2 ^ 22 + x * 2 ^ 11 + y
 abbrev pub timeWord2 : (high : ℕ) → ℕ
 timeWord2 high = 8 * 2 ^ 28 + high
 
+abbrev pub triggerWord2 : (low id value : ℕ) → ℕ
+triggerWord2 low id value = triggerType * 2 ^ 28 + low * 2 ^ 22 + id * 2 ^ 8 + value
+
 -- a word of EVT 3.0 whose twelve low bits are one field
 abbrev pub word3 : (type v : ℕ) → ℕ
 word3 type v = type * 2 ^ 12 + v
@@ -81,6 +102,9 @@ word3 type v = type * 2 ^ 12 + v
 -- EVT_ADDR_X and VECT_BASE_X
 abbrev pub columnWord3 : (type p x : ℕ) → ℕ
 columnWord3 type p x = type * 2 ^ 12 + p * 2 ^ 11 + x
+
+abbrev pub triggerWord3 : (id value : ℕ) → ℕ
+triggerWord3 id value = triggerType * 2 ^ 12 + id * 2 ^ 8 + value
 
 -- ---- a word reads back to its fields, fits its width, and has its unused bits 0
 
@@ -109,6 +133,41 @@ module _ (high : ℕ) (high< : high < 2 ^ 28) where
 
   pub time-fits2 : timeWord2 high < 2 ^ 32
   time-fits2 = omega arith
+
+module _ (low id value : ℕ) (low< : low < 64) (id< : id < 32) (value< : value < 2) where
+  pub trigger-type2 : type2 (triggerWord2 low id value) ≡ triggerType
+  trigger-type2 = omega arith
+
+  pub trigger-low2 : timeLow2 (triggerWord2 low id value) ≡ low
+  trigger-low2 = omega arith
+
+  pub trigger-id2 : triggerId2 (triggerWord2 low id value) ≡ id
+  trigger-id2 = omega arith
+
+  pub trigger-value2 : triggerValue2 (triggerWord2 low id value) ≡ value
+  trigger-value2 = omega arith
+
+  pub trigger-unused2 : (field 21 13 (triggerWord2 low id value) ≡ 0) × (field 7 1 (triggerWord2 low id value) ≡ 0)
+  trigger-unused2 = (omega arith, omega arith)
+
+  pub trigger-fits2 : triggerWord2 low id value < 2 ^ 32
+  trigger-fits2 = omega arith
+
+module _ (id value : ℕ) (id< : id < 16) (value< : value < 2) where
+  pub trigger-type3 : type3 (triggerWord3 id value) ≡ triggerType
+  trigger-type3 = omega arith
+
+  pub trigger-id3 : triggerId3 (triggerWord3 id value) ≡ id
+  trigger-id3 = omega arith
+
+  pub trigger-value3 : triggerValue3 (triggerWord3 id value) ≡ value
+  trigger-value3 = omega arith
+
+  pub trigger-unused3 : field 7 1 (triggerWord3 id value) ≡ 0
+  trigger-unused3 = omega arith
+
+  pub trigger-fits3 : triggerWord3 id value < 2 ^ 16
+  trigger-fits3 = omega arith
 
 module _ (type v : ℕ) (type< : type < 16) where
   pub word-type3 : v < 4096 → type3 (word3 type v) ≡ type
@@ -157,6 +216,20 @@ event-whole2 w h =
 pub time-whole2 : (w : ℕ) → w < 2 ^ 32 → type2 w ≡ 8 → timeWord2 (timeHigh2 w) ≡ w
 time-whole2 w h e = omega arith
 
+trigger-parts2 : (w : ℕ) → w < 2 ^ 32
+    → type2 w * 2 ^ 28 + timeLow2 w * 2 ^ 22 + field 21 13 w * 2 ^ 13 + triggerId2 w * 2 ^ 8 + field 7 1 w * 2 + triggerValue2 w ≡ w
+trigger-parts2 w h =
+    let top : type2 w * 2 ^ 6 + timeLow2 w ≡ w / 2 ^ 22 = omega arith in
+    let upper : w / 2 ^ 22 * 2 ^ 9 + field 21 13 w ≡ w / 2 ^ 13 = omega arith in
+    let middle : w / 2 ^ 13 * 2 ^ 5 + triggerId2 w ≡ w / 2 ^ 8 = omega arith in
+    let lower : w / 2 ^ 8 * 2 ^ 7 + field 7 1 w ≡ w / 2 = omega arith in
+    let last : w / 2 * 2 + triggerValue2 w ≡ w = omega arith in
+    omega (arith, top, upper, middle, lower, last)
+
+pub trigger-whole2 : (w : ℕ) → w < 2 ^ 32 → type2 w ≡ triggerType → field 21 13 w ≡ 0 → field 7 1 w ≡ 0
+    → triggerWord2 (timeLow2 w) (triggerId2 w) (triggerValue2 w) ≡ w
+trigger-whole2 w h e a b = let p = rw (e, a, b) at (trigger-parts2 w h) in omega (arith, p)
+
 module _ (w : ℕ) (w< : w < 2 ^ 16) where
   pub time-whole3 : word3 (type3 w) (time3 w) ≡ w
   time-whole3 = omega arith
@@ -173,3 +246,13 @@ module _ (w : ℕ) (w< : w < 2 ^ 16) where
   -- EVT_ADDR_X and VECT_BASE_X
   pub column-whole3 : columnWord3 (type3 w) (polarity3 w) (x3 w) ≡ w
   column-whole3 = omega arith
+
+  trigger-parts3 : type3 w * 2 ^ 12 + triggerId3 w * 2 ^ 8 + field 7 1 w * 2 + triggerValue3 w ≡ w
+  trigger-parts3 =
+      let upper : type3 w * 2 ^ 4 + triggerId3 w ≡ w / 2 ^ 8 = omega arith in
+      let lower : w / 2 ^ 8 * 2 ^ 7 + field 7 1 w ≡ w / 2 = omega arith in
+      let last : w / 2 * 2 + triggerValue3 w ≡ w = omega arith in
+      omega (arith, upper, lower, last)
+
+  pub trigger-whole3 : type3 w ≡ triggerType → field 7 1 w ≡ 0 → triggerWord3 (triggerId3 w) (triggerValue3 w) ≡ w
+  trigger-whole3 e unused = let p = rw (e, unused) at trigger-parts3 in omega (arith, p)

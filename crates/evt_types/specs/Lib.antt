@@ -4,6 +4,7 @@ pub mod Told
 pub mod Outcome
 pub mod Event
 pub mod Layout
+pub mod Trigger
 pub mod Clock
 pub mod Tracking
 pub mod Columns

@@ -1,7 +1,7 @@
 // The types that every crate here shares, and what all encodings have in common: the public word
 // layouts of EVT 2.0 and EVT 3.0 (specs/Layout.antt), fields of a word, the clock that counts loops
-// (specs/Clock.antt), the events of a word (specs/Event.antt), and the number and the values of
-// every refusal (specs/Told.antt).
+// (specs/Clock.antt), the events of a word (specs/Event.antt), triggers (specs/Trigger.antt), and the
+// number and the values of every refusal (specs/Told.antt).
 
 ghost use mathlib.Core.Path.{_≡_};
 ghost use Rattle.evt_types.specs.Num.{encodingNumber};
@@ -13,6 +13,13 @@ pub struct RawEvent {
     pub y: u16,
     pub t: i64,
     pub p: u8,
+}
+
+// A pulse on the camera's trigger input: time in microseconds, channel, value 0 or 1.
+pub struct RawTrigger {
+    pub t: i64,
+    pub id: u8,
+    pub value: u8,
 }
 
 pub enum Encoding {
@@ -68,6 +75,7 @@ pub enum Refusal {
     StateOutOfRange,
     OutputTooShort(usize),
     ColumnLengths,
+    TriggerColumnsTooShort(usize),
 }
 
 // A refusal's number in the table.
@@ -87,6 +95,7 @@ pub fn refusal_number(refusal: Refusal) -> u32
         Refusal::StateOutOfRange => 10,
         Refusal::OutputTooShort(_) => 11,
         Refusal::ColumnLengths => 12,
+        Refusal::TriggerColumnsTooShort(_) => 13,
     }
 }
 
@@ -96,9 +105,17 @@ pub enum DecodeAnswer {
     Refused(Refusal),
 }
 
+// What one word tells of a trigger.
+pub enum TriggerAnswer {
+    Trigger(RawTrigger),
+    Nothing,
+    Refused(Refusal),
+}
+
 pub mod clock;
 pub mod fields;
 pub mod num;
+pub mod trigger;
 pub mod vector;
 pub mod words;
 

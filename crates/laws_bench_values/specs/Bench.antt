@@ -5,10 +5,10 @@ use Prim.Native.Nat.{ℕ}
 use lib.ListN.{take, drop}
 use Rattle.laws_stream.specs.{Loop.loopsAfter, Loop.timeAfter, Machine.All, Mask.bits, Words.stream}
 use Rattle.evt_types.specs.declared.{Encoding.Encoding, Encoding.the-variants.Evt2, Encoding.the-variants.Evt3}
-use Rattle.evt_codec.specs.Codec.{freshC, eventsFrom, codecAfter, timeC, loopsC}
-use Rattle.evt_types.specs.Event.{Event}
-use Rattle.evt2_decoder.specs.Evt2.{step2, vector2}
-use Rattle.evt3_decoder.specs.Evt3.{step3, vector3}
+use Rattle.evt_codec.specs.{Codec.freshC, Codec.eventsFrom, Codec.codecAfter, Codec.timeC, Codec.loopsC, Triggers.triggersFrom}
+use Rattle.evt_types.specs.{Event.Event, Trigger.Trigger}
+use Rattle.evt2_decoder.specs.{Evt2.step2, Evt2.vector2, Triggers.trigger2}
+use Rattle.evt3_decoder.specs.{Evt3.step3, Evt3.vector3, Triggers.trigger3}
 use Rattle.write_words.specs.Encode.{encodeBytes}
 use Rattle.evt2_encoder.specs.Evt2.{encode2}
 use Rattle.evt3_lead_words.specs.Evt3.{encode3, leads3, body3, maskCount, vectored, nearby, beyond}
@@ -20,6 +20,8 @@ ev t x y p = record { t = t; x = x; y = y; p = p }
 pub data Value : Type 0 where
   -- bytes read by a fresh decoder, the events that they give, and the decoder's time and loops after them
   reads : Encoding → (bytes : List ℕ) → List Event → (time loops : ℕ) → Value
+  -- bytes, and the triggers that a fresh decoder finds in them
+  pulses : Encoding → (bytes : List ℕ) → List Trigger → Value
   -- events written by a fresh writer without a header, and the bytes
   writes : Encoding → List Event → (bytes : List ℕ) → Value
   -- events written likewise, the bytes cut, and the events that a fresh decoder reads from what is left
@@ -29,6 +31,7 @@ unfoldable pub Right : Value → Type 0
 Right (reads e l es time loops) =
     let c = codecAfter (freshC e) l in
     (eventsFrom (freshC e) l ≡ es) × (timeC c ≡ time) × (loopsC c ≡ loops)
+Right (pulses e l gs) = triggersFrom (freshC e) l ≡ gs
 Right (writes e es l) = encodeBytes e freshState es ≡ l
 Right (cuts e es at left) = eventsFrom (freshC e) (take at (encodeBytes e freshState es)) ≡ left
 
@@ -76,12 +79,16 @@ values =
     -- 8FFFFFFF 80FFFFFF, 8FFFFFFF 81000000
     ∷ reads Evt2 (stream 4 (2415919103 ∷ 2164260863 ∷ [])) [] 18253610944 1
     ∷ reads Evt2 (stream 4 (2415919103 ∷ 2164260864 ∷ [])) [] 1073741824 0
+    -- 80000001 A9000301, 8001 6001 A301
+    ∷ pulses Evt2 (stream 4 (2147483649 ∷ 2835350273 ∷ [])) (record { t = 100; id = 3; value = 1 } ∷ [])
+    ∷ pulses Evt3 (stream 2 (32769 ∷ 24577 ∷ 41729 ∷ [])) (record { t = 4097; id = 3; value = 1 } ∷ [])
     ∷ []
 
 pub bench : All Right values
-unfolding Right step2 vector2 step3 vector3 loopsAfter timeAfter bits encodeBytes encode2 encode3 leads3 body3 maskCount vectored nearby beyond
+unfolding Right step2 vector2 trigger2 step3 vector3 trigger3
+    loopsAfter timeAfter bits encodeBytes encode2 encode3 leads3 body3 maskCount vectored nearby beyond
 bench =
-    let last : All Right (drop 15 values) = ((refl, refl, refl), ((refl, refl, refl), ((refl, refl, refl), tt))) in
+    let last : All Right (drop 15 values) = ((refl, refl, refl), ((refl, refl, refl), ((refl, refl, refl), (refl, (refl, tt))))) in
     let late : All Right (drop 12 values) = ((refl, refl, refl), ((refl, refl, refl), ((refl, refl, refl), last))) in
     let more : All Right (drop 7 values) = ((refl, refl, refl), ((refl, refl, refl), ((refl, refl, refl), ((refl, refl, refl), ((refl, refl, refl), late))))) in
     (refl, (refl, (refl, (refl, (refl, (refl, (refl, more)))))))

@@ -9,6 +9,7 @@ pub mod Slice
 pub mod Select
 pub mod Seek
 pub mod PassOver
+pub mod Beside
 pub mod Format
 pub mod Stream
 pub mod Columns

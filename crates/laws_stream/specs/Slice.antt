@@ -44,6 +44,11 @@ module _ {E : Type 0} (keep : E → Bool) where
   sift-none [] h = refl
   sift-none (e ∷ a) h = rw (h .0) (sift-none a (h .1))
 
+-- tests that agree on all of them
+pub sift-alike : {E : Type 0} (keep other : E → Bool) (a : List E) → All (λ e. keep e ≡ other e) a → sift keep a ≡ sift other a
+sift-alike keep other [] h = refl
+sift-alike keep other (e ∷ a) h = rw (h .0, sift-alike keep other a (h .1))
+
 -- one test after another
 module _ {E : Type 0} (first then : E → Bool) where
   abbrev pub andThen : E → Bool

@@ -1,0 +1,17 @@
+use borrow.Author.Needs.{needs}
+use Rattle.evt_codec.proofs.codec.Codec.trigger.Statement.{statement}
+use Rattle.evt_codec.proofs.codec.Codec.trigger.Tie as tie
+
+returns : tie.Need-returns
+returns c = rw (c .before .before .self .given .1) (c .trigger-evt2 .ensures)
+
+returns-2 : tie.Need-returns-2
+returns-2 c = rw (c .before .before .self2 .given .1) (c .trigger-evt3 .ensures)
+
+pub trigger-spec : {M : Type 1} → statement M
+trigger-spec =
+    tie.close
+    (tie.spec
+    (λ c. search needs) (λ c κs. search needs) (λ c. search needs) (λ c κs. search needs)
+    returns
+    returns-2)

@@ -16,7 +16,7 @@ pub use read_rules::Reading;
 
 // A body of at most 2^30 bytes: 1 for no event, 5, or the reading. `requires`: both entries have
 // refused longer ones (4).
-fn read_body(
+pub fn read_body(
     body: &[u8],
     encoding: Encoding,
     size: SensorSize,

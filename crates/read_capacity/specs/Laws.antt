@@ -11,7 +11,7 @@ use lib.ListN.{length, take, drop, length-map}
 use borrow.Author.Tests.{leb-true, ltb-true, le-leb, lt-leb}
 use Rattle.evt_types.specs.{Layout.wordSize2, Layout.wordSize3, Columns.colX, Columns.colY, Columns.colT, Columns.colP, Columns.Wrote, Columns.Fits}
 use Rattle.evt_types.specs.{Event.Event}
-use Rattle.laws_stream.specs.{Columns.written, Slice.onto, Words.wordsOf}
+use Rattle.laws_stream.specs.{Columns.written-front, Slice.onto, Words.wordsOf}
 use Rattle.laws_stream.specs.Select as Select
 use Rattle.evt_codec.specs.declared.{codec.Codec.Codec, codec.Codec.the-variants.Evt2, codec.Codec.the-variants.Evt3}
 use Rattle.read_count.specs.{declared.CountedAll.CountedAll, Count.countedAllOf}
@@ -24,10 +24,6 @@ use Rattle.read_capacity.specs.Deliver.{shortest, Handed, Delivers, most
 
 -- ---- what was written
 
-handed-one : {E A : Type 0} (f : E → A) (es : List E) (old now : List A) → now ≡ written old 0 (map f es) → now ≡ map f es ++ drop (length es) old
-unfolding written
-handed-one f es old now e = e ∙ rw (zero-add, length-map)
-
 pub fits-room : (n a b c d : ℕ) → n ≤ min (min a b) (min c d) → Fits n a b c d
 fits-room n a b c d h = record { fit-x = omega arith; fit-y = omega arith; fit-t = omega arith; fit-p = omega arith }
 
@@ -35,10 +31,10 @@ module _ {xs₀ ys₀ : List ℕ} {ts₀ : List ℤ} {ps₀ : List ℕ} where
   pub handed-wrote : {es : List Event} {xs ys : List ℕ} {ts : List ℤ} {ps : List ℕ} → Wrote es 0 xs₀ ys₀ ts₀ ps₀ xs ys ts ps
       → Handed es xs₀ ys₀ ts₀ ps₀ xs ys ts ps
   handed-wrote {es} w = record {
-    column-x = handed-one colX es xs₀ _ (w .is-x);
-    column-y = handed-one colY es ys₀ _ (w .is-y);
-    column-t = handed-one colT es ts₀ _ (w .is-t);
-    column-p = handed-one colP es ps₀ _ (w .is-p);
+    column-x = written-front colX es xs₀ _ (w .is-x);
+    column-y = written-front colY es ys₀ _ (w .is-y);
+    column-t = written-front colT es ts₀ _ (w .is-t);
+    column-p = written-front colP es ps₀ _ (w .is-p);
   }
 
   pub handed-none : Handed [] xs₀ ys₀ ts₀ ps₀ xs₀ ys₀ ts₀ ps₀
@@ -62,10 +58,10 @@ module _ {xs₀ ys₀ : List ℕ} {ts₀ : List ℤ} {ps₀ : List ℕ} where
 pub enough-fits : (es : List Event) (room n a b c d : ℕ) → room ≡ min (min a b) (min c d) → Enough es room n → n ≤ room → Fits (length es) a b c d
 enough-fits es room n a b c d r enough h = fits-room (length es) a b c d (omega (arith, enough .holds))
 
-pub enough-most : (es : List Event) (room most : ℕ) → length es ≤ most → most ≤ room → Enough es room most
+pub enough-most : {E : Type 0} (es : List E) (room most : ℕ) → length es ≤ most → most ≤ room → Enough es room most
 enough-most es room most h l = record { holds = h; exact = λ m. absurd (omega arith) }
 
-pub enough-just : (es : List Event) (room n : ℕ) → n ≡ length es → Enough es room n
+pub enough-just : {E : Type 0} (es : List E) (room n : ℕ) → n ≡ length es → Enough es room n
 enough-just es room n e = record { holds = omega arith; exact = λ m. e }
 
 -- ---- all events inside a sensor

@@ -19,12 +19,6 @@ module _ {S : Type 0} (n : ℕ) (M : Machine S ℕ Event) where
   abbrev pub insideAll : (width height : ℕ) → S → List ℕ → List Event
   insideAll width height s l = sift (inside width height) (decode n M s l)
 
-  -- no word has more than k events
-  pub decode-few : (k : ℕ) → ((s : S) (w : ℕ) → length (M .emit s w) ≤ k) → (s : S) (ws : List ℕ) → length (emits M s ws) ≤ k * length ws
-  decode-few k h s [] = omega arith
-  decode-few k h s (w ∷ ws) =
-      rw (length-append (M .emit s w) (emits M (M .step s w) ws), mul-suc) (omega (arith, h s w, decode-few k h (M .step s w) ws))
-
 module _ {S : Type 0} (n : ℕ) (M : Machine S ℕ Event) (Inv : ℕ → S → Type 0) (width height : ℕ) (s₀ : S) (bytes : List ℕ) where
   abbrev all : List Event
   all = insideAll n M width height s₀ bytes

@@ -9,7 +9,7 @@ use lib.ListN.{length, length-append}
 use borrow.Author.Tests.{lt-ltb}
 use Rattle.evt_types.specs.{Layout.wordSize2, Layout.wordSize3, declared.Encoding.Encoding, declared.vector.Vector.Vector, Event.Event, Event.eventAt}
 use Rattle.evt_types.specs.{Event.eventsOf, Event.Narrow}
-use Rattle.laws_stream.specs.{Machine.Machine, Machine.All, Machine.all-of, Machine.all-map, Machine.run, Machine.emits-all, Words.wordsOf}
+use Rattle.laws_stream.specs.{Machine.Machine, Machine.All, Machine.all-of, Machine.all-map, Machine.run, Machine.emits-few, Machine.emits-all, Words.wordsOf}
 use Rattle.laws_stream.specs.{Words.length-words, Mask.bits, Order.greatest, Order.greatest-append, Order.greatest-le, Slice.sift, Slice.sift-append}
 use Rattle.laws_stream.specs.{Slice.sift-all, Slice.all-sift, Stream.decode-append, Stream.after-append}
 use Rattle.evt_types.specs.declared.Encoding.the-variants as E
@@ -20,7 +20,7 @@ use Rattle.evt3_decoder.specs.Evt3.{vector3, reader3}
 use Rattle.evt2_decoder.specs.Range.{Bounded2, bounded-step2, bounded-narrow2, bounded-range2, fresh-range2}
 use Rattle.evt3_decoder.specs.Range.{Bounded3, bounded-step3, bounded-narrow3, bounded-range3, fresh-range3}
 use Rattle.read_columns.specs.Inside.{inside, clock, all-mapped, events-few, sift-few}
-use Rattle.read_fill.specs.{Decode.eventsFrom, Decode.codecAfter, Decode.insideEvents, Decode.Bounded, Decode.Fitting, Iteration.decode-few}
+use Rattle.read_fill.specs.{Decode.eventsFrom, Decode.codecAfter, Decode.insideEvents, Decode.Bounded, Decode.Fitting}
 use Rattle.read_fill.specs.{Loops.small-mask2, Loops.small-mask3}
 
 -- ---- in chunks of 4 bytes, whatever the encoding
@@ -72,11 +72,11 @@ pub all-few : (c : Codec) (l : List ℕ) → length (eventsFrom c l) ≤ most c 
 all-few (Evt2 d) l =
     omega (
       arith,
-      decode-few wordSize2 reader2 1 (λ s w. events-few (vector2 s w) 1 (omega (arith, small-mask2 s w))) d (wordsOf wordSize2 l),
+      emits-few reader2 1 (λ s w. events-few (vector2 s w) 1 (omega (arith, small-mask2 s w))) d (wordsOf wordSize2 l),
       length-words wordSize2 l,
     )
 all-few (Evt3 d) l =
-    omega (arith, decode-few wordSize3 reader3 12 (λ s w. events-few (vector3 s w) 12 (small-mask3 s w)) d (wordsOf wordSize3 l), length-words wordSize3 l)
+    omega (arith, emits-few reader3 12 (λ s w. events-few (vector3 s w) 12 (small-mask3 s w)) d (wordsOf wordSize3 l), length-words wordSize3 l)
 
 pub inside-few : (width height : ℕ) (c : Codec) (l : List ℕ) → length (insideEvents width height c l) ≤ most c * (length l / wordSize c)
 inside-few width height c l = omega (arith, sift-few (inside width height) (eventsFrom c l), all-few c l)
@@ -136,7 +136,7 @@ pub record Small (e : Event) : Type 0 where
   pub t< : e .t < 2 ^ 63
   pub p< : e .p < 2
 
-vector-small : (v : Vector) → Narrow v → All Small (eventsOf v)
+pub vector-small : (v : Vector) → Narrow v → All Small (eventsOf v)
 vector-small v n =
     all-mapped Small (eventAt v) (bits 32 (v .x) (v .mask))
     (all-of _ (λ c. record { x< = omega arith; y< = n .y<; t< = n .t<; p< = n .p< }) (bits 32 (v .x) (v .mask)))

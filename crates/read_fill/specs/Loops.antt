@@ -4,7 +4,7 @@ use mathlib.Core.List.{List}
 use Prim.Native.Nat.{ℕ, _+_, _*_, _/_, _≤_, _<_, _^_}
 use native.Mathlib.Omega.{arith}
 use lib.ListN.{length}
-use Rattle.laws_stream.specs.{Words.wordsOf, Words.length-words, Stream.decode}
+use Rattle.laws_stream.specs.{Machine.emits-few, Words.wordsOf, Words.length-words, Stream.decode}
 use Rattle.evt_types.specs.{Ahead.ahead, Ahead.ahead-some, declared.vector.Vector.Vector, Event.eventsOf, Event.Narrow, Layout.type2, Layout.type3}
 use Rattle.evt_types.specs.{Layout.wordSize2, Layout.wordSize3}
 use Rattle.evt2_decoder.specs.{declared.Evt2Decoder.Evt2Decoder, declared.Evt2Step.Evt2Step, Evt2.step2, Evt2.vector2, Evt2.reader2, Range.Bounded2}
@@ -13,7 +13,7 @@ use Rattle.evt3_decoder.specs.{declared.Decoder.Decoder, declared.WideStep.Wide
 use Rattle.evt3_decoder.specs.{Evt3.widened, Evt3.slimmed, Evt3.by-kinds, Range.Bounded3, Range.bounded-narrow3}
 use Rattle.evt2_decoder.specs.Evt2 as Evt2
 use Rattle.read_columns.specs.Inside.{inside, events-few, sift-few}
-use Rattle.read_fill.specs.Iteration.{Iteration, insideAll, decode-few}
+use Rattle.read_fill.specs.Iteration.{Iteration, insideAll}
 
 -- ---- EVT2
 
@@ -30,7 +30,7 @@ few2 width height d l =
     omega (
       arith,
       sift-few (inside width height) (decode wordSize2 reader2 d l),
-      decode-few wordSize2 reader2 1 one d (wordsOf wordSize2 l),
+      emits-few reader2 1 one d (wordsOf wordSize2 l),
       length-words wordSize2 l,
     )
 
@@ -62,7 +62,7 @@ few3 width height d l =
     omega (
       arith,
       sift-few (inside width height) (decode wordSize3 reader3 d l),
-      decode-few wordSize3 reader3 12 most d (wordsOf wordSize3 l),
+      emits-few reader3 12 most d (wordsOf wordSize3 l),
       length-words wordSize3 l,
     )
 

@@ -99,6 +99,12 @@ body-most size e Unlimited body h =
     ∙ sym (take-all 18446744073709551615 es (omega (arith, inside-bytes (sensorOf size .width) (sensorOf size .height) (freshC e) body)))
 body-most size e (AtMost n) body h = ap (take n) (kept-inside size e body h)
 
+-- what a pass under the window hands over
+pub body-handed : (size : SensorSize) (e : Encoding) (limit : Limit) (body : List ℕ) → length body ≤ 2 ^ 30
+    → handedOver (windowOf size limit) 0 (freshC e) body ≡ bodyEvents e size limit body
+body-handed size e limit body h =
+    handed-limit (sensorOf size .width) (sensorOf size .height) (mostOf limit) e body h ∙ sym (body-most size e limit body h)
+
 -- ---- the size
 
 abbrev pub sizedOf : Encoding → SensorSize → ℕ → List ℕ → List ℕ → ReadAnswer
@@ -143,8 +149,7 @@ module _ (size : SensorSize) (e : Encoding) (limit : Limit) (codec : Codec) (is-
   pub delivers-body : (body : List ℕ) (win : Window) {r : Delivered} {xs₀ ys₀ : List ℕ} {ts₀ : List ℤ} {ps₀ xs ys : List ℕ} {ts : List ℤ} {ps : List ℕ}
       → length body ≤ 2 ^ 30 → win ≡ windowOf size limit
       → Delivers (handedOver win 0 codec body) r xs₀ ys₀ ts₀ ps₀ xs ys ts ps → Delivers (bodyEvents e size limit body) r xs₀ ys₀ ts₀ ps₀ xs ys ts ps
-  delivers-body body win h w d =
-      rw (body-most size e limit body h, ← handed-limit (sensorOf size .width) (sensorOf size .height) (mostOf limit) e body h, ← w, ← is-fresh) d
+  delivers-body body win h w d = rw (← body-handed size e limit body h, ← w, ← is-fresh) d
 
   pub ready-new : (n : ℕ) → n ≤ 2 ^ 30 → Ready codec 0 n
   ready-new n h = rw is-fresh (ready-fresh e n h)
@@ -223,6 +228,29 @@ module _ {xs₀ ys₀ : List ℕ} {ts₀ : List ℤ} {ps₀ xs ys : List ℕ} {t
 
 -- ---- the two entries
 
+module _ (words : List ℕ) (e : Encoding) (size : SensorSize) (limit : Limit) (room : ℕ) where
+  -- what the words come to, once they are judged
+  pub words-fit : judgedOf (length words) size ≡ Fit
+      → wordsOutcome words e size limit room ≡ bodyOutcome e size Unlimited (bodyEvents e size limit words) room
+  unfolding wordsOutcome bodyEvents
+  words-fit j = rw (judged-given (wordsCheck (length words) size) j)
+
+  pub words-unfit : (q : Refusal) → judgedOf (length words) size ≡ Unfit q → wordsOutcome words e size limit room ≡ refuse q
+  unfolding wordsOutcome
+  words-unfit q j = rw (judged-refused (wordsCheck (length words) size) q j)
+
+module _ (recording : List ℕ) (o : LoadOptions) (a : HeaderAnswer) (is-header : a ≡ headerOf recording (o .«sensor_size»)) (room : ℕ) where
+  -- what a recording comes to, by its header
+  pub raw-unfit : (q : Refusal) → a ≡ NoHeader q → rawOutcome recording o room ≡ refuse q
+  unfolding rawOutcome
+  raw-unfit q e = rw (← is-header, e)
+
+  pub raw-fit : (h : header.Header) → a ≡ Header h
+      → let es = bodyEvents (h .encoding) (h .«sensor_size») (o .«max_events») (drop (h .«data_offset») recording) in
+      rawOutcome recording o room ≡ bodyOutcome (h .encoding) (h .«sensor_size») Unlimited es room
+  unfolding rawOutcome bodyEvents
+  raw-fit h e = rw (← is-header, e)
+
 module _ {xs₀ ys₀ : List ℕ} {ts₀ : List ℤ} {ps₀ : List ℕ} where
   reads-refused : (q : Refusal) → Reads (refuse q) (Refused q) xs₀ ys₀ ts₀ ps₀ xs₀ ys₀ ts₀ ps₀
   reads-refused q = record { is-told = refl; is-answer = refl; columns = handed-none }
@@ -230,21 +258,17 @@ module _ {xs₀ ys₀ : List ℕ} {ts₀ : List ℤ} {ps₀ : List ℕ} where
   module _ (words : List ℕ) (e : Encoding) (size : SensorSize) (limit : Limit) where
     pub words-read : {r : ReadAnswer} {xs ys : List ℕ} {ts : List ℤ} {ps : List ℕ} → judgedOf (length words) size ≡ Fit
         → ReadsBody e size (bodyEvents e size limit words) r xs₀ ys₀ ts₀ ps₀ xs ys ts ps → DecodesWords words e size limit r xs₀ ys₀ ts₀ ps₀ xs ys ts ps
-    unfolding wordsOutcome bodyEvents
-    words-read j b = rw (judged-given (wordsCheck (length words) size) j) b
+    words-read j b = rw (words-fit words e size limit (shortest xs₀ ys₀ ts₀ ps₀) j) b
 
     pub words-refused : (q : Refusal) → judgedOf (length words) size ≡ Unfit q → DecodesWords words e size limit (Refused q) xs₀ ys₀ ts₀ ps₀ xs₀ ys₀ ts₀ ps₀
-    unfolding wordsOutcome
-    words-refused q j = rw (judged-refused (wordsCheck (length words) size) q j) (reads-refused q)
+    words-refused q j = rw (words-unfit words e size limit (shortest xs₀ ys₀ ts₀ ps₀) q j) (reads-refused q)
 
   module _ (recording : List ℕ) (o : LoadOptions) (a : HeaderAnswer) (is-header : a ≡ headerOf recording (o .«sensor_size»)) where
     pub raw-refused : (q : Refusal) → a ≡ NoHeader q → ReadsRaw recording o (Refused q) xs₀ ys₀ ts₀ ps₀ xs₀ ys₀ ts₀ ps₀
-    unfolding rawOutcome
-    raw-refused q e = rw (← is-header, e) (reads-refused q)
+    raw-refused q e = rw (raw-unfit recording o a is-header (shortest xs₀ ys₀ ts₀ ps₀) q e) (reads-refused q)
 
     pub raw-read : (h : header.Header) → a ≡ Header h → {r : ReadAnswer} {xs ys : List ℕ} {ts : List ℤ} {ps : List ℕ}
         → let es = bodyEvents (h .encoding) (h .«sensor_size») (o .«max_events») (drop (h .«data_offset») recording) in
         ReadsBody (h .encoding) (h .«sensor_size») es r xs₀ ys₀ ts₀ ps₀ xs ys ts ps
         → ReadsRaw recording o r xs₀ ys₀ ts₀ ps₀ xs ys ts ps
-    unfolding rawOutcome bodyEvents
-    raw-read h e b = rw (← is-header, e) b
+    raw-read h e b = rw (raw-fit recording o a is-header (shortest xs₀ ys₀ ts₀ ps₀) h e) b

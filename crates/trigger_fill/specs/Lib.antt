@@ -1,0 +1,9 @@
+pub mod Form
+pub mod Put
+pub mod Pulse
+pub mod Follow
+pub mod Start
+pub mod Calm
+pub mod Find
+pub mod Back
+pub mod Reach

@@ -1,0 +1,308 @@
+-- What the parts of reading with triggers say, and that they come to what specs/Read.antt defines.
+use mathlib.Core.Path.{_≡_, refl, sym, ap, _∙_}
+use mathlib.Core.Bool.{Bool, true, false, cond, true≢false}
+use mathlib.Core.List.{List, [], _∷_, _++_}
+use Prim.Native.Nat.{ℕ, zero, suc, _+_, _-_, _*_, _/_, _≤_, _<_, _^_}
+use native.Mathlib.Omega.{arith}
+use native.Mathlib.Nat.{le-div-iff-mul-le}
+use lib.Dec.{eqb, ltb}
+use lib.IntN.{ℤ}
+use lib.ListN.{length, take, drop}
+use lib.Seq.{take-all}
+use borrow.Author.Tests.{lt-ltb, le-ltb, ne-eqb, eqb-true}
+use Rattle.laws_stream.specs.Machine.{Machine, All, all-of, all-map, emits, emits-few}
+use Rattle.laws_stream.specs.{Words.wordsOf, Words.words-taken, Words.length-words, Slice.sift, Slice.sift-all}
+use Rattle.laws_stream.specs.Beside.{emitting, emitsBefore, before-none, before-few, before-alike, ended-within, before-ended}
+use Rattle.laws_stream.specs.Select.{Reading, Selection, numberedOf, ended, Calm}
+use Rattle.evt_types.specs.declared.Encoding.the-variants as E
+use Rattle.evt_types.specs.declared.{Encoding.Encoding, Limit.Limit, Limit.the-variants.Unlimited, Limit.the-variants.AtMost}
+use Rattle.evt_types.specs.declared.{Refusal.Refusal, Refusal.the-variants.InvalidSensorSize, Refusal.the-variants.ColumnsTooShort}
+use Rattle.evt_types.specs.declared.{Refusal.the-variants.TriggerColumnsTooShort, SensorSize.SensorSize, SensorSize.the-variants.Unknown}
+use Rattle.evt_types.specs.{declared.SensorSize.the-variants.Known, declared.vector.Vector.Vector, Event.Event, Event.eventsOf, Event.Narrow}
+use Rattle.evt_types.specs.{Event.noEvents, Event.no-events, Trigger.trigger-other, Layout.type2, Layout.type3}
+use Rattle.evt_types.specs.{Trigger.Trigger, Trigger.HandedTriggers, Trigger.shortest3, Trigger.triggers-none, Layout.wordSize2, Layout.wordSize3}
+use Rattle.evt_types.specs.Outcome.{Outcome, refuse, give, onOutcome, never-given}
+use Rattle.evt_codec.specs.declared.{codec.Codec.Codec, codec.Codec.the-variants.Evt2, codec.Codec.the-variants.Evt3}
+use Rattle.evt_codec.specs.{Codec.freshC, Codec.wordSize, Triggers.triggersFrom, Triggers.triggersBefore}
+use Rattle.evt2_decoder.specs.{declared.Evt2Decoder.Evt2Decoder, Evt2.reader2, Evt2.vector2, Range.Bounded2, Range.bounded-step2, Range.bounded-narrow2}
+use Rattle.evt2_decoder.specs.{Evt2.fresh2, Triggers.triggerIn2, Triggers.trigger2, Triggers.trigger-alone2, Triggers.triggers2, Triggers.few-triggers2}
+use Rattle.evt3_decoder.specs.{declared.Decoder.Decoder, Evt3.reader3, Evt3.vector3, Range.Bounded3, Range.bounded-step3, Range.bounded-narrow3}
+use Rattle.evt3_decoder.specs.{Evt3.fresh3, Triggers.triggerIn3, Triggers.trigger3, Triggers.trigger-alone3, Triggers.triggers3, Triggers.few-triggers3}
+use Rattle.read_columns.specs.Inside.{inside}
+use Rattle.read_fill.specs.{Laws.Small, Laws.vector-small, Laws.bounded-fresh}
+use Rattle.read_window.specs.{declared.Window.Window, Window.selectionOf, Window.reading2, Window.reading3}
+use Rattle.read_select.specs.{declared.SurveyTotals.SurveyTotals, Pass.endOver, Pass.surveyed, Uses.calm2, Uses.calm3}
+use Rattle.read_rules.specs.declared.ReadAnswer.{ReadAnswer}
+use Rattle.read_rules.specs.declared.ReadAnswer.the-variants as R
+use Rattle.read_rules.specs.Read.{kept, ReadEvents, Reads, bodyOutcome, bodyEvents, shortest}
+use Rattle.read_rules.specs.Laws.{sensorOf, windowOf, ready-fresh}
+use Rattle.read_rules.specs.Laws.{judgedOf, words-fit, words-unfit, raw-fit, raw-unfit}
+use Rattle.read_rules.specs.declared.{Judged.the-variants.Fit, Judged.the-variants.Unfit, LoadOptions.LoadOptions}
+use Rattle.header.specs.declared.{HeaderAnswer.HeaderAnswer, HeaderAnswer.the-variants.Header, HeaderAnswer.the-variants.Refused as NoHeader}
+use Rattle.header.specs.declared.Header as header
+use Rattle.header.specs.Header.{headerOf}
+use Rattle.read_capacity.specs.Laws.{handed-none}
+use Rattle.trigger_rules.specs.declared.{TriggerReadAnswer.TriggerReadAnswer, TriggerReadAnswer.the-variants.Read}
+use Rattle.trigger_rules.specs.declared.{TriggerReadAnswer.the-variants.Refused, TriggerReading.TriggerReading}
+use Rattle.trigger_rules.specs.Read.{keeps, bodyTriggers, rawTriggers, ReadTriggers, withTriggers, ReadsTriggers, DecodesWordsTriggers, ReadsRawTriggers}
+
+-- ---- where a limit ends the triggers
+
+-- a size keeps what lies inside its sensor; without a size that is all
+agree : (size : SensorSize) (v : Vector) → Narrow v → All (λ e. keeps size e ≡ inside (sensorOf size .width) (sensorOf size .height) e) (eventsOf v)
+agree size v n = all-map Small _ (one size) (eventsOf v) (vector-small v n)
+  where
+    one : (size : SensorSize) (e : Event) → Small e → keeps size e ≡ inside (sensorOf size .width) (sensorOf size .height) e
+    one Unknown e s = rw (lt-ltb (e .x) 65536 (s .x<), lt-ltb (e .y) 65536 (s .y<))
+    one (Known w h) e s = refl
+
+-- a word that holds events has no trigger
+apart2 : (win : Window) (d : Evt2Decoder) (w : ℕ) → 0 < length (numberedOf (reading2 win) d w) → trigger2 d w ≡ []
+unfolding trigger2
+apart2 win d w h = trigger-other (d .initialised) (type2 w) (triggerIn2 d w) (λ e. none (trigger-alone2 d w e .1))
+  where
+    none : vector2 d w ≡ noEvents → ⊥
+    none e = let z : length (numberedOf (reading2 win) d w) ≡ 0 = rw (e, no-events) in absurd (omega arith)
+
+apart3 : (win : Window) (d : Decoder) (w : ℕ) → 0 < length (numberedOf (reading3 win) d w) → trigger3 d w ≡ []
+unfolding trigger3
+apart3 win d w h = trigger-other (d .initialised) (type3 w) (triggerIn3 d w) (λ e. none (trigger-alone3 d w e .1))
+  where
+    none : vector3 d w ≡ noEvents → ⊥
+    none e = let z : length (numberedOf (reading3 win) d w) ≡ 0 = rw (e, no-events) in absurd (omega arith)
+
+module _ {S : Type 0} (n : ℕ) (pos : 0 < n) (R : Reading S ℕ Event) (win : Selection) (f : S → ℕ → List Trigger)
+    (apart : (s : S) (w : ℕ) → 0 < length (numberedOf R s w) → f s w ≡ []) (Inv : ℕ → S → Type 0)
+    (uses : (k : ℕ) (s : S) (w : ℕ) → Inv (suc k) s → Inv k (R .machine .step s w)) (keep : Event → Bool)
+    (alike : (k : ℕ) (s : S) (w : ℕ) → Inv (suc k) s → All (λ e. keep e ≡ R .inside e) (R .machine .emit s w)) (s : S) (body : List ℕ)
+    (b : Inv (length (wordsOf n body)) s) (c : Calm R win s (wordsOf n body)) where
+  abbrev consumed : ℕ
+  consumed = ended R win 0 s (wordsOf n body) .consumed
+
+  consumed-within : consumed * n ≤ length body
+  consumed-within = le-div-iff-mul-le pos .0 (rw length-words at (ended-within R win f apart 0 s (wordsOf n body)))
+
+  consumed-triggers : 0 < win .n1 → emits (emitting (R .machine) f) s (wordsOf n (take (consumed * n) body))
+      ≡ emitsBefore (R .machine) f keep (win .n1) s (wordsOf n body)
+  consumed-triggers h =
+      let z : win .n1 - 0 ≡ win .n1 = omega arith in
+      ap (emits (emitting (R .machine) f) s) (words-taken n pos consumed body consumed-within)
+      ∙ sym (rw z at (before-ended R win f apart 0 s (wordsOf n body) h c))
+      ∙ sym (before-alike (R .machine) f keep (R .inside) Inv uses alike (win .n1) s (wordsOf n body) b)
+
+-- where the words that a pass up to the limit consumes end
+module _ (size : SensorSize) (body : List ℕ) (short : length body ≤ 2 ^ 30) where
+  abbrev EndsAt : Encoding → ℕ → ℕ → Type 0
+  EndsAt e n at = (at ≤ length body) × (triggersFrom (freshC e) (take at body) ≡ bodyTriggers e size (AtMost n) body)
+
+  pub ends-none : (e : Encoding) → EndsAt e 0 0
+  unfolding bodyTriggers
+  ends-none E.Evt2 = (omega arith, sym (before-none reader2 trigger2 (keeps size) fresh2 (wordsOf wordSize2 body)))
+  ends-none E.Evt3 = (omega arith, sym (before-none reader3 trigger3 (keeps size) fresh3 (wordsOf wordSize3 body)))
+
+  pub ends-at : (e : Encoding) (n : ℕ) → 0 < n
+      → EndsAt e n (endOver (windowOf size (AtMost n)) 0 (freshC e) body .consumed * wordSize (freshC e))
+  unfolding bodyTriggers
+  ends-at E.Evt2 n h =
+      let win = windowOf size (AtMost n) in
+      let b = rw (← length-words wordSize2 body) at (bounded-fresh E.Evt2 (length body) short) in
+      let calm = calm2 win (omega arith) fresh2 body (bounded-fresh E.Evt2 (length body) short) in
+      let alike : (k : ℕ) (s : Evt2Decoder) (w : ℕ) → Bounded2 (suc k) s → All (λ e. keeps size e ≡ reading2 win .inside e) (eventsOf (vector2 s w)) =
+      λ k s w i. agree size (vector2 s w) (bounded-narrow2 w i) in (
+        consumed-within wordSize2 (omega arith) (reading2 win) (selectionOf win) trigger2 (apart2 win) Bounded2 bounded-step2 (keeps size) alike
+            fresh2 body b calm,
+        consumed-triggers wordSize2 (omega arith) (reading2 win) (selectionOf win) trigger2 (apart2 win) Bounded2 bounded-step2 (keeps size) alike
+            fresh2 body b calm h,
+      )
+  ends-at E.Evt3 n h =
+      let win = windowOf size (AtMost n) in
+      let b = rw (← length-words wordSize3 body) at (bounded-fresh E.Evt3 (length body) short) in
+      let paced = ready-fresh E.Evt3 (length body) short .able in
+      let calm = calm3 win (omega arith) fresh3 body paced in
+      let alike : (k : ℕ) (s : Decoder) (w : ℕ) → Bounded3 (suc k) s → All (λ e. keeps size e ≡ reading3 win .inside e) (eventsOf (vector3 s w)) =
+      λ k s w i. agree size (vector3 s w) (bounded-narrow3 w i) in (
+        consumed-within wordSize3 (omega arith) (reading3 win) (selectionOf win) trigger3 (apart3 win) Bounded3 bounded-step3 (keeps size) alike
+            fresh3 body b calm,
+        consumed-triggers wordSize3 (omega arith) (reading3 win) (selectionOf win) trigger3 (apart3 win) Bounded3 bounded-step3 (keeps size) alike
+            fresh3 body b calm h,
+      )
+
+  -- by what the code has at hand
+  pub ends-by : (e : Encoding) (n : ℕ) → 0 < n → {c : Codec} → c ≡ freshC e → {win : Window} → win ≡ windowOf size (AtMost n)
+      → {t : SurveyTotals} → t ≡ surveyed win 0 c body → {k : ℕ} → k ≡ wordSize c → EndsAt e n (t .consumed * k)
+  ends-by e n h is-c is-win is-t is-k = rw (is-t, is-k, is-win, is-c) (ends-at e n h)
+
+  pub ends-all : (e : Encoding) → (length body ≤ length body) × (triggersFrom (freshC e) (take (length body) body) ≡ bodyTriggers e size Unlimited body)
+  unfolding bodyTriggers
+  ends-all e = (omega arith, ap (triggersFrom (freshC e)) (take-all (length body) body (omega arith)))
+
+-- ---- how many
+
+abbrev pub mostTriggers : Codec → (n : ℕ) → ℕ
+mostTriggers (Evt2 d) n = n / wordSize2
+mostTriggers (Evt3 d) n = n / wordSize3
+
+pub triggers-few : (c : Codec) (l : List ℕ) → length (triggersFrom c l) ≤ mostTriggers c (length l)
+triggers-few (Evt2 d) l = omega (arith, emits-few triggers2 1 few-triggers2 d (wordsOf wordSize2 l), length-words wordSize2 l)
+triggers-few (Evt3 d) l = omega (arith, emits-few triggers3 1 few-triggers3 d (wordsOf wordSize3 l), length-words wordSize3 l)
+
+-- ---- what is refused where the trigger columns are too short
+
+-- no size, and none of so many events to derive one from
+abbrev pub isSizeless : SensorSize → (events : ℕ) → Bool
+isSizeless Unknown events = eqb events 0
+isSizeless (Known w h) events = false
+
+abbrev pub shortOf : SensorSize → (events room n : ℕ) → Refusal
+shortOf size events room n =
+    cond (isSizeless size events) InvalidSensorSize (cond (ltb room events) (ColumnsTooShort events) (TriggerColumnsTooShort n))
+
+-- ---- what the events' answer and the triggers come to
+
+abbrev pub answerWith : ReadAnswer → (triggers : ℕ) → TriggerReadAnswer
+answerWith (R.Read r) n = Read (record { reading = r; triggers = n })
+answerWith (R.Refused q) n = Refused q
+
+-- nothing is left to write
+abbrev pub isDone : ReadAnswer → (triggers : ℕ) → Bool
+isDone (R.Read r) n = eqb n 0
+isDone (R.Refused q) n = true
+
+abbrev pub handedWith : ReadAnswer → List Trigger → List Trigger
+handedWith (R.Read r) gs = gs
+handedWith (R.Refused q) gs = []
+
+pub done-none : (a : ReadAnswer) (gs : List Trigger) (n : ℕ) → n ≡ length gs → isDone a n ≡ true → (handedWith a gs ≡ []) × (answerWith a n ≡ answerWith a 0)
+done-none (R.Read r) [] n is h = (refl, ap (answerWith (R.Read r)) is)
+done-none (R.Read r) (g ∷ gs) n is h = let z = eqb-true n 0 h in absurd (omega arith)
+done-none (R.Refused q) gs n is h = (refl, refl)
+
+pub not-done : (a : ReadAnswer) (gs : List Trigger) (n : ℕ) → isDone a n ≡ false → handedWith a gs ≡ gs
+not-done (R.Read r) gs n h = refl
+not-done (R.Refused q) gs n h = absurd (true≢false h)
+
+-- a body whose events, the limit applied, are es, and whose triggers are gs
+abbrev pub ReadsBodyTriggers : Encoding → SensorSize → List Event → List Trigger → TriggerReadAnswer
+    → (xs₀ ys₀ : List ℕ) (ts₀ : List ℤ) (ps₀ : List ℕ) (times₀ : List ℤ) (ids₀ values₀ : List ℕ)
+    → (xs ys : List ℕ) (ts : List ℤ) (ps : List ℕ) (times : List ℤ) (ids values : List ℕ) → Type 0
+ReadsBodyTriggers e size es gs r xs₀ ys₀ ts₀ ps₀ times₀ ids₀ values₀ =
+    ReadsTriggers (withTriggers (bodyOutcome e size Unlimited es (shortest xs₀ ys₀ ts₀ ps₀)) gs (shortest3 times₀ ids₀ values₀)) r
+    xs₀ ys₀ ts₀ ps₀ times₀ ids₀ values₀
+
+module _ {xs₀ ys₀ : List ℕ} {ts₀ : List ℤ} {ps₀ : List ℕ} {times₀ : List ℤ} {ids₀ values₀ : List ℕ} where
+  -- nothing is touched
+  untouched : (q : Refusal) → ReadsTriggers (refuse q) (Refused q) xs₀ ys₀ ts₀ ps₀ times₀ ids₀ values₀ xs₀ ys₀ ts₀ ps₀ times₀ ids₀ values₀
+  untouched q = record { is-told = refl; is-answer = refl; columns = handed-none; triggers = triggers-none }
+
+  pub body-short : (e : Encoding) (size : SensorSize) (es : List Event) (gs : List Trigger) (room n : ℕ) → room ≡ shortest xs₀ ys₀ ts₀ ps₀ → n ≡ length gs
+      → shortest3 times₀ ids₀ values₀ < n → (r : TriggerReadAnswer) → r ≡ Refused (shortOf size (length es) room n)
+      → ReadsBodyTriggers e size es gs r xs₀ ys₀ ts₀ ps₀ times₀ ids₀ values₀ xs₀ ys₀ ts₀ ps₀ times₀ ids₀ values₀
+  body-short e size es gs room n is-room is-n less r is-r =
+      let few : ltb (shortest3 times₀ ids₀ values₀) (length gs) ≡ true = lt-ltb _ (length gs) (rw is-n at less) in
+      rw (is-r, is-room, is-n) (go size es few)
+    where
+      fits : (b : Bool) (events : ℕ) (g : ReadEvents) (few : ltb (shortest3 times₀ ids₀ values₀) (length gs) ≡ true)
+          → withTriggers (cond b (refuse (ColumnsTooShort events)) (give g)) gs (shortest3 times₀ ids₀ values₀)
+          ≡ refuse (cond b (ColumnsTooShort events) (TriggerColumnsTooShort (length gs)))
+      fits true events g few = refl
+      fits false events g few = rw few
+
+      go : (size : SensorSize) (es : List Event) → ltb (shortest3 times₀ ids₀ values₀) (length gs) ≡ true
+          → ReadsBodyTriggers e size es gs (Refused (shortOf size (length es) (shortest xs₀ ys₀ ts₀ ps₀) (length gs)))
+          xs₀ ys₀ ts₀ ps₀ times₀ ids₀ values₀ xs₀ ys₀ ts₀ ps₀ times₀ ids₀ values₀
+      go Unknown [] few = untouched InvalidSensorSize
+      go Unknown (a ∷ es) few =
+          rw (fits (ltb (shortest xs₀ ys₀ ts₀ ps₀) (length (a ∷ es))) (length (a ∷ es)) _ few, ne-eqb (length (a ∷ es)) 0 (omega arith)) (untouched _)
+      go (Known w h) es few = rw (fits (ltb (shortest xs₀ ys₀ ts₀ ps₀) (length es)) (length es) _ few) (untouched _)
+
+  -- the events were read or refused
+  module _ {xs ys : List ℕ} {ts : List ℤ} {ps : List ℕ} {times : List ℤ} {ids values : List ℕ} where
+    pub body-answered : (o : Outcome ReadEvents) (gs : List Trigger) (a : ReadAnswer) (n : ℕ) → Reads o a xs₀ ys₀ ts₀ ps₀ xs ys ts ps
+        → length gs ≤ shortest3 times₀ ids₀ values₀ → n ≡ length gs → HandedTriggers (handedWith a gs) times₀ ids₀ values₀ times ids values
+        → (r : TriggerReadAnswer) → r ≡ answerWith a n
+        → ReadsTriggers (withTriggers o gs (shortest3 times₀ ids₀ values₀)) r xs₀ ys₀ ts₀ ps₀ times₀ ids₀ values₀ xs ys ts ps times ids values
+    body-answered (refuse q) gs a n s room is-n h r is-r =
+        let is : r ≡ Refused q = is-r ∙ ap (λ (a : ReadAnswer). answerWith a n) (s .is-answer) in
+        rw is (record { is-told = refl; is-answer = refl; columns = s .columns; triggers = rw (s .is-answer) at h })
+    body-answered (give g) gs a n s room is-n h r is-r =
+        let all : ltb (shortest3 times₀ ids₀ values₀) (length gs) ≡ false = le-ltb _ (length gs) room in
+        let is : r ≡ Read (record { reading = g .reading; triggers = length gs }) =
+        is-r ∙ ap (λ (a : ReadAnswer). answerWith a n) (s .is-answer) ∙ ap (λ (k : ℕ). Read (record { reading = g .reading; triggers = k })) is-n in
+        rw (is, all) (record { is-told = refl; is-answer = refl; columns = s .columns; triggers = rw (s .is-answer) at h })
+
+-- ---- the two entries
+
+raw-given : (recording : List ℕ) (o : LoadOptions) (a : HeaderAnswer) → a ≡ headerOf recording (o .«sensor_size») → (h : header.Header) → a ≡ Header h
+    → rawTriggers recording o ≡ bodyTriggers (h .encoding) (h .«sensor_size») (o .«max_events») (drop (h .«data_offset») recording)
+unfolding rawTriggers
+raw-given recording o a is-header h e = rw (← is-header, e)
+
+module _ {xs₀ ys₀ : List ℕ} {ts₀ : List ℤ} {ps₀ : List ℕ} {times₀ : List ℤ} {ids₀ values₀ : List ℕ} where
+  module _ (words : List ℕ) (e : Encoding) (size : SensorSize) (limit : Limit) where
+    pub words-refused : (q : Refusal) → judgedOf (length words) size ≡ Unfit q
+        → DecodesWordsTriggers words e size limit (Refused q) xs₀ ys₀ ts₀ ps₀ times₀ ids₀ values₀ xs₀ ys₀ ts₀ ps₀ times₀ ids₀ values₀
+    words-refused q j = rw (words-unfit words e size limit (shortest xs₀ ys₀ ts₀ ps₀) q j) (untouched q)
+
+    pub words-read : {r : TriggerReadAnswer} {xs ys : List ℕ} {ts : List ℤ} {ps : List ℕ} {times : List ℤ} {ids values : List ℕ}
+        → judgedOf (length words) size ≡ Fit
+        → ReadsBodyTriggers e size (bodyEvents e size limit words) (bodyTriggers e size limit words) r
+        xs₀ ys₀ ts₀ ps₀ times₀ ids₀ values₀ xs ys ts ps times ids values
+        → DecodesWordsTriggers words e size limit r xs₀ ys₀ ts₀ ps₀ times₀ ids₀ values₀ xs ys ts ps times ids values
+    words-read j b = rw (words-fit words e size limit (shortest xs₀ ys₀ ts₀ ps₀) j) b
+
+  module _ (recording : List ℕ) (o : LoadOptions) (a : HeaderAnswer) (is-header : a ≡ headerOf recording (o .«sensor_size»)) where
+    pub raw-refused : (q : Refusal) → a ≡ NoHeader q
+        → ReadsRawTriggers recording o (Refused q) xs₀ ys₀ ts₀ ps₀ times₀ ids₀ values₀ xs₀ ys₀ ts₀ ps₀ times₀ ids₀ values₀
+    raw-refused q e = rw (raw-unfit recording o a is-header (shortest xs₀ ys₀ ts₀ ps₀) q e) (untouched q)
+
+    pub raw-read : (h : header.Header) → a ≡ Header h
+        → {r : TriggerReadAnswer} {xs ys : List ℕ} {ts : List ℤ} {ps : List ℕ} {times : List ℤ} {ids values : List ℕ}
+        → let body = drop (h .«data_offset») recording in
+        ReadsBodyTriggers (h .encoding) (h .«sensor_size») (bodyEvents (h .encoding) (h .«sensor_size») (o .«max_events») body)
+        (bodyTriggers (h .encoding) (h .«sensor_size») (o .«max_events») body) r xs₀ ys₀ ts₀ ps₀ times₀ ids₀ values₀ xs ys ts ps times ids values
+        → ReadsRawTriggers recording o r xs₀ ys₀ ts₀ ps₀ times₀ ids₀ values₀ xs ys ts ps times ids values
+    raw-read h e b = rw (raw-fit recording o a is-header (shortest xs₀ ys₀ ts₀ ps₀) h e, raw-given recording o a is-header h e) b
+
+-- ---- what a limit leaves
+
+-- a size keeps the events that reading keeps
+kept-keeps : (size : SensorSize) (es : List Event) → kept size es ≡ sift (keeps size) es
+kept-keeps Unknown es = sym (sift-all (λ e. true) es (all-of (λ e. true ≡ true) (λ e. refl) es))
+kept-keeps (Known w h) es = refl
+
+-- all where there are fewer events
+pub limit-few : (e : Encoding) (size : SensorSize) (n : ℕ) (body : List ℕ) → length (bodyEvents e size Unlimited body) < n
+    → bodyTriggers e size (AtMost n) body ≡ bodyTriggers e size Unlimited body
+unfolding bodyTriggers bodyEvents
+limit-few E.Evt2 size n body h = before-few reader2 trigger2 (keeps size) n fresh2 (wordsOf wordSize2 body) (rw kept-keeps at h)
+limit-few E.Evt3 size n body h = before-few reader3 trigger3 (keeps size) n fresh3 (wordsOf wordSize3 body) (rw kept-keeps at h)
+
+-- none for a limit of 0
+pub limit-none : (e : Encoding) (size : SensorSize) (body : List ℕ) → bodyTriggers e size (AtMost 0) body ≡ []
+unfolding bodyTriggers
+limit-none E.Evt2 size body = before-none reader2 trigger2 (keeps size) fresh2 (wordsOf wordSize2 body)
+limit-none E.Evt3 size body = before-none reader3 trigger3 (keeps size) fresh3 (wordsOf wordSize3 body)
+
+-- ---- what the triggers don't change
+
+module _ (o : Outcome ReadEvents) (gs : List Trigger) (places : ℕ) where
+  -- what is read with triggers is what is read without, and has these triggers
+  pub events-as-before : (g : ReadTriggers) → withTriggers o gs places ≡ give g → (o ≡ give (g .read)) × (g .triggers ≡ gs)
+  events-as-before = go o
+    where
+      go : (o : Outcome ReadEvents) (g : ReadTriggers) → withTriggers o gs places ≡ give g → (o ≡ give (g .read)) × (g .triggers ≡ gs)
+      go (refuse q) g e = never-given g q e
+      go (give r) g e = last (ltb places (length gs)) e
+        where
+          last : (b : Bool) → cond b (refuse (TriggerColumnsTooShort (length gs))) (give (record { read = r; triggers = gs })) ≡ give g
+              → (give r ≡ give (g .read)) × (g .triggers ≡ gs)
+          last true e = never-given g _ e
+          last false e = (cc, cc)
+
+  -- what is refused without triggers is refused with them alike
+  pub refused-as-before : (q : Refusal) → o ≡ refuse q → withTriggers o gs places ≡ refuse q
+  refused-as-before q e = rw e
+
+  -- and where the trigger columns suffice nothing else is
+  pub read-as-before : (r : ReadEvents) → o ≡ give r → length gs ≤ places → withTriggers o gs places ≡ give (record { read = r; triggers = gs })
+  read-as-before r e h = rw (e, le-ltb places (length gs) h)

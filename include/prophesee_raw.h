@@ -1,9 +1,9 @@
-/* Prophesee RAW recordings (EVT2 and EVT3): reading, indexes, slices, writing, single words.
+/* Prophesee RAW recordings (EVT2 and EVT3): reading, triggers, indexes, slices, writing, single words.
  *
  * `rt staticlib prophesee_raw_c` proves the library and writes target/staticlib/libprophesee_raw_c.a
  * (x86-64 Linux). Every function is proved to return and to write exactly what its contract says
- * (crates/prophesee_raw_c/src cites it, the specs of the crates c_values, c_decoder, c_index and c_writer
- * define it), whatever numbers it is given.
+ * (crates/prophesee_raw_c/src cites it, the specs of the crates c_values, c_decoder, c_triggers, c_index
+ * and c_writer define it), whatever numbers it is given.
  *
  * There is no global state and no memory is kept: all that a later call needs is in the values that
  * an earlier one returned and in the buffers of the caller. Calls on different buffers may run at the
@@ -13,10 +13,12 @@
  * type (NULL is valid for length 0), a buffer of 2^63 bytes or more, a buffer that is written and
  * overlaps another of the same call, and a buffer that another thread writes meanwhile.
  *
- * Units. Each `.._len` counts elements of its buffer: bytes of a recording or an output, events of a
- * column, records of an index. `told` is in the unit of the buffer that was too short. Times are in
- * microseconds. The four columns of an event are x (column of the sensor, from 0), y (row, from 0), t
- * (time) and p (polarity, 0 or 1); the shortest of the four lent columns counts.
+ * Units. Each `.._len` counts elements of its buffer: bytes of a recording or an output, events or
+ * triggers of a column, records of an index. `told` is in the unit of the buffer that was too short.
+ * Times are in microseconds. The four columns of an event are x (column of the sensor, from 0), y (row,
+ * from 0), t (time) and p (polarity, 0 or 1); the shortest of the four lent columns counts. The three
+ * columns of a trigger are t (time), id (of the trigger input) and value (0 or 1); the shortest of these
+ * three counts for triggers.
  *
  * `refusal` is 0 for an acceptance, else a number of docs/RULES.md (PROPHESEE_.. below). A refusal
  * alters no buffer. An acceptance alters no place of a buffer behind what it hands over. Numbers of an
@@ -35,7 +37,8 @@ extern "C" {
 #define PROPHESEE_ASSERT(what) _Static_assert(what, #what)
 #endif
 
-/* Raised whenever a struct or a function changes; `prophesee_version` tells the archive's. */
+/* This is version 1. It is raised whenever a struct or a function that is there changes; one that is
+ * added leaves it as it is. `prophesee_version` tells the archive's. */
 #define PROPHESEE_RAW_VERSION 1
 
 uint32_t prophesee_version(void);
@@ -58,6 +61,7 @@ uint32_t prophesee_version(void);
 #define PROPHESEE_STATE_OUT_OF_RANGE 10u
 #define PROPHESEE_OUTPUT_TOO_SHORT 11u
 #define PROPHESEE_COLUMN_LENGTHS 12u
+#define PROPHESEE_TRIGGER_COLUMNS_TOO_SHORT 13u
 
 static inline const char *prophesee_refusal_text(uint32_t refusal)
 {
@@ -75,16 +79,23 @@ static inline const char *prophesee_refusal_text(uint32_t refusal)
     case PROPHESEE_STATE_OUT_OF_RANGE: return "an index, a writer or a decoder out of range";
     case PROPHESEE_OUTPUT_TOO_SHORT: return "an output shorter than the bytes to write";
     case PROPHESEE_COLUMN_LENGTHS: return "appended columns that differ in length";
+    case PROPHESEE_TRIGGER_COLUMNS_TOO_SHORT: return "more triggers than their shortest column holds";
     default: return "no refusal of this version";
     }
 }
 
-/* ---- how long buffers must be, so that 5, 9 and 11 never come */
+/* ---- how long buffers must be, so that 5, 9, 11 and 13 never come */
 
 /* The most events of `bytes` bytes of words: a word of EVT2 holds one, a word of EVT3 up to 12. */
 static inline size_t prophesee_most_events(uint32_t encoding, size_t bytes)
 {
     return encoding == PROPHESEE_EVT2 ? bytes / 4 : bytes / 2 * 12;
+}
+
+/* The most triggers of `bytes` bytes of words: a word holds at most one. */
+static inline size_t prophesee_most_triggers(uint32_t encoding, size_t bytes)
+{
+    return encoding == PROPHESEE_EVT2 ? bytes / 4 : bytes / 2;
 }
 
 /* The records of an index over `bytes` bytes at a spacing (not 0). For a body shorter than `bytes`: at
@@ -154,6 +165,46 @@ prophesee_reading prophesee_decode_words(
     const uint8_t *words, size_t words_len, uint32_t encoding, prophesee_options options,
     uint16_t *xs, size_t xs_len, uint16_t *ys, size_t ys_len,
     int64_t *ts, size_t ts_len, uint8_t *ps, size_t ps_len);
+
+/* ---- reading with triggers
+ *
+ * Triggers are pulses on the camera's trigger input. They come beside the events, in the order of their
+ * words, and change nothing about them: the same events are read as without triggers, and a trigger
+ * takes no event's number. One before the first time word is dropped. A size drops none: a trigger lies
+ * nowhere on the sensor. A limit ends the triggers too: where `max_events` events or more are kept, only
+ * triggers of words before the one that holds the last event handed over are given, with a limit of 0
+ * none; where fewer are kept, all. Slices give none, and an index doesn't hold them. */
+
+/* `count` is how many events stand at the front of their four columns, `triggers` how many triggers at
+ * the front of their three. `told` is in events for a 5, in triggers for a 13. The others are as without
+ * triggers. */
+typedef struct {
+    uint32_t refusal;
+    uint32_t encoding;
+    size_t told;
+    size_t width;
+    size_t height;
+    size_t count;
+    size_t triggers;
+} prophesee_trigger_reading;
+
+/* A recording, with its header: 4, 3, 2, 1 for a zero size, 1 for no event (triggers alone give no size),
+ * 5, 13. A refusal leaves all seven columns alone. */
+prophesee_trigger_reading prophesee_read_raw_triggers(
+    const uint8_t *recording, size_t recording_len, prophesee_options options,
+    uint16_t *xs, size_t xs_len, uint16_t *ys, size_t ys_len,
+    int64_t *ts, size_t ts_len, uint8_t *ps, size_t ps_len,
+    int64_t *trigger_ts, size_t trigger_ts_len, uint8_t *trigger_ids, size_t trigger_ids_len,
+    uint8_t *trigger_values, size_t trigger_values_len);
+
+/* Words without a header, of an encoding that the caller names: 4, 2 for an unknown one, 1 for a zero
+ * size, 1 for no event, 5, 13. */
+prophesee_trigger_reading prophesee_decode_words_triggers(
+    const uint8_t *words, size_t words_len, uint32_t encoding, prophesee_options options,
+    uint16_t *xs, size_t xs_len, uint16_t *ys, size_t ys_len,
+    int64_t *ts, size_t ts_len, uint8_t *ps, size_t ps_len,
+    int64_t *trigger_ts, size_t trigger_ts_len, uint8_t *trigger_ids, size_t trigger_ids_len,
+    uint8_t *trigger_values, size_t trigger_values_len);
 
 /* ---- indexes */
 
@@ -334,12 +385,27 @@ prophesee_next prophesee_next_event(prophesee_vector events);
 /* The decoder after all whole words of `words`: 4, 10; refused, the one that was given. */
 prophesee_stepped prophesee_decoder_after(prophesee_decoder decoder, const uint8_t *words, size_t words_len);
 
+/* `some` 1: the trigger of a word. 0: the word has none. */
+typedef struct {
+    int64_t t;
+    uint32_t refusal;
+    uint8_t id;    /* up to 31 in EVT2, up to 15 in EVT3 */
+    uint8_t value; /* 0 or 1 */
+    uint8_t some;
+} prophesee_trigger;
+
+/* The trigger of the first word of `bytes`, by the decoder before that word, which it doesn't step
+ * (`prophesee_decode` does); bytes behind the word aren't read, and fewer bytes than a word have none. 10
+ * as for `prophesee_decode`. */
+prophesee_trigger prophesee_word_trigger(prophesee_decoder decoder, const uint8_t *bytes, size_t bytes_len);
+
 /* ---- what this file takes for granted */
 
 PROPHESEE_ASSERT(sizeof(size_t) == 8);
 PROPHESEE_ASSERT(sizeof(prophesee_header) == 40 && offsetof(prophesee_header, sized) == 32);
 PROPHESEE_ASSERT(sizeof(prophesee_options) == 32 && offsetof(prophesee_options, limited) == 25);
 PROPHESEE_ASSERT(sizeof(prophesee_reading) == 40 && offsetof(prophesee_reading, count) == 32);
+PROPHESEE_ASSERT(sizeof(prophesee_trigger_reading) == 48 && offsetof(prophesee_trigger_reading, triggers) == 40);
 PROPHESEE_ASSERT(sizeof(prophesee_open_options) == 32 && offsetof(prophesee_open_options, sized) == 24);
 PROPHESEE_ASSERT(sizeof(prophesee_source) == 64 && offsetof(prophesee_source, encoding) == 56);
 PROPHESEE_ASSERT(sizeof(prophesee_opening) == 80 && offsetof(prophesee_opening, refusal) == 72);
@@ -353,6 +419,7 @@ PROPHESEE_ASSERT(sizeof(prophesee_decoded) == 72 && offsetof(prophesee_decoded, 
 PROPHESEE_ASSERT(sizeof(prophesee_stepped) == 48 && offsetof(prophesee_stepped, refusal) == 40);
 PROPHESEE_ASSERT(sizeof(prophesee_event) == 16 && offsetof(prophesee_event, p) == 12);
 PROPHESEE_ASSERT(sizeof(prophesee_next) == 48 && offsetof(prophesee_next, some) == 40);
+PROPHESEE_ASSERT(sizeof(prophesee_trigger) == 16 && offsetof(prophesee_trigger, some) == 14);
 
 #undef PROPHESEE_ASSERT
 

@@ -11,10 +11,12 @@
 #define LONGEST 1073741824u
 #define COLUMNS xs, ROOM, ys, ROOM, ts, ROOM, ps, ROOM
 #define NO_COLUMNS NULL, 0, NULL, 0, NULL, 0, NULL, 0
+#define TRIGGERS times, ROOM, ids, ROOM, values, ROOM
+#define NO_TRIGGERS NULL, 0, NULL, 0, NULL, 0
 
 static uint16_t xs[ROOM], ys[ROOM];
-static int64_t ts[ROOM];
-static uint8_t ps[ROOM];
+static int64_t ts[ROOM], times[ROOM];
+static uint8_t ps[ROOM], ids[ROOM], values[ROOM];
 
 static void clear(void)
 {
@@ -22,6 +24,9 @@ static void clear(void)
     memset(ys, 0xee, sizeof ys);
     memset(ts, 0xee, sizeof ts);
     memset(ps, 0xee, sizeof ps);
+    memset(times, 0xee, sizeof times);
+    memset(ids, 0xee, sizeof ids);
+    memset(values, 0xee, sizeof values);
 }
 
 /* Whether all bytes of a buffer from one on are as `clear` left them. */
@@ -99,6 +104,79 @@ static void reading(void)
     print_reading("decode_words, 0, nothing", prophesee_decode_words(NULL, 0, 0, none, NO_COLUMNS));
     print_reading("decode_words, 3, no places", prophesee_decode_words(evt3, sizeof evt3, PROPHESEE_EVT3, none, NO_COLUMNS));
     print_reading("decode_words, 3, 12x48, nothing", prophesee_decode_words(NULL, 0, PROPHESEE_EVT3, sized, NO_COLUMNS));
+}
+
+/* ---- reading with triggers */
+
+/* 4097: input 3 rises; columns 10, 11 and 13 of row 7. 4101: it falls; column 5; input 15 rises. */
+static const uint8_t pulses3[] = {0x01, 0x80, 0x01, 0x60, 0x01, 0xa3, 0x07, 0x00, 0x0a, 0x30, 0x0b, 0x40, 0x05, 0x60, 0x00, 0xa3, 0x05, 0x28, 0x01, 0xaf};
+/* A trigger before the first time word. 100: input 31 rises; column 5 of row 7. 64, by the trigger's own low bits: it falls. */
+static const uint8_t pulses2[] = {0x01, 0x00, 0x00, 0xa9, 0x01, 0x00, 0x00, 0x80, 0x01, 0x1f, 0x00, 0xa9, 0x07, 0x28, 0x00, 0x19, 0x00, 0x1f, 0x00, 0xa0};
+static uint8_t pulsed[sizeof header - 1 + sizeof pulses3];
+
+static void print_trigger_reading(const char *what, prophesee_trigger_reading r)
+{
+    printf("%s: refusal %u told %zu encoding %u size %zux%zu count %zu triggers %zu\n", what, r.refusal, r.told, r.encoding, r.width, r.height, r.count,
+           r.triggers);
+    for (size_t i = 0; i < r.triggers; i++)
+        printf("  trigger %lld %u %u\n", (long long)times[i], ids[i], values[i]);
+    printf("  behind: trigger t %s, id %s, value %s\n", column(times, r.triggers, sizeof *times), column(ids, r.triggers, sizeof *ids),
+           column(values, r.triggers, sizeof *values));
+    print_events(r.count);
+}
+
+#define RAW_TRIGGERS(options, ...) prophesee_read_raw_triggers(pulsed, sizeof pulsed, options, __VA_ARGS__)
+#define WORDS_TRIGGERS(words, encoding, options, ...) prophesee_decode_words_triggers(words, sizeof words, encoding, options, __VA_ARGS__)
+
+static void triggers(void)
+{
+    const prophesee_options none = {0};
+    const uint8_t wide[] = "% format EVT3 \x80\n";
+
+    print_trigger_reading("read_raw_triggers", RAW_TRIGGERS(none, COLUMNS, TRIGGERS));
+    print_trigger_reading("read_raw_triggers, just enough", RAW_TRIGGERS(none, xs, 4, ys, 4, ts, 4, ps, 4, times, 3, ids, 3, values, 3));
+    print_trigger_reading("read_raw_triggers, 2 trigger times", RAW_TRIGGERS(none, COLUMNS, times, 2, ids, ROOM, values, ROOM));
+    print_trigger_reading("read_raw_triggers, 2 trigger ids", RAW_TRIGGERS(none, COLUMNS, times, ROOM, ids, 2, values, ROOM));
+    print_trigger_reading("read_raw_triggers, 2 trigger values", RAW_TRIGGERS(none, COLUMNS, times, ROOM, ids, ROOM, values, 2));
+    print_trigger_reading("read_raw_triggers, no trigger places", RAW_TRIGGERS(none, COLUMNS, NO_TRIGGERS));
+    print_trigger_reading("read_raw_triggers, 3 rows and 2 trigger ids",
+                          RAW_TRIGGERS(none, xs, ROOM, ys, 3, ts, ROOM, ps, ROOM, times, ROOM, ids, 2, values, ROOM));
+    print_trigger_reading("read_raw_triggers, no places", RAW_TRIGGERS(none, NO_COLUMNS, NO_TRIGGERS));
+    print_trigger_reading("read_raw_triggers, no trigger and no trigger places",
+                          prophesee_read_raw_triggers(recording, sizeof recording, none, COLUMNS, NO_TRIGGERS));
+    print_trigger_reading("read_raw_triggers, a byte 80", prophesee_read_raw_triggers(wide, sizeof wide - 1, none, COLUMNS, TRIGGERS));
+    print_trigger_reading("read_raw_triggers, nothing", prophesee_read_raw_triggers(NULL, 0, none, NO_COLUMNS, NO_TRIGGERS));
+    print_trigger_reading("decode_words_triggers, 2", WORDS_TRIGGERS(pulses2, PROPHESEE_EVT2, none, COLUMNS, TRIGGERS));
+    print_trigger_reading("decode_words_triggers, 3", WORDS_TRIGGERS(pulses3, PROPHESEE_EVT3, none, COLUMNS, TRIGGERS));
+    print_trigger_reading("decode_words_triggers, 3, cut at byte 19", prophesee_decode_words_triggers(pulses3, 19, PROPHESEE_EVT3, none, COLUMNS, TRIGGERS));
+    print_trigger_reading("decode_words_triggers, 7", WORDS_TRIGGERS(pulses3, 7, none, COLUMNS, TRIGGERS));
+    print_trigger_reading("decode_words_triggers, 7, no places", WORDS_TRIGGERS(pulses3, 7, none, NO_COLUMNS, NO_TRIGGERS));
+    print_trigger_reading("decode_words_triggers, 0, nothing", prophesee_decode_words_triggers(NULL, 0, 0, none, NO_COLUMNS, NO_TRIGGERS));
+    print_reading("read_raw, with triggers in it", prophesee_read_raw(pulsed, sizeof pulsed, none, COLUMNS));
+}
+
+/* Limits and sizes. `pulses3` has a trigger, three events in one word, a trigger, an event, a trigger. */
+static void trigger_options(void)
+{
+    const prophesee_options none = {0}, zero = {.sized = 1, .width = 64}, sized = {.sized = 1, .width = 64, .height = 48};
+    const prophesee_options narrow = {.sized = 1, .width = 6, .height = 48}, first = {.sized = 1, .limited = 1, .width = 6, .height = 48, .max_events = 1};
+    for (size_t n = 0; n <= 5; n++) {
+        char what[64];
+        snprintf(what, sizeof what, "read_raw_triggers, at most %zu", n);
+        print_trigger_reading(what, RAW_TRIGGERS(((prophesee_options){.limited = 1, .max_events = n}), COLUMNS, TRIGGERS));
+    }
+    print_trigger_reading("read_raw_triggers, at most 4, 1 trigger value",
+                          RAW_TRIGGERS(((prophesee_options){.limited = 1, .max_events = 4}), COLUMNS, times, ROOM, ids, ROOM, values, 1));
+    print_trigger_reading("read_raw_triggers, at most 0, no places", RAW_TRIGGERS(((prophesee_options){.limited = 1}), NO_COLUMNS, NO_TRIGGERS));
+    print_trigger_reading("read_raw_triggers, 6x48", RAW_TRIGGERS(narrow, COLUMNS, TRIGGERS));
+    print_trigger_reading("read_raw_triggers, 6x48, at most 1", RAW_TRIGGERS(first, COLUMNS, TRIGGERS));
+    print_trigger_reading("read_raw_triggers, 64x0, no places", RAW_TRIGGERS(zero, NO_COLUMNS, NO_TRIGGERS));
+    /* the time and the first trigger alone */
+    print_trigger_reading("decode_words_triggers, a trigger alone", prophesee_decode_words_triggers(pulses3, 6, PROPHESEE_EVT3, none, COLUMNS, NO_TRIGGERS));
+    print_trigger_reading("decode_words_triggers, a trigger alone, 64x48",
+                          prophesee_decode_words_triggers(pulses3, 6, PROPHESEE_EVT3, sized, NO_COLUMNS, TRIGGERS));
+    print_trigger_reading("decode_words_triggers, a trigger alone, 64x48, no places",
+                          prophesee_decode_words_triggers(pulses3, 6, PROPHESEE_EVT3, sized, NO_COLUMNS, NO_TRIGGERS));
 }
 
 /* ---- indexes and slices */
@@ -366,6 +444,46 @@ static void words(void)
     print_all((prophesee_vector){.t = 5, .mask = 0x80000001u, .x = 65534, .y = 3, .p = 1});
 }
 
+static void print_trigger(const char *what, prophesee_trigger g)
+{
+    printf("%s: refusal %u some %u, %lld %u %u\n", what, g.refusal, g.some, (long long)g.t, g.id, g.value);
+}
+
+static void word_triggers(void)
+{
+    const uint8_t *rise3 = pulses3 + 4, *event3 = pulses3 + 16, *rise2 = pulses2 + 8;
+    prophesee_decoder fresh = prophesee_new_decoder(PROPHESEE_EVT3), d = prophesee_decoder_after(fresh, pulses3, 4).decoder, x = d;
+    print_trigger("word_trigger, EVT3", prophesee_word_trigger(d, rise3, sizeof pulses3 - 4));
+    print_trigger("word_trigger, EVT3, a word alone", prophesee_word_trigger(d, rise3, 2));
+    print_trigger("word_trigger, EVT3, an event's word", prophesee_word_trigger(d, event3, 2));
+    print_trigger("word_trigger, EVT3, before the first time", prophesee_word_trigger(fresh, rise3, 2));
+    print_trigger("word_trigger, EVT3, one byte", prophesee_word_trigger(d, rise3, 1));
+    print_trigger("word_trigger, EVT3, nothing", prophesee_word_trigger(d, NULL, 0));
+    print_decoded("decode, EVT3, a trigger's word", prophesee_decode(d, rise3, 2));
+    x.y = 2048;
+    print_trigger("word_trigger, row 2048", prophesee_word_trigger(x, rise3, 2));
+    print_trigger("word_trigger, row 2048, nothing", prophesee_word_trigger(x, NULL, 0));
+    x = d;
+    x.initialised = 2;
+    print_trigger("word_trigger, initialised 2", prophesee_word_trigger(x, rise3, 2));
+    x = d;
+    x.polarity = 2;
+    print_trigger("word_trigger, polarity 2, nothing", prophesee_word_trigger(x, NULL, 0));
+    x = fresh;
+    x.time = 1;
+    print_trigger("word_trigger, unstarted with a time", prophesee_word_trigger(x, rise3, 2));
+
+    d = prophesee_decoder_after(prophesee_new_decoder(PROPHESEE_EVT2), pulses2, 8).decoder;
+    print_trigger("word_trigger, EVT2", prophesee_word_trigger(d, rise2, sizeof pulses2 - 8));
+    print_trigger("word_trigger, EVT2, 3 bytes", prophesee_word_trigger(d, rise2, 3));
+    print_trigger("word_trigger, EVT2, an event's word", prophesee_word_trigger(d, rise2 + 4, 4));
+    print_decoded("decode, EVT2, a trigger's word", prophesee_decode(d, rise2, 4));
+    d.base_x = 1;
+    print_trigger("word_trigger, EVT2 with a base column", prophesee_word_trigger(d, rise2, 4));
+    print_trigger("word_trigger, a decoder of 7", prophesee_word_trigger(prophesee_new_decoder(7), rise2, 4));
+    print_trigger("word_trigger, a decoder of 7, nothing", prophesee_word_trigger(prophesee_new_decoder(7), NULL, 0));
+}
+
 /* ---- refusal 4 comes before each other one: what is answered at 2^30 bytes, and at one more */
 
 static void told(size_t n, const char *what, uint32_t refusal)
@@ -407,6 +525,17 @@ static void longest_events(const uint8_t *bytes, size_t n)
     told(n, "decoder_after, encoding 7", prophesee_decoder_after(prophesee_new_decoder(7), bytes, n).refusal);
 }
 
+/* The first 2^30 bytes end with two triggers and an event of EVT2. */
+static void longest_triggers(const uint8_t *bytes, size_t n)
+{
+    const prophesee_options none = {0}, sized = {.sized = 1, .width = 64, .height = 48}, zero = {.sized = 1};
+    print_trigger_reading("decode_words_triggers, 2, zeros before", prophesee_decode_words_triggers(bytes, n, 2, none, COLUMNS, TRIGGERS));
+    told(n, "decode_words_triggers, encoding 7", prophesee_decode_words_triggers(bytes, n, 7, zero, COLUMNS, TRIGGERS).refusal);
+    told(n, "decode_words_triggers, size 0", prophesee_decode_words_triggers(bytes, n, 2, zero, COLUMNS, TRIGGERS).refusal);
+    told(n, "decode_words_triggers, no places", prophesee_decode_words_triggers(bytes, n, 2, sized, NO_COLUMNS, NO_TRIGGERS).refusal);
+    told(n, "decode_words_triggers, no trigger places", prophesee_decode_words_triggers(bytes, n, 2, sized, COLUMNS, NO_TRIGGERS).refusal);
+}
+
 static void longest(void)
 {
     static prophesee_record records[256];
@@ -425,13 +554,20 @@ static void longest(void)
         told(n, "open_words, no size, no event", prophesee_open_words(bytes, n, 2, records, 256, open).refusal);
         memcpy(bytes, evt2, sizeof evt2);
         longest_events(bytes, n);
+        memset(bytes, 0, sizeof evt2);
+        told(n, "decode_words_triggers, no size, no event", prophesee_decode_words_triggers(bytes, n, 2, plain, COLUMNS, TRIGGERS).refusal);
+        memcpy(bytes + LONGEST - sizeof pulses2, pulses2, sizeof pulses2);
+        longest_triggers(bytes, n);
+        memset(bytes + LONGEST - sizeof pulses2, 0, sizeof pulses2);
         memcpy(bytes, "%\n", 2);
         told(n, "parse_header, no encoding", prophesee_parse_header(bytes, n, 0, 0, 0).refusal);
         told(n, "read_raw, no encoding", prophesee_read_raw(bytes, n, plain, COLUMNS).refusal);
+        told(n, "read_raw_triggers, no encoding", prophesee_read_raw_triggers(bytes, n, plain, COLUMNS, TRIGGERS).refusal);
         told(n, "open, no encoding", prophesee_open(bytes, n, NULL, 0, open).refusal);
         bytes[1] = 0x80;
         told(n, "parse_header, a header byte 80", prophesee_parse_header(bytes, n, 0, 0, 0).refusal);
         told(n, "read_raw, a header byte 80", prophesee_read_raw(bytes, n, plain, COLUMNS).refusal);
+        told(n, "read_raw_triggers, a header byte 80", prophesee_read_raw_triggers(bytes, n, plain, COLUMNS, TRIGGERS).refusal);
         told(n, "open, a header byte 80", prophesee_open(bytes, n, NULL, 0, open).refusal);
     }
     munmap(bytes, LONGEST + 1u);
@@ -456,9 +592,10 @@ static void longest_append(void)
 
 static void bounds(void)
 {
-    for (uint32_t n = 0; n <= 13; n++)
+    for (uint32_t n = 0; n <= 14; n++)
         printf("refusal %u: %s\n", n, prophesee_refusal_text(n));
     printf("most events: %zu of EVT2, %zu of EVT3\n", prophesee_most_events(2, 11), prophesee_most_events(3, 11));
+    printf("most triggers: %zu of EVT2, %zu of EVT3\n", prophesee_most_triggers(2, 11), prophesee_most_triggers(3, 11));
     printf("most records: %zu, %zu, %zu, %zu\n", prophesee_most_records(0, 4), prophesee_most_records(1, 4), prophesee_most_records(4, 4), prophesee_most_records(5, 4));
     printf("most bytes: %zu, with a header %zu\n", prophesee_most_bytes(3), prophesee_most_bytes_with_header(3));
 }
@@ -467,14 +604,19 @@ int main(void)
 {
     memcpy(recording, header, sizeof header - 1);
     memcpy(recording + sizeof header - 1, evt3, sizeof evt3);
+    memcpy(pulsed, header, sizeof header - 1);
+    memcpy(pulsed + sizeof header - 1, pulses3, sizeof pulses3);
     clear();
     printf("version %u, %u\n", prophesee_version(), PROPHESEE_RAW_VERSION);
     bounds();
     headers();
     reading();
+    triggers();
+    trigger_options();
     slices();
     writing();
     words();
+    word_triggers();
     longest();
     longest_append();
     return 0;

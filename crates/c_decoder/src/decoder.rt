@@ -43,7 +43,7 @@ pub struct PropheseeVector {
     pub p: u8,
 }
 
-// `refusal` 0: the decoder after the word, and its events. Else document 01's number, and the decoder
+// `refusal` 0: the decoder after the word, and its events. Else the table's number, and the decoder
 // is as it was.
 #[repr(C)]
 pub struct PropheseeDecoded {

@@ -44,7 +44,7 @@ pub struct PropheseeSource {
     pub encoding: u32,
 }
 
-// `refusal` 0: opened, and `source` tells what. Else document 01's number, `told` being the count that
+// `refusal` 0: opened, and `source` tells what. Else the table's number, `told` being the count that
 // a 9 tells.
 #[repr(C)]
 pub struct PropheseeOpening {

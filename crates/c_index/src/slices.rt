@@ -21,7 +21,7 @@ use index_records::Choice;
 use index_records::Judging;
 use slice_rules::SliceAnswer;
 
-// `refusal` 0: `count` events stand at the front of the columns. Else document 01's number, `told`
+// `refusal` 0: `count` events stand at the front of the columns. Else the table's number, `told`
 // being the count that a 5 tells.
 #[repr(C)]
 pub struct PropheseeSlice {

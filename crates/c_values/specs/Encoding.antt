@@ -25,7 +25,16 @@ behindTooLong n r = cond (ltb mostBytes n) TooLong r
 abbrev pub codedOutcome : {A : Type 0} → (n : ℕ) → (words : List ℕ) → (Encoding → Outcome A) → Outcome A
 codedOutcome n words f = cond (isKnown n) (f (encodingOf n)) (refuse (behindTooLong (length words) UnknownEncoding))
 
--- ---- laws: the known numbers are those of the encodings
+-- ---- laws: what an encoding's number makes of a call
+
+module _ {A : Type 0} (n : ℕ) (words : List ℕ) (f : Encoding → Outcome A) where
+  pub coded-known : isKnown n ≡ true → f (encodingOf n) ≡ codedOutcome n words f
+  coded-known h = rw h
+
+  pub coded-unknown : isKnown n ≡ false → refuse (behindTooLong (length words) UnknownEncoding) ≡ codedOutcome n words f
+  coded-unknown h = rw h
+
+-- ---- the known numbers are those of the encodings
 
 pub number-known : (e : Encoding) → isKnown (encodingNumber e) ≡ true
 number-known Evt2 = refl

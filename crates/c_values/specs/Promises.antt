@@ -1,6 +1,6 @@
 -- From what the library promises to what the C interface does.
-use mathlib.Core.Path.{_≡_, refl, sym, ap, subst, _∙_}
-use mathlib.Core.Bool.{Bool, true, false, cond}
+use mathlib.Core.Path.{_≡_, refl, ap, subst, _∙_}
+use mathlib.Core.Bool.{true, false}
 use mathlib.Core.List.{List}
 use Prim.Native.Nat.{ℕ}
 use lib.IntN.{ℤ}
@@ -10,8 +10,8 @@ use Rattle.evt_types.specs.{declared.Refusal.the-variants.UnknownEncoding, Outc
 use Rattle.read_rules.specs.{declared.LoadOptions.LoadOptions, declared.ReadAnswer.ReadAnswer, Read.ReadEvents, Read.shortest, Read.wordsOutcome}
 use Rattle.read_rules.specs.Read as Read
 use Rattle.c_values.specs.{declared.options.PropheseeOptions.PropheseeOptions, declared.reading.PropheseeReading.PropheseeReading, Encoding.isKnown}
-use Rattle.c_values.specs.{Encoding.encodingOf, Encoding.behindTooLong, Options.optionsOf, Reading.readingOf, Reading.ReadsC, Reading.ReadsRawC}
-use Rattle.c_values.specs.{Reading.DecodesWordsC}
+use Rattle.c_values.specs.{Encoding.encodingOf, Encoding.behindTooLong, Encoding.coded-known, Encoding.coded-unknown, Options.optionsOf}
+use Rattle.c_values.specs.{Reading.readingOf, Reading.ReadsC, Reading.ReadsRawC, Reading.DecodesWordsC}
 
 module _ (o : PropheseeOptions) (given : LoadOptions) (is-given : given ≡ optionsOf o) (a : ReadAnswer) (r : PropheseeReading)
     (is-r : r ≡ readingOf (Read.toldRead a)) where
@@ -26,8 +26,7 @@ module _ (o : PropheseeOptions) (given : LoadOptions) (is-given : given ≡ opti
       let room = shortest xs₀ ys₀ ts₀ ps₀ in
       let of : Encoding → LoadOptions → Outcome ReadEvents = λ e g. wordsOutcome words e (g .«sensor_size») (g .«max_events») room in
       subst (λ (k : Outcome ReadEvents). ReadsC k r xs₀ ys₀ ts₀ ps₀ xs ys ts ps)
-      ((λ i. of (is-e i) (is-given i)) ∙ ap (λ (b : Bool). cond b (of (encodingOf n) (optionsOf o)) (refuse (behindTooLong (length words) UnknownEncoding)))
-      (sym known)) (reads h)
+      ((λ i. of (is-e i) (is-given i)) ∙ coded-known n words (λ e. of e (optionsOf o)) known) (reads h)
 
   pub reads-raw : (recording : List ℕ) {xs₀ ys₀ : List ℕ} {ts₀ : List ℤ} {ps₀ xs ys : List ℕ} {ts : List ℤ} {ps : List ℕ}
       → Read.ReadsRaw recording given a xs₀ ys₀ ts₀ ps₀ xs ys ts ps → ReadsRawC recording o r xs₀ ys₀ ts₀ ps₀ xs ys ts ps
@@ -42,6 +41,5 @@ reads-unknown o words n unknown refusal is r is-r {xs} {ys} {ts} {ps} =
     let room = shortest xs ys ts ps in
     let g = optionsOf o in
     subst (λ (k : Outcome ReadEvents). ReadsC k r xs ys ts ps xs ys ts ps)
-    (ap refuse is ∙ ap (λ (b : Bool). cond b (wordsOutcome words (encodingOf n) (g .«sensor_size») (g .«max_events») room)
-    (refuse (behindTooLong (length words) UnknownEncoding))) (sym unknown))
+    (ap refuse is ∙ coded-unknown n words (λ e. wordsOutcome words e (g .«sensor_size») (g .«max_events») room) unknown)
     (record { is-answer = is-r; columns = record { column-x = refl; column-y = refl; column-t = refl; column-p = refl } })

@@ -17,7 +17,7 @@ use Rattle.c_values.specs.{declared.reading.PropheseeReading.PropheseeRe
 abbrev pub valueOf : Told → ℕ → ℕ
 valueOf t i = cond (eqb (t .number) 0) (getD (naturals (t .values)) i 0) 0
 
--- the count that a 5, a 9 or an 11 tells, and else 0
+-- the count that a 5, a 9, an 11 or a 13 tells, and else 0
 abbrev pub countOf : Told → ℕ
 countOf t = cond (eqb (t .number) 0) 0 (getD (naturals (t .values)) 0 0)
 

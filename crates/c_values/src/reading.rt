@@ -13,7 +13,7 @@ use header::HeaderAnswer;
 use read::ReadAnswer;
 use read::Reading;
 
-// `refusal` 0: parsed, and the others tell what; `sized` 1: the size is known. Else document 01's
+// `refusal` 0: parsed, and the others tell what; `sized` 1: the size is known. Else the table's
 // number.
 #[repr(C)]
 pub struct PropheseeHeader {

@@ -12,6 +12,7 @@ pub fn count_of(refusal: Refusal) -> usize
         Refusal::ColumnsTooShort(n) => n,
         Refusal::TooFewRecords(n) => n,
         Refusal::OutputTooShort(n) => n,
+        Refusal::TriggerColumnsTooShort(n) => n,
         Refusal::InvalidSensorSize => 0,
         Refusal::UnknownEncoding => 0,
         Refusal::HeaderNotAscii => 0,

@@ -38,7 +38,7 @@ pub struct PropheseeSink {
     pub has_y: u8,
 }
 
-// `refusal` 0: `written` bytes were written. Else document 01's number, `told` being the count that an
+// `refusal` 0: `written` bytes were written. Else the table's number, `told` being the count that an
 // 11 tells, and the sink is as it was.
 #[repr(C)]
 pub struct PropheseeAppended {

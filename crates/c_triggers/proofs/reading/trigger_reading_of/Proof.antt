@@ -1,0 +1,17 @@
+use borrow.Author.Needs.{needs}
+use Rattle.c_triggers.proofs.reading.trigger_reading_of.Statement.{statement}
+use Rattle.c_triggers.proofs.reading.trigger_reading_of.Tie as tie
+
+returns : tie.Need-returns
+returns c = rw (c .before .before .answer .given .1) (c .read-numbers .ensures)
+
+returns-2 : tie.Need-returns-2
+returns-2 c = rw (c .before .before .answer2 .given .1) (c .refused-numbers .ensures)
+
+pub trigger-reading-of-spec : {M : Type 1} → statement M
+trigger-reading-of-spec =
+    tie.close
+    (tie.spec
+    (λ c. search needs) (λ c κs. search needs) (λ c. search needs) (λ c κs. search needs)
+    returns
+    returns-2)

@@ -1,4 +1,4 @@
-// The examples that the comment of `prophesee_raw` names, run: reading, indexing and slicing,
+// The examples that the comment of `prophesee_raw` names, run: reading, with triggers too, indexing and slicing,
 // writing, a stream that is cut and resumed, single words, and refusals. Every call is one of
 // `prophesee_raw`; `test_text` only prints, an event as `t,x,y,p` and bytes in hex. Each line begins
 // with the name of its example.
@@ -9,21 +9,25 @@ mod reading;
 mod refusing;
 mod resuming;
 mod slicing;
+mod triggers;
 mod writing;
 
 fn main() {
     reading::read_recording();
     reading::read_limited();
     reading::read_words();
+    triggers::read_pulses();
     slicing::slice_recording();
     writing::write_words();
     writing::write_recording();
     resuming::cut_and_resume();
     decoding::decode_singly();
     decoding::decode_after();
+    triggers::trigger_of_word();
     refusing::no_encoding();
     refusing::columns_too_short();
     refusing::records_too_few();
     refusing::output_too_short();
     refusing::times_fall();
+    triggers::triggers_too_many();
 }

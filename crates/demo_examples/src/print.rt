@@ -9,6 +9,8 @@ use prophesee_raw::ReadAnswer;
 use prophesee_raw::Reading;
 use prophesee_raw::Refusal;
 use prophesee_raw::SliceAnswer;
+use prophesee_raw::TriggerAnswer;
+use prophesee_raw::TriggerReadAnswer;
 use test_text::columns;
 use test_text::show;
 use test_text::text;
@@ -18,11 +20,12 @@ fn needed(why: Refusal) -> usize {
         Refusal::ColumnsTooShort(n) => n,
         Refusal::TooFewRecords(n) => n,
         Refusal::OutputTooShort(n) => n,
+        Refusal::TriggerColumnsTooShort(n) => n,
         _ => 0,
     }
 }
 
-// The number, and the count that three of them tell.
+// The number, and the count that four of them tell.
 fn refusal(why: Refusal) {
     show::text(b"refused");
     show::next(b' ', prophesee_raw::refusal_number(why) as u64);
@@ -57,6 +60,58 @@ pub fn reading(name: &[u8], answer: ReadAnswer) -> usize {
             0
         }
     }
+}
+
+// How many events and triggers were read.
+pub struct Counts {
+    pub events: usize,
+    pub triggers: usize,
+}
+
+pub fn reading_triggers(name: &[u8], answer: TriggerReadAnswer) -> Counts {
+    show::text(name);
+    match answer {
+        TriggerReadAnswer::Read(r) => {
+            let reading = r.reading;
+            let events = read(reading);
+            Counts {
+                events,
+                triggers: r.triggers,
+            }
+        }
+        TriggerReadAnswer::Refused(why) => {
+            refusal(why);
+            Counts {
+                events: 0,
+                triggers: 0,
+            }
+        }
+    }
+}
+
+// The first n triggers of the columns, which have two at most, in a line of their own.
+pub fn triggers(n: usize, times: [i64; 2], ids: [u8; 2], values: [u8; 2]) {
+    if 0 < n {
+        show::text(b"triggers: ");
+        show::trigger(times[0], ids[0], values[0]);
+        if 1 < n {
+            show::text(b" ");
+            show::trigger(times[1], ids[1], values[1]);
+        }
+        end();
+    }
+}
+
+pub fn trigger(name: &[u8], answer: TriggerAnswer) {
+    show::text(name);
+    if let TriggerAnswer::Trigger(g) = answer {
+        show::trigger(g.t, g.id, g.value);
+    }
+    end();
+}
+
+fn end() {
+    show::text(b"\n");
 }
 
 // How many events, and how many records.

@@ -10,6 +10,12 @@
 // are kept, and the size told is the least that holds them. The shortest column counts. `parse_header`
 // reads the header alone. Examples: `read_recording`, `read_limited`, `read_words`.
 //
+// Triggers. `read_raw_triggers` and `decode_words_triggers` read the same, and beside the events the
+// pulses on the camera's trigger input, into three further columns: time in microseconds, channel,
+// value 0 or 1. They stand in the order of their words, have no event's number, and no size drops one.
+// Before the first time word there is none. A limit ends them with the word before the one that holds
+// its last event. Slices and an index have none. Examples: `read_pulses`, `trigger_of_word`.
+//
 // Index and slices. `open` makes a `Checkpoint` for every `spacing` bytes of the body (a multiple of 4
 // from 4 to 4,194,304), at least one, into records that the caller lends, and answers a
 // `RawSliceSource` and how many records it made. `open_words` does so for words without a header.
@@ -41,10 +47,10 @@
 // `decode_after`.
 //
 // Refusals. An answer is what was asked for or `Refused`, with the reason; `refusal_number` has its
-// number in the table of docs/RULES.md. 5, 9 and 11 tell how many places, records or bytes are needed:
-// lend as many, and call again. A refused call alters no buffer, and returns the writer or the decoder
+// number in the table of docs/RULES.md. 5, 9, 11 and 13 tell how many places, records, bytes or places
+// for triggers are needed: lend as many, and call again. A refused call alters no buffer, and returns the writer or the decoder
 // as it was. An accepted one alters nothing behind what it hands over. Examples: `no_encoding`,
-// `columns_too_short`, `records_too_few`, `output_too_short`, `times_fall`.
+// `columns_too_short`, `records_too_few`, `output_too_short`, `times_fall`, `triggers_too_many`.
 pub use evt_codec::Codec;
 pub use evt_codec::codec::CodecDecoded;
 pub use evt_types::DecodeAnswer;
@@ -53,9 +59,11 @@ pub use evt_types::EventVector;
 pub use evt_types::EvtVersion;
 pub use evt_types::Limit;
 pub use evt_types::RawEvent;
+pub use evt_types::RawTrigger;
 pub use evt_types::Refusal;
 pub use evt_types::SensorSize;
 pub use evt_types::Sent;
+pub use evt_types::TriggerAnswer;
 pub use evt_types::refusal_number;
 pub use evt_types::vector::NextEvent;
 pub use evt2_decoder::Evt2Decoded;
@@ -80,6 +88,10 @@ pub use read::decode_words;
 pub use read::read_raw;
 pub use read_after::AfterAnswer;
 pub use read_after::decoder_after;
+pub use read_triggers::TriggerReadAnswer;
+pub use read_triggers::TriggerReading;
+pub use read_triggers::decode_words_triggers;
+pub use read_triggers::read_raw_triggers;
 pub use slice::slice_index;
 pub use slice::slice_time;
 pub use slice_rules::SliceAnswer;

@@ -43,6 +43,13 @@ pub fn event(e: RawEvent) {
     next(b',', e.p as u64);
 }
 
+// `t,id,value`.
+pub fn trigger(t: i64, id: u8, value: u8) {
+    signed(t);
+    next(b',', id as u64);
+    next(b',', value as u64);
+}
+
 // The last digit of n in hex.
 fn nibble(n: u8) -> u8 {
     let d = n % 16;
@@ -73,6 +80,7 @@ pub fn refusal(r: Refusal) {
         Refusal::ColumnsTooShort(n) => next(b' ', n as u64),
         Refusal::TooFewRecords(n) => next(b' ', n as u64),
         Refusal::OutputTooShort(n) => next(b' ', n as u64),
+        Refusal::TriggerColumnsTooShort(n) => next(b' ', n as u64),
         _ => {}
     }
 }

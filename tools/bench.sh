@@ -6,7 +6,7 @@
 #   tools/bench.sh CHECKOUT --only open,slice_time [--files evt2,evt3] [--mib 16] [--runs 9] [--spacing 4096]
 #                                          these operations alone, on these recordings, on their first 16 MiB, best of
 #                                          9 runs, indexes at this spacing: any of the words may be left out
-# Operations: read read_exact read_words read_file open slice_index slice_time slice_time_exact append append_exact memory.
+# Operations: read read_exact read_words read_file open slice_index slice_time slice_time_exact append append_exact triggers memory.
 # Recordings: evt2 evt3 evt3dense evt3long (1 GiB); evt3dense and evt3long whole want 10 GiB of memory.
 # CHECKOUT is of the original, as tools/original.sh says. The archive is built (and proved) first, unless ARCHIVE names one:
 #   ARCHIVE=target/staticlib/libprophesee_raw_c.a tools/bench.sh CHECKOUT --only append --files evt3

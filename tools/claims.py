@@ -12,7 +12,7 @@ import sys
 os.chdir(os.path.dirname(os.path.dirname(os.path.abspath(__file__))))
 WORD = re.compile(r"[^\s(){};,.@\"«»|`:]+")
 PATH = re.compile(r"(?<![\w/.])((?:crates|tools|tests|docs|include|samples)/[\w./*{},-]*\w)")
-RULE = re.compile(r"\b((?:E2|E3|H|R|I|A|T|D|V|L)-\d+)\b")
+RULE = re.compile(r"\b((?:E2|E3|H|R|G|I|A|T|D|V|L)-\d+)\b")
 NOT_NAMES = re.compile(r"[%+\d]|.*[ /].*|x|X|end|format|evt\d?|geometry|\.\.|\|")
 faults = []
 

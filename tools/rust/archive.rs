@@ -44,6 +44,18 @@ pub struct Reading {
 
 #[repr(C)]
 #[derive(Clone, Copy, Debug, Default, PartialEq, Eq)]
+pub struct TriggerReading {
+    pub refusal: u32,
+    pub encoding: u32,
+    pub told: usize,
+    pub width: usize,
+    pub height: usize,
+    pub count: usize,
+    pub triggers: usize,
+}
+
+#[repr(C)]
+#[derive(Clone, Copy, Debug, Default, PartialEq, Eq)]
 pub struct OpenOptions {
     pub width: usize,
     pub height: usize,
@@ -158,6 +170,16 @@ pub struct Event {
 
 #[repr(C)]
 #[derive(Clone, Copy, Debug, Default, PartialEq, Eq)]
+pub struct Trigger {
+    pub t: i64,
+    pub refusal: u32,
+    pub id: u8,
+    pub value: u8,
+    pub some: u8,
+}
+
+#[repr(C)]
+#[derive(Clone, Copy, Debug, Default, PartialEq, Eq)]
 pub struct Next {
     pub rest: Vector,
     pub event: Event,
@@ -169,6 +191,7 @@ const _: () = {
     assert!(size_of::<Header>() == 40 && offset_of!(Header, sized) == 32);
     assert!(size_of::<Options>() == 32 && offset_of!(Options, limited) == 25);
     assert!(size_of::<Reading>() == 40 && offset_of!(Reading, count) == 32);
+    assert!(size_of::<TriggerReading>() == 48 && offset_of!(TriggerReading, triggers) == 40);
     assert!(size_of::<OpenOptions>() == 32 && offset_of!(OpenOptions, sized) == 24);
     assert!(size_of::<Source>() == 64 && offset_of!(Source, encoding) == 56);
     assert!(size_of::<Opening>() == 80 && offset_of!(Opening, refusal) == 72);
@@ -180,6 +203,7 @@ const _: () = {
     assert!(size_of::<Decoded>() == 72 && offset_of!(Decoded, refusal) == 64);
     assert!(size_of::<Stepped>() == 48 && offset_of!(Stepped, refusal) == 40);
     assert!(size_of::<Event>() == 16 && offset_of!(Event, p) == 12);
+    assert!(size_of::<Trigger>() == 16 && offset_of!(Trigger, some) == 14);
     assert!(size_of::<Next>() == 48 && offset_of!(Next, some) == 40);
 };
 
@@ -196,6 +220,21 @@ impl Columns {
     /// Columns of n places, all of them written.
     pub fn new(n: usize) -> Self {
         Columns { xs: vec![0xAAAA; n], ys: vec![0xBBBB; n], ts: vec![-7; n], ps: vec![0xCC; n] }
+    }
+}
+
+/// The three columns of triggers.
+#[derive(Clone, Debug, PartialEq, Eq)]
+pub struct Triggers {
+    pub ts: Vec<i64>,
+    pub ids: Vec<u8>,
+    pub values: Vec<u8>,
+}
+
+impl Triggers {
+    /// Columns of n places, all of them written.
+    pub fn new(n: usize) -> Self {
+        Triggers { ts: vec![-7; n], ids: vec![0xDD; n], values: vec![0xEE; n] }
     }
 }
 
@@ -243,8 +282,19 @@ mod raw {
         prophesee_slice_index(source: Source, records: *const Record, rn: usize, i0: usize, i1: usize) -> Slice;
         prophesee_slice_time(source: Source, records: *const Record, rn: usize, t0: i64, t1: i64) -> Slice;
     }
+    macro_rules! with_triggers {
+        ($($name:ident($($more:ident: $of:ty),*);)*) => { extern "C" { $(pub fn $name(
+            bytes: *const u8, n: usize $(, $more: $of)*,
+            xs: *mut u16, xn: usize, ys: *mut u16, yn: usize, ts: *mut i64, tn: usize, ps: *mut u8, pn: usize,
+            trigger_ts: *mut i64, gn: usize, trigger_ids: *mut u8, dn: usize, trigger_values: *mut u8, vn: usize) -> TriggerReading;)* } };
+    }
+    with_triggers! {
+        prophesee_read_raw_triggers(options: Options);
+        prophesee_decode_words_triggers(encoding: u32, options: Options);
+    }
     extern "C" {
         pub fn prophesee_version() -> u32;
+        pub fn prophesee_word_trigger(decoder: Decoder, bytes: *const u8, n: usize) -> Trigger;
         pub fn prophesee_parse_header(recording: *const u8, n: usize, sized: u8, width: usize, height: usize) -> Header;
         pub fn prophesee_open(recording: *const u8, n: usize, records: *mut Record, rn: usize, options: OpenOptions) -> Opening;
         pub fn prophesee_open_words(
@@ -284,6 +334,30 @@ pub fn read_raw(recording: &[u8], o: Options, c: &mut impl Lend) -> Reading {
 
 pub fn decode_words(words: &[u8], encoding: u32, o: Options, c: &mut impl Lend) -> Reading {
     with_columns!(prophesee_decode_words, words, c, encoding, o)
+}
+
+macro_rules! with_both {
+    ($f:ident, $bytes:ident, $c:ident, $g:ident, $n:ident $(, $more:expr)*) => {{
+        let c = $c.lend();
+        assert!($n[0] <= $g.ts.len() && $n[1] <= $g.ids.len() && $n[2] <= $g.values.len());
+        unsafe { raw::$f($bytes.as_ptr(), $bytes.len() $(, $more)*,
+            c.xs.as_mut_ptr(), c.xs.len(), c.ys.as_mut_ptr(), c.ys.len(), c.ts.as_mut_ptr(), c.ts.len(), c.ps.as_mut_ptr(), c.ps.len(),
+            $g.ts.as_mut_ptr(), $n[0], $g.ids.as_mut_ptr(), $n[1], $g.values.as_mut_ptr(), $n[2]) }
+    }};
+}
+
+/// Triggers into so many places of each of their columns.
+pub fn read_raw_triggers(recording: &[u8], o: Options, c: &mut impl Lend, g: &mut Triggers, n: [usize; 3]) -> TriggerReading {
+    with_both!(prophesee_read_raw_triggers, recording, c, g, n, o)
+}
+
+pub fn decode_words_triggers(
+    words: &[u8], encoding: u32, o: Options, c: &mut impl Lend, g: &mut Triggers, n: [usize; 3]) -> TriggerReading {
+    with_both!(prophesee_decode_words_triggers, words, c, g, n, encoding, o)
+}
+
+pub fn word_trigger(d: Decoder, bytes: &[u8]) -> Trigger {
+    unsafe { raw::prophesee_word_trigger(d, bytes.as_ptr(), bytes.len()) }
 }
 
 pub fn open(recording: &[u8], records: &mut [Record], o: OpenOptions) -> Opening {

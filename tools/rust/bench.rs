@@ -49,7 +49,7 @@ fn asked() -> Asked {
             _ => panic!("unknown: {word}"),
         }
     }
-    a.only.iter().for_each(|o| assert!(o == "memory" || OPERATIONS.iter().any(|k| k.0 == o), "no operation: {o}"));
+    a.only.iter().for_each(|o| assert!(o == "memory" || o == "triggers" || OPERATIONS.iter().any(|k| k.0 == o), "no operation: {o}"));
     a.files.iter().for_each(|f| assert!(RECORDINGS.iter().any(|k| k.0 == f), "no recording: {f}"));
     a
 }
@@ -73,6 +73,19 @@ fn told(op: &str, unit: &str, t: Times) -> String {
     format!("{op:<17} ours {ours:>7} {unit}  original {theirs:>7} {unit}  ratio {:.2}", t.ours / t.original)
 }
 
+/// Reading with trigger columns: how many words lie between triggers, and whether the columns have just the places needed.
+const TRIGGERS: [(&str, Option<usize>, bool); 4] = [
+    ("no trigger", None, false),
+    ("no trigger, columns of 0", None, true),
+    ("a trigger every 1,000 words", Some(1_000), false),
+    ("a trigger every 1,000 words, columns of just the places", Some(1_000), true),
+];
+
+fn beside(says: &str, t: Times) -> String {
+    let (with, without) = (digits(scaled(t.ours, "ms")), digits(scaled(t.original, "ms")));
+    format!("triggers          with {with:>7} ms  without {without:>7} ms  ratio {:.2}  {says}", t.ours / t.original)
+}
+
 /// The operations that are asked for, of one recording; a line for each.
 fn measure(a: &Asked, name: &str) -> Vec<Option<Times>> {
     let r = Recording::new(&recording(&a.dir, name, a.mib));
@@ -87,6 +100,12 @@ fn measure(a: &Asked, name: &str) -> Vec<Option<Times>> {
         Some(t)
     };
     let times = OPERATIONS.iter().map(&mut one).collect();
+    if wanted(&a.only, "triggers") {
+        for (says, every, exact) in TRIGGERS {
+            let t = operations::triggers(&r, &s, &mut columns, every, exact);
+            println!("{name:<10} {}", beside(says, t));
+        }
+    }
     if wanted(&a.only, "memory") {
         let (before, after) = operations::memory_gained(&r, &mut columns);
         println!("{name:<10} memory            resident {before} KiB; after all our calls again, in {} KiB of stack, {after} KiB", STACK >> 10);

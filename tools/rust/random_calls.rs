@@ -29,6 +29,8 @@ enum Name {
     ParseHeader,
     ReadRaw,
     DecodeWords,
+    ReadRawTriggers,
+    DecodeWordsTriggers,
     Open,
     OpenWords,
     SliceIndex,
@@ -37,15 +39,18 @@ enum Name {
     Append,
     NewDecoder,
     Decode,
+    WordTrigger,
     NextEvent,
     DecoderAfter,
 }
 
-const NAMES: [&str; 14] = [
+const NAMES: [&str; 17] = [
     "version",
     "parse_header",
     "read_raw",
     "decode_words",
+    "read_raw_triggers",
+    "decode_words_triggers",
     "open",
     "open_words",
     "slice_index",
@@ -54,12 +59,13 @@ const NAMES: [&str; 14] = [
     "append",
     "new_decoder",
     "decode",
+    "word_trigger",
     "next_event",
     "decoder_after",
 ];
 
 /// Calls of each function by answer.
-type Counts = [[u64; 13]; NAMES.len()];
+type Counts = [[u64; 14]; NAMES.len()];
 
 struct Env {
     rng: Rng,
@@ -201,7 +207,7 @@ impl Env {
     }
 
     fn count(&mut self, name: Name, refusal: u32) -> Checked {
-        ensure(refusal <= 12, "a refusal over 12")?;
+        ensure(refusal <= 13, "a refusal over 13")?;
         self.counts[name as usize][refusal as usize] += 1;
         Ok(())
     }

@@ -1,6 +1,6 @@
 //! What is timed. Both sides of a pair run in turn, and the best time of each counts. Before that each runs
 //! once, so that its memory is there, and what both hand over is compared: a difference ends the program.
-use crate::archive::{self, Columns, Lend, Lent, OpenOptions, Options, Record, Source};
+use crate::archive::{self, Columns, Lend, Lent, OpenOptions, Options, Record, Source, Triggers};
 use crate::memory::{self, Mapped};
 use crate::recordings::Recording;
 use eventcv::io::spaced::{self, probe};
@@ -337,6 +337,45 @@ fn append(r: &Recording, s: &Setup, c: &mut Lent) -> Times {
 
 fn append_exact(r: &Recording, s: &Setup, c: &mut Lent) -> Times {
     appends(r, s, c, true)
+}
+
+// ---- triggers, beside reading without them
+
+/// The recording without its own triggers, and with one behind every so many words; no longer than it was, so that the columns
+/// are as surely long enough.
+fn with_triggers(r: &Recording, every: Option<usize>) -> Vec<u8> {
+    let size = if r.evt3 { 2 } else { 4 };
+    let trigger: &[u8] = if r.evt3 { &[1, 0xA3] } else { &[1, 3, 0x40, 0xA9] };
+    let mut out = r.bytes()[..r.bytes().len() - r.body().len()].to_vec();
+    let words = r.body().chunks_exact(size).filter(|w| w[size - 1] >> 4 != 0xA);
+    for (k, word) in words.enumerate() {
+        out.extend(word);
+        if every.is_some_and(|n| k % n == n - 1) {
+            out.extend(trigger);
+        }
+    }
+    out.truncate(r.bytes().len());
+    out
+}
+
+/// With trigger columns, as `ours`, and without, as `original`: both are this library's. `exact`: the trigger columns have just
+/// the places that are needed, else one for every word.
+pub fn triggers(r: &Recording, s: &Setup, c: &mut Lent, every: Option<usize>, exact: bool) -> Times {
+    let bytes = with_triggers(r, every);
+    let words = bytes.len() / if r.evt3 { 2 } else { 4 };
+    let mut g = Triggers::new(words);
+    let read = |c: &mut Lent, g: &mut Triggers, n: usize| {
+        let t = archive::read_raw_triggers(&bytes, Options::default(), c, g, [n; 3]);
+        assert_eq!(t.refusal, 0);
+        (t.count, t.triggers)
+    };
+    let (events, found) = read(c, &mut g, words);
+    assert_eq!(found, every.map_or(0, |_| found.max(1)), "triggers where none were put");
+    let n = if exact { found } else { words };
+    assert_eq!(archive::read_raw(&bytes, Options::default(), c).count, events);
+    let c = std::cell::RefCell::new(c.lend());
+    let with = || read(&mut c.borrow_mut(), &mut g, n).0;
+    pair(s.runs, with, || archive::read_raw(&bytes, Options::default(), &mut *c.borrow_mut()).count)
 }
 
 // ---- memory

@@ -1,5 +1,5 @@
-//! parse_header, read_raw and decode_words.
-use crate::archive::{self, Header, Lent, Options, Reading};
+//! parse_header, read_raw and decode_words, the last two with triggers too.
+use crate::archive::{self, Columns, Header, Lent, Options, Reading, TriggerReading, Triggers};
 use crate::lent::{columns_untouched, Rng};
 use crate::*;
 
@@ -87,6 +87,52 @@ impl Env {
         let r = answers[0].0;
         ensure(r.refusal != 0 || r.encoding == words.or(head.map(|h| h.encoding)).unwrap_or(0), "another encoding")?;
         self.count(if words.is_none() { Name::ReadRaw } else { Name::DecodeWords }, r.refusal)?;
+        self.read_triggers(words, recording, o, lengths, &answers[0])?;
         Ok(r)
+    }
+
+    /// The same call with trigger columns: what it answered without, and 13 behind all else.
+    fn read_triggers(&mut self, words: Option<u32>, recording: &Bytes, o: Options, lengths: [usize; 4], plain: &(Reading, Columns)) -> Checked {
+        let most = recording.given.len() / 2 + 2;
+        let n = any_lengths(&mut self.rng, most);
+        let got = self.call_triggers(words, recording, o, lengths, [n[0], n[1], n[2]], plain)?;
+        if got.refusal == 13 {
+            let again = self.call_triggers(words, recording, o, lengths, [got.told; 3], plain)?;
+            ensure(again.refusal == 0 && again.triggers == got.told, "the count that 13 told isn't taken")?;
+        }
+        Ok(())
+    }
+
+    fn call_triggers(
+        &mut self, words: Option<u32>, recording: &Bytes, o: Options, lengths: [usize; 4], n: [usize; 3], plain: &(Reading, Columns),
+    ) -> Result<TriggerReading, String> {
+        let bytes = recording.lend(&mut self.bytes, &mut self.long);
+        let mut c = self.board.lend(lengths, recording.last);
+        let fresh = Triggers::new(n.into_iter().max().unwrap() + 8);
+        let mut g = fresh.clone();
+        let r = match words {
+            None => archive::read_raw_triggers(bytes, o, &mut c, &mut g, n),
+            Some(e) => archive::decode_words_triggers(bytes, e, o, &mut c, &mut g, n),
+        };
+        triggers_allowed(&r, &plain.0, n)?;
+        let behind = |k: usize| g.ts[k..] == fresh.ts[k..] && g.ids[k..] == fresh.ids[k..] && g.values[k..] == fresh.values[k..];
+        ensure(behind(r.triggers), "a trigger column was altered behind the triggers handed over")?;
+        ensure(g.ts[..r.triggers].iter().all(|t| *t >= 0) && g.ids[..r.triggers].iter().all(|k| *k < 32), "a trigger out of range")?;
+        ensure(g.values[..r.triggers].iter().all(|v| *v <= 1), "a trigger out of range")?;
+        ensure(if r.refusal == 0 { snapshot(&c) == plain.1 } else { columns_untouched(&c, 0) }, "other events than without triggers")?;
+        recording.unaltered(bytes)?;
+        self.count(if words.is_none() { Name::ReadRawTriggers } else { Name::DecodeWordsTriggers }, r.refusal)?;
+        Ok(r)
+    }
+}
+
+fn triggers_allowed(r: &TriggerReading, plain: &Reading, n: [usize; 3]) -> Checked {
+    let places = n.into_iter().min().unwrap();
+    let refused = TriggerReading { refusal: r.refusal, told: r.told, ..TriggerReading::default() };
+    let told = Reading { refusal: r.refusal, encoding: r.encoding, told: r.told, width: r.width, height: r.height, count: r.count };
+    match (plain.refusal, r.refusal) {
+        (0, 0) => ensure(told == *plain && r.triggers <= places, "another reading than without triggers"),
+        (0, 13) => ensure(*r == refused && r.told > places, "13 with a wrong count"),
+        _ => ensure(told == *plain && r.triggers == 0, "another refusal than without triggers"),
     }
 }

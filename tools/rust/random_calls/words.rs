@@ -1,5 +1,5 @@
 //! Decoders and single words.
-use crate::archive::{self, Decoded, Decoder, Event, Next, Stepped, Vector};
+use crate::archive::{self, Decoded, Decoder, Event, Next, Stepped, Trigger, Vector};
 use crate::lent::Rng;
 use crate::*;
 
@@ -65,6 +65,20 @@ fn first_event(v: Vector) -> Next {
     Next { rest: Vector { mask: v.mask & (v.mask - 1), ..v }, event: Event { t: v.t, x, y: v.y, p: v.p }, some: 1 }
 }
 
+/// The trigger of a word, by bit position.
+fn trigger_told(d: &Decoder, word: &[u8]) -> Trigger {
+    if !table::decoder_ok(d) {
+        return Trigger { refusal: 10, ..Trigger::default() };
+    }
+    let w = word.iter().rev().fold(0u64, |w, b| w << 8 | *b as u64);
+    let (size, kind) = (word_size(d.encoding), w >> (word.len().max(1) * 8 - 4));
+    if word.len() < size || kind != 10 || d.initialised == 0 {
+        return Trigger::default();
+    }
+    let (t, ids) = if size == 4 { (d.time_base + (w >> 22 & 63), 32) } else { (d.time, 16) };
+    Trigger { t: t as i64, refusal: 0, id: (w >> 8) as u8 % ids, value: w as u8 & 1, some: 1 }
+}
+
 fn decoded_allowed(r: &Decoded, given: &Decoder, bytes: &[u8]) -> Checked {
     if !table::decoder_ok(given) {
         return same(*r, Decoded { decoder: *given, events: Vector::default(), refusal: 10 });
@@ -110,8 +124,11 @@ impl Env {
         let word = &bytes[..word_size(d.encoding).min(bytes.len())];
         ensure(archive::decode(d, bytes) == r && archive::decode(d, word) == r, "two answers to one call, or to one word")?;
         ensure(archive::decoder_after(d, word) == Stepped { decoder: r.decoder, refusal: r.refusal }, "another decoder after the word")?;
+        let g = archive::word_trigger(d, bytes);
+        same(g, trigger_told(&d, word))?;
         words.unaltered(bytes)?;
         self.count(Name::Decode, r.refusal)?;
+        self.count(Name::WordTrigger, g.refusal)?;
         Ok(r.events)
     }
 

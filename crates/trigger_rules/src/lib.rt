@@ -1,6 +1,6 @@
 // What reading with triggers answers, and all that it settles without touching a column: up to where
-// a limit leaves triggers, and what is refused where their columns are too short. specs/Read.antt has the answers by the table of docs/RULES.md, specs/Laws.antt that the parts
-// come to them.
+// a limit leaves triggers, and what is refused where their columns are too short. specs/Read.antt has
+// the answers by the table of docs/RULES.md, specs/Laws.antt that the parts come to them.
 ghost use mathlib.Core.Path.{_≡_};
 ghost use Prim.Native.Nat.{_≤_, _^_, min};
 ghost use lib.ListN.{length, take};

@@ -46,7 +46,7 @@ mostFrom (Evt3 d) n = n / wordSize3 * 12
 abbrev pub mostOver : Window → Codec → (n : ℕ) → ℕ
 mostOver win c n = min (win .n1 - win .n0) (mostFrom c n)
 
--- n places hold them; where n is more than the room, it is their number
-pub record Enough {E : Type 0} (es : List E) (room n : ℕ) : Type 0 where
+-- n places hold the events; where n is more than the room, it is their number
+pub record Enough (es : List Event) (room n : ℕ) : Type 0 where
   pub holds : length es ≤ n
   pub exact : room < n → n ≡ length es

@@ -58,10 +58,10 @@ module _ {xs₀ ys₀ : List ℕ} {ts₀ : List ℤ} {ps₀ : List ℕ} where
 pub enough-fits : (es : List Event) (room n a b c d : ℕ) → room ≡ min (min a b) (min c d) → Enough es room n → n ≤ room → Fits (length es) a b c d
 enough-fits es room n a b c d r enough h = fits-room (length es) a b c d (omega (arith, enough .holds))
 
-pub enough-most : {E : Type 0} (es : List E) (room most : ℕ) → length es ≤ most → most ≤ room → Enough es room most
+pub enough-most : (es : List Event) (room most : ℕ) → length es ≤ most → most ≤ room → Enough es room most
 enough-most es room most h l = record { holds = h; exact = λ m. absurd (omega arith) }
 
-pub enough-just : {E : Type 0} (es : List E) (room n : ℕ) → n ≡ length es → Enough es room n
+pub enough-just : (es : List Event) (room n : ℕ) → n ≡ length es → Enough es room n
 enough-just es room n e = record { holds = omega arith; exact = λ m. e }
 
 -- ---- all events inside a sensor

@@ -2,7 +2,7 @@
 use mathlib.Core.Path.{_≡_, refl, sym, ap, _∙_}
 use mathlib.Core.Bool.{Bool, true, false, cond, not, _||_, or-false}
 use mathlib.Core.List.{List, [], _∷_, _++_}
-use Prim.Native.Nat.{ℕ, zero, suc, _+_, _-_, _≤_, _<_}
+use Prim.Native.Nat.{ℕ, suc, _+_, _-_, _≤_, _<_}
 use native.Mathlib.Omega.{arith}
 use lib.Dec.{leb, ltb}
 use lib.ListN.{length, take, length-append}
@@ -45,6 +45,18 @@ module _ {S W E F : Type 0} (M : Machine S W E) (f : S → W → List F) where
         let m = numbersIn M keep s w in
         let e = kept-next s w ws in
         rw (lt-ltb m n (omega arith)) (ap (λ (l : List F). f s w ++ l) (before-few (n - m) (M .step s w) ws (omega arith)))
+
+    -- no more than the words where none has more than one
+    pub before-most : ((s : S) (w : W) → length (f s w) ≤ 1) → (n : ℕ) (s : S) (ws : List W) → length (emitsBefore n s ws) ≤ length ws
+    before-most few n s [] = omega arith
+    before-most few n s (w ∷ ws) = go (ltb m n) (emitsBefore (n - m) (M .step s w) ws) (before-most few (n - m) (M .step s w) ws)
+      where
+        m : ℕ
+        m = numbersIn M keep s w
+
+        go : (b : Bool) (rest : List F) → length rest ≤ length ws → length (cond b (f s w ++ rest) []) ≤ suc (length ws)
+        go true rest ih = omega (arith, length-append (f s w) rest, few s w)
+        go false rest ih = omega arith
 
     -- w holds the n-th
     pub before-nth : (n : ℕ) (s : S) (a : List W) (w : W) (b : List W) → keptOf s a < n → n ≤ keptOf s a + numbersIn M keep (run M s a) w

@@ -1,18 +1,19 @@
 -- What the parts of reading with triggers say, and that they come to what specs/Read.antt defines.
 use mathlib.Core.Path.{_≡_, refl, sym, ap, _∙_}
 use mathlib.Core.Bool.{Bool, true, false, cond, true≢false}
-use mathlib.Core.List.{List, [], _∷_, _++_}
-use Prim.Native.Nat.{ℕ, zero, suc, _+_, _-_, _*_, _/_, _≤_, _<_, _^_}
+use mathlib.Core.List.{List, [], _∷_, _++_, append-nil}
+use Prim.Native.Nat.{ℕ, suc, _+_, _-_, _*_, _/_, _≤_, _<_, _^_}
 use native.Mathlib.Omega.{arith}
 use native.Mathlib.Nat.{le-div-iff-mul-le}
 use lib.Dec.{eqb, ltb}
 use lib.IntN.{ℤ}
-use lib.ListN.{length, take, drop}
+use lib.ListN.{length, take, drop, length-append}
 use lib.Seq.{take-all}
 use borrow.Author.Tests.{lt-ltb, le-ltb, ne-eqb, eqb-true}
-use Rattle.laws_stream.specs.Machine.{Machine, All, all-of, all-map, emits, emits-few}
-use Rattle.laws_stream.specs.{Words.wordsOf, Words.words-taken, Words.length-words, Slice.sift, Slice.sift-all}
-use Rattle.laws_stream.specs.Beside.{emitting, emitsBefore, before-none, before-few, before-alike, ended-within, before-ended}
+use Rattle.laws_stream.specs.Machine.{Machine, All, all-of, all-map, run, emits, emits-few}
+use Rattle.laws_stream.specs.{Words.value, Words.wordsOf, Words.wordsOf-append, Words.words-taken, Words.words-next, Words.words-end, Words.length-words}
+use Rattle.laws_stream.specs.{Slice.sift, Slice.sift-all, Slice.sift-append, Stream.decode, Stream.after, Stream.decode-append, PassOver.numbersIn}
+use Rattle.laws_stream.specs.Beside.{emitting, emitsBefore, before-none, before-few, before-most, before-nth, before-alike, ended-within, before-ended}
 use Rattle.laws_stream.specs.Select.{Reading, Selection, numberedOf, ended, Calm}
 use Rattle.evt_types.specs.declared.Encoding.the-variants as E
 use Rattle.evt_types.specs.declared.{Encoding.Encoding, Limit.Limit, Limit.the-variants.Unlimited, Limit.the-variants.AtMost}
@@ -21,9 +22,8 @@ use Rattle.evt_types.specs.declared.{Refusal.the-variants.TriggerColumnsTooShor
 use Rattle.evt_types.specs.{declared.SensorSize.the-variants.Known, declared.vector.Vector.Vector, Event.Event, Event.eventsOf, Event.Narrow}
 use Rattle.evt_types.specs.{Event.noEvents, Event.no-events, Trigger.trigger-other, Layout.type2, Layout.type3}
 use Rattle.evt_types.specs.{Trigger.Trigger, Trigger.HandedTriggers, Trigger.shortest3, Trigger.triggers-none, Layout.wordSize2, Layout.wordSize3}
-use Rattle.evt_types.specs.Outcome.{Outcome, refuse, give, onOutcome, never-given}
-use Rattle.evt_codec.specs.declared.{codec.Codec.Codec, codec.Codec.the-variants.Evt2, codec.Codec.the-variants.Evt3}
-use Rattle.evt_codec.specs.{Codec.freshC, Codec.wordSize, Triggers.triggersFrom, Triggers.triggersBefore}
+use Rattle.evt_types.specs.Outcome.{Outcome, refuse, give, never-given}
+use Rattle.evt_codec.specs.{declared.codec.Codec.Codec, Codec.freshC, Codec.wordSize, Triggers.triggersFrom}
 use Rattle.evt2_decoder.specs.{declared.Evt2Decoder.Evt2Decoder, Evt2.reader2, Evt2.vector2, Range.Bounded2, Range.bounded-step2, Range.bounded-narrow2}
 use Rattle.evt2_decoder.specs.{Evt2.fresh2, Triggers.triggerIn2, Triggers.trigger2, Triggers.trigger-alone2, Triggers.triggers2, Triggers.few-triggers2}
 use Rattle.evt3_decoder.specs.{declared.Decoder.Decoder, Evt3.reader3, Evt3.vector3, Range.Bounded3, Range.bounded-step3, Range.bounded-narrow3}
@@ -43,7 +43,7 @@ use Rattle.header.specs.declared.Header as header
 use Rattle.header.specs.Header.{headerOf}
 use Rattle.read_capacity.specs.Laws.{handed-none}
 use Rattle.trigger_rules.specs.declared.{TriggerReadAnswer.TriggerReadAnswer, TriggerReadAnswer.the-variants.Read}
-use Rattle.trigger_rules.specs.declared.{TriggerReadAnswer.the-variants.Refused, TriggerReading.TriggerReading}
+use Rattle.trigger_rules.specs.declared.TriggerReadAnswer.the-variants.{Refused}
 use Rattle.trigger_rules.specs.Read.{keeps, bodyTriggers, rawTriggers, ReadTriggers, withTriggers, ReadsTriggers, DecodesWordsTriggers, ReadsRawTriggers}
 
 -- ---- where a limit ends the triggers
@@ -138,13 +138,19 @@ module _ (size : SensorSize) (body : List ℕ) (short : length body ≤ 2 ^ 30) 
 
 -- ---- how many
 
-abbrev pub mostTriggers : Codec → (n : ℕ) → ℕ
-mostTriggers (Evt2 d) n = n / wordSize2
-mostTriggers (Evt3 d) n = n / wordSize3
+-- a word has at most one, so columns of so many places suffice
+abbrev pub mostTriggers : Encoding → (bytes : ℕ) → ℕ
+mostTriggers E.Evt2 n = n / wordSize2
+mostTriggers E.Evt3 n = n / wordSize3
 
-pub triggers-few : (c : Codec) (l : List ℕ) → length (triggersFrom c l) ≤ mostTriggers c (length l)
-triggers-few (Evt2 d) l = omega (arith, emits-few triggers2 1 few-triggers2 d (wordsOf wordSize2 l), length-words wordSize2 l)
-triggers-few (Evt3 d) l = omega (arith, emits-few triggers3 1 few-triggers3 d (wordsOf wordSize3 l), length-words wordSize3 l)
+pub triggers-few : (e : Encoding) (size : SensorSize) (limit : Limit) (body : List ℕ) → length (bodyTriggers e size limit body) ≤ mostTriggers e (length body)
+unfolding bodyTriggers
+triggers-few E.Evt2 size Unlimited body = omega (arith, emits-few triggers2 1 few-triggers2 fresh2 (wordsOf wordSize2 body), length-words wordSize2 body)
+triggers-few E.Evt2 size (AtMost n) body =
+    omega (arith, before-most reader2 trigger2 (keeps size) few-triggers2 n fresh2 (wordsOf wordSize2 body), length-words wordSize2 body)
+triggers-few E.Evt3 size Unlimited body = omega (arith, emits-few triggers3 1 few-triggers3 fresh3 (wordsOf wordSize3 body), length-words wordSize3 body)
+triggers-few E.Evt3 size (AtMost n) body =
+    omega (arith, before-most reader3 trigger3 (keeps size) few-triggers3 n fresh3 (wordsOf wordSize3 body), length-words wordSize3 body)
 
 -- ---- what is refused where the trigger columns are too short
 
@@ -276,6 +282,30 @@ pub limit-few : (e : Encoding) (size : SensorSize) (n : ℕ) (body : List ℕ) �
 unfolding bodyTriggers bodyEvents
 limit-few E.Evt2 size n body h = before-few reader2 trigger2 (keeps size) n fresh2 (wordsOf wordSize2 body) (rw kept-keeps at h)
 limit-few E.Evt3 size n body h = before-few reader3 trigger3 (keeps size) n fresh3 (wordsOf wordSize3 body) (rw kept-keeps at h)
+
+-- those of the words a where the next word, w, has the n-th event
+nth-bytes : {S : Type 0} (size : ℕ) → 0 < size → (M : Machine S ℕ Event) (f : S → ℕ → List Trigger) (keep : Event → Bool) (n : ℕ) (s : S)
+    (k : ℕ) (a w b : List ℕ) → length a ≡ k * size → length w ≡ size → length (sift keep (decode size M s a)) < n
+    → n ≤ length (sift keep (decode size M s (a ++ w))) → emitsBefore M f keep n s (wordsOf size (a ++ (w ++ b))) ≡ decode size (emitting M f) s a
+nth-bytes size pos M f keep n s k a w b is-a is-w less most =
+    let v = value (take size w) in
+    let one : wordsOf size w ≡ v ∷ [] = words-next size pos w 0 (omega arith) ∙ ap (λ (l : List ℕ). v ∷ l) (words-end size pos w (0 + size) (omega arith)) in
+    let all : wordsOf size (a ++ (w ++ b)) ≡ wordsOf size a ++ v ∷ wordsOf size b =
+    wordsOf-append size pos k a (w ++ b) is-a ∙ rw (wordsOf-append size pos 1 w b (omega arith), one) in
+    let held = sift-append keep (decode size M s a) (decode size M (after size M s a) w) in
+    let count : length (sift keep (decode size M s (a ++ w)))
+    ≡ length (sift keep (decode size M s a)) + numbersIn M keep (run M s (wordsOf size a)) v =
+    rw (decode-append size M pos s k a w is-a, held, length-append, one, append-nil) in
+    rw all (before-nth M f keep n s (wordsOf size a) v (wordsOf size b) less (omega (arith, count)))
+
+pub limit-nth : (e : Encoding) (size : SensorSize) (n k : ℕ) (a w b : List ℕ) → length a ≡ k * wordSize (freshC e) → length w ≡ wordSize (freshC e)
+    → length (bodyEvents e size Unlimited a) < n → n ≤ length (bodyEvents e size Unlimited (a ++ w))
+    → bodyTriggers e size (AtMost n) (a ++ (w ++ b)) ≡ bodyTriggers e size Unlimited a
+unfolding bodyTriggers bodyEvents
+limit-nth E.Evt2 size n k a w b is-a is-w less most =
+    nth-bytes wordSize2 (omega arith) reader2 trigger2 (keeps size) n fresh2 k a w b is-a is-w (rw kept-keeps at less) (rw kept-keeps at most)
+limit-nth E.Evt3 size n k a w b is-a is-w less most =
+    nth-bytes wordSize3 (omega arith) reader3 trigger3 (keeps size) n fresh3 k a w b is-a is-w (rw kept-keeps at less) (rw kept-keeps at most)
 
 -- none for a limit of 0
 pub limit-none : (e : Encoding) (size : SensorSize) (body : List ℕ) → bodyTriggers e size (AtMost 0) body ≡ []

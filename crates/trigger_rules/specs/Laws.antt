@@ -20,17 +20,17 @@ use Rattle.evt_types.specs.declared.{Encoding.Encoding, Limit.Limit, Limit.the-
 use Rattle.evt_types.specs.declared.{Refusal.Refusal, Refusal.the-variants.InvalidSensorSize, Refusal.the-variants.ColumnsTooShort}
 use Rattle.evt_types.specs.declared.{Refusal.the-variants.TriggerColumnsTooShort, SensorSize.SensorSize, SensorSize.the-variants.Unknown}
 use Rattle.evt_types.specs.{declared.SensorSize.the-variants.Known, declared.vector.Vector.Vector, Event.Event, Event.eventsOf, Event.Narrow}
-use Rattle.evt_types.specs.{Event.noEvents, Event.no-events, Trigger.trigger-other, Layout.type2, Layout.type3}
+use Rattle.evt_types.specs.{Event.noEvents, Event.no-events, Trigger.trigger-other, Layout.type2, Layout.type3, Layout.triggerType}
 use Rattle.evt_types.specs.{Trigger.Trigger, Trigger.HandedTriggers, Trigger.shortest3, Trigger.triggers-none, Layout.wordSize2, Layout.wordSize3}
 use Rattle.evt_types.specs.Outcome.{Outcome, refuse, give, never-given}
 use Rattle.evt_codec.specs.{declared.codec.Codec.Codec, Codec.freshC, Codec.wordSize, Triggers.triggersFrom}
-use Rattle.evt2_decoder.specs.{declared.Evt2Decoder.Evt2Decoder, Evt2.reader2, Evt2.vector2, Range.Bounded2, Range.bounded-step2, Range.bounded-narrow2}
+use Rattle.evt2_decoder.specs.{Evt2.reader2, Evt2.step2, Evt2.vector2, Range.Bounded2, Range.bounded-step2, Range.bounded-narrow2}
 use Rattle.evt2_decoder.specs.{Evt2.fresh2, Triggers.triggerIn2, Triggers.trigger2, Triggers.trigger-alone2, Triggers.triggers2, Triggers.few-triggers2}
-use Rattle.evt3_decoder.specs.{declared.Decoder.Decoder, Evt3.reader3, Evt3.vector3, Range.Bounded3, Range.bounded-step3, Range.bounded-narrow3}
+use Rattle.evt3_decoder.specs.{Evt3.reader3, Evt3.step3, Evt3.vector3, Range.Bounded3, Range.bounded-step3, Range.bounded-narrow3}
 use Rattle.evt3_decoder.specs.{Evt3.fresh3, Triggers.triggerIn3, Triggers.trigger3, Triggers.trigger-alone3, Triggers.triggers3, Triggers.few-triggers3}
 use Rattle.read_columns.specs.Inside.{inside}
 use Rattle.read_fill.specs.{Laws.Small, Laws.vector-small, Laws.bounded-fresh}
-use Rattle.read_window.specs.{declared.Window.Window, Window.selectionOf, Window.reading2, Window.reading3}
+use Rattle.read_window.specs.{declared.Window.Window, Window.selectionOf, Window.reading}
 use Rattle.read_select.specs.{declared.SurveyTotals.SurveyTotals, Pass.endOver, Pass.surveyed, Uses.calm2, Uses.calm3}
 use Rattle.read_rules.specs.declared.ReadAnswer.{ReadAnswer}
 use Rattle.read_rules.specs.declared.ReadAnswer.the-variants as R
@@ -56,39 +56,38 @@ agree size v n = all-map Small _ (one size) (eventsOf v) (vector-small v n)
     one Unknown e s = rw (lt-ltb (e .x) 65536 (s .x<), lt-ltb (e .y) 65536 (s .y<))
     one (Known w h) e s = refl
 
--- a word that holds events has no trigger
-apart2 : (win : Window) (d : Evt2Decoder) (w : ℕ) → 0 < length (numberedOf (reading2 win) d w) → trigger2 d w ≡ []
-unfolding trigger2
-apart2 win d w h = trigger-other (d .initialised) (type2 w) (triggerIn2 d w) (λ e. none (trigger-alone2 d w e .1))
-  where
-    none : vector2 d w ≡ noEvents → ⊥
-    none e = let z : length (numberedOf (reading2 win) d w) ≡ 0 = rw (e, no-events) in absurd (omega arith)
+-- a pass up to event m, of any encoding: a word that carries a trigger carries no event
+module _ {S : Type 0} (n : ℕ) (pos : 0 < n) (step : S → ℕ → S) (vector : S → ℕ → Vector) (live : S → Bool) (time : S → ℕ) (type : ℕ → ℕ)
+    (alone : (s : S) (w : ℕ) → type w ≡ triggerType → (step s w ≡ s) × (vector s w ≡ noEvents)) (f : S → ℕ → List Trigger)
+    (other : (s : S) (w : ℕ) → (type w ≡ triggerType → ⊥) → f s w ≡ []) (Inv : ℕ → S → Type 0)
+    (uses : (k : ℕ) (s : S) (w : ℕ) → Inv (suc k) s → Inv k (step s w)) (narrow : (k : ℕ) (s : S) (w : ℕ) → Inv k s → Narrow (vector s w))
+    (size : SensorSize) (m : ℕ) where
+  abbrev passed : Reading S ℕ Event
+  passed = reading (record { step = step; emit = λ s w. eventsOf (vector s w) }) live time (windowOf size (AtMost m))
 
-apart3 : (win : Window) (d : Decoder) (w : ℕ) → 0 < length (numberedOf (reading3 win) d w) → trigger3 d w ≡ []
-unfolding trigger3
-apart3 win d w h = trigger-other (d .initialised) (type3 w) (triggerIn3 d w) (λ e. none (trigger-alone3 d w e .1))
-  where
-    none : vector3 d w ≡ noEvents → ⊥
-    none e = let z : length (numberedOf (reading3 win) d w) ≡ 0 = rw (e, no-events) in absurd (omega arith)
+  abbrev win : Selection
+  win = selectionOf (windowOf size (AtMost m))
 
-module _ {S : Type 0} (n : ℕ) (pos : 0 < n) (R : Reading S ℕ Event) (win : Selection) (f : S → ℕ → List Trigger)
-    (apart : (s : S) (w : ℕ) → 0 < length (numberedOf R s w) → f s w ≡ []) (Inv : ℕ → S → Type 0)
-    (uses : (k : ℕ) (s : S) (w : ℕ) → Inv (suc k) s → Inv k (R .machine .step s w)) (keep : Event → Bool)
-    (alike : (k : ℕ) (s : S) (w : ℕ) → Inv (suc k) s → All (λ e. keep e ≡ R .inside e) (R .machine .emit s w)) (s : S) (body : List ℕ)
-    (b : Inv (length (wordsOf n body)) s) (c : Calm R win s (wordsOf n body)) where
-  abbrev consumed : ℕ
-  consumed = ended R win 0 s (wordsOf n body) .consumed
+  apart : (s : S) (w : ℕ) → 0 < length (numberedOf passed s w) → f s w ≡ []
+  apart s w h = other s w (λ e. none (alone s w e .1))
+    where
+      none : vector s w ≡ noEvents → ⊥
+      none e = let z : length (numberedOf passed s w) ≡ 0 = rw (e, no-events) in absurd (omega arith)
 
-  consumed-within : consumed * n ≤ length body
-  consumed-within = le-div-iff-mul-le pos .0 (rw length-words at (ended-within R win f apart 0 s (wordsOf n body)))
-
-  consumed-triggers : 0 < win .n1 → emits (emitting (R .machine) f) s (wordsOf n (take (consumed * n) body))
-      ≡ emitsBefore (R .machine) f keep (win .n1) s (wordsOf n body)
-  consumed-triggers h =
-      let z : win .n1 - 0 ≡ win .n1 = omega arith in
-      ap (emits (emitting (R .machine) f) s) (words-taken n pos consumed body consumed-within)
-      ∙ sym (rw z at (before-ended R win f apart 0 s (wordsOf n body) h c))
-      ∙ sym (before-alike (R .machine) f keep (R .inside) Inv uses alike (win .n1) s (wordsOf n body) b)
+  consumed-ends : (s : S) (body : List ℕ) → Inv (length body / n) s → Calm passed win s (wordsOf n body) → 0 < m →
+      let at = ended passed win 0 s (wordsOf n body) .consumed * n in
+      (at ≤ length body) × (decode n (emitting (passed .machine) f) s (take at body) ≡ emitsBefore (passed .machine) f (keeps size) m s (wordsOf n body))
+  consumed-ends s body b c h =
+      let ws = wordsOf n body in
+      let consumed = ended passed win 0 s ws .consumed in
+      let within : consumed * n ≤ length body = le-div-iff-mul-le pos .0 (rw length-words at (ended-within passed win f apart 0 s ws)) in
+      let z : m - 0 ≡ m = omega arith in (
+        within,
+        ap (emits (emitting (passed .machine) f) s) (words-taken n pos consumed body within)
+            ∙ sym (rw z at (before-ended passed win f apart 0 s ws h c))
+            ∙ sym (before-alike (passed .machine) f (keeps size) (passed .inside) Inv uses (λ k s w i. agree size (vector s w) (narrow (suc k) s w i)) m s ws
+            (rw (← length-words n body) at b)),
+      )
 
 -- where the words that a pass up to the limit consumes end
 module _ (size : SensorSize) (body : List ℕ) (short : length body ≤ 2 ^ 30) where
@@ -102,30 +101,15 @@ module _ (size : SensorSize) (body : List ℕ) (short : length body ≤ 2 ^ 30) 
 
   pub ends-at : (e : Encoding) (n : ℕ) → 0 < n
       → EndsAt e n (endOver (windowOf size (AtMost n)) 0 (freshC e) body .consumed * wordSize (freshC e))
-  unfolding bodyTriggers
+  unfolding bodyTriggers trigger2 trigger3
   ends-at E.Evt2 n h =
-      let win = windowOf size (AtMost n) in
-      let b = rw (← length-words wordSize2 body) at (bounded-fresh E.Evt2 (length body) short) in
-      let calm = calm2 win (omega arith) fresh2 body (bounded-fresh E.Evt2 (length body) short) in
-      let alike : (k : ℕ) (s : Evt2Decoder) (w : ℕ) → Bounded2 (suc k) s → All (λ e. keeps size e ≡ reading2 win .inside e) (eventsOf (vector2 s w)) =
-      λ k s w i. agree size (vector2 s w) (bounded-narrow2 w i) in (
-        consumed-within wordSize2 (omega arith) (reading2 win) (selectionOf win) trigger2 (apart2 win) Bounded2 bounded-step2 (keeps size) alike
-            fresh2 body b calm,
-        consumed-triggers wordSize2 (omega arith) (reading2 win) (selectionOf win) trigger2 (apart2 win) Bounded2 bounded-step2 (keeps size) alike
-            fresh2 body b calm h,
-      )
+      consumed-ends wordSize2 (omega arith) step2 vector2 (λ d. d .initialised) (λ d. d .time) type2 trigger-alone2 trigger2
+      (λ d w. trigger-other (d .initialised) (type2 w) (triggerIn2 d w)) Bounded2 bounded-step2 (λ k d. bounded-narrow2) size n fresh2 body
+      (bounded-fresh E.Evt2 (length body) short) (calm2 (windowOf size (AtMost n)) (omega arith) fresh2 body (ready-fresh E.Evt2 (length body) short .able)) h
   ends-at E.Evt3 n h =
-      let win = windowOf size (AtMost n) in
-      let b = rw (← length-words wordSize3 body) at (bounded-fresh E.Evt3 (length body) short) in
-      let paced = ready-fresh E.Evt3 (length body) short .able in
-      let calm = calm3 win (omega arith) fresh3 body paced in
-      let alike : (k : ℕ) (s : Decoder) (w : ℕ) → Bounded3 (suc k) s → All (λ e. keeps size e ≡ reading3 win .inside e) (eventsOf (vector3 s w)) =
-      λ k s w i. agree size (vector3 s w) (bounded-narrow3 w i) in (
-        consumed-within wordSize3 (omega arith) (reading3 win) (selectionOf win) trigger3 (apart3 win) Bounded3 bounded-step3 (keeps size) alike
-            fresh3 body b calm,
-        consumed-triggers wordSize3 (omega arith) (reading3 win) (selectionOf win) trigger3 (apart3 win) Bounded3 bounded-step3 (keeps size) alike
-            fresh3 body b calm h,
-      )
+      consumed-ends wordSize3 (omega arith) step3 vector3 (λ d. d .initialised) (λ d. d .time) type3 trigger-alone3 trigger3
+      (λ d w. trigger-other (d .initialised) (type3 w) (triggerIn3 d w)) Bounded3 bounded-step3 (λ k d. bounded-narrow3) size n fresh3 body
+      (bounded-fresh E.Evt3 (length body) short) (calm3 (windowOf size (AtMost n)) (omega arith) fresh3 body (ready-fresh E.Evt3 (length body) short .able)) h
 
   -- by what the code has at hand
   pub ends-by : (e : Encoding) (n : ℕ) → 0 < n → {c : Codec} → c ≡ freshC e → {win : Window} → win ≡ windowOf size (AtMost n)

@@ -9,15 +9,18 @@ use lib.IntN.{ℤ}
 use lib.ListN.{length}
 use borrow.Author.Tests.{eqb-true}
 use Rattle.laws_stream.specs.{Machine.Machine, Machine.emits, Words.wordsOf, Words.length-words, Words.words-dropped, Stream.decode, Loop.tracks-same}
-use Rattle.evt_types.specs.{Clock.either, Layout.type2, Layout.type3, Layout.wordSize2, Layout.wordSize3, Layout.time3}
+use Rattle.evt_types.specs.{Clock.either, Layout.type2, Layout.type3, Layout.time3}
 use Rattle.evt_types.specs.{Layout.grain3, Layout.triggerType, Layout.triggerId3, Layout.triggerValue3, Trigger.Trigger, Trigger.HandedTriggers}
 use Rattle.evt2_decoder.specs.{declared.Evt2Decoder.Evt2Decoder, Evt2.fresh2, Evt2.step2, Triggers.trigger2, Triggers.triggers2}
-use Rattle.evt2_decoder.specs.{Range.Bounded2, Range.below2}
+use Rattle.evt2_decoder.specs.Range.{below2}
 use Rattle.evt3_decoder.specs.{declared.Decoder.Decoder, Evt3.fresh3, Evt3.step3, Evt3.period3, Evt3.threshold3, Triggers.trigger3, Triggers.triggers3}
-use Rattle.evt3_decoder.specs.{Range.Bounded3, Range.below3, Range.near3}
+use Rattle.evt3_decoder.specs.Range.{below3, near3}
 use Rattle.evt2_decoder.specs.Evt2 as Evt2
 use Rattle.evt3_decoder.specs.Evt3 as Evt3
-use Rattle.trigger_fill.specs.declared.{form.Form.Form, times.Times.Times}
+use Rattle.evt_codec.specs.declared.{codec.Codec.Codec, codec.Codec.the-variants.Evt2, codec.Codec.the-variants.Evt3}
+use Rattle.evt_codec.specs.Triggers.{triggersFrom}
+use Rattle.read_fill.specs.Decode.{Bounded}
+use Rattle.trigger_fill.specs.declared.{form.Form.Form, outset.Outset.Outset, times.Times.Times}
 use Rattle.trigger_fill.specs.Form.{form2, form3, Known, known2, known3, kindIn, setTo, timeWord, fineWord, ticked, triggered, pulses, pulsesFrom}
 use Rattle.trigger_fill.specs.Form.{Paced, size-pos, paced-fewer, words-within, words-left, tick-time, no-trigger}
 use Rattle.trigger_fill.specs.Pulse.{Place}
@@ -91,12 +94,6 @@ follows2 = record {
   begins = λ w h. (rw h, steps2 fresh2 w, no-trigger form2 (times2 fresh2) w (λ e. omega (arith, eqb-true (type2 w) 8 h)));
 }
 
-pub start2 : (d : Evt2Decoder) (l : List ℕ) → Bounded2 (length l / wordSize2) d → (f : Form) → f ≡ form2 → (i : ℕ) → i ≡ startOf f (d .initialised) l
-    → Started f (times2 d) i l (decode wordSize2 triggers2 d l)
-start2 d l b f is-form i is-start =
-    rw (is-start, is-form) (starts known2 follows2 d l (b .regular .unstarted)
-    (record { loops = omega (arith, b .loops); base = below2 d (b .regular); near = omega arith }))
-
 -- ---- EVT3
 
 abbrev pub times3 : Decoder → Times
@@ -147,8 +144,23 @@ follows3 = record {
       (rw h, first ∙ sym (tick-time form3 (times3 fresh3) w is ∙ set), no-trigger form3 (times3 fresh3) w (λ e. omega arith));
 }
 
-pub start3 : (d : Decoder) (l : List ℕ) → Bounded3 (length l / wordSize3) d → (f : Form) → f ≡ form3 → (i : ℕ) → i ≡ startOf f (d .initialised) l
-    → Started f (times3 d) i l (decode wordSize3 triggers3 d l)
-start3 d l b f is-form i is-start =
-    rw (is-start, is-form) (starts known3 follows3 d l (b .regular .unstarted)
-    (record { loops = omega (arith, b .loops); base = below3 d (b .regular); near = near3 d (b .regular) }))
+-- ---- either
+
+abbrev pub outsetOf : Codec → Outset
+outsetOf (Evt2 d) = record { form = form2; started = d .initialised; times = times2 d }
+outsetOf (Evt3 d) = record { form = form3; started = d .initialised; times = times3 d }
+
+pub known-of : (c : Codec) → Known (outsetOf c .form)
+known-of (Evt2 d) = known2
+known-of (Evt3 d) = known3
+
+pub start : (c : Codec) (l : List ℕ) → Bounded (length l) c → {o : Outset} → o ≡ outsetOf c → {i : ℕ} → i ≡ startOf (o .form) (o .started) l
+    → Started (o .form) (o .times) i l (triggersFrom c l)
+start c l b is-o is-i = rw (is-i, is-o) (go c b)
+  where
+    go : (c : Codec) → Bounded (length l) c → let o = outsetOf c in Started (o .form) (o .times) (startOf (o .form) (o .started) l) l (triggersFrom c l)
+    go (Evt2 d) b =
+        starts known2 follows2 d l (b .regular .unstarted) (record { loops = omega (arith, b .loops); base = below2 d (b .regular); near = omega arith })
+    go (Evt3 d) b =
+        starts known3 follows3 d l (b .regular .unstarted)
+        (record { loops = omega (arith, b .loops); base = below3 d (b .regular); near = near3 d (b .regular) })

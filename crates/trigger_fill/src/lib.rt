@@ -11,15 +11,17 @@ ghost use lib.ListN.{length};
 ghost use Rattle.evt_types.specs.Trigger.{HandedTriggers, shortest3};
 ghost use Rattle.evt_codec.specs.Triggers.{triggersFrom};
 ghost use Rattle.read_fill.specs.Decode.{Bounded};
+use crate::first::first;
+use crate::outset::outset_of;
+use crate::pulses::pulses;
 use evt_codec::Codec;
 
 mod back;
 mod blocks;
-mod evt2;
-mod evt3;
 mod find;
 mod first;
 mod form;
+mod outset;
 mod pulses;
 mod times;
 
@@ -33,8 +35,15 @@ pub fn fill(bytes: &[u8], codec: Codec, ts: &mut [i64], ids: &mut [u8], values: 
         × HandedTriggers (triggersFrom codec (now (bytes .entry))) (now (ts .entry)) (now (ids .entry)) (now (values .entry))
         (now (ts .exit)) (now (ids .exit)) (now (values .exit)) ⌝ }
 {
-    match codec {
-        Codec::Evt2(d) => evt2::fill(bytes, d, &mut *ts, &mut *ids, &mut *values),
-        Codec::Evt3(d) => evt3::fill(bytes, d, &mut *ts, &mut *ids, &mut *values),
-    }
+    let o = outset_of(codec);
+    let from = first(o.form, bytes, o.started);
+    pulses(
+        o.form,
+        bytes,
+        from,
+        o.times,
+        &mut *ts,
+        &mut *ids,
+        &mut *values,
+    )
 }

@@ -1,37 +1,35 @@
--- By the codec's case.
+use denote.Ref.{now}
+use Rattle.trigger_fill.specs.Start.{Started, known-of, start, handed}
+use Rattle.evt_codec.specs.Triggers.{triggersFrom}
 use borrow.Author.Needs.{needs}
 use Rattle.trigger_fill.proofs.fill.Statement.{statement}
 use Rattle.trigger_fill.proofs.fill.Tie as tie
 
-fill-requires : tie.Need-fill-requires
-fill-requires c κs =
-    let m = c .before .before .before .before in
-    rw (m .codec .given .1) at (m .before .before .before .before .before .pre)
+started : (c : tie.After-first) →
+    let a = c .before .before .before .before .before .args in
+    let o = c .before .outset-of .result in
+    Started (o .form) (o .times) (c .first .result) (now (a .bytes)) (triggersFrom (a .codec) (now (a .bytes)))
+started c =
+    let s = c .before .before .before .before .before in
+    start (s .args .codec) (now (s .args .bytes)) (s .pre .0) (c .before .outset-of .ensures) (c .first .ensures)
 
-fill-requires-2 : tie.Need-fill-requires-2
-fill-requires-2 c κs =
-    let m = c .before .before .before .before in
-    rw (m .codec2 .given .1) at (m .before .before .before .before .before .pre)
+pulses-requires : tie.Need-pulses-requires
+pulses-requires c κs =
+    let u = started (c .before .before .before) in
+    let s = c .before .before .before .before .before .before .before .before in
+    (u .known, (u .place, rw (u .same) (s .pre .1)))
 
 returns : tie.Need-returns
 returns c =
-    let fill = c .before .before .before .before .before in
-    rw (fill .before .before .before .before .before .codec .given .1) (fill .fill .ensures)
-
-returns-2 : tie.Need-returns-2
-returns-2 c =
-    let fill = c .before .before .before .before .before in
-    rw (fill .before .before .before .before .before .codec2 .given .1) (fill .fill2 .ensures)
+    let pulses = c .before .before .before .before .before in
+    handed (started (pulses .before .before .before .before)) (pulses .pulses .ensures)
 
 pub fill-spec : {M : Type 1} → statement M
 fill-spec =
     tie.close
     (tie.spec
-    (λ c. search needs)
-    fill-requires
-    (λ c. search needs)
-    fill-requires-2
+    (λ c κs. search needs)
+    (λ c κs. rw (c .outset-of .ensures) (known-of (c .before .before .before .before .args .codec)))
+    pulses-requires
     (λ c. search needs) (λ c. search needs) (λ c. search needs)
-    returns
-    (λ c. search needs) (λ c. search needs) (λ c. search needs)
-    returns-2)
+    returns)

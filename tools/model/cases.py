@@ -2,7 +2,9 @@
 """Small cases of readings with triggers and of single words, with their answers. Run alone it holds the model to them.
 
 The answers were written by hand from the rules and not by the model. `ok ENCODING WIDTH HEIGHT COUNT : events | COUNT : triggers` with an
-event as t,x,y,p and a trigger as t,id,value, or `refused NUMBER`, and behind a 5 or a 13 the count that it tells.
+event as t,x,y,p and a trigger as t,id,value, or `refused NUMBER`, and behind a 5 or a 13 the count that it tells. Readings stand in three
+lists: LISTED, one by one, and asked as words and behind a header; MEETINGS, what is refused, alone and two at a time; LENGTHS, columns of
+each length.
 """
 from collections import Counter, namedtuple
 
@@ -15,13 +17,15 @@ EVT3, EVT2 = '% format EVT3\n', '% format EVT2\n'
 SIZED3, SIZED2 = EVT3 + '% geometry 64x48\n', EVT2 + '% geometry 64x48\n'
 ONE3, ONE2 = '8001 6001 0007 2805 A301', '80000001 19002807 A9001F01'
 TWO3 = '8001 0007 2805 A301 6002 A200'
+LIMITED3, LIMITED2 = '8001 A100 2805 A201 2806 A300', '80000001 A0000101 19002807 A0000201 1900300A A0000301'
+TWICE3 = '8001 300A 4003 A201 4003 A301'
 
 # `head` is the text of a header, or the number of an encoding for words without one. `body`: words, as numbers; one with fewer digits than a
 # word is a broken last word, its bytes as they stand. `rooms` and `trigger_rooms`: the length of all columns, or one for each.
 Case = namedtuple('Case', 'name head body size limit rooms trigger_rooms answer zeros', defaults=(0,))
 
-CASES = [
-    # 13 alone: none, one short, exact, one more, each column as the shortest
+LISTED = [
+    # 13: none, one short, exact, one more, each column as the shortest
     Case('one3', 3, ONE3, NONE, NONE, 1, 1, 'ok EVT3 6 8 1 : 4097,5,7,1 | 1 : 4097,3,1'),
     Case('one2', 2, ONE2, NONE, NONE, 1, 1, 'ok EVT2 6 8 1 : 100,5,7,1 | 1 : 100,31,1'),
     Case('room3', 3, ONE3, NONE, NONE, 1, 0, 'refused 13 1'),
@@ -54,15 +58,42 @@ CASES = [
     Case('meet3', '% format EVT4 \x80\n', ONE3, (0, 5), NONE, 0, 0, 'refused 3'),
     Case('meet4', '% format EVT3 \x80\n', ONE3, (0, 5), NONE, 0, 0, 'refused 4', 2**30),
     Case('meet4', 7, ONE3, (0, 5), NONE, 0, 0, 'refused 4', 2**30),
+    # 2 and 1 in their other forms
+    Case('two', '', '', NONE, NONE, 0, 0, 'refused 2'),
+    Case('two', '%', '', (64, 48), NONE, 0, 0, 'refused 2'),
+    Case('two', '% evt 4\n', ONE3, (64, 48), NONE, 1, 1, 'refused 2'),
+    Case('two', 0, ONE3, (64, 48), NONE, 1, 1, 'refused 2'),
+    Case('two', 4, ONE3, (64, 48), NONE, 1, 1, 'refused 2'),
+    Case('two', 2**32 - 1, ONE2, (64, 48), NONE, 1, 1, 'refused 2'),
+    Case('zero', 3, ONE3, (64, 0), NONE, 1, 1, 'refused 1'),
+    Case('zero', 2, ONE2, (0, 0), NONE, 1, 1, 'refused 1'),
+    Case('zero', EVT3 + '% geometry 64x0\n', ONE3, NONE, NONE, 1, 1, 'refused 1'),
+    Case('zero', SIZED2, ONE2, (64, 0), NONE, 1, 1, 'refused 1'),
+    Case('zero', EVT3 + '% geometry 64x0\n', ONE3, (64, 48), NONE, 1, 1, 'ok EVT3 64 48 1 : 4097,5,7,1 | 1 : 4097,3,1'),
+    Case('nothing', 3, '', NONE, NONE, 0, 0, 'refused 1'),
+    Case('nothing', 3, '', (64, 48), NONE, 0, 0, 'ok EVT3 64 48 0 : | 0 :'),
+    Case('nothing', 2, '', (64, 48), 0, 0, 0, 'ok EVT2 64 48 0 : | 0 :'),
     # triggers alone
     Case('alone3', 3, '8001 A301 A300', (64, 48), NONE, 0, 2, 'ok EVT3 64 48 0 : | 2 : 4096,3,1 4096,3,0'),
     Case('alone3', 3, '8001 A301 A300', NONE, NONE, 0, 2, 'refused 1'),
+    Case('alone3', 3, '8001 A301 A300', (64, 48), NONE, 0, 1, 'refused 13 2'),
+    Case('alone3', 3, '8001 A301 A300', (64, 48), 1, 0, 2, 'ok EVT3 64 48 0 : | 2 : 4096,3,1 4096,3,0'),
+    Case('alone3', 3, '8001 A301 A300', NONE, 1, 0, 2, 'refused 1'),
+    Case('alone3', SIZED3, '8001 A301', NONE, NONE, 0, 1, 'ok EVT3 64 48 0 : | 1 : 4096,3,1'),
     Case('alone2', SIZED2, '80000002 A0000101', NONE, NONE, 0, 1, 'ok EVT2 64 48 0 : | 1 : 128,1,1'),
     Case('alone2', EVT2, '80000002 A0000101', NONE, NONE, 1, 1, 'refused 1'),
+    Case('alone2', 2, '80000002 A0000101', NONE, NONE, 0, 1, 'refused 1'),
+    Case('alone2', 2, '80000002 A0000101', (64, 48), NONE, 0, 1, 'ok EVT2 64 48 0 : | 1 : 128,1,1'),
+    Case('alone2', 2, '80000002 A0000101', (64, 48), NONE, 0, 0, 'refused 13 1'),
+    Case('alone2', 2, '80000002 A0000101', (64, 48), 1, 0, 1, 'ok EVT2 64 48 0 : | 1 : 128,1,1'),
     # before the first type 8
     Case('early3', 3, 'A301 6005 A301 8001 A200 2805', (64, 48), NONE, 1, 1, 'ok EVT3 64 48 1 : 4096,5,0,1 | 1 : 4096,2,0'),
     Case('early2', 2, 'A0000101 19002807 80000001 A0000200 19002807', NONE, NONE, 1, 1, 'ok EVT2 6 8 1 : 100,5,7,1 | 1 : 64,2,0'),
     Case('early3', 3, 'A301 6005 A301', (64, 48), NONE, 0, 0, 'ok EVT3 64 48 0 : | 0 :'),
+    Case('early3', 3, 'A301 2805 A301 8001 2806', NONE, NONE, 1, 0, 'ok EVT3 7 1 1 : 4096,6,0,1 | 0 :'),
+    Case('early2', 2, 'A0000101 19002807 A0000101', (64, 48), NONE, 0, 0, 'ok EVT2 64 48 0 : | 0 :'),
+    Case('early2', 2, 'A0000101 80000001 19002807', NONE, NONE, 1, 0, 'ok EVT2 6 8 1 : 100,5,7,1 | 0 :'),
+    Case('early2', 2, 'A0000101 80000001 19002807', NONE, 1, 1, 0, 'ok EVT2 6 8 1 : 100,5,7,1 | 0 :'),
     # limits
     Case('limit0', 3, '8001 A301 2805 A200', (64, 48), 0, 0, 0, 'ok EVT3 64 48 0 : | 0 :'),
     Case('limit0', 2, ONE2, (64, 48), 0, 0, 0, 'ok EVT2 64 48 0 : | 0 :'),
@@ -73,26 +104,119 @@ CASES = [
     Case('limit', 3, '8001 2805 A301 2806 A200', NONE, 3, 2, 2, 'ok EVT3 7 1 2 : 4096,5,0,1 4096,6,0,1 | 2 : 4096,3,1 4096,2,0'),
     Case('limit', 2, '80000001 A0000101 19002807 A0000201 19002807', NONE, 1, 1, 1, 'ok EVT2 6 8 1 : 100,5,7,1 | 1 : 64,1,1'),
     Case('limit', 3, '8001 A301 A300 2805 A301', NONE, 1, 1, 1, 'refused 13 2'),
+    # 0, at each event, more than there are, with a trigger before, between and behind the events; 13 with the limit applied
+    Case('limit3', 3, LIMITED3, (64, 48), 0, 0, 0, 'ok EVT3 64 48 0 : | 0 :'),
+    Case('limit3', 3, LIMITED3, NONE, 0, 2, 3, 'refused 1'),
+    Case('limit3', 3, LIMITED3, NONE, 1, 1, 1, 'ok EVT3 6 1 1 : 4096,5,0,1 | 1 : 4096,1,0'),
+    Case('limit3', 3, LIMITED3, NONE, 1, 1, 0, 'refused 13 1'),
+    Case('limit3', 3, LIMITED3, NONE, 2, 2, 2, 'ok EVT3 7 1 2 : 4096,5,0,1 4096,6,0,1 | 2 : 4096,1,0 4096,2,1'),
+    Case('limit3', 3, LIMITED3, NONE, 2, 2, 1, 'refused 13 2'),
+    Case('limit3', 3, LIMITED3, NONE, 2, 1, 1, 'refused 5 2'),
+    Case('limit3', 3, LIMITED3, NONE, 3, 2, 3, 'ok EVT3 7 1 2 : 4096,5,0,1 4096,6,0,1 | 3 : 4096,1,0 4096,2,1 4096,3,0'),
+    Case('limit3', 3, LIMITED3, NONE, 3, 2, 2, 'refused 13 3'),
+    Case('limit3', 3, LIMITED3, NONE, 2**64 - 1, 2, 3, 'ok EVT3 7 1 2 : 4096,5,0,1 4096,6,0,1 | 3 : 4096,1,0 4096,2,1 4096,3,0'),
+    Case('limit2', 2, LIMITED2, (64, 48), 0, 0, 0, 'ok EVT2 64 48 0 : | 0 :'),
+    Case('limit2', 2, LIMITED2, NONE, 0, 2, 3, 'refused 1'),
+    Case('limit2', 2, LIMITED2, NONE, 1, 1, 1, 'ok EVT2 6 8 1 : 100,5,7,1 | 1 : 64,1,1'),
+    Case('limit2', 2, LIMITED2, NONE, 1, 1, 0, 'refused 13 1'),
+    Case('limit2', 2, LIMITED2, NONE, 2, 2, 2, 'ok EVT2 7 11 2 : 100,5,7,1 100,6,10,1 | 2 : 64,1,1 64,2,1'),
+    Case('limit2', 2, LIMITED2, NONE, 2, 2, 1, 'refused 13 2'),
+    Case('limit2', 2, LIMITED2, NONE, 2, 1, 1, 'refused 5 2'),
+    Case('limit2', 2, LIMITED2, NONE, 3, 2, 3, 'ok EVT2 7 11 2 : 100,5,7,1 100,6,10,1 | 3 : 64,1,1 64,2,1 64,3,1'),
+    Case('limit2', 2, LIMITED2, NONE, 3, 2, 2, 'refused 13 3'),
+    Case('limit2', 2, LIMITED2, NONE, 2**64 - 1, 2, 3, 'ok EVT2 7 11 2 : 100,5,7,1 100,6,10,1 | 3 : 64,1,1 64,2,1 64,3,1'),
     Case('within', 3, '8001 A100 300A 400B A301', NONE, 1, 1, 1, 'ok EVT3 11 1 1 : 4096,10,0,0 | 1 : 4096,1,0'),
     Case('within', 3, '8001 A100 300A 400B A301', NONE, 2, 2, 1, 'ok EVT3 12 1 2 : 4096,10,0,0 4096,11,0,0 | 1 : 4096,1,0'),
     Case('within', 3, '8001 A100 300A 400B A301', NONE, 3, 3, 1, 'ok EVT3 14 1 3 : 4096,10,0,0 4096,11,0,0 4096,13,0,0 | 1 : 4096,1,0'),
     Case('within', 3, '8001 A100 300A 400B A301', NONE, 4, 3, 2, 'ok EVT3 14 1 3 : 4096,10,0,0 4096,11,0,0 4096,13,0,0 | 2 : 4096,1,0 4096,3,1'),
+    Case('within', 3, '8001 A100 300A 5003 A301', NONE, 1, 1, 1, 'ok EVT3 11 1 1 : 4096,10,0,0 | 1 : 4096,1,0'),
+    Case('within', 3, TWICE3, NONE, 1, 1, 0, 'ok EVT3 11 1 1 : 4096,10,0,0 | 0 :'),
+    Case('within', 3, TWICE3, NONE, 2, 2, 0, 'ok EVT3 12 1 2 : 4096,10,0,0 4096,11,0,0 | 0 :'),
+    Case('within', 3, TWICE3, NONE, 3, 3, 1, 'ok EVT3 23 1 3 : 4096,10,0,0 4096,11,0,0 4096,22,0,0 | 1 : 4096,2,1'),
+    Case('within', 3, TWICE3, NONE, 4, 4, 1, 'ok EVT3 24 1 4 : 4096,10,0,0 4096,11,0,0 4096,22,0,0 4096,23,0,0 | 1 : 4096,2,1'),
+    Case('within', 3, TWICE3, NONE, 5, 4, 2, 'ok EVT3 24 1 4 : 4096,10,0,0 4096,11,0,0 4096,22,0,0 4096,23,0,0 | 2 : 4096,2,1 4096,3,1'),
+    # a size drops events, which a limit then doesn't count, and no trigger
     Case('sensor', 3, '8001 2064 A301 2005 A200', (64, 48), 1, 1, 1, 'ok EVT3 64 48 1 : 4096,5,0,0 | 1 : 4096,3,1'),
     Case('sensor', 3, '8001 2064 A301', (64, 48), 1, 0, 1, 'ok EVT3 64 48 0 : | 1 : 4096,3,1'),
+    Case('sensor', 3, '8001 300A 4007 A301 2005 A200', (12, 1), 2, 2, 0, 'ok EVT3 12 1 2 : 4096,10,0,0 4096,11,0,0 | 0 :'),
+    Case('sensor', 3, '8001 300A 4007 A301 2005 A200', (12, 1), 3, 3, 1,
+         'ok EVT3 12 1 3 : 4096,10,0,0 4096,11,0,0 4096,5,0,0 | 1 : 4096,3,1'),
+    Case('sensor', 2, '80000001 19032007 A0000101 19002807 A0000201', (64, 48), 1, 1, 1, 'ok EVT2 64 48 1 : 100,5,7,1 | 1 : 64,1,1'),
+    Case('sensor', 3, '8001 0007 2805 AF01 A000', (1, 1), NONE, 0, 2, 'ok EVT3 1 1 0 : | 2 : 4096,15,1 4096,0,0'),
+    Case('sensor', 2, '80000001 19002807 AFC01F01 A0000000', (1, 1), NONE, 0, 2, 'ok EVT2 1 1 0 : | 2 : 127,31,1 64,0,0'),
+    Case('sensor', SIZED3, '8001 0007 2805 AF01', (5, 2**64 - 1), 1, 0, 1, 'ok EVT3 5 18446744073709551615 0 : | 1 : 4096,15,1'),
     # times
     Case('time3', 3, '8001 6005 A301 8002 A300 6007 A201 2801', NONE, NONE, 1, 3, 'ok EVT3 2 1 1 : 8199,1,0,1 | 3 : 4101,3,1 8192,3,0 8199,2,1'),
     Case('time2', 2, '80000001 19002807 A0000301 19002807', NONE, NONE, 2, 1, 'ok EVT2 6 8 2 : 100,5,7,1 100,5,7,1 | 1 : 64,3,1'),
     Case('time2', 2, '80000001 10002807 AFC00300 80000002 AFC00301', NONE, NONE, 1, 2, 'ok EVT2 6 8 1 : 64,5,7,1 | 2 : 127,3,0 191,3,1'),
+    Case('time3', 3, '8001 A300 6001 A301 0007 2805', NONE, NONE, 1, 2, 'ok EVT3 6 8 1 : 4097,5,7,1 | 2 : 4096,3,0 4097,3,1'),
+    Case('time3', 3, '8001 6FFF A301 6000 A300 2805', NONE, NONE, 1, 2, 'ok EVT3 6 1 1 : 4096,5,0,1 | 2 : 8191,3,1 4096,3,0'),
+    Case('time2', 2, '80000001 19002807 AFC00301 10002807', NONE, NONE, 2, 1, 'ok EVT2 6 8 2 : 100,5,7,1 64,5,7,1 | 1 : 127,3,1'),
+    Case('time2', 2, '80000002 A9001F01 80000001 A9001F00 19002807', NONE, NONE, 1, 2, 'ok EVT2 6 8 1 : 100,5,7,1 | 2 : 164,31,1 100,31,0'),
+    # across a loop, and one unit beside it
     Case('loop3', 3, '8FFF A100 800A A101', (64, 48), NONE, 0, 2, 'ok EVT3 64 48 0 : | 2 : 16773120,1,0 16818176,1,1'),
+    Case('loop3', 3, '8FFF A100 800B A101', (64, 48), NONE, 0, 2, 'ok EVT3 64 48 0 : | 2 : 16773120,1,0 45056,1,1'),
+    Case('loop3', 3, '8FFF 6FFF A100 800A A101 6001 A100', (64, 48), NONE, 0, 3,
+         'ok EVT3 64 48 0 : | 3 : 16777215,1,0 16818176,1,1 16818177,1,0'),
+    Case('loop3', 3, '8FFF 800A 8FFF A100 800A A101', (64, 48), NONE, 0, 2, 'ok EVT3 64 48 0 : | 2 : 33550336,1,0 33595392,1,1'),
+    Case('loop3', 3, '8FFF 2801 A100 800A 2802 A101', NONE, NONE, 2, 2,
+         'ok EVT3 3 1 2 : 16773120,1,0,1 16818176,2,0,1 | 2 : 16773120,1,0 16818176,1,1'),
     Case('loop2', 2, '8FFFFFFF A0000100 80FFFFFF AFC00101', (64, 48), NONE, 0, 2, 'ok EVT2 64 48 0 : | 2 : 17179869120,1,0 18253611007,1,1'),
+    Case('loop2', 2, '8FFFFFFF A0000100 81000000 AFC00101', (64, 48), NONE, 0, 2, 'ok EVT2 64 48 0 : | 2 : 17179869120,1,0 1073741887,1,1'),
+    Case('loop2', 2, '8FFFFFFF AFC00100 80000000 A0000101 10002807', NONE, NONE, 1, 2,
+         'ok EVT2 6 8 1 : 17179869184,5,7,1 | 2 : 17179869183,1,0 17179869184,1,1'),
     # fields and states
     Case('unused3', 3, '8001 A3FF A3FE AF01 A000', (64, 48), NONE, 0, 4, 'ok EVT3 64 48 0 : | 4 : 4096,3,1 4096,3,0 4096,15,1 4096,0,0'),
     Case('unused2', 2, '80000001 AFFFFFFF AFFFE0FE A03FE1FE', (64, 48), NONE, 0, 3, 'ok EVT2 64 48 0 : | 3 : 127,31,1 127,0,0 64,1,0'),
+    Case('id3', 3, '8001 A801 A701', (64, 48), NONE, 0, 2, 'ok EVT3 64 48 0 : | 2 : 4096,8,1 4096,7,1'),
+    Case('id2', 2, '80000001 A0001001 A0000F00 A0002001', (64, 48), NONE, 0, 3, 'ok EVT2 64 48 0 : | 3 : 64,16,1 64,15,0 64,0,1'),
     Case('base3', 3, '8001 300A 4001 A301 5001', NONE, NONE, 2, 1, 'ok EVT3 23 1 2 : 4096,10,0,0 4096,22,0,0 | 1 : 4096,3,1'),
     Case('cut3', 3, '8001 A301 01', (64, 48), NONE, 0, 1, 'ok EVT3 64 48 0 : | 1 : 4096,3,1'),
     Case('cut2', 2, '80000001 A0000101 0102A0', (64, 48), NONE, 0, 1, 'ok EVT2 64 48 0 : | 1 : 64,1,1'),
+    Case('cut3', 3, '8001 01', (64, 48), NONE, 0, 0, 'ok EVT3 64 48 0 : | 0 :'),
+    Case('cut3', 3, '8001 2805 01', NONE, 1, 1, 0, 'ok EVT3 6 1 1 : 4096,5,0,1 | 0 :'),
+    Case('cut2', 2, '80000001 01', (64, 48), NONE, 0, 0, 'ok EVT2 64 48 0 : | 0 :'),
+    Case('cut2', 2, '80000001 0101', (64, 48), NONE, 0, 0, 'ok EVT2 64 48 0 : | 0 :'),
+    Case('cut2', 2, '80000001 010100', (64, 48), NONE, 0, 0, 'ok EVT2 64 48 0 : | 0 :'),
+    Case('cut2', 2, '80000001 A0000101 01', (64, 48), NONE, 0, 1, 'ok EVT2 64 48 0 : | 1 : 64,1,1'),
     Case('percent', 3, '8025 A301 2801', NONE, NONE, 1, 1, 'ok EVT3 2 1 1 : 151552,1,0,1 | 1 : 151552,3,1'),
+    # many words that do nothing between time words and a trigger
+    Case('far3', 3, '8001' + 63 * ' E000' + ' A301', (64, 48), NONE, 0, 1, 'ok EVT3 64 48 0 : | 1 : 4096,3,1'),
+    Case('far3', 3, '8001' + 64 * ' E000' + ' A301', (64, 48), NONE, 0, 1, 'ok EVT3 64 48 0 : | 1 : 4096,3,1'),
+    Case('far3', 3, '8001' + 65 * ' E000' + ' A301', (64, 48), NONE, 0, 1, 'ok EVT3 64 48 0 : | 1 : 4096,3,1'),
+    Case('far3', 3, '8001 6005' + 200 * ' E000' + ' 8002' + 200 * ' E000' + ' A301', (64, 48), NONE, 0, 1, 'ok EVT3 64 48 0 : | 1 : 8192,3,1'),
+    Case('far3', 3, '8001' + 200 * ' E000' + ' 6005' + 200 * ' E000' + ' A301', (64, 48), NONE, 0, 1, 'ok EVT3 64 48 0 : | 1 : 4101,3,1'),
+    Case('far3', 3, '8FFF' + 200 * ' E000' + ' 800A' + 200 * ' E000' + ' A301', (64, 48), NONE, 0, 1, 'ok EVT3 64 48 0 : | 1 : 16818176,3,1'),
+    Case('far3', 3, 200 * 'A301 ' + '8001' + 200 * ' A301' + ' 2805' + 200 * ' A301', NONE, 1, 1, 199, 'refused 13 200'),
+    Case('far2', 2, '80000001' + 63 * ' E0000000' + ' A9001F01', (64, 48), NONE, 0, 1, 'ok EVT2 64 48 0 : | 1 : 100,31,1'),
+    Case('far2', 2, '80000001' + 64 * ' E0000000' + ' A9001F01', (64, 48), NONE, 0, 1, 'ok EVT2 64 48 0 : | 1 : 100,31,1'),
+    Case('far2', 2, '80000001' + 65 * ' E0000000' + ' A9001F01', (64, 48), NONE, 0, 1, 'ok EVT2 64 48 0 : | 1 : 100,31,1'),
+    Case('far2', 2, '80000001' + 200 * ' E0000000' + ' 80000002' + 200 * ' E0000000' + ' A9001F01', (64, 48), NONE, 0, 1,
+         'ok EVT2 64 48 0 : | 1 : 164,31,1'),
+    Case('far2', 2, '8FFFFFFF' + 200 * ' E0000000' + ' 80FFFFFF' + 200 * ' E0000000' + ' A0000101', (64, 48), NONE, 0, 1,
+         'ok EVT2 64 48 0 : | 1 : 18253610944,1,1'),
+    Case('far2', 2, 200 * 'A0000101 ' + '80000001' + 200 * ' A0000101' + ' 19002807' + 200 * ' A0000101', NONE, 1, 1, 199, 'refused 13 200'),
 ]
+
+# What is refused, alone and two at a time, of one event and one trigger read with a limit of 1 and a size: `4` has bytes 0 behind the words, one
+# more than 2^30 in all; `3` a header byte 128; `2` no encoding, or encoding 7; `zero` a size of 0 by 48; `none` no event, and no size unless
+# that is 0; `5` and `13` have columns of 0. By docs/RULES.md: 4, 3, 2, 1 for a zero size, 1 for no event, 5, 13. `none` and `5` can't meet, and
+# words have no `3`. The last four have all that can be wrong behind the first.
+MEETINGS = [
+    ('4', 'refused 4'), ('3', 'refused 3'), ('2', 'refused 2'), ('zero', 'refused 1'), ('none', 'refused 1'), ('5', 'refused 5 1'), ('13', 'refused 13 1'),
+    ('4 3', 'refused 4'), ('4 2', 'refused 4'), ('4 zero', 'refused 4'), ('4 none', 'refused 4'), ('4 5', 'refused 4'), ('4 13', 'refused 4'),
+    ('3 2', 'refused 3'), ('3 zero', 'refused 3'), ('3 none', 'refused 3'), ('3 5', 'refused 3'), ('3 13', 'refused 3'),
+    ('2 zero', 'refused 2'), ('2 none', 'refused 2'), ('2 5', 'refused 2'), ('2 13', 'refused 2'),
+    ('zero none', 'refused 1'), ('zero 5', 'refused 1'), ('zero 13', 'refused 1'), ('none 13', 'refused 1'), ('5 13', 'refused 5 1'),
+    ('4 3 2 zero 5 13', 'refused 4'), ('3 2 zero 5 13', 'refused 3'), ('2 zero 5 13', 'refused 2'), ('zero 5 13', 'refused 1'),
+]
+TRIGGER, BEFORE, EVENT = {3: 'A301', 2: 'A9001F01'}, {3: '8001 6001 0007', 2: '80000001'}, {3: '2805', 2: '19002807'}
+RIGHT = {3: 'ok EVT3 64 48 1 : 4097,5,7,1 | 1 : 4097,3,1', 2: 'ok EVT2 64 48 1 : 100,5,7,1 | 1 : 100,31,1'}
+
+# Two events and two triggers; one column is of this length and the others have four places. The first four are the events'.
+LENGTHS = [(0, 'refused 5 2', 'refused 13 2'), (1, 'refused 5 2', 'refused 13 2'), (2, NONE, NONE), (3, NONE, NONE)]
+PAIRS = {3: '8001 0007 2805 A301 6002 2006 A200', 2: '80000001 19002807 A9001F01 80000002 00003001 A0000100'}
+ALL = {3: 'ok EVT3 7 8 2 : 4096,5,7,1 4098,6,7,0 | 2 : 4096,3,1 4098,2,0', 2: 'ok EVT2 7 8 2 : 100,5,7,1 128,6,1,0 | 2 : 100,31,1 128,1,0'}
 
 # The first word of some, from a decoder given by its numbers: coarse time, time, loops, encoding, row, base column, started, polarity. `trigger`
 # as above, `-` for none. `after` is the decoder that the word leaves; None: the one that it found.
@@ -109,6 +233,23 @@ WORDS = [
     Word('word2', AT2, '010000', '-'),
     Word('word2', (64, 128, 0, 2, 0, 0, 1, 0), 'A0000101', 'refused 10'),
     Word('word2', (64, 100, 0, 2, 1, 0, 1, 0), '', 'refused 10'),
+    Word('word2', (65, 65, 0, 2, 0, 0, 1, 0), 'A0000101', 'refused 10'),
+    Word('word2', (0, 5, 0, 2, 0, 0, 0, 0), 'A0000101', 'refused 10'),
+    Word('word2', (2**61 + 2**34, 2**61 + 2**34, 2**27 + 1, 2, 0, 0, 1, 0), 'A0000101', 'refused 10'),
+    Word('word2', (2**61, 2**61, 2**27, 2, 0, 0, 1, 0), 'AFC00001', '2305843009213694015,0,1'),
+    Word('word2', (17179869248, 17179869284, 1, 2, 0, 0, 1, 0), 'A0400101', '17179869249,1,1'),
+    Word('word2', AT2, 'A93FFFFF', '100,31,1'),
+    Word('word2', AT2, 'A03FE0FE', '64,0,0'),
+    Word('word2', AT2, 'A0001001', '64,16,1'),
+    Word('word2', AT2, 'A0002001', '64,0,1'),
+    Word('word2', AT2, '', '-'),
+    Word('word2', AT2, '01', '-'),
+    Word('word2', AT2, '0101', '-'),
+    Word('word2', AT2, '01000301', '-', (64, 68, 0, 2, 0, 0, 1, 0)),
+    Word('word2', AT2, '29000301', '-'),
+    Word('word2', AT2, '99000301', '-'),
+    Word('word2', AT2, 'B9000301', '-'),
+    Word('word2', AT2, 'F9000301', '-'),
     Word('word3', AT3, 'AF01', '4101,15,1'),
     Word('word3', AT3, 'A0FE', '4101,0,0'),
     Word('word3', FRESH3, 'A301', '-'),
@@ -116,6 +257,42 @@ WORDS = [
     Word('word3', AT3, 'A3', '-'),
     Word('word3', (4096, 4101, 0, 3, 2048, 10, 1, 1), 'A301', 'refused 10'),
     Word('word3', (4096, 4101, 0, 7, 0, 0, 1, 0), 'A301', 'refused 10'),
+    Word('word3', (4096, 8192, 0, 3, 7, 10, 1, 1), 'A301', 'refused 10'),
+    Word('word3', (0, 0, 0, 3, 1, 0, 0, 0), 'A301', 'refused 10'),
+    Word('word3', (2**52 + 2**24, 2**52 + 2**24, 2**28 + 1, 3, 0, 0, 1, 0), 'A301', 'refused 10'),
+    Word('word3', (2**52, 2**52 + 4095, 2**28, 3, 0, 0, 1, 0), 'AF01', '4503599627374591,15,1'),
+    Word('word3', (16781312, 16781313, 1, 3, 0, 0, 1, 0), 'A301', '16781313,3,1'),
+    Word('word3', AT3, 'A301 AF00', '4101,3,1'),
+    Word('word3', AT3, 'A801', '4101,8,1'),
+    Word('word3', AT3, 'A1FF', '4101,1,1'),
+    Word('word3', AT3, '', '-'),
+    Word('word3', AT3, '0009', '-', (4096, 4101, 0, 3, 9, 10, 1, 1)),
+    Word('word3', AT3, '1301', '-'),
+    Word('word3', AT3, '2301', '-'),
+    Word('word3', AT3, '3301', '-', (4096, 4101, 0, 3, 7, 769, 1, 0)),
+    Word('word3', AT3, '5301', '-', (4096, 4101, 0, 3, 7, 18, 1, 1)),
+    Word('word3', AT3, '6301', '-', (4096, 4865, 0, 3, 7, 10, 1, 1)),
+    Word('word3', AT3, '7301', '-'),
+    Word('word3', AT3, '8301', '-', (3149824, 3149824, 0, 3, 7, 10, 1, 1)),
+    Word('word3', AT3, '9301', '-'),
+    Word('word3', AT3, 'B301', '-'),
+    Word('word3', AT3, 'F301', '-'),
+]
+
+# The decoder after all of some words, triggers among them, which leave it as it was.
+After = namedtuple('After', 'name decoder body after')
+AFTERS = [
+    After('after2', FRESH2, '80000001 19002807 AFC01F01', (64, 100, 0, 2, 0, 0, 1, 0)),
+    After('after2', FRESH2, '80000001 AFC01F01', (64, 64, 0, 2, 0, 0, 1, 0)),
+    After('after2', FRESH2, 'AFC01F01 A0000101', FRESH2),
+    After('after2', AT2, 'AFC01F01 A0000101', AT2),
+    After('after2', AT2, 'AFC01F01 10002807 A0400101', (64, 64, 0, 2, 0, 0, 1, 0)),
+    After('after2', FRESH2, '8FFFFFFF AFC00101 80FFFFFF AFC00101', (18253610944, 18253610944, 1, 2, 0, 0, 1, 0)),
+    After('after3', FRESH3, '8001 6005 0007 380A AF01', AT3),
+    After('after3', FRESH3, 'A301 6005 A301', FRESH3),
+    After('after3', AT3, 'A301 AF00', AT3),
+    After('after3', FRESH3, '8001 A301 6005 A301', (4096, 4101, 0, 3, 0, 0, 1, 0)),
+    After('after3', FRESH3, '8FFF 6FFF A301 800A A301', (16818176, 16818176, 1, 3, 0, 0, 1, 0)),
 ]
 
 
@@ -132,6 +309,51 @@ def all_of(rooms, columns):
     return (rooms,) * columns if isinstance(rooms, int) else rooms
 
 
+def meeting(raw, encoding, wrong, answer):
+    has = wrong.split()
+    if 'none' not in has:
+        body = f'{BEFORE[encoding]} {TRIGGER[encoding]} {EVENT[encoding]}'
+    elif '4' not in has:
+        body = f'{BEFORE[encoding]} {TRIGGER[encoding]}'
+    else:
+        body = TRIGGER[encoding]    # before the first time word: in EVT2 the bytes 0 behind another would be events
+    size = (0, 48) if 'zero' in has else NONE if 'none' in has else (64, 48)
+    head = 7 if '2' in has else encoding
+    if raw:
+        head = ('' if '2' in has else f'% format EVT{encoding}\n') + ('% geometry {}x{}\n'.format(*size) if size else '') + ('% \x80\n' if '3' in has else '')
+        size = NONE
+    bytes_given = len(head if raw else '') + len(body_bytes(body, word_size(body)))
+    return Case(f'{"raw" if raw else "words"}{encoding} {wrong or "right"}', head, body, size, 1, 0 if '5' in has else 1, 0 if '13' in has else 1,
+                answer, 2**30 + 1 - bytes_given if '4' in has else 0)
+
+
+def lengths(head, encoding):
+    for length, short, trigger_short in LENGTHS:
+        for column in range(7):
+            rooms = tuple(length if i == column else 4 for i in range(7))
+            answer = (short if column < 4 else trigger_short) or ALL[encoding]
+            yield Case(f'column{column} {head if isinstance(head, int) else "raw"} {length}', head, PAIRS[encoding], NONE, NONE, rooms[:4], rooms[4:], answer)
+
+
+def behind_header(case):
+    """The same words behind a header that names their encoding: the same answer. Not if their first byte is `%`."""
+    return case._replace(name='raw ' + case.name, head={2: EVT2, 3: EVT3}[case.head])
+
+
+def all_cases():
+    yield from LISTED
+    yield from (behind_header(case) for case in LISTED if case.head in (2, 3) and case.name != 'percent')
+    for encoding in 2, 3:
+        for raw in True, False:
+            yield meeting(raw, encoding, '', RIGHT[encoding])
+            yield from (meeting(raw, encoding, *entry) for entry in MEETINGS if raw or '3' not in entry[0].split())
+        yield from lengths(encoding, encoding)
+        yield from lengths({2: EVT2, 3: EVT3}[encoding], encoding)
+
+
+CASES = list(all_cases())
+
+
 def call_of(case):
     raw = isinstance(case.head, str)
     data = (case.head.encode('latin-1') if raw else b'') + body_bytes(case.body, word_size(case.body))
@@ -141,9 +363,9 @@ def call_of(case):
                       zeros=case.zeros, fill=0xEE)
 
 
-def word_call(word):
+def word_call(word, call=calls.WORD_TRIGGER):
     size = {2: 4}.get(word.decoder[3], 2)
-    return calls.Call(calls.WORD_TRIGGER, body_bytes(word.body, size), decoder=word.decoder)
+    return calls.Call(call, body_bytes(word.body, size), decoder=word.decoder)
 
 
 def numbered(entries):
@@ -155,7 +377,7 @@ def numbered(entries):
 
 
 def all_calls():
-    """The calls of both lists with their names: of each reading without triggers too, of each word its decoding too."""
+    """The calls of all lists with their names: of each reading without triggers too, of each word its decoding too."""
     for name, case in numbered(CASES):
         call = call_of(case)
         yield name, call
@@ -165,6 +387,8 @@ def all_calls():
         call = word_call(word)
         yield name, call
         yield name, call._replace(call=calls.DECODE)
+    for name, after in numbered(AFTERS):
+        yield name, word_call(after, calls.DECODER_AFTER)
 
 
 def commas(values):
@@ -181,6 +405,8 @@ def model_answer(call):
         if call.call == calls.WORD_TRIGGER:
             decoder, _, trigger = words.first_word(call.decoder, call.data)
             return f'{commas(trigger) if trigger else "-"} {commas(decoder.fields())}'
+        if call.call == calls.DECODER_AFTER:
+            return commas(words.decoder_after(call.decoder, call.data).fields())
         r = calls.model_reading(call)
     except Refused as refused:
         return f'refused {refused.number}' + (f' {refused.told}' if refused.number in (5, 13) else '')
@@ -191,12 +417,17 @@ def model_answer(call):
 def check():
     """Every case for which the model's answer isn't the written one."""
     listed = [(case, call_of(case), case.answer) for case in CASES] + [(word, word_call(word), word_answer(word)) for word in WORDS]
+    listed += [(after, word_call(after, calls.DECODER_AFTER), commas(after.after)) for after in AFTERS]
     return [(entry, model_answer(call)) for entry, call, answer in listed if model_answer(call) != answer]
+
+
+def told():
+    return f'{len(CASES)} listed readings, {len(WORDS)} words and {len(AFTERS)} lists of words'
 
 
 if __name__ == '__main__':
     wrong = check()
     for entry, answer in wrong:
         print(f'{entry}\n  the model: {answer}')
-    print(f'{len(CASES)} readings and {len(WORDS)} words, {len(wrong)} of them answered otherwise by the model')
+    print(f'{told()}, {len(wrong)} of them answered otherwise by the model')
     raise SystemExit(bool(wrong))

@@ -188,7 +188,7 @@ def main():
     if not all(compare(driver, tally, asked) for asked in batches(count, seed, only)):
         sys.exit(1)
     tally.show()
-    print(f'{1 if only is not None else count:,} random cases of seed {seed}, {len(cases.CASES)} listed cases,'
+    print(f'{1 if only is not None else count:,} random cases of seed {seed}, {cases.told()},'
           f' {sum(tally.calls.values()):,} calls, {time.time() - began:.0f} s: no difference')
 
 

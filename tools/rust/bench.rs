@@ -74,11 +74,12 @@ fn told(op: &str, unit: &str, t: Times) -> String {
 }
 
 /// Reading with trigger columns: how many words lie between triggers, and whether the columns have just the places needed.
-const TRIGGERS: [(&str, Option<usize>, bool); 4] = [
+const TRIGGERS: [(&str, Option<usize>, bool); 5] = [
     ("no trigger", None, false),
     ("no trigger, columns of 0", None, true),
     ("a trigger every 1,000 words", Some(1_000), false),
     ("a trigger every 1,000 words, columns of just the places", Some(1_000), true),
+    ("a trigger every 10 words", Some(10), false),
 ];
 
 fn beside(says: &str, t: Times) -> String {

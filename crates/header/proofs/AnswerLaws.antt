@@ -15,7 +15,7 @@ use Rattle.header.specs.declared.{Named.the-variants.Nothing, Scan.Scan}
 use Rattle.header_text.specs.Text.{notAscii, any, begins, same}
 use Rattle.header.specs.Lines.{headerLines, headerBytes, bodyStart, keyOf}
 use Rattle.header.specs.Header.{geometryName, formatName, evtName, evt2, evt3, two, three, Said, readLine, readAll, nothing, saidBy, encodingOf}
-use Rattle.header.specs.Header.{sizeThatHolds, hasZero, withEncoding, headerOutcome, answerBy, toldHeader, headerOf, Parsed}
+use Rattle.header.specs.Header.{sizeThatHolds, hasZero, withEncoding, linesOutcome, answerBy, toldHeader, headerOf, Parsed}
 use Rattle.evt_types.specs.Num.{mostBytes}
 use Rattle.evt_types.specs.Outcome.{refuse, give}
 use Rattle.header.specs.Notes.{versionOf, seenOf, noteLine, noteAll, blankNote, scanOf, nameOf}
@@ -61,7 +61,7 @@ module _ (s : List ℕ) (given : SensorSize) where
   parsed r e = record { is-told = ap toldHeader e ∙ verdict-of s given; answer = e }
 
   pub answer-long : mostBytes < length s → Refused TooLong ≡ headerOf s given
-  unfolding headerOf headerOutcome
+  unfolding headerOf linesOutcome headerBytes bodyStart saidBy
   answer-long h = rw (lt-ltb mostBytes (length s) h)
 
   module _ (h : length s ≤ mostBytes) (sc : Scan) (e : sc ≡ scanOf s) where
@@ -80,12 +80,12 @@ module _ (s : List ℕ) (given : SensorSize) where
     scan-part = rw scan-at (header-part s)
 
     pub answer-high : any notAscii (take (sc .at) s) ≡ true → Refused HeaderNotAscii ≡ headerOf s given
-    unfolding headerOf headerOutcome
+    unfolding headerOf linesOutcome headerBytes bodyStart saidBy
     answer-high q = rw (le-ltb mostBytes (length s) h, sym (ap (any notAscii) scan-part) ∙ q)
 
     module _ (q : any notAscii (take (sc .at) s) ≡ false) where
       answer-from : answerBy (withEncoding (sc .at) (sizeThatHolds given (sc .seen .size)) (nameOf (sc .seen))) ≡ headerOf s given
-      unfolding headerOf headerOutcome
+      unfolding headerOf linesOutcome headerBytes bodyStart saidBy
       answer-from = rw (le-ltb mostBytes (length s) h, sym (ap (any notAscii) scan-part) ∙ q, scan-at, scan-seen, named (saidBy s))
 
       pub answer-none : nameOf (sc .seen) ≡ Nothing → Refused UnknownEncoding ≡ headerOf s given

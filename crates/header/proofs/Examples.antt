@@ -1,4 +1,5 @@
--- Worked examples of the verdict, computed: the listing's header, bytes 25 80, an empty file, a height of 0, and the caller's size over it.
+-- Worked examples of the verdict, computed: the listing's header, bytes 25 80, an empty file, a height of 0, the caller's size over it, and
+-- end lines.
 use Prim.Native.Nat.{ℕ}
 use mathlib.Core.Path.{_≡_, refl}
 use mathlib.Core.List.{List, [], _∷_}
@@ -6,8 +7,9 @@ use Rattle.evt_types.specs.declared.SensorSize.the-variants.{Unknown, Known}
 use Rattle.evt_types.specs.Told.{accepted, refused}
 use Rattle.header_text.specs.Text.{isBlank, upTo, from, any, restOf, trimStart, trimEnd, trimOf, lowerOf, begins, same}
 use Rattle.header_text.specs.Size.{isDigit, allDigits, digitsValue, numberFrom, digitsOf, numberOf, both, sizeAt, geometryOf}
-use Rattle.header.specs.Lines.{joined, linesOf, startsPercent, leading, headerLines, joinedLines, headerBytes, bodyStart, bodyOf, keyOf, valueOf}
-use Rattle.header.specs.Header.{readLine, readAll, saidBy, encodingOf, sizeThatHolds, hasZero, withEncoding, headerOutcome, headerVerdict}
+use Rattle.header.specs.Lines.{isEnd, joined, linesOf, startsPercent, leading, throughEnd, headerLines, joinedLines, headerBytes, bodyStart}
+use Rattle.header.specs.Lines.{bodyOf, keyOf, valueOf}
+use Rattle.header.specs.Header.{readLine, readAll, saidBy, encodingOf, sizeThatHolds, hasZero, withEncoding, linesOutcome, headerVerdict}
 
 -- `% format EVT3`, `% geometry 64x48`, and three bytes of the body
 abbrev listing : List ℕ
@@ -20,11 +22,35 @@ abbrev flat : List ℕ
 flat = 37 ∷ 101 ∷ 118 ∷ 116 ∷ 32 ∷ 50 ∷ 46 ∷ 48 ∷ 10 ∷ 37
     ∷ 103 ∷ 101 ∷ 111 ∷ 109 ∷ 101 ∷ 116 ∷ 114 ∷ 121 ∷ 32 ∷ 48 ∷ 48 ∷ 49 ∷ 50 ∷ 88 ∷ 32 ∷ 48 ∷ 10 ∷ []
 
+-- `% evt 3`, `% end`, and a body that begins with bytes 25 80
+abbrev opening : List ℕ
+opening =
+    37 ∷ 32 ∷ 101 ∷ 118 ∷ 116 ∷ 32 ∷ 51 ∷ 10 ∷ 37 ∷ 32 ∷ 101 ∷ 110 ∷ 100 ∷ 10 ∷ 37 ∷ 128 ∷ []
+
+-- `%evt 2`, `%%  END `, and two lines that are body
+abbrev further : List ℕ
+further =
+    37 ∷ 101 ∷ 118 ∷ 116 ∷ 32 ∷ 50 ∷ 10 ∷ 37 ∷ 37 ∷ 32 ∷ 32 ∷ 69 ∷ 78 ∷ 68 ∷ 32 ∷ 13 ∷ 10 ∷ 37 ∷ 101 ∷ 118 ∷ 116 ∷ 32 ∷ 51 ∷ 10 ∷ 37 ∷ 103 ∷ 101 ∷ 111
+    ∷ 109 ∷ 101 ∷ 116 ∷ 114 ∷ 121 ∷ 32 ∷ 48 ∷ 120 ∷ 48 ∷ 10 ∷ []
+
+-- `%evt 2`, three lines that are no end lines, `%evt 3`
+abbrev noEnds : List ℕ
+noEnds =
+    37 ∷ 101 ∷ 118 ∷ 116 ∷ 32 ∷ 50 ∷ 10 ∷ 37 ∷ 101 ∷ 110 ∷ 100 ∷ 32 ∷ 120 ∷ 10 ∷ 37 ∷ 101 ∷ 110 ∷ 100 ∷ 105 ∷ 110 ∷ 103 ∷ 10 ∷ 37 ∷ 32 ∷ 37 ∷ 101
+    ∷ 110 ∷ 100 ∷ 10 ∷ 37 ∷ 101 ∷ 118 ∷ 116 ∷ 32 ∷ 51 ∷ []
+
+-- `%evt 2`, and `%end` at the end of the file
+abbrev endOfFile : List ℕ
+endOfFile =
+    37 ∷ 101 ∷ 118 ∷ 116 ∷ 32 ∷ 50 ∷ 10 ∷ 37 ∷ 101 ∷ 110 ∷ 100 ∷ []
+
 pub worked :
     headerVerdict listing Unknown ∷ headerVerdict (37 ∷ 128 ∷ []) Unknown ∷ headerVerdict [] Unknown ∷ headerVerdict flat Unknown
-    ∷ headerVerdict flat (Known 5 7) ∷ []
-    ≡ accepted (31 ∷ 3 ∷ 1 ∷ 64 ∷ 48 ∷ []) ∷ refused 3 ∷ refused 2 ∷ refused 1 ∷ accepted (27 ∷ 2 ∷ 1 ∷ 5 ∷ 7 ∷ []) ∷ []
+    ∷ headerVerdict flat (Known 5 7) ∷ headerVerdict opening Unknown ∷ headerVerdict further Unknown ∷ headerVerdict noEnds Unknown
+    ∷ headerVerdict endOfFile Unknown ∷ []
+    ≡ accepted (31 ∷ 3 ∷ 1 ∷ 64 ∷ 48 ∷ []) ∷ refused 3 ∷ refused 2 ∷ refused 1 ∷ accepted (27 ∷ 2 ∷ 1 ∷ 5 ∷ 7 ∷ [])
+    ∷ accepted (14 ∷ 3 ∷ 0 ∷ 0 ∷ 0 ∷ []) ∷ accepted (17 ∷ 2 ∷ 0 ∷ 0 ∷ 0 ∷ []) ∷ accepted (35 ∷ 3 ∷ 0 ∷ 0 ∷ 0 ∷ []) ∷ accepted (11 ∷ 2 ∷ 0 ∷ 0 ∷ 0 ∷ []) ∷ []
 unfolding isBlank upTo from any restOf trimStart trimEnd trimOf lowerOf begins same isDigit allDigits digitsValue numberFrom digitsOf numberOf
-    both sizeAt geometryOf joined linesOf startsPercent leading headerLines joinedLines headerBytes bodyStart bodyOf keyOf valueOf readLine
-    readAll saidBy encodingOf sizeThatHolds hasZero withEncoding headerOutcome
+    both sizeAt geometryOf isEnd joined linesOf startsPercent leading throughEnd headerLines joinedLines headerBytes bodyStart bodyOf keyOf valueOf readLine
+    readAll saidBy encodingOf sizeThatHolds hasZero withEncoding linesOutcome
 worked = refl

@@ -1,7 +1,7 @@
 -- Laws of the header's lines: the first one, what is kept of one, and the loop over them.
 use Prim.Native.Nat.{ℕ, suc, _+_, _-_, _<_, _≤_}
 use mathlib.Core.Path.{_≡_, refl, sym, _∙_, ap}
-use mathlib.Core.List.{List, [], _∷_}
+use mathlib.Core.List.{List, [], _∷_, append-nil}
 use mathlib.Core.Bool.{Bool, true, false, cond}
 use native.Mathlib.Omega.{arith}
 use lib.ListN.{length, getD, take, drop, length-take, length-drop, length-append}
@@ -12,7 +12,8 @@ use Rattle.evt_types.specs.declared.SensorSize.{SensorSize}
 use Rattle.header.specs.declared.{Scan.Scan, Seen.Seen}
 use Rattle.header_text.specs.Text.{isBlank, isByte, upTo, from, any, trimOf, same}
 use Rattle.header_text.specs.Size.{geometryOf}
-use Rattle.header.specs.Lines.{joined, linesOf, startsPercent, leading, headerLines, joinedLines, headerBytes, bodyStart, bodyOf, keyOf, valueOf}
+use Rattle.header.specs.Lines.{isEnd, joined, linesOf, startsPercent, leading, throughEnd, headerLines, joinedLines, headerBytes, bodyStart}
+use Rattle.header.specs.Lines.{bodyOf, keyOf, valueOf}
 use Rattle.header.specs.Header.{geometryName, formatName, evtName, evt2, evt3, two, three}
 use Rattle.header_text.specs.Cases.{by-bool}
 use Rattle.header.specs.Notes.{lineLength, versionOf, noteLine, noteAll, blankNote, scanOf}
@@ -40,17 +41,18 @@ unfolding linesOf lineLength joined
 lines-step b [] = by-bool (eqb b 10) (λ e. rw e) (λ e. rw e)
 lines-step b (b′ ∷ s) = by-bool (eqb b 10) (λ e. rw e) (λ e. rw e (ap (joined b) (lines-step b′ s)))
 
--- the header's lines: the first line, and those of what follows it
-pub header-step : (s : List ℕ) → headerLines (37 ∷ s) ≡ take (lineLength (37 ∷ s)) (37 ∷ s) ∷ headerLines (drop (lineLength (37 ∷ s)) (37 ∷ s))
-unfolding headerLines leading lineLength startsPercent
+-- the header's lines: the first line, and unless that is an end line those of what follows it
+pub header-step : (s : List ℕ) → headerLines (37 ∷ s)
+    ≡ take (lineLength (37 ∷ s)) (37 ∷ s) ∷ cond (isEnd (take (lineLength (37 ∷ s)) (37 ∷ s))) [] (headerLines (drop (lineLength (37 ∷ s)) (37 ∷ s)))
+unfolding headerLines throughEnd leading lineLength startsPercent
 header-step s = rw (lines-step 37 s)
 
 pub header-stop : (b : ℕ) (s : List ℕ) → (b ≡ 37 → ⊥) → headerLines (b ∷ s) ≡ []
-unfolding headerLines leading lineLength startsPercent
+unfolding headerLines throughEnd leading lineLength startsPercent
 header-stop b s h = rw (lines-step b s) (by-bool (eqb b 10) (λ e. rw (e, ne-eqb b 37 h)) (λ e. rw (e, ne-eqb b 37 h)))
 
 pub header-none : headerLines [] ≡ []
-unfolding headerLines leading linesOf
+unfolding headerLines throughEnd leading linesOf
 header-none = refl
 
 module _ (s : List ℕ) (n : ℕ) (e : n ≡ length (upTo (isByte 10) s)) where
@@ -133,6 +135,10 @@ start-line : (s l t : List ℕ) → headerLines s ≡ l ∷ headerLines t → bo
 unfolding bodyStart headerBytes joinedLines
 start-line s l t e = rw e (length-append l (joinedLines (headerLines t)))
 
+start-last : (s l : List ℕ) → headerLines s ≡ l ∷ [] → bodyStart s ≡ length l
+unfolding bodyStart headerBytes joinedLines
+start-last s l e = rw (e, append-nil l)
+
 scan-over : (at : ℕ) (seen : Seen) (s : List ℕ) → headerLines s ≡ [] → _≡_ {A = Scan} (record { at = at; seen = seen }) (resume at seen s)
 unfolding noteAll
 scan-over at seen s e = let z : at + 0 ≡ at = omega arith in rw (start-none s e, e, z)
@@ -145,16 +151,29 @@ module _ (s : List ℕ) (at : ℕ) (seen : Seen) (inv : resume at seen (drop at 
     pub scan-stop : (getD s at 0 ≡ 37 → ⊥) → _≡_ {A = Scan} (record { at = at; seen = seen }) (scanOf s)
     scan-stop k = scan-over at seen (drop at s) (rw (at-drop s at h) (header-stop _ _ k)) ∙ inv
 
-    module _ (left : List ℕ) (e : left ≡ drop at s) (n : ℕ) (en : n ≡ lineLength left) where
-      pub scan-next : (seen′ : Seen) → getD s at 0 ≡ 37 → seen′ ≡ noteLine seen (take n left) → resume (at + n) seen′ (drop (at + n) s) ≡ scanOf s
+    -- a line that begins with `%`, read
+    module _ (left : List ℕ) (e : left ≡ drop at s) (n : ℕ) (en : n ≡ lineLength left) (seen′ : Seen) (k : getD s at 0 ≡ 37)
+        (es : seen′ ≡ noteLine seen (take n left)) where
+      first : headerLines left ≡ take n left ∷ cond (isEnd (take n left)) [] (headerLines (drop n left))
+      first = let d : left ≡ 37 ∷ drop (at + 1) s = e ∙ rw (at-drop s at h, k) in rw (en, d) (header-step (drop (at + 1) s))
+
+      long : length (take n left) ≡ n
+      long = let w : n ≤ length left = line-at s at h left e n en .within in omega (arith, length-take n left)
+
+      pub scan-next : isEnd (take n left) ≡ false → resume (at + n) seen′ (drop (at + n) s) ≡ scanOf s
       unfolding noteAll
-      scan-next seen′ k es =
-          let d : left ≡ 37 ∷ drop (at + 1) s = e ∙ rw (at-drop s at h, k) in
-          let a : headerLines left ≡ take n left ∷ headerLines (drop n left) = rw (en, d) (header-step (drop (at + 1) s)) in
+      scan-next more =
           let f : drop n left ≡ drop (at + n) s = rw e (drop-drop n at s) in
-          let b : headerLines left ≡ take n left ∷ headerLines (drop (at + n) s) = rw f at a in
-          let w : n ≤ length left = line-at s at h left e n en .within in
-          let l : (at + n) + bodyStart (drop (at + n) s) ≡ at + bodyStart left =
-          omega (arith, start-line left (take n left) (drop (at + n) s) b, length-take n left) in
+          let b : headerLines left ≡ take n left ∷ headerLines (drop (at + n) s) = rw (more, f) at first in
+          let l : (at + n) + bodyStart (drop (at + n) s) ≡ at + bodyStart left = omega (arith, start-line left (take n left) (drop (at + n) s) b, long) in
           let r : noteAll seen′ (headerLines (drop (at + n) s)) ≡ noteAll seen (headerLines left) = rw (b, es) in
+          rw (l, r, e) inv
+
+      -- an end line is the last
+      pub scan-last : isEnd (take n left) ≡ true → _≡_ {A = Scan} (record { at = at + n; seen = seen′ }) (scanOf s)
+      unfolding noteAll
+      scan-last ends =
+          let b : headerLines left ≡ take n left ∷ [] = rw ends at first in
+          let l : at + n ≡ at + bodyStart left = omega (arith, start-last left (take n left) b, long) in
+          let r : seen′ ≡ noteAll seen (headerLines left) = rw (b, es) in
           rw (l, r, e) inv

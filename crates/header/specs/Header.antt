@@ -14,7 +14,7 @@ use Rattle.header.specs.declared.Header as header
 use Rattle.header.specs.declared.{HeaderAnswer.HeaderAnswer, HeaderAnswer.the-variants.Header, HeaderAnswer.the-variants.Refused, Named.Named}
 use Rattle.header.specs.declared.{Named.the-variants.As, Named.the-variants.Nothing}
 use Rattle.header_text.specs.{Text.notAscii, Text.any, Text.begins, Text.same, Size.geometryOf}
-use Rattle.header.specs.Lines.{headerLines, headerBytes, bodyStart, keyOf, valueOf}
+use Rattle.header.specs.Lines.{headerLines, joinedLines, keyOf, valueOf}
 
 -- ---- the keys, and what their values begin with
 
@@ -92,12 +92,16 @@ withEncoding at size Nothing = refuse UnknownEncoding
 withEncoding at size (As e) =
     cond (hasZero size) (refuse InvalidSensorSize) (give (record { «data_offset» = at; «sensor_size» = size; encoding = e }))
 
--- 4 over 2^30 bytes, 3 for a header byte from 128 on, then 2 and 1, by the size that holds: the first of them that applies
-unfoldable pub headerOutcome : List ℕ → (given : SensorSize) → Outcome header.Header
-headerOutcome s given =
-    cond (ltb mostBytes (length s)) (refuse TooLong)
-    (cond (any notAscii (headerBytes s)) (refuse HeaderNotAscii)
-    (withEncoding (bodyStart s) (sizeThatHolds given (saidBy s .size)) (encodingOf (saidBy s))))
+-- n bytes with these header lines: 4 over 2^30 bytes, 3 for a header byte from 128 on, then 2 and 1, by the size that holds: the first of
+-- them that applies
+unfoldable pub linesOutcome : (n : ℕ) → List (List ℕ) → (given : SensorSize) → Outcome header.Header
+linesOutcome n ls given =
+    cond (ltb mostBytes n) (refuse TooLong)
+    (cond (any notAscii (joinedLines ls)) (refuse HeaderNotAscii)
+    (withEncoding (length (joinedLines ls)) (sizeThatHolds given (readAll nothing ls .size)) (encodingOf (readAll nothing ls))))
+
+abbrev pub headerOutcome : List ℕ → (given : SensorSize) → Outcome header.Header
+headerOutcome s given = linesOutcome (length s) (headerLines s) given
 
 -- ---- what is read off an outcome
 

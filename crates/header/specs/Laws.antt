@@ -1,8 +1,8 @@
--- Laws of the definitions that callers cite: the header is a part of the recording, the verdict is what the answer tells, answers are
--- told apart, and what an acceptance says.
+-- Laws of the definitions that callers cite: the header is a part of the recording, where an end line stands in it, the verdict is what the
+-- answer tells, answers are told apart, and what an acceptance says.
 use Prim.Native.Nat.{ℕ, _≤_}
 use mathlib.Core.Path.{_≡_, refl, sym, _∙_, ap}
-use mathlib.Core.List.{List, [], _∷_, _++_, append-assoc}
+use mathlib.Core.List.{List, [], _∷_, _++_, append-assoc, append-nil}
 use mathlib.Core.Bool.{Bool, true, false, cond}
 use native.Mathlib.Omega.{arith}
 use lib.ListN.{length, take, getD, length-take}
@@ -17,10 +17,12 @@ use Rattle.header.specs.declared.{HeaderAnswer.HeaderAnswer, HeaderAnswe
 use Rattle.header.specs.declared.{Named.the-variants.As, Named.the-variants.Nothing}
 use Rattle.header.specs.declared.Header as header
 use Rattle.header_text.specs.{Cases.by-bool, Text.notAscii, Text.any}
-use Rattle.header.specs.Lines.{joined, linesOf, startsPercent, leading, headerLines, joinedLines, headerBytes, bodyStart}
-use Rattle.header.specs.Header.{saidBy, encodingOf, sizeThatHolds, hasZero, sizeValues, headerValues, toldHeader, withEncoding, headerOutcome}
+use Rattle.header.specs.Lines.{isEnd, joined, linesOf, startsPercent, leading, throughEnd, headerLines, joinedLines, headerBytes, bodyStart}
+use Rattle.header.specs.Header.{saidBy, encodingOf, sizeThatHolds, hasZero, sizeValues, headerValues, toldHeader, withEncoding}
+use Rattle.header.specs.Header.{linesOutcome, headerOutcome}
 use Rattle.header.specs.Header.{answerBy, headerOf, headerVerdict}
 use Rattle.evt_types.specs.Num.{mostBytes, encodingNumber}
+use Rattle.laws_stream.specs.Machine.{All}
 use Rattle.evt_types.specs.Outcome.{Outcome, refuse, give, verdict, never-given, given-unless}
 
 -- ---- the header is a part of the recording
@@ -45,16 +47,55 @@ leading-part (l ∷ ls) =
     by-bool (startsPercent l) (λ e. (r .0, rw e (ap (λ (t : List ℕ). l ++ t) (r .1) ∙ sym (append-assoc l (joinedLines (leading ls)) (r .0)))))
     (λ e. (l ++ joinedLines ls, rw e))
 
+through-part : (ls : List (List ℕ)) → (t : List ℕ) × (joinedLines ls ≡ joinedLines (throughEnd ls) ++ t)
+unfolding joinedLines throughEnd
+through-part [] = ([], refl)
+through-part (l ∷ ls) =
+    let r = through-part ls in
+    by-bool (isEnd l) (λ e. (joinedLines ls, rw e (ap (λ (t : List ℕ). t ++ joinedLines ls) (sym (append-nil l)))))
+    (λ e. (r .0, rw e (ap (λ (t : List ℕ). l ++ t) (r .1) ∙ sym (append-assoc l (joinedLines (throughEnd ls)) (r .0)))))
+
 pub header-part : (s : List ℕ) → take (bodyStart s) s ≡ headerBytes s
 unfolding bodyStart headerBytes headerLines
 header-part s =
     let r = leading-part (linesOf s) in
-    let e : s ≡ joinedLines (leading (linesOf s)) ++ r .0 = sym (lines-whole s) ∙ r .1 in
-    ap (take (length (joinedLines (leading (linesOf s))))) e ∙ take-at (joinedLines (leading (linesOf s))) (r .0) _ refl
+    let q = through-part (leading (linesOf s)) in
+    let front = joinedLines (throughEnd (leading (linesOf s))) in
+    let e : s ≡ front ++ (q .0 ++ r .0) =
+    sym (lines-whole s) ∙ r .1 ∙ ap (λ (t : List ℕ). t ++ r .0) (q .1) ∙ append-assoc front (q .0) (r .0) in
+    ap (take (length front)) e ∙ take-at front (q .0 ++ r .0) _ refl
 
 pub body-within : (s : List ℕ) → bodyStart s ≤ length s
 unfolding bodyStart
 body-within s = omega (arith, length-take (bodyStart s) s, ap length (header-part s))
+
+-- ---- where an end line stands
+
+-- lines of which none is an end line
+abbrev pub noEnd : List (List ℕ) → Type 0
+noEnd = All (λ l. isEnd l ≡ false)
+
+-- A HEADER WITHOUT AN END LINE reads as if there were no such line: it is all the leading lines that begin with `%`
+pub without-end : (s : List ℕ) → noEnd (leading (linesOf s)) → headerLines s ≡ leading (linesOf s)
+unfolding headerLines throughEnd
+without-end s = all-through (leading (linesOf s))
+  where
+    all-through : (ls : List (List ℕ)) → noEnd ls → throughEnd ls ≡ ls
+    all-through [] h = refl
+    all-through (l ∷ ls) h = rw (h .0) (ap (λ (k : List (List ℕ)). l ∷ k) (all-through ls (h .1)))
+
+pub as-before : (s : List ℕ) (given : SensorSize) → noEnd (leading (linesOf s)) → headerOutcome s given ≡ linesOutcome (length s) (leading (linesOf s)) given
+as-before s given h = rw (without-end s h)
+
+-- THE FIRST END LINE is the last of the header, whatever stands behind it
+pub at-end : (s : List ℕ) (before : List (List ℕ)) (l : List ℕ) (behind : List (List ℕ)) → leading (linesOf s) ≡ before ++ l ∷ behind
+    → noEnd before → isEnd l ≡ true → headerLines s ≡ before ++ l ∷ []
+unfolding headerLines throughEnd
+at-end s before l behind is none ends = rw is (through before none)
+  where
+    through : (ls : List (List ℕ)) → noEnd ls → throughEnd (ls ++ l ∷ behind) ≡ ls ++ l ∷ []
+    through [] h = rw ends
+    through (k ∷ ls) h = rw (h .0) (ap (λ (m : List (List ℕ)). k ∷ m) (through ls (h .1)))
 
 -- ---- the verdict is what the answer tells
 
@@ -126,7 +167,7 @@ named-by at size (As n) h e =
     same-given g h e = cc
 
 pub of-accepted : (s : List ℕ) (given : SensorSize) (h : header.Header) → headerOf s given ≡ Header h → Accepted s given h
-unfolding headerOf headerOutcome
+unfolding headerOf linesOutcome headerBytes bodyStart saidBy
 of-accepted s given h e =
     let a = given-unless h (ltb mostBytes (length s)) _ _ (given-by (headerOutcome s given) h e) in
     let b = given-unless h (any notAscii (headerBytes s)) _ _ (a .1) in
@@ -141,7 +182,7 @@ of-accepted s given h e =
 
 -- a header is refused by 1 to 4
 pub header-four : (s : List ℕ) (given : SensorSize) → toldHeader (headerOf s given) .number ≤ 4
-unfolding headerOf headerOutcome withEncoding
+unfolding headerOf linesOutcome headerBytes bodyStart saidBy withEncoding
 header-four s given =
     go (ltb mostBytes (length s)) (any notAscii (headerBytes s)) (bodyStart s) (sizeThatHolds given (saidBy s .size)) (encodingOf (saidBy s))
   where

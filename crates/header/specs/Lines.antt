@@ -1,10 +1,29 @@
--- The lines of the header, and a line's key and value.
+-- The lines of the header, what a line says, its key and its value.
 use Prim.Native.Nat.{ℕ}
 use mathlib.Core.List.{List, [], _∷_, _++_}
 use mathlib.Core.Bool.{Bool, false, cond}
 use lib.ListN.{length}
 use lib.Dec.{eqb}
-use Rattle.header_text.specs.Text.{isBlank, notPercent, upTo, from, trimOf}
+use Rattle.header_text.specs.Text.{isBlank, notPercent, upTo, from, trimOf, same}
+
+-- a line trimmed, without the `%`s that it leads with, and trimmed again
+unfoldable pub bodyOf : List ℕ → List ℕ
+bodyOf l = trimOf (from notPercent (trimOf l))
+
+-- the key: up to the first blank
+unfoldable pub keyOf : List ℕ → List ℕ
+keyOf l = upTo isBlank (bodyOf l)
+
+-- the value: the trimmed remainder
+unfoldable pub valueOf : List ℕ → List ℕ
+valueOf l = trimOf (from isBlank (bodyOf l))
+
+abbrev pub endName : List ℕ
+endName = 101 ∷ 110 ∷ 100 ∷ []
+
+-- an end line: trimming leaves just `end`, its case ignored
+unfoldable pub isEnd : List ℕ → Bool
+isEnd l = same endName (bodyOf l)
 
 -- a byte put before the first line
 unfoldable pub joined : ℕ → List (List ℕ) → List (List ℕ)
@@ -25,9 +44,14 @@ unfoldable pub leading : List (List ℕ) → List (List ℕ)
 leading [] = []
 leading (l ∷ ls) = cond (startsPercent l) (l ∷ leading ls) []
 
+-- the lines up to the first end line, that one too
+unfoldable pub throughEnd : List (List ℕ) → List (List ℕ)
+throughEnd [] = []
+throughEnd (l ∷ ls) = l ∷ cond (isEnd l) [] (throughEnd ls)
+
 -- the header's lines
 unfoldable pub headerLines : List ℕ → List (List ℕ)
-headerLines s = leading (linesOf s)
+headerLines s = throughEnd (leading (linesOf s))
 
 -- the bytes of lines
 unfoldable pub joinedLines : List (List ℕ) → List ℕ
@@ -41,15 +65,3 @@ headerBytes s = joinedLines (headerLines s)
 -- the body starts right after the header's lines
 unfoldable pub bodyStart : List ℕ → ℕ
 bodyStart s = length (headerBytes s)
-
--- a line trimmed, without the `%`s that it leads with, and trimmed again
-unfoldable pub bodyOf : List ℕ → List ℕ
-bodyOf l = trimOf (from notPercent (trimOf l))
-
--- the key: up to the first blank
-unfoldable pub keyOf : List ℕ → List ℕ
-keyOf l = upTo isBlank (bodyOf l)
-
--- the value: the trimmed remainder
-unfoldable pub valueOf : List ℕ → List ℕ
-valueOf l = trimOf (from isBlank (bodyOf l))

@@ -1,10 +1,10 @@
 // The header of a Prophesee RAW recording: the lines before the body, each of which begins with
-// `%`. `parse_header` is total, and its whole answer is one equation. What the answer is stands in
-// specs/Header.antt, over the lines (specs/Lines.antt), and in crate `header_text` the numbers and
-// sizes (specs/Size.antt) and the texts (specs/Text.antt). specs/Notes.antt has only what the functions
-// in here keep.
+// `%`; a line `% end` is the last. `parse_header` is total, and its whole answer is one equation. What
+// the answer is stands in specs/Header.antt, over the lines (specs/Lines.antt), and in crate
+// `header_text` the numbers and sizes (specs/Size.antt) and the texts (specs/Text.antt).
+// specs/Notes.antt has only what the functions in here keep.
 ghost use mathlib.Core.Path.{_≡_};
-ghost use Rattle.header.specs.Lines.{bodyOf};
+ghost use Rattle.header.specs.Lines.{bodyOf, isEnd};
 ghost use Rattle.header.specs.Header.{sizeThatHolds, hasZero, IsRefused, Parsed};
 ghost use Rattle.header.specs.Notes.{lineLength, versionOf, noteLine, scanOf, nameOf};
 use evt_types::Encoding;
@@ -72,6 +72,13 @@ fn line_body(line: &[u8]) -> &[u8]
     trim(tail_from(trim(line), ByteClass::NotPercent))
 }
 
+// Whether a line ends the header.
+fn is_end(line: &[u8]) -> bool
+    ensures { λ r. ⌜ r ≡ isEnd (now (line .entry)) ⌝ }
+{
+    is_word(line_body(line), b"end")
+}
+
 // The key runs up to the first blank, and the value is the rest.
 fn read_line(seen: Seen, line: &[u8]) -> Seen
     ensures { λ r. ⌜ r ≡ noteLine seen (now (line .entry)) ⌝ }
@@ -133,8 +140,12 @@ fn scan_lines(s: &[u8]) -> Scan
         }
         let left = &s[at..];
         let n = line_length(left);
-        seen = read_line(seen, &left[..n]);
+        let line = &left[..n];
+        seen = read_line(seen, line);
         at += n;
+        if is_end(line) {
+            return Scan { at, seen };
+        }
     }
     Scan { at, seen }
 }

@@ -1,9 +1,9 @@
--- A header that is written is read back: its encoding, its size, and where the body starts.
+-- A header that is written is read back, whatever body follows it: its encoding, its size, and where the body starts.
 use mathlib.Core.Path.{_≡_, refl, sym, _∙_}
 use mathlib.Core.Logic.{_⊎_, ⊎-elim}
-use mathlib.Core.Bool.{Bool, true, false, cond, _||_, or-true}
+use mathlib.Core.Bool.{Bool, true, false, cond, _||_, or-true, and-false}
 use mathlib.Core.List.{List, [], _∷_, _++_, append-assoc, append-nil}
-use Prim.Native.Nat.{ℕ, _^_, _≤_, _<_}
+use Prim.Native.Nat.{ℕ, _+_, _^_, _≤_, _<_}
 use native.Mathlib.Omega.{arith}
 use lib.ListN.{length}
 use lib.Dec.{eqb}
@@ -15,13 +15,13 @@ use Rattle.header_text.specs.Text.{isBlank, isByte, notAscii, upTo, from, any, 
 use Rattle.header_text.specs.Size.{both, sizeAt, geometryOf}
 use Rattle.header_text.proofs.TextLaws.{trim-blank}
 use Rattle.header.specs.declared.{HeaderAnswer.HeaderAnswer, HeaderAnswer.the-variants.Header, HeaderAnswer.the-variants.Refused}
-use Rattle.header.specs.Lines.{startsPercent, headerLines, joinedLines, headerBytes, bodyStart, bodyOf, keyOf, valueOf}
-use Rattle.header.specs.Header.{geometryName, Said, nothing, readLine, readAll, saidBy, encodingOf, sizeThatHolds, hasZero, withEncoding, headerOutcome}
+use Rattle.header.specs.Lines.{headerLines, joinedLines, bodyOf, keyOf, valueOf, isEnd}
+use Rattle.header.specs.Header.{geometryName, Said, nothing, readLine, readAll, encodingOf, sizeThatHolds, hasZero, withEncoding, linesOutcome}
 use Rattle.header.specs.Header.{answerBy, headerOf}
 use Rattle.evt_types.specs.Outcome.{refuse, give}
 use Rattle.write_text.specs.Text.{ascii, decimal}
 use Rattle.write_header.specs.Header.{formatLine, headerText}
-use Rattle.laws_header.specs.Texts.{none-append, parted, header-line, header-over}
+use Rattle.laws_header.specs.Texts.{none-append, parted, header-line}
 use Rattle.laws_header.specs.Numbers.{decimal-none, number-decimal, decimal-start, decimal-end, decimal-trimmed}
 
 -- ---- the lines
@@ -46,17 +46,6 @@ text-lines Evt3 w h body = simp append-assoc
 size-none : (p : ℕ → Bool) → ((b : ℕ) → 48 ≤ b → b ≤ 57 → p b ≡ false) → p 120 ≡ false → (w h : ℕ) → any p (sizeText w h) ≡ false
 unfolding any
 size-none p others x w h = none-append p (decimal w) (ascii "x" ++ decimal h) (decimal-none w p others) (rw x (decimal-none h p others))
-
-format-first : (e : Encoding) (t : List ℕ) → headerLines (formatLine e ++ t) ≡ formatLine e ∷ headerLines t
-unfolding any
-format-first Evt2 t = header-line (ascii " format EVT2") t refl
-format-first Evt3 t = header-line (ascii " format EVT3") t refl
-
-size-first : (w h : ℕ) (t : List ℕ) → headerLines (sizeLine w h ++ t) ≡ sizeLine w h ∷ headerLines t
-unfolding any
-size-first w h t =
-    rw (append-assoc (sizeText w h) (ascii "\n") t)
-    (header-line (ascii " geometry " ++ sizeText w h) t (size-none (isByte 10) (λ b l u. ne-eqb b 10 (λ e. omega arith)) refl w h))
 
 -- ---- the line of the size: its key and its value
 
@@ -109,6 +98,28 @@ others-read : (said : Said) → readLine (readLine said generatorLine) endLine �
 unfolding readLine same begins lowerOf keyOf valueOf bodyOf trimOf trimStart trimEnd from upTo isBlank
 others-read said = refl
 
+-- ---- none of them but the last is an end line
+
+size-goes-on : (w h : ℕ) → isEnd (sizeLine w h) ≡ false
+unfolding isEnd same begins lowerOf
+size-goes-on w h = rw (size-body w h, and-false)
+
+format-first : (e : Encoding) (t : List ℕ) → headerLines (formatLine e ++ t) ≡ formatLine e ∷ headerLines t
+unfolding any isEnd same begins lowerOf bodyOf trimOf trimStart trimEnd from isBlank
+format-first Evt2 t = header-line (ascii " format EVT2") t refl
+format-first Evt3 t = header-line (ascii " format EVT3") t refl
+
+size-first : (w h : ℕ) (t : List ℕ) → headerLines (sizeLine w h ++ t) ≡ sizeLine w h ∷ headerLines t
+unfolding any
+size-first w h t =
+    rw (append-assoc (sizeText w h) (ascii "\n") t)
+    (header-line (ascii " geometry " ++ sizeText w h) t (size-none (isByte 10) (λ b l u. ne-eqb b 10 (λ e. omega arith)) refl w h)
+    ∙ rw (append-assoc (ascii " geometry ") (sizeText w h) (ascii "\n"), size-goes-on w h))
+
+end-last : (t : List ℕ) → headerLines (generatorLine ++ (endLine ++ t)) ≡ generatorLine ∷ endLine ∷ []
+unfolding any isEnd same begins lowerOf bodyOf trimOf trimStart trimEnd from isBlank
+end-last t = header-line (ascii " generator eventcv") (endLine ++ t) refl ∙ rw (header-line (ascii " end") t refl)
+
 -- a header with the size that holds, or a refusal where that has a zero
 abbrev pub answer : ℕ → SensorSize → Encoding → HeaderAnswer
 answer at size e =
@@ -134,35 +145,26 @@ text-ascii e w h = go e
     go Evt2 = rest
     go Evt3 = rest
 
--- ---- the whole header, before a body that does not begin with `%`
+-- ---- the whole header, before any body
 
-module _ (e : Encoding) (w h : ℕ) (body : List ℕ) (plain : startsPercent body ≡ false) where
+module _ (e : Encoding) (w h : ℕ) (body : List ℕ) where
   lines-are : headerLines (headerText e w h ++ body) ≡ formatLine e ∷ sizeLine w h ∷ generatorLine ∷ endLine ∷ []
-  unfolding any
-  lines-are =
-      rw (
-        text-lines e w h body,
-        format-first e,
-        size-first w h,
-        header-line (ascii " generator eventcv") (endLine ++ body) refl,
-        header-line (ascii " end") body refl,
-        header-over body plain,
-      )
+  lines-are = rw (text-lines e w h body, format-first e, size-first w h, end-last body)
 
-  bytes-are : headerBytes (headerText e w h ++ body) ≡ headerText e w h
-  unfolding headerBytes joinedLines
+  bytes-are : joinedLines (headerLines (headerText e w h ++ body)) ≡ headerText e w h
+  unfolding joinedLines
   bytes-are = rw lines-are (sym (text-lines e w h []) ∙ append-nil (headerText e w h))
 
   module _ (w< : w < 2 ^ 64) (h< : h < 2 ^ 64) where
-    said-is : saidBy (headerText e w h ++ body) ≡ record { format = encodingText e; evt = []; size = Known w h }
-    unfolding saidBy readAll
+    said-is : readAll nothing (headerLines (headerText e w h ++ body)) ≡ record { format = encodingText e; evt = []; size = Known w h }
+    unfolding readAll
     said-is = rw (lines-are, format-read e, size-read w h w< h<) (others-read _)
 
     module _ (fits : length (headerText e w h ++ body) ≤ 2 ^ 30) where
       -- the size that holds is the caller's, or without one the header's
       pub read-back-given : (given : SensorSize)
           → headerOf (headerText e w h ++ body) given ≡ answer (length (headerText e w h)) (sizeThatHolds given (Known w h)) e
-      unfolding headerOf headerOutcome bodyStart
+      unfolding headerOf linesOutcome
       read-back-given given = rw (le-ltb (2 ^ 30) _ fits, bytes-are, text-ascii e w h, said-is) (encoding-read _ _ _ e)
 
       -- a written header names its encoding and its size, and the body starts where it ends

@@ -1,12 +1,11 @@
 -- Laws of texts that are put together: their first byte of a class, their blanks, their lines.
 use mathlib.Core.Path.{_≡_, refl, ap}
-use mathlib.Core.Bool.{Bool, true, false, true≢false}
+use mathlib.Core.Bool.{Bool, true, false, cond, true≢false}
 use mathlib.Core.List.{List, [], _∷_, _++_, append-assoc}
 use Prim.Native.Nat.{ℕ}
-use lib.Dec.{eqb}
 use Rattle.header_text.specs.{Cases.by-bool, Text.isBlank, Text.isByte, Text.upTo, Text.from, Text.any, Text.trimEnd}
 use Rattle.header_text.proofs.TextLaws.{trim-dark}
-use Rattle.header.specs.Lines.{joined, linesOf, startsPercent, leading, headerLines}
+use Rattle.header.specs.Lines.{isEnd, joined, linesOf, startsPercent, leading, throughEnd, headerLines}
 
 -- ---- the first byte of a class
 
@@ -47,18 +46,8 @@ unfolding linesOf joined
 line-first [] t a = refl
 line-first (b ∷ s) t a = let n = none-cons (isByte 10) b s a in rw (n .0, line-first s t (n .1))
 
--- a line that begins with `%` is the header's, with what follows it
-pub header-line : (s t : List ℕ) → any (isByte 10) s ≡ false → headerLines (37 ∷ (s ++ (10 ∷ t))) ≡ (37 ∷ (s ++ (10 ∷ []))) ∷ headerLines t
-unfolding headerLines leading startsPercent any
+-- a line that begins with `%` is the header's, and unless it is an end line what follows it goes on
+pub header-line : (s t : List ℕ) → any (isByte 10) s ≡ false
+    → headerLines (37 ∷ (s ++ (10 ∷ t))) ≡ (37 ∷ (s ++ (10 ∷ []))) ∷ cond (isEnd (37 ∷ (s ++ (10 ∷ [])))) [] (headerLines t)
+unfolding headerLines throughEnd leading startsPercent any
 header-line s t a = rw (line-first (37 ∷ s) t a)
-
-stops : (b : ℕ) (ls : List (List ℕ)) → eqb b 37 ≡ false → leading (joined b ls) ≡ []
-unfolding leading joined startsPercent
-stops b [] h = rw h
-stops b (l ∷ ls) h = rw h
-
--- what does not begin with `%` has no header
-pub header-over : (s : List ℕ) → startsPercent s ≡ false → headerLines s ≡ []
-unfolding headerLines leading startsPercent linesOf
-header-over [] h = refl
-header-over (b ∷ s) h = by-bool (eqb b 10) (λ e. rw (e, h)) (λ e. rw e (stops b (linesOf s) h))

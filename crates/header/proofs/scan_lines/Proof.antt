@@ -1,5 +1,5 @@
 use Prim.Native.Nat.{_-_, _≤_}
-use mathlib.Core.Path.{_≡_, sym}
+use mathlib.Core.Path.{_≡_, sym, _∙_}
 use native.Mathlib.Omega.{arith}
 use borrow.Author.Needs.{needs}
 use lib.ListN.{length, drop}
@@ -19,8 +19,8 @@ abbrev μ-loop : tie.MeasureT-loop
 returns : tie.Need-returns Inv-loop μ-loop
 returns c = laws.scan-stop _ _ _ (c .before .before .before .loop .inv .1) (c .before .before .loop-test .taken) (c .if1 .taken)
 
-slice-aggregate-read-line : tie.Need-slice-aggregate-read-line Inv-loop μ-loop
-slice-aggregate-read-line c =
+slice-aggregate-line : tie.Need-slice-aggregate-line Inv-loop μ-loop
+slice-aggregate-line c =
     let t = c .before .before .before .before .before in
     sym (length-take-le _ _ (laws.line-at (t .before .before .before .args .s .now) _ (t .loop-test .taken) _ (tail-part _ _ (t .before .loop .inv .0)) _
     (c .before .line-length .ensures) .within))
@@ -32,25 +32,36 @@ add-at c =
     (c .before .before .line-length .ensures) in
     omega (arith, l)
 
+returns-2 : tie.Need-returns-2 Inv-loop μ-loop
+returns-2 c =
+    let r = c .before .before in
+    let t = r .before .before .before .before .before .before in
+    let inv = t .before .loop .inv in
+    laws.scan-last _ _ _ (inv .1) (t .loop-test .taken) _ (tail-part _ _ (inv .0)) _ (r .before .before .line-length .ensures) _
+    (r .before .before .before .before .if1 .left) (r .read-line .ensures) (sym (c .before .is-end .ensures) ∙ c .if2 .taken)
+
 loop-less : tie.Need-loop-less Inv-loop μ-loop
 loop-less c =
-    let t = c .before .before .before .before .before .before in
+    let r = c .before .before in
+    let t = r .before .before .before .before .before .before in
     let l = laws.line-at (t .before .before .before .args .s .now) _ (t .loop-test .taken) _ (tail-part _ _ (t .before .loop .inv .0)) _
-    (c .before .before .line-length .ensures) in
+    (r .before .before .line-length .ensures) in
     omega (arith, l)
 
 loop-again : tie.Need-loop-again Inv-loop μ-loop
 loop-again c =
-    let t = c .before .before .before .before .before .before in
+    let r = c .before .before in
+    let t = r .before .before .before .before .before .before in
     let inv = t .before .loop .inv in
     let rest = tail-part _ _ (inv .0) in
-    let line = c .before .before .line-length .ensures in (
+    let line = r .before .before .line-length .ensures in (
       omega (arith, laws.line-at (t .before .before .before .args .s .now) _ (t .loop-test .taken) _ rest _ line),
-      laws.scan-next _ _ _ (inv .1) (t .loop-test .taken) _ rest _ line _ (c .before .before .before .before .if1 .left) (c .read-line .ensures),
+      laws.scan-next _ _ _ (inv .1) (t .loop-test .taken) _ rest _ line _ (r .before .before .before .before .if1 .left) (r .read-line .ensures)
+          (sym (c .before .is-end .ensures) ∙ c .if2 .left),
     )
 
-returns-2 : tie.Need-returns-2 Inv-loop μ-loop
-returns-2 c = laws.scan-end _ _ _ (c .before .loop .inv .1) (c .loop-test .left)
+returns-3 : tie.Need-returns-3 Inv-loop μ-loop
+returns-3 c = laws.scan-end _ _ _ (c .before .loop .inv .1) (c .loop-test .left)
 
 pub scan-lines-spec : {M : Type 1} → statement M
 scan-lines-spec =
@@ -61,9 +72,11 @@ scan-lines-spec =
     (λ c. (omega arith, laws.scan-start _)) (λ c. search needs)
     returns
     (λ c. search needs) (λ c. search needs) (λ c. search needs) (λ c κs. search needs)
-    slice-aggregate-read-line
+    slice-aggregate-line
     (λ c κs. search needs)
     add-at
+    (λ c κs. search needs)
+    returns-2
     loop-less
     loop-again
-    returns-2)
+    returns-3)

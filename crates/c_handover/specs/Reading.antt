@@ -1,34 +1,30 @@
 -- What the library reads as some events the C interface does.
 use mathlib.Core.Path.{_≡_, refl, sym, ap, _∙_}
-use mathlib.Core.Bool.{Bool, true, false, cond}
 use mathlib.Core.List.{List, _++_, map}
 use Prim.Native.Nat.{ℕ, _+_, _≤_}
 use native.Mathlib.Omega.{arith}
 use lib.IntN.{ℤ}
 use lib.ListN.{length, take, drop, replicate, length-map, length-append, length-replicate}
 use lib.Seq.{take-at}
-use lib.Dec.{ltb}
 use borrow.Author.Tests.{le-leb}
-use Rattle.evt_types.specs.{declared.Encoding.Encoding, declared.Limit.the-variants.Unlimited, Event.Event, Num.encodingNumber, Num.mostBytes}
-use Rattle.evt_types.specs.Outcome.{Outcome, refuse, give}
-use Rattle.evt_types.specs.declared.Refusal.the-variants.{TooLong, InvalidSensorSize, TooFewRecords, InvalidSpacing}
-use Rattle.read_rules.specs.{Read.ReadEvents, Read.toldRead, Read.readAnswer, Read.readVerdict, Read.wordsOutcome}
-use Rattle.read_rules.specs.Read.{sizeless}
+use Rattle.evt_types.specs.{Event.Event, Outcome.Outcome, Outcome.refuse, Outcome.give, declared.SensorSize.the-variants.Known}
+use Rattle.evt_types.specs.declared.SensorSize.the-variants.{Unknown}
+use Rattle.read_rules.specs.Read.{ReadEvents, toldRead, readAnswer, readVerdict}
 use Rattle.index_build.specs.declared.{Checkpoint.Checkpoint, OpenAnswer.the-variants.Opened, Opening.Opening}
-use Rattle.index_build.specs.{Index.Body, Index.openAnswer, Index.openRecords, Index.toldOpen, Index.told-answer, Index.openWordsOutcome, Index.recordCount}
-use Rattle.index_build.specs.Index.{recordsOf, openingOf, needOf, indexOutcome, wordsBody, bodyKept, spacingOk}
-use Rattle.header.specs.Header.{hasZero}
-use Rattle.index_build.specs.{Index.sourceOf as sourceAs, Laws.length-firsts, Nth.blank, Open.IfGiven, Open.accepted-words}
+use Rattle.index_build.specs.Index.{Body, openAnswer, openRecords, toldOpen, told-answer, recordsOf, openingOf, needOf}
+use Rattle.index_build.specs.{Laws.length-firsts, Nth.blank, Open.Accepted, Open.IfGiven, Open.accepted-words, Open.accepted-raw}
 use Rattle.slice_rules.specs.{declared.SliceAnswer.SliceAnswer, declared.SliceAnswer.the-variants.Sliced, Slice.toldSlice, Slice.sliceAnswer}
-use Rattle.slice_rules.specs.{Slice.sliceVerdict}
-use Rattle.slice_rules.specs.Slice.{Slices}
-use Rattle.laws_handover.specs.Handover.{Columns, room, HoldsEvents, numbered, duringTimes, widest, optionsOf, Index, ReadBack}
+use Rattle.slice_rules.specs.Slice.{sliceVerdict, Slices}
+use Rattle.laws_handover.specs.Handover.{Columns, room, HoldsEvents, numbered, duringTimes, Way, asWords, asRecording, encodingBy, readBy, openBy, openingAs}
+use Rattle.laws_handover.specs.Handover.{Index, ReadBack}
 use Rattle.c_values.specs.{declared.reading.PropheseeReading.PropheseeReading, Encoding.number-known, Encoding.encoding-back, Reading.readingOf}
-use Rattle.c_values.specs.{Reading.DecodesWordsC, Reading.ReadsC}
-use Rattle.c_index.specs.{declared.slices.PropheseeSlice.PropheseeSlice, declared.opening.PropheseeSource.PropheseeSource, Opening.openedOf}
+use Rattle.c_values.specs.Reading.{ReadsC}
+use Rattle.c_index.specs.{declared.slices.PropheseeSlice.PropheseeSlice, declared.opening.PropheseeOpening.PropheseeOpening, Opening.openedOf}
+use Rattle.c_index.specs.{declared.opening.PropheseeSource.PropheseeSource}
 use Rattle.c_index.specs.{Opening.OpensC, Records.entriesAll, Records.checkpointIn, Records.checkpointsIn, Slicing.sourceOf, Slicing.recordsIn}
 use Rattle.c_index.specs.{Slicing.slicedOf, Slicing.SlicesC, Slicing.SlicesIndexC, Slicing.SlicesTimeC}
-use Rattle.c_handover.specs.{Made.made-back, Statement.wholeSensor, Statement.IndexC, Statement.GivesC, Statement.ReadBackC}
+use Rattle.c_handover.specs.{Made.made-back, Statement.ReadsByC, Statement.OpensByC, Statement.IndexC, Statement.sourceC, Statement.readingC}
+use Rattle.c_handover.specs.Statement.{GivesC, ReadBackC}
 
 told-read : (o : Outcome ReadEvents) → toldRead (readAnswer o) ≡ readVerdict o
 told-read (refuse r) = refl
@@ -44,22 +40,29 @@ unfolding recordsOf
 made-count (refuse r) o h = let z : _≡_ {A = ℕ} 0 1 = cc in absurd (omega arith)
 made-count (give b) o h = let is : openingOf b ≡ o = cc in length-firsts _ (needOf b) ∙ ap (λ (p : Opening). p .records) is
 
-of-encoding : (bytes : List ℕ) (e : Encoding) (spacing n : ℕ) → IfGiven (λ b. b .encoding ≡ e) (openWordsOutcome bytes (optionsOf e widest spacing) n)
-unfolding openWordsOutcome indexOutcome
-of-encoding bytes e spacing n =
-    let body = wordsBody bytes (optionsOf e widest spacing) in
-    go (ltb mostBytes (length bytes)) (hasZero widest) (spacingOk e spacing) (ltb n (needOf body)) (sizeless widest (bodyKept body)) (needOf body)
-  where
-    go : (a b c d f : Bool) (need : ℕ) → IfGiven (λ b. b .encoding ≡ e)
-        (cond a (refuse TooLong) (cond b (refuse InvalidSensorSize) (cond c
-        (cond d (refuse (TooFewRecords need)) (cond f (refuse InvalidSensorSize) (give (wordsBody bytes (optionsOf e widest spacing)))))
-        (refuse InvalidSpacing))))
-    go true b c d f need = tt
-    go false true c d f need = tt
-    go false false false d f need = tt
-    go false false true true f need = tt
-    go false false true false true need = tt
-    go false false true false false need = refl
+-- and what it tells of the encoding
+of-encoding : (q : Outcome Body) (o : Opening) → openAnswer q ≡ Opened o → IfGiven (λ b. b .encoding ≡ o .source .encoding) q
+of-encoding (refuse r) o h = tt
+of-encoding (give b) o h = let is : openingOf b ≡ o = cc in ap (λ (p : Opening). p .source .encoding) is
+
+-- ---- the calls of a way are the library's
+
+module _ (bytes : List ℕ) where
+  read-by : (way : Way) (r : PropheseeReading) (c₀ c : Columns) → ReadsByC way bytes r c₀ c
+      → ReadsC (readBy way bytes (room c₀)) r (c₀ .xs) (c₀ .ys) (c₀ .ts) (c₀ .ps) (c .xs) (c .ys) (c .ts) (c .ps)
+  read-by (asWords e Unknown) r c₀ c d = rw (number-known e, encoding-back e) at d
+  read-by (asWords e (Known w h)) r c₀ c d = rw (number-known e, encoding-back e) at d
+  read-by (asRecording e w h) r c₀ c d = d
+
+  open-by : (way : Way) (spacing : ℕ) (r : PropheseeOpening) (records₀ records : List (List ℕ)) → OpensByC way bytes spacing r records₀ records
+      → OpensC (openBy way bytes spacing (length records₀)) r records₀ records
+  open-by (asWords e Unknown) spacing r records₀ records d = rw (number-known e, encoding-back e) at d
+  open-by (asWords e (Known w h)) spacing r records₀ records d = rw (number-known e, encoding-back e) at d
+  open-by (asRecording e w h) spacing r records₀ records d = d
+
+  accepted-by : (way : Way) (spacing room : ℕ) → IfGiven (Accepted bytes room) (openBy way bytes spacing room)
+  accepted-by (asWords e size) spacing room = accepted-words bytes _ room
+  accepted-by (asRecording e w h) spacing room = accepted-raw bytes _ room
 
 -- a slice by C is what the library's is
 sliced : (outcome : Outcome (List Event)) (r : PropheseeSlice) (c₀ c : Columns) (part : List Event)
@@ -70,43 +73,35 @@ sliced outcome r c₀ c part s lib =
     let got = lib (sliceAnswer outcome) (record { is-told = told-slice outcome; is-answer = refl; columns = s .columns }) in
     (s .is-answer ∙ ap slicedOf (sym (told-slice outcome) ∙ ap toldSlice (got .0)), got .1)
 
-module _ (e : Encoding) (bytes : List ℕ) (es : List Event) (back : ReadBack e bytes es) where
-  decodes : (r : PropheseeReading) (c₀ c : Columns)
-      → DecodesWordsC bytes (encodingNumber e) wholeSensor r (c₀ .xs) (c₀ .ys) (c₀ .ts) (c₀ .ps) (c .xs) (c .ys) (c .ts) (c .ps) → length es ≤ room c₀
-      → (r ≡ record { refusal = 0; encoding = encodingNumber e; told = 0; width = 2048; height = 2048; count = length es }) × HoldsEvents es c₀ c
+module _ (way : Way) (bytes : List ℕ) (es : List Event) (back : ReadBack way bytes es) where
+  decodes : (r : PropheseeReading) (c₀ c : Columns) → ReadsByC way bytes r c₀ c → length es ≤ room c₀ → (r ≡ readingC way es) × HoldsEvents es c₀ c
   decodes r c₀ c d fits =
-      let outcome = wordsOutcome bytes e widest Unlimited (room c₀) in
-      let d′ : ReadsC outcome r (c₀ .xs) (c₀ .ys) (c₀ .ts) (c₀ .ps) (c .xs) (c .ys) (c .ts) (c .ps) = rw (number-known e, encoding-back e) at d in
+      let outcome = readBy way bytes (room c₀) in
+      let d′ = read-by bytes way r c₀ c d in
       let got = back .decoded (readAnswer outcome) c₀ c (record { is-told = told-read outcome; is-answer = refl; columns = d′ .columns }) fits in
       (d′ .is-answer ∙ ap readingOf (sym (told-read outcome) ∙ ap toldRead (got .0)), got .1)
 
-  module _ (x : IndexC e bytes) where
+  module _ (x : IndexC way bytes) where
     abbrev lent : ℕ
     lent = length (x .records₀)
 
     abbrev outcome : Outcome Body
-    outcome = openWordsOutcome bytes (optionsOf e widest (x .spacing)) lent
+    outcome = openBy way bytes (x .spacing) lent
 
     abbrev made : List Checkpoint
     made = openRecords outcome
 
+    abbrev opening : Opening
+    opening = openingAs way bytes es (x .spacing)
+
     abbrev count : ℕ
-    count = recordCount (length bytes) (x .spacing)
+    count = opening .records
 
     abbrev source : PropheseeSource
-    source = record {
-      records = count;
-      spacing = x .spacing;
-      «data_offset» = 0;
-      len = length bytes;
-      width = 2048;
-      height = 2048;
-      «n_events» = length es;
-      encoding = encodingNumber e;
-    }
+    source = sourceC way bytes es (x .spacing)
 
     ran : OpensC outcome (x .answer) (x .records₀) (x .records)
-    ran = rw (number-known e, encoding-back e) at (x .ran)
+    ran = open-by bytes way (x .spacing) (x .answer) (x .records₀) (x .records) (x .ran)
 
     -- the same index of the library, with records that were blank
     abbrev blanks : List Checkpoint
@@ -115,7 +110,7 @@ module _ (e : Encoding) (bytes : List ℕ) (es : List Event) (back : ReadBack e 
     within : lent ≤ length blanks
     within = rw length-replicate (omega arith)
 
-    abbrev index : Index e bytes
+    abbrev index : Index way bytes
     index = record {
       spacing = x .spacing;
       allowed = x .allowed;
@@ -128,7 +123,7 @@ module _ (e : Encoding) (bytes : List ℕ) (es : List Event) (back : ReadBack e 
       enough = x .enough;
     }
 
-    opened : openAnswer outcome ≡ Opened (record { source = sourceAs (length bytes) 0 e widest (x .spacing) es; records = count })
+    opened : openAnswer outcome ≡ Opened opening
     opened = back .opened index
 
     is-source : x .answer ≡ record { source = source; told = 0; refusal = 0 }
@@ -141,20 +136,18 @@ module _ (e : Encoding) (bytes : List ℕ) (es : List Event) (back : ReadBack e 
     records-are : recordsIn source (x .records) ≡ take count (index .records)
     unfolding checkpointsIn
     records-are =
+        let e = encodingBy way in
         let entries = entriesAll made in
         let long : length entries ≡ count = length-map made _ ∙ length-made in
         let enough : count ≤ length (x .records) = rw (ran .is-records, length-append) (omega (arith, long)) in
         rw (number-known e, encoding-back e, le-leb count (length (x .records)) enough)
         (ap (λ (l : List (List ℕ)). map (checkpointIn e) (take count l)) (ran .is-records)
         ∙ ap (map (checkpointIn e)) (take-at entries _ count long)
-        ∙ made-back bytes lent e outcome (accepted-words bytes _ lent) (of-encoding bytes e (x .spacing) lent)
+        ∙ made-back bytes lent e outcome (accepted-by bytes way (x .spacing) lent) (of-encoding outcome _ opened)
         ∙ sym (take-at made _ count length-made))
 
-    source-is : sourceOf source ≡ sourceAs (length bytes) 0 e widest (x .spacing) es
+    source-is : sourceOf source ≡ opening .source
     source-is = rw encoding-back
-
-    abbrev opening : Opening
-    opening = record { source = sourceAs (length bytes) 0 e widest (x .spacing) es; records = count }
 
     -- slices over them are those over the library's index
     by-number : (i0 i1 : ℕ) (r : PropheseeSlice) (c₀ c : Columns)
@@ -169,5 +162,5 @@ module _ (e : Encoding) (bytes : List ℕ) (es : List Event) (back : ReadBack e 
     by-time t0 t1 r c₀ c s fits =
         sliced _ r c₀ c (duringTimes es t0 t1) (rw (is-source, source-is, records-are) at s) (λ a lib. back .by-time index opening opened t0 t1 a c₀ c lib fits)
 
-  pub read-back : ReadBackC e bytes es
+  pub read-back : ReadBackC way bytes es
   read-back = record { decoded = decodes; opened = is-source; by-number = by-number; by-time = by-time }

@@ -10,13 +10,15 @@ use lib.Seq.{take-append-le, drop-append-le}
 use borrow.Author.Tests.{leb-true, leb-false}
 use Rattle.laws_stream.specs.Machine.{Note}
 use Rattle.evt_types.specs.{Event.Event, declared.Encoding.Encoding}
-use Rattle.laws_handover.specs.Handover.{Call, acceptedEvents, streamOf, streamWords, fresh, others, joined, numbered, Exact, Claim}
-use Rattle.laws_handover.specs.Proof.{Sent, fresh-sent, joinedWords, joined-sent, exact-whole, claim}
+use Rattle.write_rules.specs.Rules.{freshSink}
+use Rattle.laws_handover.specs.Handover.{Call, acceptedEvents, streamOf, streamWords, fresh, Front, bare, startOf, others, joined, numbered, Exact, Claim}
+use Rattle.laws_handover.specs.{Headed.frontOf, Proof.Sent, Proof.sent-by, Proof.fresh-sent, Proof.joinedWords, Proof.joined-sent}
+use Rattle.laws_handover.specs.Proof.{exact-whole, claim}
 
 -- ---- THE FULL LENGTH: a stream that isn't cut is read as all its accepted events
 
-pub full : (e : Encoding) (calls : List Call) → Exact e (streamOf (fresh e) calls) (acceptedEvents (fresh e) calls)
-full e calls = exact-whole e (streamOf (fresh e) calls) (streamWords (fresh e) calls) (acceptedEvents (fresh e) calls) (fresh-sent e calls)
+pub full : (e : Encoding) (calls : List Call) → Exact e bare (streamOf (fresh e) calls) (acceptedEvents (fresh e) calls)
+full e calls = exact-whole e bare (streamOf (fresh e) calls) (streamWords (fresh e) calls) (acceptedEvents (fresh e) calls) (fresh-sent e calls)
 
 -- ---- ANY NUMBER OF HANDOVERS: what is joined is again a stream that can be cut, read and resumed
 
@@ -25,32 +27,37 @@ pub record Resumption : Type 0 where
   pub cut : ℕ
   pub calls : List Call
 
-module _ (e : Encoding) where
+module _ (e : Encoding) (f : Front) where
   abbrev pub bytesAfter : List ℕ → List Resumption → List ℕ
   bytesAfter bytes [] = bytes
-  bytesAfter bytes (r ∷ rs) = bytesAfter (joined e (r .cut) bytes (r .calls)) rs
+  bytesAfter bytes (r ∷ rs) = bytesAfter (joined e f (r .cut) bytes (r .calls)) rs
 
   abbrev pub wordsAfter : List (Note ℕ Event) → List Resumption → List (Note ℕ Event)
   wordsAfter ws [] = ws
-  wordsAfter ws (r ∷ rs) = wordsAfter (joinedWords e (r .cut) ws (r .calls)) rs
+  wordsAfter ws (r ∷ rs) = wordsAfter (joinedWords e f (r .cut) ws (r .calls)) rs
 
-  -- each writer is given the events that its cut left out
+  -- each cut stands at the front's end or behind it, and its writer is given the events that it left out
   abbrev pub Owed : List (Note ℕ Event) → List Resumption → Type 0
   Owed ws [] = Unit
-  Owed ws (r ∷ rs) = (acceptedEvents (fresh e) (r .calls) ≡ others e (r .cut) ws) × Owed (joinedWords e (r .cut) ws (r .calls)) rs
+  Owed ws (r ∷ rs) =
+      (startOf e f ≤ r .cut) × (acceptedEvents (fresh e) (r .calls) ≡ others e f (r .cut) ws) × Owed (joinedWords e f (r .cut) ws (r .calls)) rs
 
-  sent-after : (bytes : List ℕ) (ws : List (Note ℕ Event)) (es : List Event) → Sent e bytes ws es → (rs : List Resumption) → Owed ws rs
-      → Sent e (bytesAfter bytes rs) (wordsAfter ws rs) es
+  pub sent-after : (bytes : List ℕ) (ws : List (Note ℕ Event)) (es : List Event) → Sent e f bytes ws es → (rs : List Resumption) → Owed ws rs
+      → Sent e f (bytesAfter bytes rs) (wordsAfter ws rs) es
   sent-after bytes ws es s [] o = s
   sent-after bytes ws es s (r ∷ rs) o =
-      sent-after (joined e (r .cut) bytes (r .calls)) (joinedWords e (r .cut) ws (r .calls)) es
-      (joined-sent e bytes ws es s (r .cut) (r .calls) (o .0)) rs (o .1)
+      sent-after (joined e f (r .cut) bytes (r .calls)) (joinedWords e f (r .cut) ws (r .calls)) es
+      (joined-sent e f bytes ws es s (r .cut) (o .0) (r .calls) (o .1)) rs (o .2)
 
-  pub claim-after : (calls : List Call) (rs : List Resumption) → Owed (streamWords (fresh e) calls) rs → (cut : ℕ)
-      → Claim e (bytesAfter (streamOf (fresh e) calls) rs) (wordsAfter (streamWords (fresh e) calls) rs) (acceptedEvents (fresh e) calls) cut
-  claim-after calls rs o cut =
-      claim e (bytesAfter (streamOf (fresh e) calls) rs) (wordsAfter (streamWords (fresh e) calls) rs) (acceptedEvents (fresh e) calls)
-      (sent-after (streamOf (fresh e) calls) (streamWords (fresh e) calls) (acceptedEvents (fresh e) calls) (fresh-sent e calls) rs o) cut
+  -- of what a fresh writer, of a header or of none, sent behind this front
+  pub claim-after : (header : Bool) (calls : List Call) (rs : List Resumption) → frontOf (freshSink e header) calls ≡ f
+      → Owed (streamWords (freshSink e header) calls) rs → (cut : ℕ) → startOf e f ≤ cut
+      → Claim e f (bytesAfter (streamOf (freshSink e header) calls) rs) (wordsAfter (streamWords (freshSink e header) calls) rs)
+      (acceptedEvents (freshSink e header) calls) cut
+  claim-after header calls rs is o cut behind =
+      let s = freshSink e header in
+      claim e f (bytesAfter (streamOf s calls) rs) (wordsAfter (streamWords s calls) rs) (acceptedEvents s calls)
+      (sent-after (streamOf s calls) (streamWords s calls) (acceptedEvents s calls) (sent-by e header calls f is) rs o) cut behind
 
 -- ---- NUMBERS STAY: a slice that ends before the cut is the same of all events
 

@@ -1,17 +1,19 @@
 -- DEMAND 3 OF CALLS THAT RAN, proved: what appends wrote is the stream of their calls, of which `demand-three` speaks.
 use mathlib.Core.Path.{_≡_, sym, ap, _∙_}
+use mathlib.Core.Bool.{Bool, false}
 use mathlib.Core.List.{List, _++_, map}
 use Prim.Native.Nat.{ℕ, _^_, _≤_}
 use lib.IntN.{ℤ}
 use lib.ListN.{length, take, drop, length-map}
 use lib.Seq.{take-at}
 use Rattle.evt_types.specs.{Columns.colX, Columns.colY, Columns.colT, Columns.colP, Event.Event, declared.Encoding.Encoding}
-use Rattle.index_build.specs.{declared.OpenAnswer.the-variants.Opened, declared.Opening.Opening, Index.recordCount, Index.sourceOf}
+use Rattle.index_build.specs.declared.{OpenAnswer.the-variants.Opened, Opening.Opening}
 use Rattle.slice_rules.specs.declared.{SliceAnswer.SliceAnswer, SliceAnswer.the-variants.Sliced}
-use Rattle.laws_handover.specs.{Handover.fresh, Handover.widest, Handover.Suits, Handover.Exact, Handover.Reads, Handover.callsOf}
-use Rattle.laws_handover.specs.{Handover.Columns, Handover.HoldsEvents, Handover.Indexed, Proof.demand-three, Ran.ran-written}
-use Rattle.laws_handover.specs.Handover.{Index, by-value, Alike, ReadBack, DemandThreeRan, numbered, duringTimes, NumberRan, TimeRan, room}
-use Rattle.laws_handover.specs.Handover.{ReadByValue, DemandThreeByValue}
+use Rattle.write_rules.specs.{declared.RawEventSink.RawEventSink, Rules.freshSink}
+use Rattle.laws_handover.specs.Handover.{acceptedEvents, streamOf, streamWords, fresh, Front, bare, widest, Way, asWords, Suits, Reads, Exact, Claim}
+use Rattle.laws_handover.specs.Handover.{openingAs, Indexed, Ran, Chained, callsOf, Columns, HoldsEvents, Index, by-value, Alike, ReadBack, wholeRan}
+use Rattle.laws_handover.specs.Handover.{CutAndResumed, DemandThreeRan, numbered, duringTimes, NumberRan, TimeRan, room, ReadByValue, DemandThreeByValue}
+use Rattle.laws_handover.specs.{Proof.demand-three, Ran.ran-written}
 
 -- ---- two callers
 
@@ -35,16 +37,13 @@ alike part r q c₀ c d₀ d a b = record {
 
 -- ---- bytes that are read exactly
 
-module _ (e : Encoding) (bytes : List ℕ) (es : List Event) (reads : Reads e widest bytes es) where
-  abbrev openedAs : (spacing : ℕ) → Opening
-  openedAs spacing = record { source = sourceOf (length bytes) 0 e widest spacing es; records = recordCount (length bytes) spacing }
-
-  module _ (x : Index e bytes) where
-    indexed : Indexed e widest bytes es (x .spacing) (x .answer) (x .records)
+module _ (way : Way) (bytes : List ℕ) (es : List Event) (reads : Reads way bytes es) where
+  module _ (x : Index way bytes) where
+    indexed : Indexed way bytes es (x .spacing) (x .answer) (x .records)
     indexed = reads .indexes (x .spacing) (x .allowed) (x .room) (x .answer) (x .records₀) (x .records) (x .within) (x .ran) (x .enough)
 
     -- the opening that it told is that one
-    told-is : (o : Opening) → x .answer ≡ Opened o → o ≡ openedAs (x .spacing)
+    told-is : (o : Opening) → x .answer ≡ Opened o → o ≡ openingAs way bytes es (x .spacing)
     told-is o h = cc (indexed .0)
 
     sliced-number : (o : Opening) → x .answer ≡ Opened o → (i0 i1 : ℕ) (r : SliceAnswer) (c₀ c : Columns) → NumberRan x o i0 i1 r c₀ c
@@ -59,7 +58,7 @@ module _ (e : Encoding) (bytes : List ℕ) (es : List Event) (reads : Reads e wi
         let g = indexed .2 t0 t1 r (c₀ .xs) (c₀ .ys) (c₀ .ts) (c₀ .ps) (c .xs) (c .ys) (c .ts) (c .ps) (rw (told-is o h) at ran) fits in
         (g .count, g .columns)
 
-  read-back : ReadBack e bytes es
+  pub read-back : ReadBack way bytes es
   read-back = record {
     decoded = λ r c₀ c d fits. reads .decodes r (c₀ .xs) (c₀ .ys) (c₀ .ts) (c₀ .ps) (c .xs) (c .ys) (c .ts) (c .ps) d fits;
     opened = λ x. indexed x .0;
@@ -71,26 +70,42 @@ module _ (e : Encoding) (bytes : List ℕ) (es : List Event) (reads : Reads e wi
         alike (duringTimes es t0 t1) r q c₀ c d₀ d (sliced-time x o ho t0 t1 r c₀ c a fa) (sliced-time y p hp t0 t1 q d₀ d b fb);
   }
 
-exact-back : (e : Encoding) (bytes : List ℕ) (es : List Event) → Exact e bytes es → Suits widest es → length bytes ≤ 2 ^ 30 → ReadBack e bytes es
-exact-back e bytes es exact suits few = read-back e bytes es (exact few widest suits)
-
 -- ---- THE CALLS
+
+-- what holds of the stream of the calls holds of what they wrote
+module _ (e : Encoding) (f : Front) (header : Bool) (ran : List Ran) (cut : ℕ) where
+  abbrev writer : RawEventSink
+  writer = freshSink e header
+
+  -- some bytes that hold es exactly are read so
+  abbrev ReadAs : (List ℕ → List Event → Type 0) → List Event → Type 0
+  ReadAs Read es = (bytes : List ℕ) → length bytes ≤ 2 ^ 30 → Exact e f bytes es → Read bytes es
+
+  pub ran-as : Chained writer ran
+      → Claim e f (streamOf writer (callsOf ran)) (streamWords writer (callsOf ran)) (acceptedEvents writer (callsOf ran)) cut
+      → (Read : List ℕ → List Event → Type 0) → ReadAs Read (wholeRan writer f ran cut) → ReadAs Read (acceptedEvents writer (callsOf ran))
+      → CutAndResumed writer f ran cut Read
+  ran-as chained claim Read part all =
+      let written = ran-written writer ran chained in
+      record {
+        of-cut = λ few. part _ few (rw written (claim .of-cut));
+        of-joined = λ second chained₂ rest few.
+            let written₂ = ran-written (fresh e) second chained₂ in
+            all _ few (rw (written, written₂) (claim .of-joined (callsOf second) rest));
+      }
 
 pub demand-three-ran : DemandThreeRan
 demand-three-ran e ran chained cut h =
-    let written = ran-written (fresh e) ran chained in
-    let claim = demand-three e (callsOf ran) cut (rw (← written) h) in
-    record {
-      of-cut = λ few. exact-back e _ _ (rw written (claim .of-cut)) (claim .whole-suits) few;
-      of-joined = λ second chained₂ rest few.
-          let written₂ = ran-written (fresh e) second chained₂ in
-          exact-back e _ _ (rw (written, written₂) (claim .of-joined (callsOf second) rest)) (claim .all-suits) few;
-    }
+    let claim = demand-three e (callsOf ran) cut (rw (← ran-written (fresh e) ran chained) h) in
+    let way = asWords e widest in
+    let back : (es : List Event) → Suits widest es → (bytes : List ℕ) → length bytes ≤ 2 ^ 30 → Exact e bare bytes es → ReadBack way bytes es =
+    λ es suits bytes few exact. read-back way bytes es (exact few widest suits) in
+    ran-as e bare false ran cut chained claim (ReadBack way) (back _ (claim .whole-suits)) (back _ (claim .all-suits))
 
 -- ---- BY VALUE
 
-value-back : (e : Encoding) (bytes : List ℕ) (es : List Event) → ReadBack e bytes es → ReadByValue e bytes es
-value-back e bytes es back spacing allowed room r records ran enough =
+pub value-back : (way : Way) (bytes : List ℕ) (es : List Event) → ReadBack way bytes es → ReadByValue way bytes es
+value-back way bytes es back spacing allowed room r records ran enough =
     let x = by-value spacing allowed r room records ran enough in
     let opened = back .opened x in (
       opened,
@@ -105,10 +120,13 @@ value-back e bytes es back spacing allowed room r records ran enough =
     columns : List ℕ → List ℕ → List ℤ → List ℕ → Columns
     columns xs ys ts ps = record { xs = xs; ys = ys; ts = ts; ps = ps }
 
+-- calls that read records lent read them by value too
+pub by-values : (way : Way) (s : RawEventSink) (f : Front) (ran : List Ran) (cut : ℕ)
+    → CutAndResumed s f ran cut (ReadBack way) → CutAndResumed s f ran cut (ReadByValue way)
+by-values way s f ran cut read = record {
+  of-cut = λ few. value-back way _ _ (read .of-cut few);
+  of-joined = λ second chained₂ rest few. value-back way _ _ (read .of-joined second chained₂ rest few);
+}
+
 pub demand-three-by-value : DemandThreeByValue
-demand-three-by-value e ran chained cut h =
-    let read = demand-three-ran e ran chained cut h in
-    record {
-      of-cut = λ few. value-back e _ _ (read .of-cut few);
-      of-joined = λ second chained₂ rest few. value-back e _ _ (read .of-joined second chained₂ rest few);
-    }
+demand-three-by-value e ran chained cut h = by-values (asWords e widest) (fresh e) bare ran cut (demand-three-ran e ran chained cut h)

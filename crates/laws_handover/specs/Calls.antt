@@ -14,26 +14,27 @@ use Rattle.evt_types.specs.{Event.Event, Num.natural}
 use Rattle.evt_types.specs.declared.{Encoding.Encoding, Encoding.the-variants.Evt2, Encoding.the-variants.Evt3}
 use Rattle.read_columns.specs.Inside.{clock}
 use Rattle.write_buffer.specs.{declared.EncoderState.EncoderState, Columns.eventsIn}
-use Rattle.write_words.specs.Encode.{encodeNotes, encodeBytes}
+use Rattle.write_words.specs.Encode.{encodeNotes}
 use Rattle.laws_formats.specs.{Ready.limit, Ready.sayable, Either.freshOf}
-use Rattle.laws_formats.specs.Appends.{flat, appendNotes, noteBytes, appendBytes, bytes-next, notes-all, Understood, fresh-understood}
+use Rattle.laws_formats.specs.Appends.{flat, appendNotes, notes-all, Understood, fresh-understood}
 use Rattle.write_rules.specs.declared.{LastTime.LastTime, LastTime.the-variants.Never, LastTime.the-variants.At, RawEventSink.RawEventSink}
+use Rattle.write_rules.specs.Rules.{freshSink}
 use Rattle.write_rules.specs.Range.{timeBound, timeInRange, every, atMost, falls, fallsAfter, lastInRange}
 use Rattle.write_append.specs.{Append.lastAfter, Append.sends, Append.nextSink, Ends.accepts-checked, Ends.by-acceptance}
 use Rattle.write_rules.specs.Checks.{Checked, checked-of, or-neither}
-use Rattle.laws_handover.specs.Handover.{Call, isAccepted, next, callBytes, acceptedEvents, streamOf, streamWords, fresh, Typed}
+use Rattle.laws_handover.specs.Handover.{Call, isAccepted, next, callBytes, acceptedEvents, streamWords, Typed}
 use Rattle.laws_handover.specs.EventWords.{append-typed}
 
 -- ---- what an append that is refused, and one that is accepted, comes to
 
 module _ (s : RawEventSink) (c : Call) where
-  abbrev columns : List Event
+  abbrev pub columns : List Event
   columns = eventsIn (c .xs) (c .ys) (c .ts) (c .ps)
 
-  abbrev later : RawEventSink
+  abbrev pub later : RawEventSink
   later = nextSink s (c .xs) (c .ys) (c .ts) (c .ps)
 
-  abbrev bytes : List ℕ
+  abbrev pub bytes : List ℕ
   bytes = sends s (c .width) (c .height) (c .xs) (c .ys) (c .ts) (c .ps)
 
   -- the writer after it, and its bytes, by whether it is accepted
@@ -69,26 +70,6 @@ words-go false s c cs ih = ih s
 pub groups-words : (s : RawEventSink) (cs : List Call) → streamWords s cs ≡ appendNotes (s .version) (s .state) (groupsOf s cs)
 groups-words s [] = refl
 groups-words s (c ∷ cs) = rw (by-call s c .0) (words-go (isAccepted s c) s c cs (λ u. groups-words u cs))
-
--- and bytes, where no header is due
-bytes-go : (b : Bool) (s : RawEventSink) (c : Call) (cs : List Call) → s .«header_written» ≡ true
-    → ((u : RawEventSink) → u .«header_written» ≡ true → streamOf u cs ≡ appendBytes (u .version) (u .state) (groupsOf u cs))
-    → cond b (bytes s c) [] ++ streamOf (cond b (later s c) s) cs
-    ≡ appendBytes (s .version) (s .state) (cond b (columns s c ∷ []) [] ++ groupsOf (cond b (later s c) s) cs)
-bytes-go true s c cs h ih =
-    let none : bytes s c ≡ encodeBytes (s .version) (s .state) (columns s c) = rw h in
-    ap (λ (l : List ℕ). l ++ streamOf (later s c) cs) none
-    ∙ ap (λ (l : List ℕ). encodeBytes (s .version) (s .state) (columns s c) ++ l) (ih (later s c) (rw h))
-    ∙ sym (bytes-next (s .version) (s .state) (columns s c) (groupsOf (later s c) cs))
-bytes-go false s c cs h ih = ih s h
-
-groups-bytes : (s : RawEventSink) (cs : List Call) → s .«header_written» ≡ true → streamOf s cs ≡ appendBytes (s .version) (s .state) (groupsOf s cs)
-groups-bytes s [] h = refl
-groups-bytes s (c ∷ cs) h = rw (by-call s c .0, by-call s c .1) (bytes-go (isAccepted s c) s c cs h (λ u k. groups-bytes u cs k))
-
--- THE STREAM is its words
-pub stream-words : (s : RawEventSink) (cs : List Call) → s .«header_written» ≡ true → streamOf s cs ≡ noteBytes (s .version) (streamWords s cs)
-stream-words s cs h = rw (groups-words s cs) (groups-bytes s cs h)
 
 -- EACH ACCEPTED EVENT stands in one of them
 pub stream-notes : (s : RawEventSink) (cs : List Call) → notes (streamWords s cs) ≡ acceptedEvents s cs
@@ -188,9 +169,12 @@ pub bound-is : (e : Encoding) → timeBound e ≡ limit e
 bound-is Evt2 = refl
 bound-is Evt3 = refl
 
-module _ (e : Encoding) (cs : List Call) where
-  pub fresh-rise : Rise clock (sayable (limit e)) 0 (acceptedEvents (fresh e) cs)
-  fresh-rise = rw (← bound-is e) (accepted-rise (fresh e) cs)
+module _ (e : Encoding) (header : Bool) (cs : List Call) where
+  abbrev writer : RawEventSink
+  writer = freshSink e header
 
-  pub stream-understood : Understood e (freshOf e) (streamWords (fresh e) cs)
-  stream-understood = rw (groups-words (fresh e) cs) (fresh-understood e (groupsOf (fresh e) cs) (rw (groups-events (fresh e) cs) fresh-rise))
+  pub fresh-rise : Rise clock (sayable (limit e)) 0 (acceptedEvents writer cs)
+  fresh-rise = rw (← bound-is e) (accepted-rise writer cs)
+
+  pub stream-understood : Understood e (freshOf e) (streamWords writer cs)
+  stream-understood = rw (groups-words writer cs) (fresh-understood e (groupsOf writer cs) (rw (groups-events writer cs) fresh-rise))

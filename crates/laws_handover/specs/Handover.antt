@@ -10,12 +10,16 @@
 --   the event word of each accepted event                                  `streamWords`, `Typed`, `GivenAt`
 --   a cut; whole before it                                                 `beforeCut`, `wholeBefore`
 --   the joined stream                                                      `joined`; of calls that ran: `joinedRan`
+--   decoding: reading in the writer's encoding, no header and no limit     `asWords`, `readBy`
 --   decoding what came before gives exactly the whole events               `DemandThreeRan`: `of-cut`, `decoded`
 --   the joined stream decodes to all                                       `DemandThreeRan`: `of-joined`
 --   a second list always exists                                            `SecondListExists`, `singles`
 --   slices by number and time, exact at every allowed spacing              `opened`, `by-number`, `by-time` of `ReadBack`
 --   by an index whose records are lent, or held by value in any room       `lent`, `by-value`; the latter in full: `DemandThreeByValue`
 --   the count and all four columns up to it; by every two indexes alike    `HoldsEvents`, `Alike`, `alike-number`, `alike-time`
+--
+-- The definitions are those of specs/Headed.antt too, which says the same of streams behind a written header: what stands before the words is a `Front`, here
+-- `bare`, nothing.
 use mathlib.Core.Path.{_≡_}
 use mathlib.Core.Bool.{Bool, true, false, cond, _||_}
 use mathlib.Core.List.{List, [], _∷_, _++_, map}
@@ -26,7 +30,7 @@ use lib.IntN.{ℤ, pos}
 use lib.ListN.{length, take, drop, replicate, length-replicate}
 use Rattle.laws_stream.specs.{Machine.Machine, Machine.Note, Machine.All, Machine.words, Machine.notes, Slice.sift, Words.stream}
 use Rattle.evt_types.specs.{Event.Event, Outcome.Outcome, Layout.type2, Layout.type3, declared.SensorSize.SensorSize}
-use Rattle.evt_types.specs.{declared.SensorSize.the-variants.Known}
+use Rattle.evt_types.specs.{declared.SensorSize.the-variants.Known, declared.SensorSize.the-variants.Unknown}
 use Rattle.evt2_decoder.specs.Evt2.{fresh2, reader2}
 use Rattle.evt3_decoder.specs.Evt3.{fresh3, reader3}
 use Rattle.evt_types.specs.declared.{Encoding.Encoding, Encoding.the-variants.Evt2, Encoding.the-variants.Evt3, Limit.the-variants.Unlimited}
@@ -36,12 +40,14 @@ use Rattle.write_rules.specs.{declared.RawEventSink.RawEventSink, Rules.freshSi
 use Rattle.write_append.specs.declared.{AppendAnswer.AppendAnswer, AppendAnswer.the-variants.Written}
 use Rattle.write_append.specs.declared.{AppendAnswer.the-variants.Refused as AppendRefused, Appended.Appended}
 use Rattle.write_append.specs.Append.{AppendedBytes, appendOutcome, accepts, handedOver, sinkAfter, AppendOwed}
-use Rattle.read_rules.specs.declared.{ReadAnswer.ReadAnswer, ReadAnswer.the-variants.Read}
+use Rattle.write_header.specs.Header.{headerText}
+use Rattle.read_rules.specs.declared.{ReadAnswer.ReadAnswer, ReadAnswer.the-variants.Read, Reading.Reading}
 use Rattle.header.specs.Header.{hasZero}
-use Rattle.read_rules.specs.Read.{DecodesWords, Handed, shortest, kept, widthOf, heightOf, sizeless}
+use Rattle.read_rules.specs.Read as Outcomes
+use Rattle.read_rules.specs.Read.{ReadEvents, wordsOutcome, rawOutcome, Handed, shortest, kept, widthOf, heightOf, sizeless}
 use Rattle.index_build.specs.declared.{Checkpoint.Checkpoint, OpenAnswer.OpenAnswer, OpenAnswer.the-variants.Opened, Opening.Opening}
 use Rattle.index_build.specs.{declared.RawSliceSource.RawSliceSource, declared.WordsOptions.WordsOptions, Nth.blank as blankRecord}
-use Rattle.index_build.specs.Index.{Opens, OpensWords, openWordsOutcome, recordCount, sourceOf, spacingOk}
+use Rattle.index_build.specs.Index.{Body, Opens, openWordsOutcome, openRawOutcome, recordCount, sourceOf, spacingOk}
 use Rattle.slice_rules.specs.declared.{SliceAnswer.SliceAnswer, SliceAnswer.the-variants.Sliced}
 use Rattle.slice_rules.specs.Slice.{SlicesIndex, SlicesTime, isDuring}
 
@@ -98,6 +104,23 @@ streamWords s (c ∷ cs) = callWords s c ++ streamWords (next s c) cs
 abbrev pub fresh : Encoding → RawEventSink
 fresh e = freshSink e false
 
+-- ---- what stands before the words
+
+-- nothing, or a header that names the encoding and a size
+pub data Front : Type 0 where
+  bare : Front
+  headed : (width height : ℕ) → Front
+
+abbrev pub frontBytes : Encoding → Front → List ℕ
+frontBytes e bare = []
+frontBytes e (headed w h) = headerText e w h
+
+-- the byte at which the words begin
+abbrev pub startOf : Encoding → Front → ℕ
+startOf e f = length (frontBytes e f)
+
+-- ---- the words
+
 -- an event word is of type 0 or 1 in EVT2, of type 2 or 4 in EVT3
 abbrev pub isEventWord : Encoding → ℕ → Bool
 isEventWord Evt2 w = leb (type2 w) 1
@@ -128,21 +151,29 @@ abbrev pub brokenAfter : (size cut at : ℕ) → List (Note ℕ Event) → List 
 brokenAfter size cut at [] = []
 brokenAfter size cut at (w ∷ ws) = cond (leb (at + size) cut) [] (w .events) ++ brokenAfter size cut (at + size) ws
 
--- of a stream, given by its bytes, or by its words each with the events whose event word it is
-module _ (e : Encoding) (cut : ℕ) where
+-- where the last word that is whole before the cut ends, of words that begin at byte `at`
+abbrev pub wholeEnd : (size cut at : ℕ) → ℕ
+wholeEnd size cut at = at + (cut - at) / size * size
+
+-- of a stream behind a front, given by its bytes, or by its words each with the events whose event word it is
+module _ (e : Encoding) (f : Front) (cut : ℕ) where
   -- what stands
   abbrev pub beforeCut : List ℕ → List ℕ
   beforeCut bytes = take cut bytes
 
   abbrev pub whole : List (Note ℕ Event) → List Event
-  whole ws = wholeBefore (encodeSize e) cut 0 ws
+  whole ws = wholeBefore (encodeSize e) cut (startOf e f) ws
 
   abbrev pub others : List (Note ℕ Event) → List Event
-  others ws = brokenAfter (encodeSize e) cut 0 ws
+  others ws = brokenAfter (encodeSize e) cut (startOf e f) ws
 
-  -- what stands less a broken last word, then the stream of a second list, run in the same way by a fresh writer
+  -- what stands less a broken last word
+  abbrev pub unbroken : List ℕ → List ℕ
+  unbroken bytes = take (wholeEnd (encodeSize e) cut (startOf e f)) (beforeCut bytes)
+
+  -- then the stream of a second list, run in the same way by a fresh writer that sends no header
   abbrev pub joined : List ℕ → (second : List Call) → List ℕ
-  joined bytes second = take (cut / encodeSize e * encodeSize e) (beforeCut bytes) ++ streamOf (fresh e) second
+  joined bytes second = unbroken bytes ++ streamOf (fresh e) second
 
 -- ---- what is read of some bytes is exactly `es`
 
@@ -187,57 +218,99 @@ module _ (bytes : List ℕ) (es : List Event) (source : RawSliceSource) (records
 abbrev pub optionsOf : Encoding → SensorSize → (spacing : ℕ) → WordsOptions
 optionsOf e size spacing = record { encoding = e; «sensor_size» = size; spacing = spacing }
 
-module _ (e : Encoding) (size : SensorSize) (bytes : List ℕ) (es : List Event) where
-  -- decoding, with no header and no limit, where the columns suffice: accepted, the count and all four columns
+-- how some bytes are read: as words, by an encoding and a size that the caller gives; or as a recording, by its header, which names these
+pub data Way : Type 0 where
+  asWords : Encoding → SensorSize → Way
+  asRecording : Encoding → (width height : ℕ) → Way
+
+abbrev pub encodingBy : Way → Encoding
+encodingBy (asWords e size) = e
+encodingBy (asRecording e w h) = e
+
+abbrev pub sizeBy : Way → SensorSize
+sizeBy (asWords e size) = size
+sizeBy (asRecording e w h) = Known w h
+
+-- where the words begin
+abbrev pub startBy : Way → ℕ
+startBy (asWords e size) = 0
+startBy (asRecording e w h) = length (headerText e w h)
+
+-- by `decode_words` or by `read_raw`, with no limit
+abbrev pub readBy : Way → List ℕ → (room : ℕ) → Outcome ReadEvents
+readBy (asWords e size) bytes = wordsOutcome bytes e size Unlimited
+readBy (asRecording e w h) bytes = rawOutcome bytes (record { «sensor_size» = Unknown; «max_events» = Unlimited })
+
+-- by `open_words` or by `open`
+abbrev pub openBy : Way → List ℕ → (spacing room : ℕ) → Outcome Body
+openBy (asWords e size) bytes spacing = openWordsOutcome bytes (optionsOf e size spacing)
+openBy (asRecording e w h) bytes spacing = openRawOutcome bytes (record { «sensor_size» = Unknown; spacing = spacing })
+
+module _ (way : Way) (bytes : List ℕ) (es : List Event) where
+  abbrev pub readingAs : Reading
+  readingAs = record { encoding = encodingBy way; width = widthOf (sizeBy way) es; height = heightOf (sizeBy way) es; count = length es }
+
+  -- decoding, with no limit, where the columns suffice: accepted, the count and all four columns
   abbrev pub Decodes : Type 0
   Decodes = (r : ReadAnswer) (xs₀ ys₀ : List ℕ) (ts₀ : List ℤ) (ps₀ xs ys : List ℕ) (ts : List ℤ) (ps : List ℕ)
-      → DecodesWords bytes e size Unlimited r xs₀ ys₀ ts₀ ps₀ xs ys ts ps → length es ≤ shortest xs₀ ys₀ ts₀ ps₀
-      → (r ≡ Read (record { encoding = e; width = widthOf size es; height = heightOf size es; count = length es })) × Handed es xs₀ ys₀ ts₀ ps₀ xs ys ts ps
+      → Outcomes.Reads (readBy way bytes (shortest xs₀ ys₀ ts₀ ps₀)) r xs₀ ys₀ ts₀ ps₀ xs ys ts ps → length es ≤ shortest xs₀ ys₀ ts₀ ps₀
+      → (r ≡ Read readingAs) × Handed es xs₀ ys₀ ts₀ ps₀ xs ys ts ps
+
+  -- how many records an index has
+  abbrev pub recordsBy : (spacing : ℕ) → ℕ
+  recordsBy spacing = recordCount (length (drop (startBy way) bytes)) spacing
+
+  abbrev pub openingAs : (spacing : ℕ) → Opening
+  openingAs spacing = record { source = sourceOf (length bytes) (startBy way) (encodingBy way) (sizeBy way) spacing es; records = recordsBy spacing }
 
   -- opened at this spacing, and sliced by number and by time over the source told and the records made
   abbrev pub Indexed : (spacing : ℕ) → OpenAnswer → List Checkpoint → Type 0
   Indexed spacing r records =
-      let source = sourceOf (length bytes) 0 e size spacing es in
-      let made = recordCount (length bytes) spacing in
-      (r ≡ Opened (record { source = source; records = made })) × ByNumber bytes es source (take made records) × ByTime bytes es source (take made records)
+      let o = openingAs spacing in
+      let made = take (o .records) records in
+      (r ≡ Opened o) × ByNumber bytes es (o .source) made × ByTime bytes es (o .source) made
 
   -- an index built likewise from just these bytes at any allowed spacing, into the first `room` of some records, where these suffice
   abbrev pub Indexes : Type 0
-  Indexes = (spacing : ℕ) → spacingOk e spacing ≡ true
+  Indexes = (spacing : ℕ) → spacingOk (encodingBy way) spacing ≡ true
       → (room : ℕ) (r : OpenAnswer) (records₀ records : List Checkpoint) → room ≤ length records₀
-      → Opens (openWordsOutcome bytes (optionsOf e size spacing) room) r records₀ records
-      → recordCount (length bytes) spacing ≤ room → Indexed spacing r records
+      → Opens (openBy way bytes spacing room) r records₀ records → recordsBy spacing ≤ room → Indexed spacing r records
 
   pub record Reads : Type 0 where
     pub decodes : Decodes
     pub indexes : Indexes
 
--- bytes within the table's 4 are read exactly, whatever size keeps the events
-abbrev pub Exact : Encoding → List ℕ → List Event → Type 0
-Exact e bytes es = length bytes ≤ 2 ^ 30 → (size : SensorSize) → Suits size es → Reads e size bytes es
+-- words are read exactly whatever size keeps the events, a recording where its header's size does
+abbrev pub ReadBehind : Encoding → Front → List ℕ → List Event → Type 0
+ReadBehind e bare bytes es = (size : SensorSize) → Suits size es → Reads (asWords e size) bytes es
+ReadBehind e (headed w h) bytes es = w < 2 ^ 64 → h < 2 ^ 64 → Suits (Known w h) es → Reads (asRecording e w h) bytes es
+
+-- within the table's 4
+abbrev pub Exact : Encoding → Front → List ℕ → List Event → Type 0
+Exact e f bytes es = length bytes ≤ 2 ^ 30 → ReadBehind e f bytes es
 
 -- ---- the claim
 
--- of a stream of these bytes and words that carries es, and a cut
-pub record Claim (e : Encoding) (bytes : List ℕ) (ws : List (Note ℕ Event)) (es : List Event) (cut : ℕ) : Type 0 where
-  -- the bytes are those of the words; each event stands in one, its event word, and that is whole before the cut or not
-  pub worded : bytes ≡ stream (encodeSize e) (words ws)
+-- of a stream of these bytes and words that carries es, behind a front, and a cut at its end or behind it
+pub record Claim (e : Encoding) (f : Front) (bytes : List ℕ) (ws : List (Note ℕ Event)) (es : List Event) (cut : ℕ) : Type 0 where
+  -- the bytes are those of the front and the words; each event stands in one word, its event word, and that is whole before the cut or not
+  pub worded : bytes ≡ frontBytes e f ++ stream (encodeSize e) (words ws)
   pub noted : notes ws ≡ es
   pub typed : All (Typed e) ws
   pub given : GivenAt e ws
-  pub parted : whole e cut ws ++ others e cut ws ≡ es
+  pub parted : whole e f cut ws ++ others e f cut ws ≡ es
   -- 2048 by 2048 keeps all
-  pub whole-suits : Suits widest (whole e cut ws)
+  pub whole-suits : Suits widest (whole e f cut ws)
   pub all-suits : Suits widest es
   -- what stands decodes, and is sliced, as the events that are whole
-  pub of-cut : Exact e (beforeCut e cut bytes) (whole e cut ws)
+  pub of-cut : Exact e f (beforeCut e f cut bytes) (whole e f cut ws)
   -- and the joined stream as all events, where the second list's accepted events are the others
-  pub of-joined : (second : List Call) → acceptedEvents (fresh e) second ≡ others e cut ws → Exact e (joined e cut bytes second) es
+  pub of-joined : (second : List Call) → acceptedEvents (fresh e) second ≡ others e f cut ws → Exact e f (joined e f cut bytes second) es
 
 -- for both encodings, every list and every cut
 abbrev pub DemandThree : Type 0
 DemandThree = (e : Encoding) (calls : List Call) (cut : ℕ) → cut ≤ length (streamOf (fresh e) calls)
-    → Claim e (streamOf (fresh e) calls) (streamWords (fresh e) calls) (acceptedEvents (fresh e) calls) cut
+    → Claim e bare (streamOf (fresh e) calls) (streamWords (fresh e) calls) (acceptedEvents (fresh e) calls) cut
 
 -- ---- a second list always exists: the others one by one, each with an output of 8 bytes
 
@@ -247,18 +320,18 @@ single a = record { width = 2048; height = 2048; xs = a .x ∷ []; ys = a .y ∷
 abbrev pub singles : List Event → List Call
 singles es = map single es
 
-module _ (e : Encoding) (calls : List Call) (cut : ℕ) where
+module _ (e : Encoding) (f : Front) (s : RawEventSink) (calls : List Call) (cut : ℕ) where
   abbrev pub othersOf : List Event
-  othersOf = others e cut (streamWords (fresh e) calls)
+  othersOf = others e f cut (streamWords s calls)
 
   pub record Resumable : Type 0 where
     -- all are accepted, up to the count that rule 10 allows a writer: more are never left where demand 3 speaks, of streams of at most 2 ^ 30 bytes
     pub accepted : length othersOf ≤ 2 ^ 62 → acceptedEvents (fresh e) (singles othersOf) ≡ othersOf
     -- so what is joined is read as all events; here no count is asked, since each append writes a byte at least, and `Exact` is of at most 2 ^ 30
-    pub exact : Exact e (joined e cut (streamOf (fresh e) calls) (singles othersOf)) (acceptedEvents (fresh e) calls)
+    pub exact : Exact e f (joined e f cut (streamOf s calls) (singles othersOf)) (acceptedEvents s calls)
 
 abbrev pub SecondListExists : Type 0
-SecondListExists = (e : Encoding) (calls : List Call) (cut : ℕ) → Resumable e calls cut
+SecondListExists = (e : Encoding) (calls : List Call) (cut : ℕ) → Resumable e bare (fresh e) calls cut
 
 -- ---- THE SAME OF CALLS THAT RAN, at a sensor of 2048 by 2048: by the contracts of `append`, `decode_words`, `open_words`, `slice_index` and `slice_time`
 -- alone
@@ -305,25 +378,25 @@ abbrev pub HoldsEvents : List Event → (c₀ c : Columns) → Type 0
 HoldsEvents es c₀ c = Handed es (c₀ .xs) (c₀ .ys) (c₀ .ts) (c₀ .ps) (c .xs) (c .ys) (c .ts) (c .ps)
 
 -- an index that was built from just these bytes, at an allowed spacing, into the first `room` of some records, and these suffice
-pub record Index (e : Encoding) (bytes : List ℕ) : Type 0 where
+pub record Index (way : Way) (bytes : List ℕ) : Type 0 where
   pub spacing : ℕ
-  pub allowed : spacingOk e spacing ≡ true
+  pub allowed : spacingOk (encodingBy way) spacing ≡ true
   pub room : ℕ
   pub answer : OpenAnswer
   pub records₀ : List Checkpoint
   pub records : List Checkpoint
   pub within : room ≤ length records₀
-  pub ran : Opens (openWordsOutcome bytes (optionsOf e widest spacing) room) answer records₀ records
-  pub enough : recordCount (length bytes) spacing ≤ room
+  pub ran : Opens (openBy way bytes spacing room) answer records₀ records
+  pub enough : recordCount (length (drop (startBy way) bytes)) spacing ≤ room
 
--- what `index_fixed::open_words` promises, whatever room is named: 64 records are held, blank before
-abbrev pub OpensByValue : List ℕ → WordsOptions → (room : ℕ) → OpenAnswer → List Checkpoint → Type 0
-OpensByValue words options room r records = Opens (openWordsOutcome words options (min room 64)) r (replicate 64 blankRecord) records
+-- what `index_fixed::open_words` and `open` promise, whatever room is named: 64 records are held, blank before
+abbrev pub OpensByValue : Way → List ℕ → (spacing room : ℕ) → OpenAnswer → List Checkpoint → Type 0
+OpensByValue way bytes spacing room r records = Opens (openBy way bytes spacing (min room 64)) r (replicate 64 blankRecord) records
 
-module _ {e : Encoding} {bytes : List ℕ} (spacing : ℕ) (allowed : spacingOk e spacing ≡ true) (answer : OpenAnswer) where
+module _ {way : Way} {bytes : List ℕ} (spacing : ℕ) (allowed : spacingOk (encodingBy way) spacing ≡ true) (answer : OpenAnswer) where
   -- such an index is one whose records were lent, all of them
-  abbrev pub lent : (records₀ records : List Checkpoint) → OpensWords bytes (optionsOf e widest spacing) answer records₀ records
-      → recordCount (length bytes) spacing ≤ length records₀ → Index e bytes
+  abbrev pub lent : (records₀ records : List Checkpoint) → Opens (openBy way bytes spacing (length records₀)) answer records₀ records
+      → recordCount (length (drop (startBy way) bytes)) spacing ≤ length records₀ → Index way bytes
   lent records₀ records ran enough = record {
     spacing = spacing;
     allowed = allowed;
@@ -337,8 +410,8 @@ module _ {e : Encoding} {bytes : List ℕ} (spacing : ℕ) (allowed : spacingOk 
   }
 
   -- and one that holds them by value
-  abbrev pub by-value : (room : ℕ) (records : List Checkpoint) → OpensByValue bytes (optionsOf e widest spacing) room answer records
-      → recordCount (length bytes) spacing ≤ min room 64 → Index e bytes
+  abbrev pub by-value : (room : ℕ) (records : List Checkpoint) → OpensByValue way bytes spacing room answer records
+      → recordCount (length (drop (startBy way) bytes)) spacing ≤ min room 64 → Index way bytes
   by-value room records ran enough = record {
     spacing = spacing;
     allowed = allowed;
@@ -351,7 +424,7 @@ module _ {e : Encoding} {bytes : List ℕ} (spacing : ℕ) (allowed : spacingOk 
     enough = enough;
   }
 
-module _ {e : Encoding} {bytes : List ℕ} (x : Index e bytes) (o : Opening) where
+module _ {way : Way} {bytes : List ℕ} (x : Index way bytes) (o : Opening) where
   -- slices that ran, by the source that opening told and as many records as it told
   abbrev pub NumberRan : (i0 i1 : ℕ) → SliceAnswer → (c₀ c : Columns) → Type 0
   NumberRan i0 i1 r c₀ c =
@@ -371,54 +444,59 @@ pub record Alike (n : ℕ) (r₁ r₂ : SliceAnswer) (c₁ c₂ : Columns) : Typ
   pub same-p : take n (c₁ .ps) ≡ take n (c₂ .ps)
 
 -- what calls that ran over some bytes have read: exactly es
-pub record ReadBack (e : Encoding) (bytes : List ℕ) (es : List Event) : Type 0 where
+pub record ReadBack (way : Way) (bytes : List ℕ) (es : List Event) : Type 0 where
   pub decoded : (r : ReadAnswer) (c₀ c : Columns)
-      → DecodesWords bytes e widest Unlimited r (c₀ .xs) (c₀ .ys) (c₀ .ts) (c₀ .ps) (c .xs) (c .ys) (c .ts) (c .ps) → length es ≤ room c₀
-      → (r ≡ Read (record { encoding = e; width = 2048; height = 2048; count = length es })) × HoldsEvents es c₀ c
-  pub opened : (x : Index e bytes)
-      → x .answer ≡ Opened (record { source = sourceOf (length bytes) 0 e widest (x .spacing) es; records = recordCount (length bytes) (x .spacing) })
-  pub by-number : (x : Index e bytes) (o : Opening) → x .answer ≡ Opened o → (i0 i1 : ℕ) (r : SliceAnswer) (c₀ c : Columns)
+      → Outcomes.Reads (readBy way bytes (room c₀)) r (c₀ .xs) (c₀ .ys) (c₀ .ts) (c₀ .ps) (c .xs) (c .ys) (c .ts) (c .ps) → length es ≤ room c₀
+      → (r ≡ Read (readingAs way bytes es)) × HoldsEvents es c₀ c
+  pub opened : (x : Index way bytes) → x .answer ≡ Opened (openingAs way bytes es (x .spacing))
+  pub by-number : (x : Index way bytes) (o : Opening) → x .answer ≡ Opened o → (i0 i1 : ℕ) (r : SliceAnswer) (c₀ c : Columns)
       → NumberRan x o i0 i1 r c₀ c → length (numbered es i0 i1) ≤ room c₀
       → (r ≡ Sliced (length (numbered es i0 i1))) × HoldsEvents (numbered es i0 i1) c₀ c
-  pub by-time : (x : Index e bytes) (o : Opening) → x .answer ≡ Opened o → (t0 t1 : ℤ) (r : SliceAnswer) (c₀ c : Columns)
+  pub by-time : (x : Index way bytes) (o : Opening) → x .answer ≡ Opened o → (t0 t1 : ℤ) (r : SliceAnswer) (c₀ c : Columns)
       → TimeRan x o t0 t1 r c₀ c → length (duringTimes es t0 t1) ≤ room c₀
       → (r ≡ Sliced (length (duringTimes es t0 t1))) × HoldsEvents (duringTimes es t0 t1) c₀ c
   -- by whatever two indexes, lent or by value and at whatever spacings, into whatever columns that suffice
-  pub alike-number : (x y : Index e bytes) (o p : Opening) → x .answer ≡ Opened o → y .answer ≡ Opened p → (i0 i1 : ℕ) (r q : SliceAnswer) (c₀ c d₀ d : Columns)
+  pub alike-number : (x y : Index way bytes) (o p : Opening) → x .answer ≡ Opened o → y .answer ≡ Opened p
+      → (i0 i1 : ℕ) (r q : SliceAnswer) (c₀ c d₀ d : Columns)
       → NumberRan x o i0 i1 r c₀ c → NumberRan y p i0 i1 q d₀ d → length (numbered es i0 i1) ≤ room c₀ → length (numbered es i0 i1) ≤ room d₀
       → Alike (length (numbered es i0 i1)) r q c d
-  pub alike-time : (x y : Index e bytes) (o p : Opening) → x .answer ≡ Opened o → y .answer ≡ Opened p → (t0 t1 : ℤ) (r q : SliceAnswer) (c₀ c d₀ d : Columns)
+  pub alike-time : (x y : Index way bytes) (o p : Opening) → x .answer ≡ Opened o → y .answer ≡ Opened p
+      → (t0 t1 : ℤ) (r q : SliceAnswer) (c₀ c d₀ d : Columns)
       → TimeRan x o t0 t1 r c₀ c → TimeRan y p t0 t1 q d₀ d → length (duringTimes es t0 t1) ≤ room c₀ → length (duringTimes es t0 t1) ≤ room d₀
       → Alike (length (duringTimes es t0 t1)) r q c d
 
--- of appends that ran, cut at byte `cut` of what they wrote
-module _ (e : Encoding) (ran : List Ran) (cut : ℕ) where
+-- of appends that ran from a writer on, cut at byte `cut` of what they wrote, behind a front
+module _ (s : RawEventSink) (f : Front) (ran : List Ran) (cut : ℕ) where
+  abbrev version : Encoding
+  version = s .version
+
   abbrev pub wholeRan : List Event
-  wholeRan = whole e cut (streamWords (fresh e) (callsOf ran))
+  wholeRan = whole version f cut (streamWords s (callsOf ran))
 
   abbrev pub othersRan : List Event
-  othersRan = others e cut (streamWords (fresh e) (callsOf ran))
+  othersRan = others version f cut (streamWords s (callsOf ran))
 
   abbrev pub joinedRan : (second : List Ran) → List ℕ
-  joinedRan second = take (cut / encodeSize e * encodeSize e) (take cut (allWritten ran)) ++ allWritten second
+  joinedRan second = unbroken version f cut (allWritten ran) ++ allWritten second
 
   -- where `Read bytes es` says how some bytes are read as es
   pub record CutAndResumed (Read : List ℕ → List Event → Type 0) : Type 0 where
     pub of-cut : length (take cut (allWritten ran)) ≤ 2 ^ 30 → Read (take cut (allWritten ran)) wholeRan
-    pub of-joined : (second : List Ran) → Chained (fresh e) second → acceptedEvents (fresh e) (callsOf second) ≡ othersRan
-        → length (joinedRan second) ≤ 2 ^ 30 → Read (joinedRan second) (acceptedEvents (fresh e) (callsOf ran))
+    pub of-joined : (second : List Ran) → Chained (fresh version) second → acceptedEvents (fresh version) (callsOf second) ≡ othersRan
+        → length (joinedRan second) ≤ 2 ^ 30 → Read (joinedRan second) (acceptedEvents s (callsOf ran))
 
 abbrev pub DemandThreeRan : Type 0
-DemandThreeRan = (e : Encoding) (ran : List Ran) → Chained (fresh e) ran → (cut : ℕ) → cut ≤ length (allWritten ran) → CutAndResumed e ran cut (ReadBack e)
+DemandThreeRan = (e : Encoding) (ran : List Ran) → Chained (fresh e) ran → (cut : ℕ) → cut ≤ length (allWritten ran)
+    → CutAndResumed (fresh e) bare ran cut (ReadBack (asWords e widest))
 
 -- ---- THE SAME BY VALUE: by the contracts of `open_words`, `slice_index` and `slice_time` of `index_fixed`
 
 -- opened whatever room is named, if it holds the records, and sliced over as many as opening told
-abbrev pub ReadByValue : Encoding → List ℕ → List Event → Type 0
-ReadByValue e bytes es = (spacing : ℕ) → spacingOk e spacing ≡ true
-    → (room : ℕ) (r : OpenAnswer) (records : List Checkpoint) → OpensByValue bytes (optionsOf e widest spacing) room r records
-    → recordCount (length bytes) spacing ≤ min room 64 → Indexed e widest bytes es spacing r records
+abbrev pub ReadByValue : Way → List ℕ → List Event → Type 0
+ReadByValue way bytes es = (spacing : ℕ) → spacingOk (encodingBy way) spacing ≡ true
+    → (room : ℕ) (r : OpenAnswer) (records : List Checkpoint) → OpensByValue way bytes spacing room r records
+    → recordsBy way bytes es spacing ≤ min room 64 → Indexed way bytes es spacing r records
 
 abbrev pub DemandThreeByValue : Type 0
 DemandThreeByValue = (e : Encoding) (ran : List Ran) → Chained (fresh e) ran → (cut : ℕ) → cut ≤ length (allWritten ran)
-    → CutAndResumed e ran cut (ReadByValue e)
+    → CutAndResumed (fresh e) bare ran cut (ReadByValue (asWords e widest))

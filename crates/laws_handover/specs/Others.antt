@@ -1,6 +1,6 @@
 -- A SECOND LIST EXISTS, proved: events that can be said, with times that never fall, are all accepted by a fresh writer, one an append.
 use mathlib.Core.Path.{_≡_, refl, ap, _∙_}
-use mathlib.Core.Bool.{true, false}
+use mathlib.Core.Bool.{Bool, true, false}
 use mathlib.Core.List.{List, [], _∷_, _++_}
 use Prim.Native.Nat.{ℕ, _+_, _^_, _≤_, _<_, min}
 use native.Mathlib.Omega.{arith}
@@ -16,9 +16,11 @@ use Rattle.laws_formats.specs.{Ready.limit, Ready.sayable, Either.lawfulOf, App
 use Rattle.write_rules.specs.declared.{LastTime.LastTime, LastTime.the-variants.Never, LastTime.the-variants.At, RawEventSink.RawEventSink}
 use Rattle.write_rules.specs.Range.{timeBound, every, falls, fallsAfter, sinkInRange}
 use Rattle.write_append.specs.{Append.lastAfter, Append.nextSink, Append.appendOutcome, Laws.range-kept}
-use Rattle.laws_handover.specs.Handover.{isAccepted, next, callBytes, acceptedEvents, streamOf, streamWords, fresh, whole}
-use Rattle.laws_handover.specs.Handover.{single, singles, othersOf, SecondListExists}
-use Rattle.laws_handover.specs.{Calls.by-call, Calls.bound-is, Calls.Rises, Calls.lastTime, Proof.fresh-sent, Proof.claim}
+use Rattle.write_rules.specs.Rules.{freshSink}
+use Rattle.laws_handover.specs.Handover.{Call, isAccepted, next, callBytes, acceptedEvents, streamOf, streamWords, fresh, Front, bare, startOf}
+use Rattle.laws_handover.specs.Handover.{whole, single, singles, othersOf, Resumable, SecondListExists}
+use Rattle.laws_handover.specs.{Calls.by-call, Calls.bound-is, Calls.Rises, Calls.lastTime, Headed.frontOf, Fronts.front-bare}
+use Rattle.laws_handover.specs.{Proof.sent-by, Proof.claim}
 
 -- words that carry an event are some bytes
 some-bytes : (e : Encoding) (a : Event) (ns : List (Note ℕ Event)) → notes ns ≡ a ∷ [] → 0 < length (noteBytes e ns)
@@ -76,17 +78,22 @@ singles-all s (a ∷ es) written in-range rise few =
     let kept = rw (end .0) at (range-kept s (c .width) (c .height) (c .xs) (c .ys) (c .ts) (c .ps) (c .room) ok (omega arith)) in
     rw (ok, end .0, singles-all (later s a) es (rw written) kept (rise .1) (omega arith))
 
--- THE OTHERS, after any cut of any list's stream
-pub second-list : SecondListExists
-second-list e calls cut =
-    let ws = streamWords (fresh e) calls in
-    let rest = othersOf e calls cut in
-    let sent = fresh-sent e calls in
-    let c = claim e (streamOf (fresh e) calls) ws (acceptedEvents (fresh e) calls) sent cut in
+-- THE OTHERS, after any cut of what a fresh writer, of a header or of none, sent behind a front
+pub resumable : (e : Encoding) (f : Front) (header : Bool) (calls : List Call) → frontOf (freshSink e header) calls ≡ f → (cut : ℕ) → startOf e f ≤ cut
+    → Resumable e f (freshSink e header) calls cut
+resumable e f header calls is cut behind =
+    let s = freshSink e header in
+    let ws = streamWords s calls in
+    let rest = othersOf e f s calls cut in
+    let sent = sent-by e header calls f is in
+    let c = claim e f (streamOf s calls) ws (acceptedEvents s calls) sent cut behind in
     let rise : Rises e 0 rest =
-    rw (bound-is e) (rise-suffix clock (sayable (limit e)) 0 (whole e cut ws) rest (rw (c .parted) (sent .rises))) in
+    rw (bound-is e) (rise-suffix clock (sayable (limit e)) 0 (whole e f cut ws) rest (rw (c .parted) (sent .rises))) in
     let all = singles-all (fresh e) rest refl refl rise in
     record {
       accepted = λ few. all (omega arith);
       exact = λ few. c .of-joined (singles rest) (all (omega (arith, rw length-append at few))) few;
     }
+
+pub second-list : SecondListExists
+second-list e calls cut = resumable e bare false calls (front-bare (fresh e) calls refl) cut (omega arith)

@@ -1,13 +1,13 @@
 -- DEMAND 3, proved: what a fresh writer sends is a stream that a fresh decoder understands, so is what is left of such a stream and resumed, and all such
 -- streams are as claimed.
-use mathlib.Core.Path.{_≡_, refl, ap, _∙_}
-use mathlib.Core.Bool.{true}
-use mathlib.Core.List.{List, [], _∷_, _++_}
-use Prim.Native.Nat.{ℕ, _*_, _/_, _≤_, _<_}
+use mathlib.Core.Path.{_≡_, refl, sym, ap, _∙_}
+use mathlib.Core.Bool.{Bool, true, false}
+use mathlib.Core.List.{List, [], _∷_, _++_, append-assoc}
+use Prim.Native.Nat.{ℕ, _+_, _-_, _*_, _/_, _≤_, _<_}
 use native.Mathlib.Omega.{arith}
 use native.Mathlib.Nat.{div-add-mod'}
 use lib.ListN.{take, drop}
-use lib.Seq.{take-take}
+use lib.Seq.{take-add, take-at, drop-at, take-take}
 use Rattle.laws_stream.specs.Machine.{Machine, Note, Says, All, all-append, all-append-left, all-take, notes, notes-append, notes-split}
 use Rattle.laws_stream.specs.{Order.Rise, Slice.sift-all}
 use Rattle.evt_types.specs.Event.{Event}
@@ -20,16 +20,17 @@ use Rattle.read_columns.specs.Inside.{clock, inside}
 use Rattle.read_window.specs.declared.Window.{Window}
 use Rattle.read_select.specs.Uses.{PastOver}
 use Rattle.write_words.specs.Encode.{encodeSize}
+use Rattle.write_rules.specs.{declared.RawEventSink.RawEventSink, Rules.freshSink}
 use Rattle.laws_formats.specs.{Ready.limit, Ready.sayable, Either.codecOf, Either.freshOf, Either.lawfulOf, Either.fresh-is}
 use Rattle.laws_formats.specs.Appends.{noteBytes, rise-inside, Understood, resumed-understood, resumed-bytes, whole-events, whole-past, cut-events, cut-past}
-use Rattle.laws_handover.specs.Handover.{Call, acceptedEvents, streamOf, streamWords, fresh, beforeCut, whole, others, joined, Typed, givenAlong, GivenAt}
-use Rattle.laws_handover.specs.{Handover.Suits, Handover.widest, Handover.Exact, Handover.Claim, Handover.DemandThree, Cut.whole-is}
-use Rattle.laws_handover.specs.{Cut.broken-is, Cut.cut-parts, Reading.exact}
-use Rattle.laws_handover.specs.Calls.{stream-words, stream-notes, stream-typed, groupsOf, groups-events, groups-words, fresh-rise, stream-understood}
+use Rattle.laws_handover.specs.Handover.{Call, acceptedEvents, streamOf, streamWords, fresh, Front, bare, frontBytes, startOf, beforeCut, whole, others}
+use Rattle.laws_handover.specs.Handover.{joined, Typed, givenAlong, GivenAt, Suits, widest, Exact, Claim, DemandThree}
+use Rattle.laws_handover.specs.{Headed.frontOf, Cut.whole-is, Cut.broken-is, Cut.cut-parts, Reading.exact, Fronts.front-bare, Fronts.stream-words}
+use Rattle.laws_handover.specs.Calls.{stream-notes, stream-typed, groupsOf, groups-events, groups-words, fresh-rise, stream-understood}
 
--- a stream of these bytes and words that carries es
-pub record Sent (e : Encoding) (bytes : List ℕ) (ws : List (Note ℕ Event)) (es : List Event) : Type 0 where
-  pub worded : bytes ≡ noteBytes e ws
+-- a stream of these bytes and words, behind a front, that carries es
+pub record Sent (e : Encoding) (f : Front) (bytes : List ℕ) (ws : List (Note ℕ Event)) (es : List Event) : Type 0 where
+  pub worded : bytes ≡ frontBytes e f ++ noteBytes e ws
   pub noted : notes ws ≡ es
   pub typed : All (Typed e) ws
   pub rises : Rise clock (sayable (limit e)) 0 es
@@ -53,72 +54,104 @@ module _ (e : Encoding) where
   sized : 0 < encodeSize e
   sized = lawfulOf e .sized
 
-  -- of a fresh writer
-  pub fresh-sent : (calls : List Call) → Sent e (streamOf (fresh e) calls) (streamWords (fresh e) calls) (acceptedEvents (fresh e) calls)
-  fresh-sent calls = record {
-    worded = stream-words (fresh e) calls refl;
-    noted = stream-notes (fresh e) calls;
-    typed = stream-typed (fresh e) calls;
-    rises = fresh-rise e calls;
-    understood = stream-understood e calls;
-  }
+  -- of a fresh writer that sends a header or none
+  module _ (header : Bool) (calls : List Call) where
+    abbrev writer : RawEventSink
+    writer = freshSink e header
 
-  -- the words of a joined stream
-  abbrev pub joinedWords : (cut : ℕ) → List (Note ℕ Event) → (second : List Call) → List (Note ℕ Event)
-  joinedWords cut ws second = take (cut / encodeSize e) ws ++ streamWords (fresh e) second
+    pub sent-by : (f : Front) → frontOf writer calls ≡ f → Sent e f (streamOf writer calls) (streamWords writer calls) (acceptedEvents writer calls)
+    sent-by f is = record {
+      worded = rw (← is) (stream-words writer calls);
+      noted = stream-notes writer calls;
+      typed = stream-typed writer calls;
+      rises = fresh-rise e header calls;
+      understood = stream-understood e header calls;
+    }
 
-  module _ (bytes : List ℕ) (ws : List (Note ℕ Event)) (es : List Event) (sent : Sent e bytes ws es) (cut : ℕ) where
-    -- resumed by a fresh writer
-    pub joined-sent : (second : List Call) → acceptedEvents (fresh e) second ≡ others e cut ws
-        → Sent e (joined e cut bytes second) (joinedWords cut ws second) es
-    joined-sent second rest =
-        let size = encodeSize e in
-        let k = cut / size in
-        let ms = streamWords (fresh e) second in
-        let le : k * size ≤ cut = omega (arith, div-add-mod' cut size) in
-        let rest-is : acceptedEvents (fresh e) second ≡ notes (drop k ws) = rest ∙ broken-is size cut sized ws in
-        record {
-          worded =
-              ap (λ (l : List ℕ). l ++ streamOf (fresh e) second) (take-take (k * size) cut bytes le)
-              ∙ (λ i. take (k * size) (sent .worded i) ++ stream-words (fresh e) second refl i) ∙ resumed-bytes e cut ws ms;
-          noted = rw (notes-append (take k ws) ms, stream-notes (fresh e) second, rest-is) (notes-split k ws ∙ sent .noted);
-          typed = all-append (Typed e) (take k ws) ms (all-take (Typed e) k ws (sent .typed)) (stream-typed (fresh e) second);
-          rises = sent .rises;
-          understood = rw (groups-words (fresh e) second)
-              (resumed-understood e (freshOf e) k ws (groupsOf (fresh e) second) (sent .understood) (groups-events (fresh e) second ∙ rest-is));
-        }
+  pub fresh-sent : (calls : List Call) → Sent e bare (streamOf (fresh e) calls) (streamWords (fresh e) calls) (acceptedEvents (fresh e) calls)
+  fresh-sent calls = sent-by false calls bare (front-bare (fresh e) calls refl)
 
-  read : (bytes : List ℕ) (es : List Event) → eventsFrom (codecOf e (freshOf e)) bytes ≡ es
-      → ((win : Window) → PastOver win (codecOf e (freshOf e)) bytes) → Exact e bytes es
-  read bytes es h p = exact e bytes es (rw (fresh-is e) h) (rw (fresh-is e) p)
+  module _ (f : Front) where
+    abbrev front : List ℕ
+    front = frontBytes e f
 
-  -- all of it, and before a cut
-  pub exact-whole : (bytes : List ℕ) (ws : List (Note ℕ Event)) (es : List Event) → Sent e bytes ws es → Exact e bytes es
-  exact-whole bytes ws es s =
-      rw (s .worded) (read (noteBytes e ws) es (whole-events e (freshOf e) ws (s .understood) ∙ s .noted) (whole-past e (freshOf e) ws (s .understood)))
+    abbrev start : ℕ
+    start = startOf e f
 
-  exact-before : (bytes : List ℕ) (ws : List (Note ℕ Event)) (es : List Event) → Sent e bytes ws es → (cut : ℕ)
-      → Exact e (beforeCut e cut bytes) (whole e cut ws)
-  exact-before bytes ws es s cut =
-      rw (s .worded, whole-is (encodeSize e) cut sized ws)
-      (read (take cut (noteBytes e ws)) (notes (take (cut / encodeSize e) ws)) (cut-events e (freshOf e) ws (s .understood) cut)
-      (cut-past e (freshOf e) ws (s .understood) cut))
+    -- what stands of a stream is the front and the first bytes of the words
+    stands : (n : ℕ) (body : List ℕ) → start ≤ n → take n (front ++ body) ≡ front ++ take (n - start) body
+    stands n body h =
+        let is : start + (n - start) ≡ n = omega arith in
+        ap (λ (k : ℕ). take k (front ++ body)) (sym is) ∙ take-add start (n - start) (front ++ body)
+        ∙ (λ i. take-at front body start refl i ++ take (n - start) (drop-at front body start refl i))
 
-  pub claim : (bytes : List ℕ) (ws : List (Note ℕ Event)) (es : List Event) → Sent e bytes ws es → (cut : ℕ) → Claim e bytes ws es cut
-  claim bytes ws es s cut =
-      let parted : whole e cut ws ++ others e cut ws ≡ es = cut-parts (encodeSize e) cut sized ws ∙ s .noted in
-      let all = rise-inside e 0 es (s .rises) in
-      record {
-        worded = s .worded;
-        noted = s .noted;
-        typed = s .typed;
-        given = given-at e ws (s .understood);
-        parted = parted;
-        whole-suits = suits-inside (whole e cut ws) (all-append-left _ (whole e cut ws) (others e cut ws) (rw parted all));
-        all-suits = suits-inside es all;
-        of-cut = exact-before bytes ws es s cut;
-        of-joined = λ second rest. exact-whole (joined e cut bytes second) (joinedWords cut ws second) es (joined-sent bytes ws es s cut second rest);
-      }
+    -- the words of a joined stream
+    abbrev pub joinedWords : (cut : ℕ) → List (Note ℕ Event) → (second : List Call) → List (Note ℕ Event)
+    joinedWords cut ws second = take ((cut - start) / encodeSize e) ws ++ streamWords (fresh e) second
+
+    read : (body : List ℕ) (es : List Event) → eventsFrom (codecOf e (freshOf e)) body ≡ es
+        → ((win : Window) → PastOver win (codecOf e (freshOf e)) body) → Exact e f (front ++ body) es
+    read body es h p = exact e body es (rw (fresh-is e) h) (rw (fresh-is e) p) f
+
+    module _ (bytes : List ℕ) (ws : List (Note ℕ Event)) (es : List Event) (s : Sent e f bytes ws es) where
+      -- all of it, and before a cut
+      pub exact-whole : Exact e f bytes es
+      exact-whole =
+          rw (s .worded) (read (noteBytes e ws) es (whole-events e (freshOf e) ws (s .understood) ∙ s .noted) (whole-past e (freshOf e) ws (s .understood)))
+
+      exact-before : (cut : ℕ) → start ≤ cut → Exact e f (beforeCut e f cut bytes) (whole e f cut ws)
+      exact-before cut behind =
+          let n = cut - start in
+          let is : whole e f cut ws ≡ notes (take (n / encodeSize e) ws) = whole-is (encodeSize e) cut start sized ws in
+          rw (s .worded, stands cut (noteBytes e ws) behind, is)
+          (read (take n (noteBytes e ws)) (notes (take (n / encodeSize e) ws)) (cut-events e (freshOf e) ws (s .understood) n)
+          (cut-past e (freshOf e) ws (s .understood) n))
+
+    module _ (bytes : List ℕ) (ws : List (Note ℕ Event)) (es : List Event) (sent : Sent e f bytes ws es) (cut : ℕ) (behind : start ≤ cut) where
+      -- resumed by a fresh writer
+      pub joined-sent : (second : List Call) → acceptedEvents (fresh e) second ≡ others e f cut ws
+          → Sent e f (joined e f cut bytes second) (joinedWords cut ws second) es
+      joined-sent second rest =
+          let size = encodeSize e in
+          let n = cut - start in
+          let k = n / size in
+          let end = start + k * size in
+          let ms = streamWords (fresh e) second in
+          let added = fresh-sent second in
+          let le : end ≤ cut = omega (arith, div-add-mod' n size) in
+          let back : end - start ≡ k * size = omega arith in
+          let kept : take end (take cut bytes) ≡ front ++ take (k * size) (noteBytes e ws) =
+          take-take end cut bytes le ∙ ap (take end) (sent .worded) ∙ stands end (noteBytes e ws) (omega arith) ∙ rw back in
+          let rest-is : acceptedEvents (fresh e) second ≡ notes (drop k ws) = rest ∙ broken-is size cut start sized ws in
+          record {
+            worded =
+                ap (λ (l : List ℕ). l ++ streamOf (fresh e) second) kept
+                ∙ append-assoc front (take (k * size) (noteBytes e ws)) (streamOf (fresh e) second)
+                ∙ ap (λ (l : List ℕ). front ++ l)
+                (ap (λ (l : List ℕ). take (k * size) (noteBytes e ws) ++ l) (added .worded) ∙ resumed-bytes e n ws ms);
+            noted = rw (notes-append (take k ws) ms, stream-notes (fresh e) second, rest-is) (notes-split k ws ∙ sent .noted);
+            typed = all-append (Typed e) (take k ws) ms (all-take (Typed e) k ws (sent .typed)) (stream-typed (fresh e) second);
+            rises = sent .rises;
+            understood = rw (groups-words (fresh e) second)
+                (resumed-understood e (freshOf e) k ws (groupsOf (fresh e) second) (sent .understood) (groups-events (fresh e) second ∙ rest-is));
+          }
+
+      pub claim : Claim e f bytes ws es cut
+      claim =
+          let parted : whole e f cut ws ++ others e f cut ws ≡ es = cut-parts (encodeSize e) cut start sized ws ∙ sent .noted in
+          let all = rise-inside e 0 es (sent .rises) in
+          record {
+            worded = sent .worded;
+            noted = sent .noted;
+            typed = sent .typed;
+            given = given-at e ws (sent .understood);
+            parted = parted;
+            whole-suits = suits-inside (whole e f cut ws) (all-append-left _ (whole e f cut ws) (others e f cut ws) (rw parted all));
+            all-suits = suits-inside es all;
+            of-cut = exact-before bytes ws es sent cut behind;
+            of-joined = λ second rest. exact-whole (joined e f cut bytes second) (joinedWords cut ws second) es (joined-sent second rest);
+          }
 
 pub demand-three : DemandThree
-demand-three e calls cut h = claim e (streamOf (fresh e) calls) (streamWords (fresh e) calls) (acceptedEvents (fresh e) calls) (fresh-sent e calls) cut
+demand-three e calls cut h =
+    claim e bare (streamOf (fresh e) calls) (streamWords (fresh e) calls) (acceptedEvents (fresh e) calls) (fresh-sent e calls) cut (omega arith)

@@ -8,3 +8,5 @@
 // Called.antt proves the same of calls that ran (`DemandThreeRan`, `DemandThreeByValue`).
 // Others.antt proves that a second list always exists (`SecondListExists`), and Again.antt has what
 // follows: any number of handovers, and numbers that stay through every cut.
+// specs/Headed.antt states the same behind a written header, of `read_raw` and `open`, over the same
+// definitions; Fronts.antt has what a list sends before its words, and HeadedProof.antt proves it.

@@ -8,21 +8,17 @@ use lib.Dec.{ltb, eqb·suc-zero}
 use lib.IntN.{ℤ}
 use lib.ListN.{length, take, drop}
 use lib.Seq.{take-at}
-use borrow.Author.Tests.{ltb-false, le-ltb}
 use Rattle.laws_stream.specs.{Slice.sift, Order.greatest}
-use Rattle.evt_types.specs.declared.{Encoding.Encoding, Refusal.Refusal, Refusal.the-variants.InvalidSensorSize, Refusal.the-variants.TooLong}
+use Rattle.evt_types.specs.declared.{Encoding.Encoding, Refusal.Refusal, Refusal.the-variants.InvalidSensorSize}
 use Rattle.evt_types.specs.declared.{Refusal.the-variants.InvalidSpacing, Refusal.the-variants.TooFewRecords, SensorSize.SensorSize}
 use Rattle.evt_types.specs.{declared.SensorSize.the-variants.Unknown, declared.SensorSize.the-variants.Known, Columns.colX, Columns.colY, Event.Event}
 use Rattle.evt_types.specs.{Num.mostBytes, Outcome.Outcome, Outcome.refuse, Outcome.give}
-use Rattle.header.specs.declared.Header as header
-use Rattle.header.specs.declared.{HeaderAnswer.HeaderAnswer, HeaderAnswer.the-variants.Header, HeaderAnswer.the-variants.Refused as NoHeader}
-use Rattle.header.specs.{Header.hasZero, Header.headerOf, Laws.of-accepted}
+use Rattle.header.specs.{Header.hasZero}
 use Rattle.read_rules.specs.Read.{widthOf, heightOf, sizeless}
-use Rattle.index_build.specs.declared.{Checkpoint.Checkpoint, OpenAnswer.OpenAnswer, OpenAnswer.the-variants.Opened, OpenAnswer.the-variants.Refused}
-use Rattle.index_build.specs.{declared.OpenOptions.OpenOptions, declared.Opening.Opening, declared.WordsOptions.WordsOptions, Index.openAnswer}
-use Rattle.index_build.specs.{Index.openRecords, Index.OpensRaw, Index.OpensWords, Laws.length-firsts}
-use Rattle.index_build.specs.Index.{keptEvents, recordCount, recordsOf, spacingOk, Body, bodyAt, indexOutcome, openAfterHeader, openRawOutcome}
-use Rattle.index_build.specs.Index.{wordsBody, openWordsOutcome}
+use Rattle.index_build.specs.declared.{Checkpoint.Checkpoint, OpenAnswer.the-variants.Opened, OpenAnswer.the-variants.Refused}
+use Rattle.index_build.specs.{declared.Opening.Opening, Index.openAnswer}
+use Rattle.index_build.specs.{Index.openRecords, Laws.length-firsts}
+use Rattle.index_build.specs.Index.{keptEvents, recordCount, recordsOf, spacingOk, Body, bodyAt, indexOutcome}
 use Rattle.index_records.specs.InRange.{indexInRange}
 use Rattle.slice_rules.specs.Slice.{sizeOf, firstOf, endOf, indexEvents, isDuring, timeEvents, sliceCheck}
 use Rattle.slice.specs.Own.{ownEvents, ownSource, ownRecords, OwnPast, own-in-range, own-number, own-time, own-rules}
@@ -39,7 +35,7 @@ pub record OpenedAs (l : List ℕ) (start : ℕ) (e : Encoding) (size : SensorSi
 
 module _ (o : Opening) (records₀ records : List Checkpoint) where
   -- an outcome that is answered by o, its records standing in front
-  abbrev Gives : Outcome Body → Type 0
+  abbrev pub Gives : Outcome Body → Type 0
   Gives q = (openAnswer q ≡ Opened o) × (records ≡ openRecords q ++ drop (length (openRecords q)) records₀)
 
   never : {P : Type 0} (r : Refusal) → Gives (refuse r) → P
@@ -68,7 +64,7 @@ module _ (l : List ℕ) (start : ℕ) (e : Encoding) (size : SensorSize) (spacin
   unfolding recordsOf
   length-own = length-firsts _ need
 
-  opened-body : (room : ℕ) → start ≤ length l → length l ≤ mostBytes → hasZero size ≡ false
+  pub opened-body : (room : ℕ) → start ≤ length l → length l ≤ mostBytes → hasZero size ≡ false
       → Gives o records₀ records (indexOutcome (bodyAt l start e size spacing) room)
       → OpenedAs l start e size spacing o records
   unfolding indexOutcome
@@ -93,55 +89,6 @@ module _ (l : List ℕ) (start : ℕ) (e : Encoding) (size : SensorSize) (spacin
             is-records = (λ i. take (sym is i .records) (u .1 i))
                 ∙ take-at (ownRecords size e start spacing l) (drop (length (ownRecords size e start spacing l)) records₀) need length-own;
           }
-
-module _ (o : Opening) (r : OpenAnswer) (records₀ records : List Checkpoint) (accepted : r ≡ Opened o) where
-  pub opened-words : (words : List ℕ) (options : WordsOptions) → OpensWords words options r records₀ records
-      → OpenedAs words 0 (options .encoding) (options .«sensor_size») (options .spacing) o records
-  unfolding openWordsOutcome
-  opened-words words options h =
-      go (ltb mostBytes (length words)) refl (hasZero (options .«sensor_size»)) refl (sym (h .is-answer) ∙ accepted, h .is-records)
-    where
-      go : (a : Bool) → ltb mostBytes (length words) ≡ a → (b : Bool) → hasZero (options .«sensor_size») ≡ b
-          → Gives o records₀ records
-          (cond a (refuse TooLong) (cond b (refuse InvalidSensorSize) (indexOutcome (wordsBody words options) (length records₀))))
-          → OpenedAs words 0 (options .encoding) (options .«sensor_size») (options .spacing) o records
-      go true p b q u = never o records₀ records TooLong u
-      go false p true q u = never o records₀ records InvalidSensorSize u
-      go false p false q u =
-          opened-body words 0 (options .encoding) (options .«sensor_size») (options .spacing) o records₀ records (length records₀) (omega arith)
-          (ltb-false mostBytes (length words) p) q u
-
-  pub opened-raw : (recording : List ℕ) (options : OpenOptions) → OpensRaw recording options r records₀ records
-      → (h : header.Header) × (headerOf recording (options .«sensor_size») ≡ Header h)
-      × OpenedAs recording (h .«data_offset») (h .encoding) (h .«sensor_size») (options .spacing) o records
-  unfolding openRawOutcome
-  opened-raw recording options h = go (headerOf recording (options .«sensor_size»)) refl (sym (h .is-answer) ∙ accepted, h .is-records)
-    where
-      go : (a : HeaderAnswer) → headerOf recording (options .«sensor_size») ≡ a
-          → Gives o records₀ records (openAfterHeader a recording (options .spacing) (length records₀))
-          → (h : header.Header) × (headerOf recording (options .«sensor_size») ≡ Header h)
-          × OpenedAs recording (h .«data_offset») (h .encoding) (h .«sensor_size») (options .spacing) o records
-      go (NoHeader q) p u = never o records₀ records q u
-      go (Header k) p u =
-          let a = of-accepted recording (options .«sensor_size») k p in (
-            k,
-            p,
-            opened-body recording (k .«data_offset») (k .encoding) (k .«sensor_size») (options .spacing) o records₀ records (length records₀)
-                (a .within) (a .short) (a .positive) u,
-          )
-
--- the other way: where no rule of the table applies, opening accepts
-pub words-opened : (words : List ℕ) (options : WordsOptions) (room : ℕ) → length words ≤ mostBytes → hasZero (options .«sensor_size») ≡ false
-    → spacingOk (options .encoding) (options .spacing) ≡ true → recordCount (length words) (options .spacing) ≤ room
-    → sizeless (options .«sensor_size») (ownEvents (options .«sensor_size») (options .encoding) 0 words) ≡ false
-    → openAnswer (openWordsOutcome words options room)
-    ≡ Opened (record {
-      source = ownSource (options .«sensor_size») (options .encoding) 0 (options .spacing) words;
-      records = recordCount (length words) (options .spacing);
-    })
-unfolding openWordsOutcome indexOutcome
-words-opened words options room long positive allowed enough sized =
-    rw (le-ltb mostBytes (length words) long, positive, allowed, le-ltb room (recordCount (length words) (options .spacing)) enough, sized)
 
 -- ---- slices over it
 

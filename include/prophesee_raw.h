@@ -119,8 +119,9 @@ static inline size_t prophesee_most_bytes_with_header(size_t events)
 
 /* ---- reading */
 
-/* The header of a recording: 4, 3, 2, 1 for a zero size; the first that applies. `sized` 0: no size is
- * given (the header may tell one), else it is width x height and overrides the header's. */
+/* The header of a recording: its first lines that begin with `%`, through a line `% end` if there is
+ * one. 4, 3, 2, 1 for a zero size; the first that applies. `sized` 0: no size is given (the header may
+ * tell one), else it is width x height and overrides the header's. */
 typedef struct {
     uint32_t refusal;
     uint32_t encoding;
@@ -316,7 +317,9 @@ typedef struct {
     uint32_t refusal;
 } prophesee_appended;
 
-/* Appends events: 10, 12, 4, 6, 7, 11. Width and height are those that a header due tells. */
+/* Appends events: 10, 12, 4, 6, 7, 11. Width and height are those that a header due tells: with a size
+ * that covers all events a recording that breaks off behind its header is read whole up to there, with
+ * no size given, and goes on with the words of a second writer that sends no header. */
 prophesee_appended prophesee_append(
     prophesee_sink sink, size_t width, size_t height,
     const uint16_t *xs, size_t xs_len, const uint16_t *ys, size_t ys_len,

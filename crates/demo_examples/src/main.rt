@@ -1,5 +1,5 @@
-// The examples that the comment of `prophesee_raw` names, run: reading, with triggers too, indexing and slicing,
-// writing, a stream that is cut and resumed, single words, and refusals. Every call is one of
+// The examples that the comment of `prophesee_raw` names, run: reading, with triggers too, indexing and
+// slicing, writing, streams that are cut and resumed, single words, and refusals. Every call is one of
 // `prophesee_raw`; `test_text` only prints, an event as `t,x,y,p` and bytes in hex. Each line begins
 // with the name of its example.
 mod decoding;
@@ -14,6 +14,7 @@ mod writing;
 
 fn main() {
     reading::read_recording();
+    reading::read_past_end_line();
     reading::read_limited();
     reading::read_words();
     triggers::read_pulses();
@@ -21,6 +22,7 @@ fn main() {
     writing::write_words();
     writing::write_recording();
     resuming::cut_and_resume();
+    resuming::cut_recording();
     decoding::decode_singly();
     decoding::decode_after();
     triggers::trigger_of_word();

@@ -6,7 +6,8 @@ use prophesee_raw::Limit;
 use prophesee_raw::LoadOptions;
 use prophesee_raw::SensorSize;
 
-pub fn read(name: &[u8], recording: &[u8], options: LoadOptions) {
+// Answers how many events there are.
+pub fn read(name: &[u8], recording: &[u8], options: LoadOptions) -> usize {
     let mut xs = [0; 4];
     let mut ys = [0; 4];
     let mut ts = [0; 4];
@@ -14,6 +15,7 @@ pub fn read(name: &[u8], recording: &[u8], options: LoadOptions) {
     let answer = prophesee_raw::read_raw(recording, options, &mut xs, &mut ys, &mut ts, &mut ps);
     let count = print::reading(name, answer);
     print::events(count, xs, ys, ts, ps);
+    count
 }
 
 // All events; encoding and size are those that the header names.
@@ -27,6 +29,16 @@ pub fn whole() -> LoadOptions {
 pub fn read_recording() {
     let recording = given::recording();
     read(b"read_recording: ", &recording, whole());
+}
+
+// A header ends at its line `% end`: what follows is the body, though it begins with `%`, byte 25 of the
+// word 8025. The words are 8025 0007 2805.
+pub fn read_past_end_line() {
+    read(
+        b"read_past_end_line: ",
+        b"% evt 3\n% end\n\x25\x80\x07\x00\x05\x28",
+        whole(),
+    );
 }
 
 // The caller's size comes before the header's, and a limit may fall within a word.

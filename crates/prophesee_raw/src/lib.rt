@@ -7,8 +7,10 @@
 // column, row, time in microseconds, polarity. `LoadOptions` has the sensor's size, which comes before
 // the header's, and a limit; events outside of the size are dropped and not counted. `decode_words`
 // reads words without a header, whose encoding the caller names. Where no size is known all events
-// are kept, and the size told is the least that holds them. The shortest column counts. `parse_header`
-// reads the header alone. Examples: `read_recording`, `read_limited`, `read_words`.
+// are kept, and the size told is the least that holds them. The shortest column counts. The header's
+// lines begin with `%`, and a line `% end` is the last: what follows it is the body, whatever it begins
+// with. `parse_header` reads the header alone. Examples: `read_recording`, `read_past_end_line`,
+// `read_limited`, `read_words`.
 //
 // Triggers. `read_raw_triggers` and `decode_words_triggers` read the same, and beside the events the
 // pulses on the camera's trigger input, into three further columns: time in microseconds, channel,
@@ -22,9 +24,9 @@
 // `slice_index` hands over the events from number i0 to before i1, `slice_time` those with
 // t0 <= t < t1, by the source and the records that were made, `&records[..n]`; both decode from a
 // checkpoint on. A slice by time ends at the first word that brings the time to t1 or more: of a
-// recording whose times step back, what stands behind it isn't handed over. In Rattle a caller that lends records is proved by hand; the module `fixed` has the
-// same four calls over an array of 64 records by value, whose callers aren't. Example:
-// `slice_recording`.
+// recording whose times step back, what stands behind it isn't handed over. In Rattle a caller that
+// lends records is proved by hand; the module `fixed` has the same four calls over an array of 64
+// records by value, whose callers aren't. Example: `slice_recording`.
 //
 // Writing. `RawEventSink::to_writer` is a fresh writer, which sends a header before its first words or
 // none. `append` writes events in four columns into an output that the caller lends, and answers how
@@ -38,8 +40,11 @@
 // decoder's `WORD_SIZE`, and behind the others let a second writer append the events that are missing,
 // from the number on that reading told. It is a fresh one: the first has sent a time and a row that may
 // not have arrived. The joined stream reads as all events, and its slices are exact. That is proved
-// for every list of appends and every cut (crates/laws_handover/specs/Handover.antt). Example:
-// `cut_and_resume`.
+// for every list of appends and every cut (crates/laws_handover/specs/Handover.antt). A recording with
+// a header may break off anywhere at the header's end or behind it: read it with no size, so that the
+// header's holds, and give the writer a size that covers all events. Count whole words from where the
+// body starts, and resume with a writer that sends no header (crates/laws_handover/specs/Headed.antt).
+// Examples: `cut_and_resume`, `cut_recording`.
 //
 // Single words. `Evt2Decoder`, `Decoder` (EVT3) and `Codec` (either) step over one word, by value
 // (`step`) or lent (`decode`), and `EventVector::next` takes out the word's events one by one.
@@ -48,9 +53,10 @@
 //
 // Refusals. An answer is what was asked for or `Refused`, with the reason; `refusal_number` has its
 // number in the table of docs/RULES.md. 5, 9, 11 and 13 tell how many places, records, bytes or places
-// for triggers are needed: lend as many, and call again. A refused call alters no buffer, and returns the writer or the decoder
-// as it was. An accepted one alters nothing behind what it hands over. Examples: `no_encoding`,
-// `columns_too_short`, `records_too_few`, `output_too_short`, `times_fall`, `triggers_too_many`.
+// for triggers are needed: lend as many, and call again. A refused call alters no buffer, and returns
+// the writer or the decoder as it was. An accepted one alters nothing behind what it hands over.
+// Examples: `no_encoding`, `columns_too_short`, `records_too_few`, `output_too_short`, `times_fall`,
+// `triggers_too_many`.
 pub use evt_codec::Codec;
 pub use evt_codec::codec::CodecDecoded;
 pub use evt_types::DecodeAnswer;

@@ -1,4 +1,4 @@
--- The events that are given, and where the event word of each ends in the stream.
+-- The events that are given, and where the event word of each ends in the stream, counted from the body's start.
 use mathlib.Core.List.{List, [], _∷_}
 use Prim.Native.Nat.{ℕ}
 use lib.Dec.{leb}
@@ -6,6 +6,7 @@ use lib.IntN.{ℤ, pos}
 use lib.ListN.{length}
 use lib.Signed.{ltZ}
 use Rattle.laws_stream.specs.Slice.{sift}
+use Rattle.demo_handover.specs.declared.{given.When.When, given.When.the-variants.Early, given.When.the-variants.Later2, given.When.the-variants.Later3}
 use Rattle.evt_types.specs.declared.{Encoding.Encoding, Encoding.the-variants.Evt2, Encoding.the-variants.Evt3}
 
 unfoldable pub givenXs : List ℕ
@@ -14,10 +15,16 @@ givenXs = 10 ∷ 10 ∷ 20 ∷ 21 ∷ 23 ∷ 31 ∷ 31 ∷ 3 ∷ 100 ∷ 103 ∷
 unfoldable pub givenYs : List ℕ
 givenYs = 7 ∷ 7 ∷ 7 ∷ 7 ∷ 7 ∷ 7 ∷ 6 ∷ 6 ∷ 9 ∷ 9 ∷ 9 ∷ 9 ∷ 9 ∷ 9 ∷ 9 ∷ 2047 ∷ []
 
-unfoldable pub givenTs : List ℤ
-givenTs =
+unfoldable pub givenTs : When → List ℤ
+givenTs Early =
     pos 4030 ∷ pos 4030 ∷ pos 4095 ∷ pos 4095 ∷ pos 4095 ∷ pos 4095 ∷ pos 4095
     ∷ pos 4096 ∷ pos 4100 ∷ pos 4100 ∷ pos 4100 ∷ pos 4100 ∷ pos 4100 ∷ pos 4100 ∷ pos 4101 ∷ pos 8200 ∷ []
+givenTs Later2 =
+    pos 18814 ∷ pos 18814 ∷ pos 18879 ∷ pos 18879 ∷ pos 18879 ∷ pos 18879 ∷ pos 18879
+    ∷ pos 18880 ∷ pos 18884 ∷ pos 18884 ∷ pos 18884 ∷ pos 18884 ∷ pos 18884 ∷ pos 18884 ∷ pos 18885 ∷ pos 22984 ∷ []
+givenTs Later3 =
+    pos 155582 ∷ pos 155582 ∷ pos 155647 ∷ pos 155647 ∷ pos 155647 ∷ pos 155647 ∷ pos 155647
+    ∷ pos 155648 ∷ pos 155652 ∷ pos 155652 ∷ pos 155652 ∷ pos 155652 ∷ pos 155652 ∷ pos 155652 ∷ pos 155653 ∷ pos 159752 ∷ []
 
 unfoldable pub givenPs : List ℕ
 givenPs = 1 ∷ 1 ∷ 0 ∷ 0 ∷ 0 ∷ 0 ∷ 0 ∷ 1 ∷ 1 ∷ 1 ∷ 1 ∷ 1 ∷ 1 ∷ 1 ∷ 0 ∷ 1 ∷ []

@@ -12,7 +12,7 @@ use lib.ListN.{length, take, drop, getD, set, length-set, length-drop, drop-of-l
 use lib.Seq.{drop-cons, ext-getD, getD-take, getD-drop, length-take-le, sets, sets-eq}
 use Rattle.laws_stream.specs.Slice.{onto, sift}
 use Rattle.demo_handover.specs.{Compare.Same, Compare.Agree, Compare.Matches, Compare.Judges, declared.compare.Got.Got}
-use Rattle.demo_handover.specs.{declared.compare.Difference.Difference}
+use Rattle.demo_handover.specs.{declared.compare.Difference.Difference, declared.given.When.When}
 use Rattle.demo_handover.specs.declared.compare.Difference.the-variants.{Nothing, Refusal, Count, Column}
 
 -- ---- counting those that are kept: n of the first i
@@ -100,8 +100,8 @@ some (Refusal n) = 1
 some (Count n) = 1
 some (Column b) = 1
 
-pub judged-other : (got : Got) (from to : ℕ) (r : Difference) → some r ≡ 1 → (Matches got from to → ⊥) → Judges got from to r
-judged-other got from to r e h =
+pub judged-other : (when : When) (got : Got) (from to : ℕ) (r : Difference) → some r ≡ 1 → (Matches when got from to → ⊥) → Judges when got from to r
+judged-other when got from to r e h =
     record { if-nothing = λ k. absurd (let z : _≡_ {A = ℕ} 1 0 = sym e ∙ ap some k in omega arith); if-matches = λ m. absurd (h m) }
 
 -- ---- copying to the front: the first i are stored

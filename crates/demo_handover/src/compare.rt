@@ -3,6 +3,7 @@ ghost use Prim.Native.Nat.{_≤_, _+_};
 ghost use lib.ListN.{take, drop};
 ghost use Rattle.demo_handover.specs.Compare.{Same, Judges};
 use crate::given;
+use crate::given::When;
 
 // What a call handed over: the number of its refusal (0 if there was none), the count, the columns.
 pub struct Got {
@@ -65,9 +66,9 @@ pub enum Difference {
 }
 
 // How what was got differs from the given events from number `from` on, up to `to`.
-pub fn judge(got: Got, from: usize, to: usize) -> Difference
+pub fn judge(when: When, got: Got, from: usize, to: usize) -> Difference
     requires { ⌜ (from ≤ to) × (to ≤ 16) ⌝ }
-    ensures { λ r. ⌜ Judges got from to r ⌝ }
+    ensures { λ r. ⌜ Judges when got from to r ⌝ }
 {
     if got.refused != 0 {
         return Difference::Refusal(got.refused);
@@ -85,7 +86,7 @@ pub fn judge(got: Got, from: usize, to: usize) -> Difference
         return Difference::Column(b'y');
     }
     let ts = got.ts;
-    if same_longs(ts, given::times(), from, n) {} else {
+    if same_longs(ts, given::times(when), from, n) {} else {
         return Difference::Column(b't');
     }
     let ps = got.ps;

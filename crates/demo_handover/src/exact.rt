@@ -2,17 +2,16 @@
 ghost use Prim.Native.Nat.{_≤_};
 use crate::compare::Difference;
 use crate::given;
+use crate::given::Case;
+use crate::given::When;
 use crate::print;
 use crate::reading;
 use prophesee_raw::Checkpoint;
-use prophesee_raw::Encoding;
 use prophesee_raw::OpenAnswer;
 use prophesee_raw::Opening;
 use test_text::show;
 
-// Where the two slices by time part, and where the second one ends.
-const MIDDLE: i64 = 4100;
-
+// Where the second slice by time ends.
 const LATE: i64 = 16777216;
 
 pub fn both(a: bool, b: bool) -> bool {
@@ -43,6 +42,7 @@ fn told(d: Difference, bytes: &[u8], call: &[u8]) -> bool {
 }
 
 fn by_number(
+    when: When,
     bytes: &[u8],
     opened: Opening,
     records: [Checkpoint; 64],
@@ -52,14 +52,15 @@ fn by_number(
     requires { ⌜ count ≤ 16 ⌝ }
 {
     let half = count / 2;
-    let a = reading::by_number(bytes, opened, records, 0, half, half);
+    let a = reading::by_number(when, bytes, opened, records, 0, half, half);
     let first = told(a, name, b" first by number");
-    let b = reading::by_number(bytes, opened, records, half, 16, count);
+    let b = reading::by_number(when, bytes, opened, records, half, 16, count);
     let second = told(b, name, b" second by number");
     both(first, second)
 }
 
 fn by_time(
+    when: When,
     bytes: &[u8],
     opened: Opening,
     records: [Checkpoint; 64],
@@ -68,24 +69,26 @@ fn by_time(
 ) -> bool
     requires { ⌜ count ≤ 16 ⌝ }
 {
-    let part = given::earlier(count, MIDDLE);
-    let a = reading::by_time(bytes, opened, records, 0, MIDDLE, 0, part);
+    let middle = given::middle(when);
+    let part = given::earlier(when, count, middle);
+    let a = reading::by_time(when, bytes, opened, records, 0, middle, 0, part);
     let first = told(a, name, b" first by time");
-    let b = reading::by_time(bytes, opened, records, MIDDLE, LATE, part, count);
+    let b = reading::by_time(when, bytes, opened, records, middle, LATE, part, count);
     let second = told(b, name, b" second by time");
     both(first, second)
 }
 
-fn indexed(encoding: Encoding, bytes: &[u8], spacing: usize, count: usize, name: &[u8]) -> bool
+fn indexed(case: Case, bytes: &[u8], spacing: usize, count: usize, name: &[u8]) -> bool
     requires { ⌜ count ≤ 16 ⌝ }
 {
-    let made = reading::open(encoding, bytes, spacing);
+    let when = case.when;
+    let made = reading::open(case, bytes, spacing);
     let answer = made.answer;
     let records = made.records;
     match answer {
         OpenAnswer::Opened(opened) => {
-            let first = by_number(bytes, opened, records, count, name);
-            let second = by_time(bytes, opened, records, count, name);
+            let first = by_number(when, bytes, opened, records, count, name);
+            let second = by_time(when, bytes, opened, records, count, name);
             both(first, second)
         }
         OpenAnswer::Refused(why) => told(
@@ -96,12 +99,12 @@ fn indexed(encoding: Encoding, bytes: &[u8], spacing: usize, count: usize, name:
     }
 }
 
-pub fn reads(encoding: Encoding, bytes: &[u8], count: usize, name: &[u8]) -> bool
+pub fn reads(case: Case, bytes: &[u8], count: usize, name: &[u8]) -> bool
     requires { ⌜ count ≤ 16 ⌝ }
 {
-    let all = reading::decode(encoding, bytes, count);
+    let all = reading::decode(case, bytes, count);
     let decoded = told(all, name, b" decoded");
-    let narrow = indexed(encoding, bytes, 4, count, name);
-    let wide = indexed(encoding, bytes, 8, count, name);
+    let narrow = indexed(case, bytes, 4, count, name);
+    let wide = indexed(case, bytes, 8, count, name);
     both(decoded, both(narrow, wide))
 }

@@ -1,11 +1,47 @@
 // What is appended: events 0 to 6 by the first append, 7 to 15 by the third; the second is refused,
 // since its times fall. They have a repeat, runs that become vectors of one and of two words,
-// several rows, and times on both sides of a multiple of 4,096.
+// several rows, and times on both sides of a multiple of 4,096. Of the later events the third append
+// brings number 7 alone.
 ghost use mathlib.Core.Path.{_≡_};
 ghost use Prim.Native.Nat.{_≤_};
 ghost use lib.ListN.{length, take};
 ghost use Rattle.demo_handover.specs.Given.{givenXs, givenYs, givenTs, givenPs, wordEnds, upTo, earlierThan};
 use prophesee_raw::Encoding;
+
+// Later events are just so much later, 231 times 64 in EVT2 or 37 times 4,096 in EVT3, that the first
+// time word begins with hex 25, `%`; where the words end stays the same.
+pub enum When {
+    Early,
+    Later2,
+    Later3,
+}
+
+// What is written, and read back: words alone, or behind a header.
+pub struct Case {
+    pub encoding: Encoding,
+    pub headed: bool,
+    pub when: When,
+}
+
+// How many of the events are appended.
+pub fn total(when: When) -> usize
+    ensures { λ r. ⌜ r ≤ 16 ⌝ }
+{
+    match when {
+        When::Early => 16,
+        When::Later2 => 8,
+        When::Later3 => 8,
+    }
+}
+
+// A time that parts the events.
+pub fn middle(when: When) -> i64 {
+    match when {
+        When::Early => 4100,
+        When::Later2 => 18879,
+        When::Later3 => 155647,
+    }
+}
 
 // Each `ensures` keeps the array itself out of its callers' proofs.
 pub fn columns() -> [u16; 16]
@@ -37,27 +73,71 @@ pub fn rows() -> [u16; 16]
     [7, 7, 7, 7, 7, 7, 6, 6, 9, 9, 9, 9, 9, 9, 9, 2047]
 }
 
-pub fn times() -> [i64; 16]
-    ensures { λ r. ⌜ (r ≡ givenTs) × (16 ≡ length r) ⌝ }
+const EARLY: [i64; 16] = [
+    4030,
+    4030,
+    4095,
+    4095,
+    4095,
+    4095,
+    4095,
+    4096,
+    4100,
+    4100,
+    4100,
+    4100,
+    4100,
+    4100,
+    4101,
+    8200,
+];
+
+const LATER2: [i64; 16] = [
+    18814,
+    18814,
+    18879,
+    18879,
+    18879,
+    18879,
+    18879,
+    18880,
+    18884,
+    18884,
+    18884,
+    18884,
+    18884,
+    18884,
+    18885,
+    22984,
+];
+
+const LATER3: [i64; 16] = [
+    155582,
+    155582,
+    155647,
+    155647,
+    155647,
+    155647,
+    155647,
+    155648,
+    155652,
+    155652,
+    155652,
+    155652,
+    155652,
+    155652,
+    155653,
+    159752,
+];
+
+pub fn times(when: When) -> [i64; 16]
+    ensures { λ r. ⌜ (r ≡ givenTs when) × (16 ≡ length r) ⌝ }
 {
-    [
-        4030,
-        4030,
-        4095,
-        4095,
-        4095,
-        4095,
-        4095,
-        4096,
-        4100,
-        4100,
-        4100,
-        4100,
-        4100,
-        4100,
-        4101,
-        8200,
-    ]
+    match when {
+        When::Early => EARLY,
+        When::Later2 => LATER2,
+        When::Later3 => LATER3,
+    }
 }
 
 pub fn polarities() -> [u8; 16]
@@ -66,7 +146,7 @@ pub fn polarities() -> [u8; 16]
     [1, 1, 0, 0, 0, 0, 0, 1, 1, 1, 1, 1, 1, 1, 0, 1]
 }
 
-// Where the event word of each event ends in the stream.
+// Where the event word of each event ends in the stream, counted from the body's start.
 fn word_ends(encoding: Encoding) -> [usize; 16]
     ensures { λ r. ⌜ (r ≡ wordEnds encoding) × (16 ≡ length r) ⌝ }
 {
@@ -124,7 +204,7 @@ fn count_to(ends: &[usize], cut: usize) -> usize
     n
 }
 
-// How many events have their event word whole before a cut.
+// How many events have their event word whole before a cut of the body.
 pub fn whole_before(encoding: Encoding, cut: usize) -> usize
     ensures { λ r. ⌜ (r ≡ upTo cut (wordEnds encoding)) × (r ≤ 16) ⌝ }
 {
@@ -147,10 +227,10 @@ fn count_earlier(ts: &[i64], t: i64) -> usize
 }
 
 // How many of the first `count` events are before a time.
-pub fn earlier(count: usize, t: i64) -> usize
+pub fn earlier(when: When, count: usize, t: i64) -> usize
     requires { ⌜ count ≤ 16 ⌝ }
-    ensures { λ r. ⌜ (r ≡ earlierThan t (take count givenTs)) × (r ≤ count) ⌝ }
+    ensures { λ r. ⌜ (r ≡ earlierThan t (take count (givenTs when))) × (r ≤ count) ⌝ }
 {
-    let ts = times();
+    let ts = times(when);
     count_earlier(&ts[..count], t)
 }

@@ -2,15 +2,21 @@
 // before a cut are decoded, a second writer appends the events that are missing, and the joined
 // stream is decoded; both are indexed at two spacings and sliced by number and by time. A line for
 // each cut says how many events were whole before it, how long the joined stream is, and `exact`, or
-// what differs. src/given.rt has the appends, and what each cut owes.
+// what differs. First that is done without a header. Then the first writer sends one: the cuts are
+// those at and behind its end, the second writer sends none, and reading is told no size and finds it
+// in the header. Then come later events behind a header, whose body begins with `%`. The last line
+// reads a recording that lost its opening before. src/given.rt has the appends, and what each cut owes.
 ghost use Prim.Native.Nat.{_≤_, _<_};
 ghost use lib.ListN.{length};
+use crate::given::Case;
+use crate::given::When;
 use prophesee_raw::Codec;
 use prophesee_raw::Encoding;
 
 mod compare;
 mod exact;
 mod given;
+mod opening;
 mod print;
 mod reading;
 mod write;
@@ -23,47 +29,73 @@ fn word_size(encoding: Encoding) -> usize
 }
 
 // The stream, cut, and then joined with what a second writer makes of the events that are missing.
-fn check_cut(encoding: Encoding, stream: &[u8], cut: usize) -> bool
-    requires { ⌜ (cut ≤ length (now stream)) × (length (now stream) ≤ 256) ⌝ }
+// Whole words are counted from the body's start.
+fn check_cut(case: Case, stream: &[u8], start: usize, cut: usize) -> bool
+    requires { ⌜ (start ≤ cut) × (cut ≤ length (now stream)) × (length (now stream) ≤ 256) ⌝ }
 {
-    let whole = given::whole_before(encoding, cut);
-    let kept = cut - cut % word_size(encoding);
+    let encoding = case.encoding;
+    let body = cut - start;
+    let whole = given::whole_before(encoding, body);
+    let kept = cut - body % word_size(encoding);
     let mut joined = write::room();
     write::copy(&stream[..kept], &mut joined);
-    let end = write::resume(encoding, whole, &mut joined, kept);
+    let end = write::resume(case, whole, &mut joined, kept);
     print::cut(cut, whole, end);
-    let first = exact::reads(encoding, &stream[..cut], whole, b" before the cut");
-    let second = exact::reads(encoding, &joined[..end], 16, b" joined");
+    let first = exact::reads(case, &stream[..cut], whole, b" before the cut");
+    let when = case.when;
+    let second = exact::reads(case, &joined[..end], given::total(when), b" joined");
     let exact = exact::both(first, second);
     print::end(exact);
     exact
 }
 
-fn check_cuts(encoding: Encoding, stream: &[u8]) -> bool
+fn check_cuts(case: Case, stream: &[u8], start: usize) -> bool
     requires { ⌜ length (now stream) ≤ 256 ⌝ }
 {
     let mut all = true;
-    let mut cut = 0;
+    let mut cut = start;
     while cut <= stream.len() {
-        let exact = check_cut(encoding, stream, cut);
+        let exact = check_cut(case, stream, start, cut);
         all = exact::both(all, exact);
         cut += 1;
     }
     all
 }
 
-fn show(encoding: Encoding) {
-    test_text::show::encoding(encoding);
+fn show(case: Case) {
+    print::case(case);
     test_text::show::text(b"\n");
     let mut out = write::room();
-    let n = write::appends(encoding, &mut out);
+    let n = write::appends(case, &mut out);
     let stream = &out[..n];
-    print::stream(stream, word_size(encoding));
-    let exact = check_cuts(encoding, stream);
-    print::all(encoding, exact);
+    let start = reading::body_start(case, stream);
+    print::header(&stream[..start]);
+    let encoding = case.encoding;
+    print::stream(&stream[start..], word_size(encoding));
+    let exact = check_cuts(case, stream, start);
+    print::all(case, exact);
+}
+
+fn show_encoding(encoding: Encoding, later: When) {
+    show(Case {
+        encoding,
+        headed: false,
+        when: When::Early,
+    });
+    show(Case {
+        encoding,
+        headed: true,
+        when: When::Early,
+    });
+    show(Case {
+        encoding,
+        headed: true,
+        when: later,
+    });
 }
 
 fn main() {
-    show(Encoding::Evt2);
-    show(Encoding::Evt3);
+    show_encoding(Encoding::Evt2, When::Later2);
+    show_encoding(Encoding::Evt3, When::Later3);
+    opening::tell();
 }

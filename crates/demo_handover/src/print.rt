@@ -1,8 +1,9 @@
 // Printing to standard output.
 ghost use Prim.Native.Nat.{_<_};
+use crate::given::Case;
+use crate::given::When;
 use libc::STDOUT_FILENO;
 use prophesee_raw::AppendAnswer;
-use prophesee_raw::Encoding;
 use prophesee_raw::refusal_number;
 use test_text::show;
 
@@ -26,7 +27,7 @@ fn word(s: &[u8]) {
     }
 }
 
-fn words(s: &[u8], size: usize)
+pub fn words(s: &[u8], size: usize)
     requires { ⌜ 0 < size ⌝ }
 {
     let mut at = 0;
@@ -35,7 +36,6 @@ fn words(s: &[u8], size: usize)
         word(&s[at..end]);
         at = end;
     }
-    show::text(b"\n");
 }
 
 // How many bytes, and their words.
@@ -45,6 +45,16 @@ pub fn stream(s: &[u8], size: usize)
     show::number(s.len() as u64);
     show::text(b" bytes:");
     words(s, size);
+    show::text(b"\n");
+}
+
+// How long a header is, and its lines; nothing where there is none.
+pub fn header(s: &[u8]) {
+    if s.len() > 0 {
+        told(b"header of ", s.len() as u64);
+        show::text(b" bytes:\n");
+        show::text(s);
+    }
 }
 
 fn answer(a: AppendAnswer) {
@@ -84,8 +94,21 @@ pub fn end(exact: bool) {
     show::text(b"\n");
 }
 
-pub fn all(e: Encoding, exact: bool) {
-    show::encoding(e);
+pub fn case(c: Case) {
+    let encoding = c.encoding;
+    show::encoding(encoding);
+    if c.headed {
+        show::text(b" behind a header");
+    }
+    let when = c.when;
+    if let When::Early = when {
+        return;
+    }
+    show::text(b", the body begins with %");
+}
+
+pub fn all(c: Case, exact: bool) {
+    case(c);
     if exact {
         show::text(b": exact at every cut\n");
     } else {

@@ -4,6 +4,8 @@ ghost use mathlib.Core.List.{_++_};
 ghost use Prim.Native.Nat.{_≤_};
 ghost use lib.ListN.{length, drop};
 use crate::given;
+use crate::given::Case;
+use crate::given::When;
 use crate::print;
 use prophesee_raw::AppendAnswer;
 use prophesee_raw::Encoding;
@@ -25,12 +27,12 @@ pub fn room() -> [u8; 256]
     [0; 256]
 }
 
-// A fresh writer that sends no header, and `at` bytes that stand already.
-fn fresh(encoding: Encoding, at: usize, told: bool) -> Progress
+// A fresh writer, with a header due or none, and `at` bytes that stand already.
+fn fresh(encoding: Encoding, headed: bool, at: usize, told: bool) -> Progress
     ensures { λ r. ⌜ r .at ≡ at ⌝ }
 {
     Progress {
-        sink: RawEventSink::to_writer(encoding, false),
+        sink: RawEventSink::to_writer(encoding, headed),
         at,
         told,
     }
@@ -73,13 +75,13 @@ fn append(w: Progress, xs: &[u16], ys: &[u16], ts: &[i64], ps: &[u8], out: &mut 
 }
 
 // Appends the given events from number `from` on, up to `to`.
-fn append_given(w: Progress, from: usize, to: usize, out: &mut [u8]) -> Progress
+fn append_given(w: Progress, when: When, from: usize, to: usize, out: &mut [u8]) -> Progress
     requires { ⌜ w .at ≤ length (now out) ⌝ }
     ensures { λ r. ⌜ r .at ≤ length (now (out .entry)) ⌝ }
 {
     let xs = given::columns();
     let ys = given::rows();
-    let ts = given::times();
+    let ts = given::times(when);
     let ps = given::polarities();
     append(
         w,
@@ -104,21 +106,28 @@ fn append_falling(w: Progress, out: &mut [u8]) -> Progress
 }
 
 // The appends that are given, by a fresh writer. Answers how long the stream is.
-pub fn appends(encoding: Encoding, out: &mut [u8]) -> usize
+pub fn appends(case: Case, out: &mut [u8]) -> usize
     ensures { λ r. ⌜ r ≤ length (now (out .entry)) ⌝ }
 {
-    let first = append_given(fresh(encoding, 0, true), 0, 7, &mut *out);
+    let when = case.when;
+    let encoding = case.encoding;
+    let writer = fresh(encoding, case.headed, 0, true);
+    let first = append_given(writer, when, 0, 7, &mut *out);
     let second = append_falling(first, &mut *out);
-    let third = append_given(second, 7, 16, &mut *out);
+    let third = append_given(second, when, 7, given::total(when), &mut *out);
     third.at
 }
 
-// A fresh writer resumes at `at` with the given events from number `from` on. Answers where it ends.
-pub fn resume(encoding: Encoding, from: usize, out: &mut [u8], at: usize) -> usize
-    requires { ⌜ (from ≤ 16) × (at ≤ length (now out)) ⌝ }
+// A fresh writer, which sends no header, resumes at `at` with the given events from number `from` on.
+// Answers where it ends.
+pub fn resume(case: Case, from: usize, out: &mut [u8], at: usize) -> usize
+    requires { ⌜ at ≤ length (now out) ⌝ }
     ensures { λ r. ⌜ r ≤ length (now (out .entry)) ⌝ }
 {
-    let w = append_given(fresh(encoding, at, false), from, 16, &mut *out);
+    let when = case.when;
+    let encoding = case.encoding;
+    let writer = fresh(encoding, false, at, false);
+    let w = append_given(writer, when, from, given::total(when), &mut *out);
     w.at
 }
 

@@ -9,8 +9,9 @@ use Rattle.demo_handover.proofs.show.Tie as tie
 
 check-cuts-requires : tie.Need-check-cuts-requires
 check-cuts-requires c κs =
-    let n = c .before .before .before .before .appends .result in
-    let out = c .before .before .before .before .appends .last .1 .0 in
+    let b = c .before .before .before .before .before .before .before .before in
+    let n = b .appends .result in
+    let out = b .appends .last .1 .0 in
     let long : length (take n out) ≡ n = length-take-le n out (search needs) in
     omega arith
 
@@ -20,6 +21,7 @@ show-spec =
     (tie.spec
     (λ c κs. search needs) (λ c. search needs) (λ c κs. search needs) (λ c κs. search needs) (λ c. search needs)
     (λ c κs. search needs) (λ c. search needs) (λ c. sym (length-take-le _ _ (search needs))) (λ c κs. search needs)
-    (λ c κs. search needs)
+    (λ c. sym (length-take-le _ _ (c .before .body-start .ensures))) (λ c κs. search needs)
+    (λ c. search needs) (λ c. search needs) (λ c. search needs) (λ c κs. search needs) (λ c κs. search needs)
     check-cuts-requires
     (λ c κs. search needs) (λ c. search needs))

@@ -7,10 +7,10 @@ use Rattle.demo_handover.proofs.compare.judge.Statement.{statement}
 use Rattle.demo_handover.proofs.compare.judge.Tie as tie
 
 returns : tie.Need-returns
-returns c = judged-other _ _ _ _ refl (λ m. c .if1 .taken (m .accepted))
+returns c = judged-other _ _ _ _ _ refl (λ m. c .if1 .taken (m .accepted))
 
 returns-2 : tie.Need-returns-2
-returns-2 c = judged-other _ _ _ _ refl (λ m. c .if2 .taken (m .count))
+returns-2 c = judged-other _ _ _ _ _ refl (λ m. c .if2 .taken (m .count))
 
 same-shorts-requires : tie.Need-same-shorts-requires
 same-shorts-requires c κs =
@@ -20,7 +20,7 @@ same-shorts-requires c κs =
 returns-3 : tie.Need-returns-3
 returns-3 c =
     let a = c .before .before .before .before .before .before .before .before .args in
-    judged-other _ _ _ _ refl (λ m.
+    judged-other _ _ _ _ _ refl (λ m.
     disagrees (a .from) (a .to - a .from) (a .got .xs) (c .before .before .columns .ensures .0) (c .before .same-shorts .ensures) (c .if3 .left) (m .xs))
 
 same-shorts-requires-2 : tie.Need-same-shorts-requires-2
@@ -31,7 +31,7 @@ same-shorts-requires-2 c κs =
 returns-4 : tie.Need-returns-4
 returns-4 c =
     let a = c .before .before .before .before .before .before .before .before .before .before .before .before .args in
-    judged-other _ _ _ _ refl (λ m.
+    judged-other _ _ _ _ _ refl (λ m.
     disagrees (a .from) (a .to - a .from) (a .got .ys) (c .before .before .rows .ensures .0) (c .before .same-shorts2 .ensures) (c .if4 .left) (m .ys))
 
 same-longs-requires : tie.Need-same-longs-requires
@@ -42,7 +42,7 @@ same-longs-requires c κs =
 returns-5 : tie.Need-returns-5
 returns-5 c =
     let a = c .before .before .before .before .before .before .before .before .before .before .before .before .before .before .before .before .args in
-    judged-other _ _ _ _ refl (λ m.
+    judged-other _ _ _ _ _ refl (λ m.
     disagrees (a .from) (a .to - a .from) (a .got .ts) (c .before .before .times .ensures .0) (c .before .same-longs .ensures) (c .if5 .left) (m .ts))
 
 same-bytes-requires : tie.Need-same-bytes-requires
@@ -55,7 +55,7 @@ returns-6 : tie.Need-returns-6
 returns-6 c =
     let a = c .before .before .before .before .before .before .before .before .before .before .before .before .before .before .before
     .before .before .before .before .before .args in
-    judged-other _ _ _ _ refl (λ m.
+    judged-other _ _ _ _ _ refl (λ m.
     disagrees (a .from) (a .to - a .from) (a .got .ps) (c .before .before .polarities .ensures .0) (c .before .same-bytes .ensures) (c .if6 .left) (m .ps))
 
 returns-7 : tie.Need-returns-7

@@ -6,10 +6,10 @@ use Rattle.demo_handover.proofs.print.words.Statement.{statement}
 use Rattle.demo_handover.proofs.print.words.Tie as tie
 
 abbrev Inv-loop : tie.InvT-loop
-Inv-loop s size at₀ t5 at = at ≤ length s
+Inv-loop s size at₀ at = at ≤ length s
 
 abbrev μ-loop : tie.MeasureT-loop
-μ-loop s size at₀ t5 at = length s - at
+μ-loop s size at₀ at = length s - at
 
 pub words-spec : {M : Type 1} → statement M
 words-spec =
@@ -18,5 +18,4 @@ words-spec =
     Inv-loop
     μ-loop
     (λ c. search needs) (λ c. search needs) (λ c. search needs) (λ c. search needs) (λ c. search needs) (λ c. search needs)
-    (λ c κs. search needs) (λ c. search needs) (λ c. search needs) (λ c. search needs) (λ c κs. search needs)
-    (λ c. search needs))
+    (λ c κs. search needs) (λ c. search needs) (λ c. search needs) (λ c. search needs))

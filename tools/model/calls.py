@@ -16,6 +16,7 @@ PARSE_HEADER, READ_RAW, DECODE_WORDS, READ_RAW_TRIGGERS, DECODE_WORDS_TRIGGERS, 
 TRIGGER_CALLS = READ_RAW_TRIGGERS, DECODE_WORDS_TRIGGERS, WORD_TRIGGER
 READINGS = READ_RAW, DECODE_WORDS, READ_RAW_TRIGGERS, DECODE_WORDS_TRIGGERS
 RAW_READINGS = READ_RAW, READ_RAW_TRIGGERS
+WITH_HEADER = PARSE_HEADER, *RAW_READINGS
 
 # `rooms`: places lent of x, y, t, p, trigger time, id and value. `decoder`: the numbers of `words.Decoder.fields`. `zeros`: bytes 0 behind
 # `data`. `sized` and `limited` are flags, true if not 0. `fill` is what every byte of a column holds beforehand.

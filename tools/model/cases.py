@@ -196,6 +196,17 @@ LISTED = [
     Case('far2', 2, '8FFFFFFF' + 200 * ' E0000000' + ' 80FFFFFF' + 200 * ' E0000000' + ' A0000101', (64, 48), NONE, 0, 1,
          'ok EVT2 64 48 0 : | 1 : 18253610944,1,1'),
     Case('far2', 2, 200 * 'A0000101 ' + '80000001' + 200 * ' A0000101' + ' 19002807' + 200 * ' A0000101', NONE, 1, 1, 199, 'refused 13 200'),
+    # the header's end line: the next byte opens the body, whatever it is
+    Case('end3', '% evt 3\n% end\n', '8025 A301 2801', NONE, NONE, 1, 1, 'ok EVT3 2 1 1 : 151552,1,0,1 | 1 : 151552,3,1'),
+    Case('end2', '% evt 2\n%end\n', '80000025 A0000101 19002807', NONE, NONE, 1, 1, 'ok EVT2 6 8 1 : 2404,5,7,1 | 1 : 2368,1,1'),
+    Case('end3', '% evt 3\n%%  END \r\n', 'A325 8001 A301', (64, 48), NONE, 0, 1, 'ok EVT3 64 48 0 : | 1 : 4096,3,1'),
+    Case('end3', '% evt 3\n% end\n% geometry 5x7\n', '8025 A301 2801', NONE, NONE, 1, 1, 'refused 1'),
+    Case('end3', '% evt 3\n% end\n%\x80', '8025 A301 2801', NONE, NONE, 1, 1, 'ok EVT3 2 1 1 : 151552,1,0,1 | 1 : 151552,3,1'),
+    Case('near3', '% evt 3\n% end x\n', '8025 A301 2801', NONE, NONE, 1, 1, 'refused 3'),
+    Case('near3', '% evt 3\n% %end\n%geometry 9x8\n', '8001 A301 2801', NONE, NONE, 1, 1, 'ok EVT3 9 8 1 : 4096,1,0,1 | 1 : 4096,3,1'),
+    Case('near3', '% evt 3\n% ending\n%geometry 9x8\n', '8001 A301 2801', NONE, NONE, 1, 1, 'ok EVT3 9 8 1 : 4096,1,0,1 | 1 : 4096,3,1'),
+    Case('alone3', '% evt 3\n% end', '', (64, 48), NONE, 0, 0, 'ok EVT3 64 48 0 : | 0 :'),
+    Case('first3', '% end\n% evt 3\n', '8025 A301 2801', (64, 48), NONE, 1, 1, 'refused 2'),
 ]
 
 # What is refused, alone and two at a time, of one event and one trigger read with a limit of 1 and a size: `4` has bytes 0 behind the words, one

@@ -11,6 +11,7 @@ from collections import Counter
 
 import calls
 import cases
+import header
 import making
 from refusal import Refused
 
@@ -119,11 +120,14 @@ def meets_13(call, number):
 
 class Tally:
     def __init__(self):
-        self.calls, self.refused, self.events, self.triggers, self.with_triggers, self.meetings = (Counter() for _ in range(6))
+        self.calls, self.refused, self.events, self.triggers, self.with_triggers, self.meetings, self.ends = (Counter() for _ in range(7))
 
     def add(self, call, expected):
         name, number = calls.NAMES[call.call], expected[0]
         self.calls[name] += 1
+        if call.call in calls.WITH_HEADER and header.has_end_line(call.data):
+            self.ends['all'] += 1
+            self.ends['percent'] += header.percent_behind_end(call.data)
         if number:
             self.refused[name, number] += 1
             if number in (1, 5) and call.call in (calls.READ_RAW_TRIGGERS, calls.DECODE_WORDS_TRIGGERS) and meets_13(call, number):
@@ -149,6 +153,7 @@ class Tally:
                 print(f'| {name} | {self.calls[name]:,} | {accepted:,} ({self.with_triggers[name]:,}) | {told} |'
                       f' {self.events[name]:,} | {self.triggers[name]:,} |')
         print(f'refusal 5 where 13 applies as well: {self.meetings[5]:,}; refusal 1 where it does: {self.meetings[1]:,}')
+        print(f'calls with an end line in the header: {self.ends["all"]:,}, with a % behind it: {self.ends["percent"]:,}')
 
 
 def framed(answers):

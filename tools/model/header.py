@@ -10,10 +10,20 @@ DIGITS = b'0123456789'
 Header = namedtuple('Header', 'encoding body size')
 
 
+def trimmed(line):
+    """Trim the line, drop all leading `%`, trim."""
+    return line.strip(BLANKS).lstrip(b'%').strip(BLANKS)
+
+
+def is_end(line):
+    return trimmed(line).lower() == b'end'
+
+
 def header_lines(data):
-    """While the next byte is `%`, a line runs through its newline, or to the end of the file. Told with where the body starts."""
+    """While the next byte is `%`, a line runs through its newline, or to the end of the file. An end line is the last one: the next byte,
+    whatever it is, opens the body. Told with where the body starts."""
     lines, at = [], 0
-    while data[at:at + 1] == b'%':
+    while data[at:at + 1] == b'%' and not (lines and is_end(lines[-1])):
         newline = data.find(b'\n', at)
         end = len(data) if newline < 0 else newline + 1
         lines.append(data[at:end])
@@ -21,9 +31,18 @@ def header_lines(data):
     return lines, at
 
 
+def has_end_line(data):
+    return any(map(is_end, header_lines(data)[0]))
+
+
+def percent_behind_end(data):
+    """The byte behind the header's end line is `%`. The Rust original takes it for one more header line: of such files it is no reference."""
+    return has_end_line(data) and data[header_lines(data)[1]:][:1] == b'%'
+
+
 def key_and_value(line):
-    """Trim the line, drop all leading `%`, trim; the key runs up to the first blank, the value is the trimmed remainder."""
-    line = line.strip(BLANKS).lstrip(b'%').strip(BLANKS)
+    """The key of the trimmed line runs up to the first blank, the value is the trimmed remainder."""
+    line = trimmed(line)
     end = next((at for at, byte in enumerate(line) if byte in BLANKS), len(line))
     return line[:end].lower(), line[end:].strip(BLANKS)
 

@@ -19,6 +19,11 @@ NUMBERS = ['64', '48', '16', '8', '1280', '720', '2048', '1', '10', '65536',
 BETWEEN = ['x', 'x', 'x', 'x', 'X', ' x ', ' X', 'x\t', '', 'xx', 'Xx', 'xX', '*']
 BLANKS = [' ', ' ', ' ', '  ', '\t', '\x0b', '\x0c', '\r', ' \t ', '', '\x1c', '_']
 SIGNS = ['%', '%', '%', '%', '%%', '%%%', '% %', '%\t']
+END_LINES = ['% end\n'] * 4 + ['%end\n', '%%  END \r\n', '% End\r\n', '%\tend \x0b\x0c\n', '%%%\x0beNd\n', '% end', '%end', '%%  END \r']
+NEAR_ENDS = ['% end x\n', '% ending\n', '% %end\n', '%endx\n', '% e nd\n', '% end%\n', '% en\n', '% end.\n', '% format end\n', '% evt end\n',
+             '%\x1cend\n', '% end\x00\n', '%_end\n', 'end\n', ' % end\n', '\n% end\n', '% end %end\n']
+BEHIND_END = ['% geometry 5x7\n', '% format EVT2\n', '% format EVT3\n', '% evt 2\n', '% evt 3\n', '% end\n', '% geometry 0x1\n', '%', '%\n', '%\x80\n',
+              '\x80', '\xff\n', '%\xff', '\n', '%%', 'x\n']
 
 
 def chance(rng, percent):
@@ -44,16 +49,24 @@ def header_line(rng):
     return rng.choice(SIGNS) + rng.choice(BLANKS) + key(rng, name) + rng.choice(BLANKS) + value + rng.choice(['', '', '', '\r', ' ', '\t \x0c']) + '\n'
 
 
+def end_bytes(rng):
+    """An end line, or what nearly is one, and lines behind it, as text of bytes 0 to 255."""
+    near = [rng.choice(NEAR_ENDS) for _ in range(rng.randrange(1, 3))] if chance(rng, 25) else []
+    end = [rng.choice(END_LINES)] if chance(rng, 80) else []
+    behind = [rng.choice(BEHIND_END) if chance(rng, 70) else header_line(rng) for _ in range(rng.randrange(1, 4))] if chance(rng, 35) else []
+    return ''.join(near + end + behind)
+
+
 def header_bytes(rng, encoding):
-    """Most name the encoding, some are odd or damaged."""
+    """Most name the encoding, many have an end line, some are odd or damaged."""
     lines = [header_line(rng) for _ in range(rng.choice([0, 0, 0, 1, 1, 2, 3]))] if chance(rng, 50) else []
     if chance(rng, 92):
         lines.insert(rng.randrange(len(lines) + 1), rng.choice(['% format EVT{}\n', '% evt {}.0\n', '%evt {}\n', '% FORMAT evt{}\r\n']).format(encoding))
     if chance(rng, 25):
         lines.append(f'% geometry {rng.choice(NUMBERS[:11])}x{rng.choice(NUMBERS[:10])}\n')
-    if chance(rng, 15):
-        lines.append('% end\n')
-    data = ''.join(lines).encode()
+    if chance(rng, 50):
+        lines.append(end_bytes(rng))
+    data = ''.join(lines).encode('latin-1')
     if chance(rng, 5):
         data = damaged(rng, data)
     if data and chance(rng, 3):
@@ -196,7 +209,10 @@ def readings(rng, data, encoding, body, header_size, kinds, named):
 
 def raw_case(rng):
     encoding = rng.choice([2, 3])
-    data = header_bytes(rng, encoding) + body_bytes(rng, encoding)
+    front, body = header_bytes(rng, encoding), body_bytes(rng, encoding)
+    if header.has_end_line(front) and chance(rng, 40):
+        body = b'%' + body[1:]  # the low byte of the first word
+    data = front + body
     if chance(rng, 3):
         data = damaged(rng, data)
     try:

@@ -3,11 +3,16 @@
 
 ORACLE is the program tools/original/src/oracle.rs, built from the Rust original: tools/vectors.sh builds it and runs this.
 The cases are made here and in vectors_index.py, always the same ones.
-An expected answer is the oracle's, except where the table of refusals (docs/RULES.md) has a number that the Rust lacks.
+An expected answer is the oracle's, except where the table of refusals (docs/RULES.md) has a number that the Rust lacks, and except for
+recordings with a `%` behind the header's end line, where it is the model's (tools/model).
 A layer of the library is a function that yields cases; LAYERS at the end lists those of crates/test_vectors.
 """
 import itertools, random, subprocess, sys
 from pathlib import Path
+
+sys.path.append(str(Path(__file__).resolve().parent / 'model'))
+import answers as model
+from header import header_lines, percent_behind_end
 
 CRATES = Path(__file__).resolve().parent.parent / 'crates'
 
@@ -327,11 +332,8 @@ def call(data, size, limit, room):
 
 
 def header_end(data):
-    """While the next byte is `%`, a line runs through its newline, or to the end of the file."""
-    at = 0
-    while data[at:at + 1] == b'%':
-        at = data.find(b'\n', at) + 1 or len(data)
-    return at
+    """Where the body starts: behind the end line, or else behind the last line that begins with `%`."""
+    return header_lines(data)[1]
 
 
 def numbered(answer):
@@ -355,14 +357,29 @@ def expected(expect, r, *case):
     return r
 
 
+def headed_case(group, line, data, asked, judge, expect):
+    """A case of a recording with its header. The Rust takes a `%` behind the end line for one more header line: of such a recording it isn't
+    asked, and the answer is the model's. Of all others it is asked."""
+    if percent_behind_end(data):
+        return Case(group, line, [], lambda _: expected(expect, model.answer(line), line))
+    return Case(group, line, asked, lambda answers: expected(expect, judge(answers), line))
+
+
 def hdr(group, data, size=None, expect=None):
     line = f'hdr {shown(size)} {data.hex() or "-"}'
-    return Case(group, line, [f'hdr data={data.hex()} size={shown(size)}'], lambda a: expected(expect, by_table(data, a[0]), line))
+
+    def judge(answers):
+        r = by_table(data, answers[0])
+        assert not r.startswith('ok') or int(r.split()[2]) == header_end(data), (line, r)
+        return r
+
+    return headed_case(group, line, data, [f'hdr data={data.hex()} size={shown(size)}'], judge, expect)
 
 
 def read(group, data, size=None, limit=None, room=COLUMNS, expect=None):
     line = f'read {call(data, size, limit, room)}'
-    return Case(group, line, [f'read data={data.hex()} size={shown(size)} limit={shown(limit)}'], lambda a: expected(expect, by_table(data, a[0], room), line))
+    asked = [f'read data={data.hex()} size={shown(size)} limit={shown(limit)}']
+    return headed_case(group, line, data, asked, lambda answers: by_table(data, answers[0], room), expect)
 
 
 def kept(enc, stepped, size, limit):
@@ -481,7 +498,7 @@ def cuts():
 
 
 def percent():
-    """Words that begin with `%`: no header in `words`, a header line in `read` (the Rust's rule)."""
+    """Words that begin with `%`: no header in `words`, a header line in `read` where no end line stands before them."""
     for enc, firsts in (2, [0x80000025, 0x80000A25, 0x80002025]), (3, [0x8025, 0x0A25, 0x8A25, 0x2025]):
         for first in firsts:
             for rest in [], ONE[enc], MORE[enc]:
@@ -597,8 +614,93 @@ def recordings():
             yield words(f'recording{enc}', enc, data[:r.choice([None, None, len(data) - r.randrange(1, 4)])], size(), limit(), room())
 
 
+END_LINES = [b'% end', b'%end', b'% END', b'%%  END ', b'%% \teNd\v\f', b'%\x0b end', b'% end \r', b'%%%End']
+NEAR_ENDS = [b'% end x', b'% ending', b'% %end', b'%endx', b'% e nd', b'% end%', b'% end %', b'% en', b'% nd', b'% end.', b'%_end', b'%\x1cend', b'% end\0',
+             b'% end end', b'% format end', b'% the end', b'%', b'% ', b'end', b' % end', b'']
+# Words that begin with `%`, and words that don't; of each the events.
+OPENING = {3: [0x8025, 0x6001, 0x0007, 0x2805, 0x8026, 0x300A, 0x400B], 2: [0x80000025, 0x19002807, 0x80000A25, 0x00001001]}
+OPENED = {3: 'ok EVT3 14 8 4 : 151553,5,7,1 155648,10,7,0 155648,11,7,0 155648,13,7,0', 2: 'ok EVT2 6 8 2 : 2404,5,7,1 166208,2,1,0'}
+
+
+def written_head(enc):
+    """As the writer's."""
+    return head(enc, (64, 48), b'% generator eventcv\n% end\n')
+
+
+def end_lines():
+    """Each form of an end line, and each near miss, with every line end, before each kind of body."""
+    for enc in 2, 3:
+        name = f'% evt {enc}\n'.encode()
+        opening, plain = joined(enc, OPENING[enc]), joined(enc, MORE[enc])
+        yield read('end', name + b'% end\n' + opening, None, None, 4, OPENED[enc])
+        yield read('end', written_head(enc) + opening, None, None, 4, OPENED[enc].replace('14 8', '64 48').replace('6 8', '64 48'))
+        # words from 80 on, `%` alone, header-like lines with all their words before the first type 8 or without effect
+        bodies = [opening, plain, b'', b'%', b'%\n', b'\x80\x80' + plain, b'%\x80', b'\xff', b'\n' + plain, b'% geometry 5x7 \n' + plain,
+                  f'% format EVT{5 - enc} \n\n'.encode() + opening, b'%   \n% end\n' + plain, b'% end\n' + opening]
+        for line, end in itertools.product(END_LINES, (b'\n', b'\r\n')):
+            start = len(name + line + end)
+            for body in bodies:
+                yield hdr('end', name + line + end + body, None, f'ok EVT{enc} {start} -')
+            yield read('end', name + line + end + opening, None, None, 4, OPENED[enc])
+        for line in END_LINES:
+            for tail in b'', b'\r', b' ':
+                yield hdr('end', name + line + tail, None, f'ok EVT{enc} {len(name + line + tail)} -')
+            yield read('end', name + line, (64, 48), None, 0, f'ok EVT{enc} 64 48 0 :')
+            yield read('end', name + line, None, None, 0, 'refused 1')
+        for line in NEAR_ENDS:
+            for body in opening, plain, b'% geometry 5x7\n' + plain, b'%end\n' + opening, b'%end\n% geometry 5x7\n':
+                yield hdr('end', name + line + b'\n' + body)
+            yield hdr('end', name + line)
+            for body, end in (opening, b'\n'), (plain, b'\r\n'):
+                yield read('end', name + line + end + body)
+        for body in bodies:
+            yield read('end', written_head(enc) + body, None, None, COLUMNS, f'ok EVT{enc} 64 48')
+            yield read('end', written_head(enc).replace(b'\n', b'\r\n') + body, None, None, COLUMNS, f'ok EVT{enc} 64 48')
+            yield read('end', name + b'%END\n' + body, (2048, 2048), 2)
+
+
+def end_meetings():
+    """Which lines count: those behind the end line are body, and no byte of theirs gets 3, 2 or 1. The first line as the end line; two of them."""
+    for enc in 2, 3:
+        name, opening, other = f'% evt {enc}\n'.encode(), joined(enc, OPENING[enc]), f'% evt {5 - enc}\n'.encode()
+        fronts = [(b'', 'refused 2', None), (b'% geometry 9x8\n', 'refused 2', None), (b'% date \x80\n', 'refused 3', None),
+                  (name + b'% \xC3\xA9\n', 'refused 3', None), (name, 'ok', None), (name + b'% geometry 9x8\n', 'ok', (9, 8)),
+                  (name + b'% geometry 9x0\n', 'ok', (9, 0)), (b'%end x\n' + name, 'ok', None)]
+        behinds = [b'', b'\n', other, b'% format EVT3\n', b'% format EVT2\n', b'% geometry 5x7\n', b'% geometry 0x7\n', b'% \x80\n', b'%\xff', b'\xff',
+                   b'% end\n', b'% end\n' + other, opening]
+        for (front, answer, size), behind in itertools.product(fronts, behinds):
+            start = front + b'% end\n'
+            for given in None, (7, 6):
+                holds = given or size
+                told = answer if answer != 'ok' else 'refused 1' if holds and 0 in holds else f'ok EVT{enc} {len(start)} {shown(holds)}'
+                yield hdr('end', start + behind + opening * bool(given), given, told)
+            yield read('end', start + behind + opening, None, None, COLUMNS, answer if answer != 'ok' else None)
+        for mark in b'% end\x80\n', b'% end \x80\n', b'%\x80end\n', b'% end\xC2\x85\n', b'\xC2\xA0% end\n':
+            yield hdr('end', name + mark + opening)
+            yield hdr('end', name + mark + b'% end\n' + opening)
+            yield read('end', name + mark + opening)
+        for size, limit, room in itertools.product((None, (64, 48), (6, 8), (0, 5)), (None, 0, 1, 2), (0, 1, COLUMNS)):
+            yield read('end', name + b'% end\n' + opening, size, limit, room)
+        data = written_head(enc) + opening
+        for cut in range(len(data)):
+            yield read('end', data[:cut])
+            yield hdr('end', data[:cut])
+
+
+def end_short():
+    """Every text of few parts behind the start of a header line, then a geometry, which an end line before it leaves to the body."""
+    for n in range(4):
+        for parts in itertools.product((b'end', b'END', b' ', b'%', b'\n', b'x', b'\r'), repeat=n):
+            yield hdr('end', b'% evt 3\n%' + b''.join(parts) + b'\n% geometry 5x7\n')
+
+
+def ends():
+    for part in end_lines, end_meetings, end_short:
+        yield from part()
+
+
 def reading():
-    for part in table, order, room_cases, vector_limits, cuts, percent, sizes, headers, short_headers, recordings:
+    for part in table, order, room_cases, vector_limits, cuts, percent, sizes, headers, short_headers, recordings, ends:
         yield from part()
 
 

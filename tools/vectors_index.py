@@ -1,11 +1,12 @@
 """The cases of crates/test_vectors_index: opening (`open`, `openw`) and slices (`slice`). vectors.py runs this; docs/VECTORS.md says what a case is.
 
-An expected answer is the oracle's, except where the table of docs/RULES.md has a number that the Rust lacks (3, 5, 8, 9, 10).
-The records that slices are given are the oracle's too.
+An expected answer is the oracle's, except where the table of docs/RULES.md has a number that the Rust lacks (3, 5, 8, 9, 10), and except for
+openings of recordings with a `%` behind the header's end line, where it is the model's (tools/model). The records that slices are given are the
+oracle's too, or the model's of such a recording.
 """
 import itertools, random, subprocess
-from vectors import (Case, COLUMNS, FRESH, MORE, ONE, WIDE, at2, at3, expected, head, header_end, in_range, joined, numbered, parsed, range2, range3,
-                     rooms, s2, s3, shown, text)
+from vectors import (Case, COLUMNS, FRESH, MORE, ONE, OPENING, WIDE, at2, at3, expected, head, headed_case, header_end, in_range, joined, model, numbered,
+                     parsed, percent_behind_end, range2, range3, rooms, s2, s3, shown, text, written_head)
 
 RECORDS = 64        # the records of the program's array
 MOST = 2**33        # the greatest count of a record
@@ -90,9 +91,9 @@ def open_raw(group, data, size=None, spacing=4, room=RECORDS, expect=None):
             need = need_of(len(data) - start, spacing)
             assert answer == 'refused 1' or int(answer.split()[8]) == need, (line, answer)
             r = f'refused 9 {need}' if room < need else answer if answer == 'refused 1' else opened(answer, spacing, len(data))
-        return expected(expect, r, line)
+        return r
 
-    return Case(group, line, asked, judge)
+    return headed_case(group, line, data, asked, judge, expect)
 
 
 def open_words(group, enc, data, size=None, spacing=4, room=RECORDS, expect=None):
@@ -157,8 +158,18 @@ def record_text(r):
     return f'{r[0]}/{r[1]}/{r[2]}/{text(r[3])}'
 
 
+def model_index_of(enc, data, size, spacing):
+    """The model's index of a recording."""
+    ok, source, _, _, *records = model.answer(f'open {shown(size)} {spacing} {RECORDS} {data.hex()}').split()
+    assert ok == 'ok' and source[0] == str(enc), data.hex()
+    numbers = [r.split('/') for r in records]
+    return Index((enc, *map(int, source[2:].split(','))), [(int(o), int(n), int(t), parsed(state)) for o, n, t, state in numbers])
+
+
 def index_of(enc, data, size=None, spacing=4, headed=True):
-    """The oracle's index of a recording, or of headerless words."""
+    """The oracle's index of a recording, or of headerless words; the model's where the Rust takes the body for a header line."""
+    if headed and percent_behind_end(data):
+        return model_index_of(enc, data, size, spacing)
     whole = data if headed else head(enc) + data
     back = 0 if headed else len(head(enc))
     answer = ORACLE.ask(index_line(whole, size, spacing))
@@ -490,6 +501,38 @@ def percent():
             yield open_raw('ipercent', head(enc) + joined(enc, [first] + ONE[enc]), None, 4)
 
 
+def ends():
+    """The header's end line before each kind of body: opened at each spacing, cut at every byte, and slices, by the Rust over these very records."""
+    for enc in 2, 3:
+        name, words_ = f'% evt {enc}\n'.encode(), [OPENING[enc], MORE[enc], [OPENING[enc][0]] + VECTORS[enc]]
+        fronts = [name + b'% end\n', name + b'%%  END \r\n', written_head(enc), written_head(enc).replace(b'\n', b'\r\n')]
+        for front, words, spacing in itertools.product(fronts, words_, (4, 8, 65536)):
+            data = front + joined(enc, words)
+            yield open_raw('iend', data, None, spacing, RECORDS, 'ok')
+            yield open_raw('iend', data, (12, 8), spacing, 2)
+            if front in fronts[1:3]:
+                index = index_of(enc, data, None, spacing)
+                n, counts, times = index.source[6], [r[1] for r in index.records], [r[2] for r in index.records]
+                numbers = [('n', a, b) for a, b in itertools.product(sorted({0, 1, n - 1, n, *counts}), repeat=2) if a <= b]
+                windows = [('t', a, b) for a, b in itertools.product(sorted({0, times[-1] + 1, 2**63 - 1, *times}), repeat=2) if a < b]
+                for queries in numbers, windows:
+                    yield Slices('iend', index, data, queries[:24])
+        data = written_head(enc) + joined(enc, OPENING[enc])
+        for cut in range(len(data)):
+            yield open_raw('iend', data[:cut], None, 4, RECORDS)
+            if cut >= len(written_head(enc)):
+                index = index_of(enc, data[:cut], None, 4)
+                yield Slices('iend', index, data[:cut], [('n', 0, WIDE), ('n', 1, 2), ('t', 0, 2**63 - 1), ('t', 2404, 155648)])
+        behinds = b'% geometry 5x7 \n', b'% geometry 0x7 \n', b'% format EVT5 \n\n', b'% \x80\n', b'% end\n', b'%', b'\x80', b''
+        for behind, spacing, room in itertools.product(behinds, (4, 6), (0, RECORDS)):
+            for front in name, b'% geometry 7x8\n' + name, b'% \x80\n' + name, b'', b'% geometry 0x8\n' + name:
+                yield open_raw('iend', front + b'% end\n' + behind + joined(enc, OPENING[enc]), None, spacing, room)
+        for near in b'% end x\n', b'% ending\n', b'% %end\n', b'%endx\n', b'% e nd\n':
+            for words in OPENING[enc], MORE[enc]:
+                yield open_raw('iend', name + near + joined(enc, words))
+                yield open_raw('iend', name + near + b'% end\n' + joined(enc, words))
+
+
 def longs():
     """More bytes than the Rust's own spacing, a loop in each unit; the body just at, below and above one and two of it."""
     units = {2: [0x8FFFFFFF, 0x10000801, 0x80000000, 0x00000802], 3: [0x8FFF, 0x0007, 0x2801, 0x300A, 0x4003, 0x8000, 0x2002, 0xE000]}
@@ -559,5 +602,5 @@ def drawn():
 
 def cases(oracle):
     ORACLE.path = oracle
-    for part in table, order, spacings, recordings, cuts, ranges, altered, backward, percent, longs, drawn:
+    for part in table, order, spacings, recordings, cuts, ranges, altered, backward, percent, longs, drawn, ends:
         yield from part()

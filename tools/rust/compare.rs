@@ -2,6 +2,7 @@
 //! on single words.
 //!   compare CASES [SEED]         all cases from 0 on
 //!   compare CASES SEED CASE      this one alone
+//! Recordings with a `%` behind the header's end line are not compared, only counted: the original takes it for one more header line.
 //! A line for each kind of call; exit status 1 at the first difference, with the smallest case found that shows one.
 #[path = "compare/appending.rs"]
 mod appending;
@@ -115,6 +116,12 @@ fn line(name: &str, c: &Count) -> String {
     if c.without > 0 {
         out.push_str(&format!("; {} cases without a call, opening being refused", c.without));
     }
+    if c.ended > 0 {
+        out.push_str(&format!("; {} cases with an end line", c.ended));
+    }
+    if c.outside > 0 {
+        out.push_str(&format!("; {} cases without a call, a % standing behind the end line", c.outside));
+    }
     format!("{out}; 0 mismatches")
 }
 
@@ -123,7 +130,8 @@ fn report(counts: &[Count], seed: u64, cases: u64) {
         println!("{}", line(name, c));
     }
     let sum = |f: fn(&Count) -> u64| counts.iter().map(f).sum::<u64>();
-    println!("seed {seed}: {cases} cases, {} calls, 0 mismatches", sum(|c| c.calls));
+    let (calls, outside) = (sum(|c| c.calls), sum(|c| c.outside));
+    println!("seed {seed}: {cases} cases, {outside} of them not compared (a % behind the end line), {calls} calls, 0 mismatches");
 }
 
 fn differs(seed: u64, number: u64, case: Case, how: String, env: &mut Env) -> ! {

@@ -87,16 +87,62 @@ fn key(rng: &mut Rng, key: &str) -> String {
 }
 
 fn header_line(rng: &mut Rng) -> Vec<u8> {
-    let (name, value) = match rng.below(10) {
-        0..=2 => ("format", rng.pick(&FORMATS).to_owned()),
-        3..=4 => ("evt", rng.pick(&VERSIONS).to_owned()),
-        5..=7 => ("geometry", geometry(rng)),
-        8 => ("end", String::new()),
+    let (name, value) = match rng.below(30) {
+        0..=8 => ("format", rng.pick(&FORMATS).to_owned()),
+        9..=14 => ("evt", rng.pick(&VERSIONS).to_owned()),
+        15..=23 => ("geometry", geometry(rng)),
+        24 => ("end", String::new()),
         _ => (rng.pick(&["generator", "date", "system_ID", "formatevt", "ge ometry"]), "eventcv 3x4".to_owned()),
     };
     let signs = rng.pick(&["%", "%", "%", "%", "%%", "%%%", "% %", "%\t"]);
     let tail = rng.pick(&["", "", "", "\r", " ", "\t \x0c"]);
     format!("{signs}{}{}{}{value}{tail}\n", blanks(rng), key(rng, name), blanks(rng)).into_bytes()
+}
+
+const END_LINES: [&str; 9] =
+    ["% end\n", "% end\n", "% end\n", "%end\n", "%%  END \r\n", "% End\r\n", "%\tend \x0b\x0c\n", "%%%\x0beNd\n", "% end"];
+const NEAR_ENDS: [&str; 12] = [
+    "% end x\n",
+    "% ending\n",
+    "% %end\n",
+    "%endx\n",
+    "% e nd\n",
+    "% end%\n",
+    "% en\n",
+    "%\x1cend\n",
+    "% end\0\n",
+    "end\n",
+    " % end\n",
+    "\n% end\n",
+];
+const BEHIND_END: [&[u8]; 12] = [
+    b"% geometry 5x7\n",
+    b"% format EVT2\n",
+    b"% format EVT3\n",
+    b"% end\n",
+    b"%",
+    b"%\n",
+    b"%\x80\n",
+    b"\x80",
+    b"\xff\n",
+    b"\n",
+    b"x\n",
+    b" % end\n",
+];
+
+/// An end line, or what nearly is one, and at times lines behind it.
+fn end_part(rng: &mut Rng) -> Vec<u8> {
+    let mut bytes = Vec::new();
+    if rng.chance(25) {
+        bytes.extend(rng.pick(&NEAR_ENDS).bytes());
+    }
+    if rng.chance(80) {
+        bytes.extend(rng.pick(&END_LINES).bytes());
+    }
+    if rng.chance(20) {
+        (0..1 + rng.below(2)).for_each(|_| bytes.extend(rng.pick(&BEHIND_END)));
+    }
+    bytes
 }
 
 /// Header lines, most of them with a known encoding.
@@ -315,7 +361,14 @@ pub fn recording(rng: &mut Rng) -> Vec<u8> {
     let mut bytes = header(rng);
     let names3 = bytes.contains(&b'3');
     let evt3 = if rng.chance(90) { names3 } else { !names3 };
-    bytes.extend(words(rng, evt3));
+    let mut body = words(rng, evt3);
+    if rng.chance(50) {
+        bytes.extend(end_part(rng));
+        if !body.is_empty() && rng.chance(15) {
+            body[0] = b'%';
+        }
+    }
+    bytes.extend(body);
     bytes
 }
 

@@ -134,7 +134,7 @@ fn any_bytes(rng: &mut Rng) -> Vec<u8> {
     let mut bytes = match rng.below(8) {
         0 => Vec::new(),
         1 => (0..rng.below(40)).map(|_| rng.next() as u8).collect(),
-        2 => (0..rng.below(200)).map(|_| rng.pick(b"%% \n\t efmtvgory32xX0918\r")).collect(),
+        2 => (0..rng.below(200)).map(|_| rng.pick(b"%% \n\t efmtvgory32xX0918\rnd")).collect(),
         3 | 4 => making::good_recording(rng),
         5 => making::recording(rng),
         6 => making::words(rng, true),

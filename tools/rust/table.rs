@@ -5,13 +5,28 @@ use crate::archive::{Decoder, Record, Sink, Source};
 pub const LONGEST: usize = 1 << 30;
 pub const MOST_EVENTS: usize = 1 << 28;
 
-/// Where the header lines end.
-pub fn header_end(bytes: &[u8]) -> usize {
-    let mut at = 0;
-    while at < bytes.len() && bytes[at] == b'%' {
-        at = bytes[at..].iter().position(|b| *b == b'\n').map_or(bytes.len(), |n| at + n + 1);
+/// Where the header lines end, and whether an end line, which is always the last one, is among them.
+fn header_lines(bytes: &[u8]) -> (usize, bool) {
+    let (mut at, mut ended) = (0, false);
+    while !ended && bytes.get(at) == Some(&b'%') {
+        let end = bytes[at..].iter().position(|b| *b == b'\n').map_or(bytes.len(), |n| at + n + 1);
+        ended = stripped(&bytes[at..end]).eq_ignore_ascii_case(b"end");
+        at = end;
     }
-    at
+    (at, ended)
+}
+
+pub fn header_end(bytes: &[u8]) -> usize {
+    header_lines(bytes).0
+}
+
+pub fn has_end_line(bytes: &[u8]) -> bool {
+    header_lines(bytes).1
+}
+
+/// Whether the byte behind the end line is `%`, which the original takes for one more header line. Without an end line no header has a `%` behind it.
+pub fn percent_behind_end(bytes: &[u8]) -> bool {
+    bytes.get(header_end(bytes)) == Some(&b'%')
 }
 
 /// What a header tells; `encoding` 0: none.
@@ -49,10 +64,15 @@ fn geometry(value: &[u8], before: Option<(usize, usize)>) -> Option<(usize, usiz
     Some((number(trimmed(&value[..at]))?, number(trimmed(&value[at + 1..]))?))
 }
 
+/// A header line without its blanks and leading `%`s.
+fn stripped(line: &[u8]) -> &[u8] {
+    let line = trimmed(line);
+    trimmed(&line[line.iter().position(|b| *b != b'%').unwrap_or(line.len())..])
+}
+
 /// Key and value of a header line, in small letters.
 fn key_value(line: &[u8]) -> (Vec<u8>, Vec<u8>) {
-    let line = trimmed(line);
-    let body = trimmed(&line[line.iter().position(|b| *b != b'%').unwrap_or(line.len())..]);
+    let body = stripped(line);
     let at = body.iter().position(blank).unwrap_or(body.len());
     (body[..at].to_ascii_lowercase(), trimmed(&body[at..]).to_vec())
 }

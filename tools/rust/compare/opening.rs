@@ -133,12 +133,26 @@ impl Case {
         Ok(Index { source, records, span: (earliest.min(latest), latest), live: None, unchanged: None })
     }
 
+    /// The original is no reference.
+    pub fn is_outside(&self) -> bool {
+        self.words.is_none() && table::percent_behind_end(&self.bytes)
+    }
+
+    pub fn has_end_line(&self) -> bool {
+        self.words.is_none() && table::has_end_line(&self.bytes)
+    }
+
     pub fn check(&self, env: &mut Env) -> Result<(), String> {
+        if self.is_outside() {
+            env.counts[self.kind()].outside += 1;
+            return Ok(());
+        }
         let want = self.expected(&env.original);
         if let Expected::Late { need, index: Ok(i) } = &want {
             same(*need, i.records.len()).map_err(|e| format!("the table's number of records: {e}"))?;
         }
         env.counts[self.kind()].cases += 1;
+        env.counts[self.kind()].ended += self.has_end_line() as u64;
         for room in &self.rooms {
             self.call(env, &want, *room).map_err(|e| format!("{room:?}: {e}"))?;
         }

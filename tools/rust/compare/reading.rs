@@ -112,11 +112,16 @@ impl Case {
     }
 
     pub fn check(&self, env: &mut Env) -> Result<(), String> {
+        if self.words.is_none() && table::percent_behind_end(&self.bytes) {
+            env.counts[self.kind()].outside += 1;
+            return Ok(());
+        }
         let want = self.expected(&env.original)?;
         if self.words.is_none() {
             self.parse(env).map_err(|e| format!("the header: {e}"))?;
         }
         env.counts[self.kind()].cases += 1;
+        env.counts[self.kind()].ended += (self.words.is_none() && table::has_end_line(&self.bytes)) as u64;
         for room in &self.rooms {
             self.call(env, &want, room).map_err(|e| format!("{room:?}: {e}"))?;
         }

@@ -18,6 +18,10 @@ pub struct Count {
     pub ruled: u64,
     /// Cases that came to no call, since the recording they start from was refused.
     pub without: u64,
+    /// Cases that came to no call, since the byte behind the header's end line is `%`: the original is no reference there.
+    pub outside: u64,
+    /// Cases of a recording with an end line that were compared.
+    pub ended: u64,
 }
 
 pub const KINDS: [&str; 15] = [

@@ -261,11 +261,16 @@ impl Case {
     }
 
     pub fn check(&self, env: &mut Env) -> Result<(), String> {
+        if self.open.is_outside() {
+            env.counts[self.kind()].outside += 1;
+            return Ok(());
+        }
         env.counts[self.kind()].cases += 1;
         let Expected::Late { index: Ok(mut index), .. } = self.open.expected(&env.original) else {
             env.counts[self.kind()].without += 1;
             return Ok(());
         };
+        env.counts[self.kind()].ended += self.open.has_end_line() as u64;
         for c in &self.changes {
             c.apply(&mut index.source, &mut index.records);
         }

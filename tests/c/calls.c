@@ -376,6 +376,81 @@ static void writing(void)
     print_appended("append, a writer of 7", append(s));
 }
 
+/* ---- the header's end line: the next byte opens the body, whatever it is */
+
+static prophesee_record indexed[ROOM];
+
+/* The header, all events, the index and slices of the whole. */
+static void read_all(const char *what, const uint8_t *bytes, size_t len)
+{
+    const prophesee_options none = {0};
+    const prophesee_open_options spaced = {.spacing = 8};
+
+    printf("%s\n", what);
+    print_header("parse_header", prophesee_parse_header(bytes, len, 0, 0, 0));
+    print_reading("read_raw", prophesee_read_raw(bytes, len, none, COLUMNS));
+    print_trigger_reading("read_raw_triggers", prophesee_read_raw_triggers(bytes, len, none, COLUMNS, TRIGGERS));
+    memset(indexed, 0xee, sizeof indexed);
+    prophesee_opening o = print_opening("open", prophesee_open(bytes, len, indexed, ROOM, spaced), indexed, ROOM);
+    if (o.refusal == 0) {
+        print_slice("slice_index, from 1", prophesee_slice_index(bytes, len, o.source, indexed, ROOM, 1, SIZE_MAX, COLUMNS));
+        print_slice("slice_time, below 155648", prophesee_slice_time(bytes, len, o.source, indexed, ROOM, 0, 155648, COLUMNS));
+    }
+}
+
+static void read_behind(const char *what, const char *text, const uint8_t *words, size_t n)
+{
+    uint8_t bytes[128];
+    size_t start = strlen(text);
+    memcpy(bytes, text, start);
+    memcpy(bytes + start, words, n);
+    read_all(what, bytes, start + n);
+}
+
+/* 151552: column 5 of row 7, input 3 rises; 155648: columns 10, 11 and 13. The first byte is `%`. */
+static const uint8_t percent3[] = {0x25, 0x80, 0x07, 0x00, 0x05, 0x28, 0x01, 0xa3, 0x26, 0x80, 0x0a, 0x30, 0x0b, 0x40};
+/* 2404: column 5 of row 7. */
+static const uint8_t percent2[] = {0x25, 0x00, 0x00, 0x80, 0x07, 0x28, 0x00, 0x19};
+
+static void end_lines(void)
+{
+    read_behind("A recording that lost its opening", "% evt 3\n% end\n", percent3, sizeof percent3);
+    read_behind("The same of EVT2", "% evt 2\n%%  END \r\n", percent2, sizeof percent2);
+    read_behind("Lines behind the end line", "% evt 3\n% end\n% geometry 5x7 \n% format EVT2  \n", percent3, sizeof percent3);
+    read_behind("A second end line", "% evt 3\n% geometry 64x48\n% end\n% end\n", percent3, sizeof percent3);
+    read_behind("A byte 80 behind the end line", "% evt 3\n% end\n%\x80", evt3, sizeof evt3);
+    read_behind("No end line", "% evt 3\n% end x\n", percent3, sizeof percent3);
+    read_behind("The end line first", "% end\n% evt 3\n", percent3, sizeof percent3);
+    read_behind("The end line last", "% evt 3\n% geometry 64x48\n%end", percent3, 0);
+}
+
+/* A written header is read back before a body that begins with `%`, cut at any byte behind it and resumed by a writer without a header. */
+static void written_and_cut(void)
+{
+    const uint16_t x[] = {5, 10, 11, 13}, y[] = {7, 7, 7, 7};
+    const int64_t t[] = {151552, 155648, 155648, 155648};
+    const uint8_t p[] = {1, 0, 0, 0};
+    const prophesee_options none = {0};
+    uint8_t bytes[256], joined[256];
+
+    prophesee_appended a = prophesee_append(prophesee_writer(PROPHESEE_EVT3, 1), 64, 48, x, 4, y, 4, t, 4, p, 4, bytes, sizeof bytes);
+    size_t start = prophesee_parse_header(bytes, a.written, 0, 0, 0).data_offset;
+    printf("append, 151552: refusal %u written %zu, the body from %zu, its first byte %02x\n", a.refusal, a.written, start, bytes[start]);
+    read_all("What was written", bytes, a.written);
+    for (size_t cut = start; cut <= a.written; cut++) {
+        prophesee_reading r = prophesee_read_raw(bytes, cut, none, COLUMNS);
+        size_t left = 4 - r.count, whole = start + (cut - start) / 2 * 2;
+        memcpy(joined, bytes, whole);
+        prophesee_appended b = prophesee_append(prophesee_writer(PROPHESEE_EVT3, 0), 64, 48, x + r.count, left, y + r.count, left, t + r.count, left,
+                                                p + r.count, left, joined + whole, sizeof joined - whole);
+        prophesee_reading all = prophesee_read_raw(joined, whole + b.written, none, COLUMNS);
+        int same = !memcmp(xs, x, sizeof x) && !memcmp(ys, y, sizeof y) && !memcmp(ts, t, sizeof t) && !memcmp(ps, p, sizeof p);
+        printf("cut at %zu: refusal %u count %zu; joined: refusal %u, %u count %zu, %s\n", cut, r.refusal, r.count, b.refusal, all.refusal, all.count,
+               same ? "as written" : "others");
+        clear();
+    }
+}
+
 /* ---- single words */
 
 static void print_decoder(prophesee_decoder d)
@@ -615,6 +690,8 @@ int main(void)
     trigger_options();
     slices();
     writing();
+    end_lines();
+    written_and_cut();
     words();
     word_triggers();
     longest();

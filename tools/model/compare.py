@@ -124,6 +124,8 @@ class Tally:
 
     def add(self, call, expected):
         name, number = calls.NAMES[call.call], expected[0]
+        if call.call in calls.SLICES:
+            number = number or expected[calls.OPENING.size]
         self.calls[name] += 1
         if call.call in calls.WITH_HEADER and header.has_end_line(call.data):
             self.ends['all'] += 1
@@ -137,6 +139,8 @@ class Tally:
             self.events[name] += count
             self.triggers[name] += triggers
             self.with_triggers[name] += triggers > 0
+        elif call.call in calls.SLICES:
+            self.events[name] += calls.SLICE.unpack_from(expected, calls.OPENING.size)[2]
         elif call.call == calls.DECODE:
             self.events[name] += (len(expected) - calls.NO_EVENT) // calls.EVENT.size
         elif call.call == calls.WORD_TRIGGER:

@@ -12,7 +12,18 @@
 #include <sys/mman.h>
 #include <unistd.h>
 
-enum { PARSE_HEADER, READ_RAW, DECODE_WORDS, READ_RAW_TRIGGERS, DECODE_WORDS_TRIGGERS, DECODE, DECODER_AFTER, WORD_TRIGGER };
+enum {
+    PARSE_HEADER,
+    READ_RAW,
+    DECODE_WORDS,
+    READ_RAW_TRIGGERS,
+    DECODE_WORDS_TRIGGERS,
+    DECODE,
+    DECODER_AFTER,
+    WORD_TRIGGER,
+    OPEN_SLICE_INDEX,
+    OPEN_SLICE_TIME
+};
 
 #define COLUMNS 7
 #define CANARY 64
@@ -23,10 +34,10 @@ enum { PARSE_HEADER, READ_RAW, DECODE_WORDS, READ_RAW_TRIGGERS, DECODE_WORDS_TRI
 #define SECONDS_A_BATCH 300
 
 struct request {
-    uint64_t width, height, max_events;
+    uint64_t width, height, max_events; /* of an opening: the spacing in place of max_events */
     uint64_t zeros; /* bytes 0 behind those given */
-    prophesee_decoder decoder;
-    uint32_t rooms[COLUMNS]; /* places lent: x, y, t, p, trigger time, id, value */
+    prophesee_decoder decoder; /* of a slice: its ends in place of the first two numbers */
+    uint32_t rooms[COLUMNS]; /* places lent: x, y, t, p, trigger time, id, value; of an opening the fifth is records, 10 places each */
     uint32_t encoding;
     uint32_t given; /* bytes of the recording that follow */
     uint8_t call, sized, limited;
@@ -203,6 +214,23 @@ static void put_decoder_after(const struct request *r)
     PUT(a.refusal), put_decoder(a.decoder);
 }
 
+/* The index of a recording, and a slice of it if there is one. */
+static void put_slice(const struct request *r)
+{
+    prophesee_open_options options = {r->width, r->height, r->max_events, r->sized};
+    prophesee_record *records = lent_columns[4];
+    size_t lent = r->rooms[4] / 10;
+    prophesee_opening o = prophesee_open(recording, recording_len, records, lent, options);
+    prophesee_slice a = {0};
+    if (o.refusal == 0 && r->call == OPEN_SLICE_INDEX)
+        a = prophesee_slice_index(recording, recording_len, o.source, records, lent, r->decoder.time_base, r->decoder.time, EVENT_COLUMNS);
+    else if (o.refusal == 0)
+        a = prophesee_slice_time(recording, recording_len, o.source, records, lent, r->decoder.time_base, r->decoder.time, EVENT_COLUMNS);
+    PUT(o.refusal), PUT(o.told), PUT(o.source.records), PUT(o.source.spacing), PUT(o.source.data_offset), PUT(o.source.len);
+    PUT(o.source.width), PUT(o.source.height), PUT(o.source.n_events), PUT(o.source.encoding);
+    PUT(a.refusal), PUT(a.told), PUT(a.count);
+}
+
 static void call(const struct request *r)
 {
     prophesee_options options = {r->width, r->height, r->max_events, r->sized, r->limited};
@@ -215,6 +243,8 @@ static void call(const struct request *r)
     case WORD_TRIGGER: put_trigger(r); break;
     case DECODE: put_decoded(r); break;
     case DECODER_AFTER: put_decoder_after(r); break;
+    case OPEN_SLICE_INDEX:
+    case OPEN_SLICE_TIME: put_slice(r); break;
     default: stop("no such call");
     }
 }

@@ -42,9 +42,9 @@ def index_body(encoding, data, start, size, spacing, room):
     return Source(encoding, spacing, start, len(data), *size, len(kept)), records
 
 
-def open_raw(data, size, spacing, room):
+def open_raw(data, size, spacing, room, zeros=0):
     """A recording, with its header: 4, 3, 2, 1 for a zero size, 8, 9, 1 for no event."""
-    header = parse_header(data, size)
+    header = parse_header(data, size, zeros)
     return index_body(header.encoding, data, header.body, header.size, spacing, room)
 
 

@@ -3,6 +3,7 @@ import random
 
 import calls
 import header
+import index
 import reading
 from refusal import Refused
 from words import DECODERS
@@ -207,14 +208,17 @@ def readings(rng, data, encoding, body, header_size, kinds, named):
         yield calls.Call(kinds[1], data, named, rooms=rooms, fill=fill, **fields)
 
 
-def raw_case(rng):
+def recording_bytes(rng):
     encoding = rng.choice([2, 3])
     front, body = header_bytes(rng, encoding), body_bytes(rng, encoding)
     if header.has_end_line(front) and chance(rng, 40):
         body = b'%' + body[1:]  # the low byte of the first word
     data = front + body
-    if chance(rng, 3):
-        data = damaged(rng, data)
+    return damaged(rng, data) if chance(rng, 3) else data
+
+
+def raw_case(rng):
+    data = recording_bytes(rng)
     try:
         h = header.parse_header(data, (1, 1))
         h = h._replace(size=header.header_values(header.header_lines(data)[0])[1])
@@ -223,6 +227,41 @@ def raw_case(rng):
         encoding, body, size = None, b'', None
     made = list(readings(rng, data, encoding, body, size, (calls.READ_RAW, calls.READ_RAW_TRIGGERS), rng.choice([0, 2, 3])))
     return [made[0]._replace(call=calls.PARSE_HEADER, rooms=(0,) * 7)] + made
+
+
+def ends(rng, source, records, by_time):
+    """The ends of a slice: at the records' counts or times and beside them, extreme ones, in both orders."""
+    numbers = [r.time for r in records] + [r.decoder[1] for r in records] if by_time else [r.events for r in records] + [source.events]
+    found = [rng.choice([rng.choice(numbers) + rng.randrange(-1, 2), rng.choice(numbers), 0, 2**63 - 1]) for _ in range(2)]
+    if chance(rng, 85):
+        found.sort()
+    if chance(rng, 5):
+        found[rng.randrange(2)] = rng.choice([HUGE, 2**63, 2**63 - 1, 2**64 - 2**40])
+    return [end % 2**64 for end in found]
+
+
+def index_case(rng):
+    """A recording opened, and slices of its index."""
+    data = recording_bytes(rng)
+    spacing = rng.choice([4, 4, 4, 8, 8, 12, 16, 64, 128, 65536, 4194304]) if chance(rng, 95) else rng.choice([0, 2, 3, 6, 4194308, HUGE])
+    made = []
+    for by_time in False, True, rng.choice([False, True]):
+        sized, width, height = size_fields(rng, [(0, (rng.choice([5, 2047]), rng.choice([5, 2047])))])
+        fields = dict(sized=sized, width=width, height=height, max_events=spacing, fill=rng.choice([0, 1, 0xEE, 0xEF, 0xFF]))
+        try:
+            source, records = index.open_raw(data, (width, height) if sized else None, spacing, HUGE)
+            lent = max(0, len(records) + rng.choice([0, 0, 0, 0, 1, 3, 3, -1]))
+            start, end = ends(rng, source, records, by_time)
+            cut = index.slice_time if by_time else index.slice_index
+            wanted = [calls.signed(n) for n in (start, end)] if by_time else (start, end)
+            rooms = lengths(rng, len(cut(data, source, records, *wanted, (HUGE,))), 0, 4)
+        except Refused:
+            lent, start, end, rooms = rng.randrange(4), 0, rng.choice([1, HUGE]), [rng.randrange(4) for _ in range(4)]
+        if chance(rng, 0.3):
+            fields['zeros'] = 2**30 + 1 - len(data)
+        kind = calls.OPEN_SLICE_TIME if by_time else calls.OPEN_SLICE_INDEX
+        made.append(calls.Call(kind, data, rooms=(*rooms, 10 * lent, 0, 0), decoder=(start, end, 0, 0, 0, 0, 0, 0), **fields))
+    return made
 
 
 def header_case(rng):
@@ -288,5 +327,6 @@ def single_case(rng):
 def case(seed, number):
     """The calls of a case; it depends on the seed and its number alone."""
     rng = random.Random(f'{seed} {number}')
-    draw = rng.randrange(20)
-    return raw_case(rng) if draw < 9 else words_case(rng) if draw < 15 else single_case(rng) if draw < 18 else header_case(rng)
+    draw = rng.randrange(25)
+    return (raw_case(rng) if draw < 9 else words_case(rng) if draw < 15 else single_case(rng) if draw < 18 else header_case(rng) if draw < 20
+            else index_case(rng))

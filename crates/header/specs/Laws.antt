@@ -71,29 +71,33 @@ body-within s = omega (arith, length-take (bodyStart s) s, ap length (header-par
 
 -- ---- where an end line stands
 
--- lines of which none is an end line
-abbrev pub noEnd : List (List ℕ) → Type 0
-noEnd = All (λ l. isEnd l ≡ false)
+-- no header line would follow an end line: there is none, or what follows it doesn't begin with `%`
+abbrev pub noLineBehind : List (List ℕ) → Type 0
+noLineBehind [] = Unit
+noLineBehind (l ∷ []) = Unit
+noLineBehind (l ∷ m ∷ ls) = (isEnd l ≡ false) × noLineBehind (m ∷ ls)
 
--- A HEADER WITHOUT AN END LINE reads as if there were no such line: it is all the leading lines that begin with `%`
-pub without-end : (s : List ℕ) → noEnd (leading (linesOf s)) → headerLines s ≡ leading (linesOf s)
+-- THEN A HEADER READS as if end lines had no meaning: it is all the leading lines that begin with `%`
+pub lines-as-before : (s : List ℕ) → noLineBehind (leading (linesOf s)) → headerLines s ≡ leading (linesOf s)
 unfolding headerLines throughEnd
-without-end s = all-through (leading (linesOf s))
+lines-as-before s = all-through (leading (linesOf s))
   where
-    all-through : (ls : List (List ℕ)) → noEnd ls → throughEnd ls ≡ ls
+    all-through : (ls : List (List ℕ)) → noLineBehind ls → throughEnd ls ≡ ls
     all-through [] h = refl
-    all-through (l ∷ ls) h = rw (h .0) (ap (λ (k : List (List ℕ)). l ∷ k) (all-through ls (h .1)))
+    all-through (l ∷ []) h = by-bool (isEnd l) (λ e. rw e) (λ e. rw e)
+    all-through (l ∷ m ∷ ls) h = rw (h .0) (ap (λ (k : List (List ℕ)). l ∷ k) (all-through (m ∷ ls) (h .1)))
 
-pub as-before : (s : List ℕ) (given : SensorSize) → noEnd (leading (linesOf s)) → headerOutcome s given ≡ linesOutcome (length s) (leading (linesOf s)) given
-as-before s given h = rw (without-end s h)
+pub as-before : (s : List ℕ) (given : SensorSize) → noLineBehind (leading (linesOf s))
+    → headerOutcome s given ≡ linesOutcome (length s) (leading (linesOf s)) given
+as-before s given h = rw (lines-as-before s h)
 
 -- THE FIRST END LINE is the last of the header, whatever stands behind it
 pub at-end : (s : List ℕ) (before : List (List ℕ)) (l : List ℕ) (behind : List (List ℕ)) → leading (linesOf s) ≡ before ++ l ∷ behind
-    → noEnd before → isEnd l ≡ true → headerLines s ≡ before ++ l ∷ []
+    → All (λ k. isEnd k ≡ false) before → isEnd l ≡ true → headerLines s ≡ before ++ l ∷ []
 unfolding headerLines throughEnd
 at-end s before l behind is none ends = rw is (through before none)
   where
-    through : (ls : List (List ℕ)) → noEnd ls → throughEnd (ls ++ l ∷ behind) ≡ ls ++ l ∷ []
+    through : (ls : List (List ℕ)) → All (λ k. isEnd k ≡ false) ls → throughEnd (ls ++ l ∷ behind) ≡ ls ++ l ∷ []
     through [] h = rw ends
     through (k ∷ ls) h = rw (h .0) (ap (λ (m : List (List ℕ)). k ∷ m) (through ls (h .1)))
 

@@ -7,11 +7,15 @@ use lib.IntN.{ℤ}
 use lib.ListN.{length, take, drop, length-map}
 use lib.Seq.{take-at}
 use Rattle.evt_types.specs.{Columns.colX, Columns.colY, Columns.colT, Columns.colP, Event.Event, declared.Encoding.Encoding}
-use Rattle.index_build.specs.declared.{OpenAnswer.the-variants.Opened, Opening.Opening}
+use Rattle.evt_types.specs.declared.{Limit.the-variants.Unlimited, SensorSize.SensorSize, SensorSize.the-variants.Unknown}
+use Rattle.read_rules.specs.Read as Outcomes
+use Rattle.read_rules.specs.{declared.ReadAnswer.ReadAnswer, Read.DecodesWords, Read.ReadsRaw, Read.shortest}
+use Rattle.index_build.specs.declared.{Checkpoint.Checkpoint, OpenAnswer.OpenAnswer, OpenAnswer.the-variants.Opened, Opening.Opening}
+use Rattle.index_build.specs.Index.{Opens, OpensWords, OpensRaw}
 use Rattle.slice_rules.specs.declared.{SliceAnswer.SliceAnswer, SliceAnswer.the-variants.Sliced}
 use Rattle.write_rules.specs.{declared.RawEventSink.RawEventSink, Rules.freshSink}
-use Rattle.laws_handover.specs.Handover.{acceptedEvents, streamOf, streamWords, fresh, Front, bare, widest, Way, asWords, Suits, Reads, Exact, Claim}
-use Rattle.laws_handover.specs.Handover.{openingAs, Indexed, Ran, Chained, callsOf, Columns, HoldsEvents, Index, by-value, Alike, ReadBack, wholeRan}
+use Rattle.laws_handover.specs.Handover.{acceptedEvents, streamOf, streamWords, fresh, Front, bare, widest, Way, asWords, asRecording, Suits}
+use Rattle.laws_handover.specs.Handover.{readBy, openBy, optionsOf, Reads, Exact, Claim, openingAs, Indexed, Ran, Chained, callsOf, Columns, HoldsEvents, Index, by-value, Alike, ReadBack, wholeRan}
 use Rattle.laws_handover.specs.Handover.{CutAndResumed, DemandThreeRan, numbered, duringTimes, NumberRan, TimeRan, room, ReadByValue, DemandThreeByValue}
 use Rattle.laws_handover.specs.{Proof.demand-three, Ran.ran-written}
 
@@ -34,6 +38,32 @@ alike part r q c₀ c d₀ d a b = record {
   same-t = front-same colT part (c₀ .ts) (c .ts) (d₀ .ts) (d .ts) (a .1 .column-t) (b .1 .column-t);
   same-p = front-same colP part (c₀ .ps) (c .ps) (d₀ .ps) (d .ps) (a .1 .column-p) (b .1 .column-p);
 }
+
+-- ---- the contracts that the ways of reading name
+
+module _ (bytes : List ℕ) (r : ReadAnswer) (xs₀ ys₀ : List ℕ) (ts₀ : List ℤ) (ps₀ xs ys : List ℕ) (ts : List ℤ) (ps : List ℕ) where
+  -- a reading in this way
+  abbrev pub ReadsBy : Way → Type 0
+  ReadsBy way = Outcomes.Reads (readBy way bytes (shortest xs₀ ys₀ ts₀ ps₀)) r xs₀ ys₀ ts₀ ps₀ xs ys ts ps
+
+  pub by-decode-words : (e : Encoding) (size : SensorSize) → DecodesWords bytes e size Unlimited r xs₀ ys₀ ts₀ ps₀ xs ys ts ps → ReadsBy (asWords e size)
+  by-decode-words e size ran = ran
+
+  pub by-read-raw : (e : Encoding) (w h : ℕ) → ReadsRaw bytes (record { «sensor_size» = Unknown; «max_events» = Unlimited }) r xs₀ ys₀ ts₀ ps₀ xs ys ts ps
+      → ReadsBy (asRecording e w h)
+  by-read-raw e w h ran = ran
+
+module _ (bytes : List ℕ) (spacing : ℕ) (r : OpenAnswer) (records₀ records : List Checkpoint) where
+  -- an opening in this way
+  abbrev pub OpensBy : Way → Type 0
+  OpensBy way = Opens (openBy way bytes spacing (length records₀)) r records₀ records
+
+  pub by-open-words : (e : Encoding) (size : SensorSize) → OpensWords bytes (optionsOf e size spacing) r records₀ records → OpensBy (asWords e size)
+  by-open-words e size ran = ran
+
+  pub by-open : (e : Encoding) (w h : ℕ) → OpensRaw bytes (record { «sensor_size» = Unknown; spacing = spacing }) r records₀ records
+      → OpensBy (asRecording e w h)
+  by-open e w h ran = ran
 
 -- ---- bytes that are read exactly
 

@@ -1,13 +1,22 @@
 """Turns what tools/compare.sh prints (standard input) into the rows of the table in docs/DIFFERENCES.md."""
-import re, sys
-print('| calls of | cases | calls | accepted (not empty) | refused, by number | handed over | by rule | no call | with an end line | not compared |')
-print('|---' * 10 + '|')
+import re
+import sys
+
+LINE = re.compile(r'(.+?): (\d+) cases, (\d+) calls: (\d+) accepted \((\d+) not empty\)(.*?); (\d+) (\w+)(.*); 0 mismatches')
+COUNTED = [r'(\d+) by the rules', r'(\d+) cases without a call, opening', r'(\d+) cases with an end', r'(\d+) cases without a call, a %']
+
+
+def row(name, cases, calls, accepted, filled, refused, count, what, rest):
+    numbers = ', '.join(f'{k}: {int(v):,}' for v, k in re.findall(r'(\d+) refused (\d+)', refused))
+    found = [re.search(pattern, rest) for pattern in COUNTED]
+    cells = [name, f'{int(cases):,}', f'{int(calls):,}', f'{int(accepted):,} ({int(filled):,})', numbers, f'{int(count):,} {what}']
+    return cells + [f'{int(m[1]):,}' if m else '0' for m in found]
+
+
+HEAD = ['calls of', 'cases', 'calls', 'accepted (not empty)', 'refused, by number', 'handed over', 'by rule', 'no call', 'with an end line', 'not compared']
+print(f'| {" | ".join(HEAD)} |')
+print('|---' * len(HEAD) + '|')
 for line in sys.stdin:
-    m = re.match(r'(.+?): (\d+) cases, (\d+) calls: (\d+) accepted \((\d+) not empty\)(.*?); (\d+ \w+)(.*); 0 mismatches', line)
-    if m:
-        name, cases, calls, ok, filled, refused, items, rest = m.groups()
-        n = lambda pattern: f'{int((re.search(pattern, rest) or [0, 0])[1]):,}'
-        numbers = ', '.join(f'{k}: {int(v):,}' for v, k in re.findall(r'(\d+) refused (\d+)', refused))
-        count, what = items.split()
-        print(f'| {name} | {int(cases):,} | {int(calls):,} | {int(ok):,} ({int(filled):,}) | {numbers} | {int(count):,} {what} | '
-              + ' | '.join([n(r'(\d+) by the rules'), n(r'(\d+) cases without a call, opening'), n(r'(\d+) cases with an end'), n(r'(\d+) cases without a call, a %')]) + ' |')
+    matched = LINE.match(line)
+    if matched:
+        print(f'| {" | ".join(row(*matched.groups()))} |')

@@ -671,7 +671,8 @@ static void bounds(void)
         printf("refusal %u: %s\n", n, prophesee_refusal_text(n));
     printf("most events: %zu of EVT2, %zu of EVT3\n", prophesee_most_events(2, 11), prophesee_most_events(3, 11));
     printf("most triggers: %zu of EVT2, %zu of EVT3\n", prophesee_most_triggers(2, 11), prophesee_most_triggers(3, 11));
-    printf("most records: %zu, %zu, %zu, %zu\n", prophesee_most_records(0, 4), prophesee_most_records(1, 4), prophesee_most_records(4, 4), prophesee_most_records(5, 4));
+    printf("most records: %zu, %zu, %zu, %zu\n", prophesee_most_records(0, 4), prophesee_most_records(1, 4),
+           prophesee_most_records(4, 4), prophesee_most_records(5, 4));
     printf("most bytes: %zu, with a header %zu\n", prophesee_most_bytes(3), prophesee_most_bytes_with_header(3));
 }
 

@@ -15,7 +15,8 @@ use Rattle.index_build.specs.Index.{Opens, OpensWords, OpensRaw}
 use Rattle.slice_rules.specs.declared.{SliceAnswer.SliceAnswer, SliceAnswer.the-variants.Sliced}
 use Rattle.write_rules.specs.{declared.RawEventSink.RawEventSink, Rules.freshSink}
 use Rattle.laws_handover.specs.Handover.{acceptedEvents, streamOf, streamWords, fresh, Front, bare, widest, Way, asWords, asRecording, Suits}
-use Rattle.laws_handover.specs.Handover.{readBy, openBy, optionsOf, Reads, Exact, Claim, openingAs, Indexed, Ran, Chained, callsOf, Columns, HoldsEvents, Index, by-value, Alike, ReadBack, wholeRan}
+use Rattle.laws_handover.specs.Handover.{readBy, openBy, optionsOf, Reads, Exact, Claim, openingAs, Indexed, Ran, Chained, callsOf, Columns}
+use Rattle.laws_handover.specs.Handover.{HoldsEvents, Index, by-value, Alike, ReadBack, wholeRan}
 use Rattle.laws_handover.specs.Handover.{CutAndResumed, DemandThreeRan, numbered, duringTimes, NumberRan, TimeRan, room, ReadByValue, DemandThreeByValue}
 use Rattle.laws_handover.specs.{Proof.demand-three, Ran.ran-written}
 

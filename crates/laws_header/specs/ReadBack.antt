@@ -40,8 +40,8 @@ endLine = ascii "% end\n"
 
 text-lines : (e : Encoding) (w h : ℕ) (body : List ℕ) → headerText e w h ++ body ≡ formatLine e ++ (sizeLine w h ++ (generatorLine ++ (endLine ++ body)))
 unfolding headerText
-text-lines Evt2 w h body = simp append-assoc
-text-lines Evt3 w h body = simp append-assoc
+text-lines Evt2 w h body = simp append-assoc refl
+text-lines Evt3 w h body = simp append-assoc refl
 
 size-none : (p : ℕ → Bool) → ((b : ℕ) → 48 ≤ b → b ≤ 57 → p b ≡ false) → p 120 ≡ false → (w h : ℕ) → any p (sizeText w h) ≡ false
 unfolding any

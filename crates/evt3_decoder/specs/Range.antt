@@ -132,7 +132,12 @@ fresh-range3 l h =
     range3 (run reader3 fresh3 ws) (run-keeps reader3 Regular3 regular-step3 fresh3 ws regular-fresh3)
     (omega (arith, few, charge-fresh period3 threshold3 (omega arith), length-words 2 l))
 
--- the decoder can take n words more, and no sum wraps
+-- the decoder can take n words more, and no sum wraps; but for the base column, which fits 16 bits by its type
+pub record Paced3 (n : ℕ) (d : Decoder) : Type 0 where
+  pub regular : Regular3 d
+  pub loops : d .«high_loops» + n ≤ 3 * 2 ^ 28
+
+-- with the column
 pub record Bounded3 (n : ℕ) (d : Decoder) : Type 0 where
   pub regular : Regular3 d
   pub loops : d .«high_loops» + n ≤ 3 * 2 ^ 28

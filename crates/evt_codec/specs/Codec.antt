@@ -1,54 +1,44 @@
--- A decoder of either encoding.
+-- A decoder of any encoding, over what its encoding's reader says.
+use mathlib.Core.Path.{_≡_, refl}
 use mathlib.Core.Bool.{Bool, cond}
 use mathlib.Core.List.{List}
-use Prim.Native.Nat.{ℕ}
+use Prim.Native.Nat.{ℕ, _/_}
 use lib.Dec.{ltb}
 use lib.ListN.{length, take}
 use Rattle.laws_stream.specs.{Words.value, Stream.decode, Stream.after}
-use Rattle.evt_types.specs.{declared.Encoding.Encoding, declared.vector.Vector.Vector, Event.Event, Event.noEvents, Layout.wordSize2}
-use Rattle.evt_types.specs.{Layout.wordSize3}
+use Rattle.evt_types.specs.{declared.Encoding.Encoding, declared.vector.Vector.Vector, Event.Event, Event.noEvents}
 use Rattle.evt_types.specs.declared.Encoding.the-variants as E
 use Rattle.evt_codec.specs.declared.{codec.Codec.Codec, codec.Codec.the-variants.Evt2, codec.Codec.the-variants.Evt3}
-use Rattle.evt2_decoder.specs.Evt2.{fresh2, inRange2, step2, vector2, reader2}
-use Rattle.evt3_decoder.specs.Evt3.{fresh3, inRange3, step3, vector3, reader3}
+use Rattle.evt_codec.specs.Reader.{View, view, readerOf}
 
 abbrev pub freshC : Encoding → Codec
-freshC E.Evt2 = Evt2 fresh2
-freshC E.Evt3 = Evt3 fresh3
+freshC e = readerOf e .codec (readerOf e .fresh)
 
 abbrev pub wordSize : Codec → ℕ
-wordSize (Evt2 d) = wordSize2
-wordSize (Evt3 d) = wordSize3
+wordSize c = view c .reader .size
 
 abbrev pub encodingOf : Codec → Encoding
-encodingOf (Evt2 d) = E.Evt2
-encodingOf (Evt3 d) = E.Evt3
+encodingOf c = view c .reader .encoding
 
--- whether it is started, and its time
+-- whether it is started, its time, the loops that it counted
 abbrev pub startedC : Codec → Bool
-startedC (Evt2 d) = d .initialised
-startedC (Evt3 d) = d .initialised
+startedC c = view c .reader .started (view c .state)
 
 abbrev pub timeC : Codec → ℕ
-timeC (Evt2 d) = d .time
-timeC (Evt3 d) = d .time
+timeC c = view c .reader .time (view c .state)
 
 abbrev pub loopsC : Codec → ℕ
-loopsC (Evt2 d) = d .«high_loops»
-loopsC (Evt3 d) = d .«high_loops»
+loopsC c = view c .reader .loops (view c .state)
 
 abbrev pub inRangeC : Codec → Bool
-inRangeC (Evt2 d) = inRange2 d
-inRangeC (Evt3 d) = inRange3 d
+inRangeC c = view c .reader .inRange (view c .state)
 
 -- the first word of some bytes
 abbrev pub onWord : Codec → List ℕ → Codec
-onWord (Evt2 d) l = Evt2 (step2 d (value (take wordSize2 l)))
-onWord (Evt3 d) l = Evt3 (step3 d (value (take wordSize3 l)))
+onWord c l = view c .reader .codec (view c .reader .machine .step (view c .state) (value (take (wordSize c) l)))
 
 abbrev pub ofWord : Codec → List ℕ → Vector
-ofWord (Evt2 d) l = vector2 d (value (take wordSize2 l))
-ofWord (Evt3 d) l = vector3 d (value (take wordSize3 l))
+ofWord c l = view c .reader .vector (view c .state) (value (take (wordSize c) l))
 
 -- with fewer bytes than a word nothing happens
 abbrev pub stepC : Codec → List ℕ → Codec
@@ -59,9 +49,37 @@ vectorC c l = cond (ltb (length l) (wordSize c)) noEvents (ofWord c l)
 
 -- all events of some bytes, and the decoder after them: a broken last word is passed over
 abbrev pub eventsFrom : Codec → List ℕ → List Event
-eventsFrom (Evt2 d) l = decode wordSize2 reader2 d l
-eventsFrom (Evt3 d) l = decode wordSize3 reader3 d l
+eventsFrom c l = decode (wordSize c) (view c .reader .machine) (view c .state) l
+
+abbrev pub stateAfter : (c : Codec) → List ℕ → view c .reader .State
+stateAfter c l = after (wordSize c) (view c .reader .machine) (view c .state) l
 
 abbrev pub codecAfter : Codec → List ℕ → Codec
-codecAfter (Evt2 d) l = Evt2 (after wordSize2 reader2 d l)
-codecAfter (Evt3 d) l = Evt3 (after wordSize3 reader3 d l)
+codecAfter c l = view c .reader .codec (stateAfter c l)
+
+-- the decoder can take n bytes more, and no sum wraps: in all, and but for what the types of its fields say by themselves
+abbrev pub Bounded : ℕ → Codec → Type 0
+Bounded n c = view c .reader .Bounded (n / wordSize c) (view c .state)
+
+abbrev pub Able : ℕ → Codec → Type 0
+Able n c = view c .reader .Able (n / wordSize c) (view c .state)
+
+abbrev pub Fitting : Codec → Type 0
+Fitting c = view c .reader .Fitting (view c .state)
+
+-- ---- taken apart again, and put together
+
+pub codec-view : (c : Codec) → view c .reader .codec (view c .state) ≡ c
+codec-view (Evt2 d) = refl
+codec-view (Evt3 d) = refl
+
+pub view-codec : (c : Codec) (s : view c .reader .State) → _≡_ {A = View} (view (view c .reader .codec s)) (record { reader = view c .reader; state = s })
+view-codec (Evt2 d) s = refl
+view-codec (Evt3 d) s = refl
+
+pub view-after : (c : Codec) (l : List ℕ) → _≡_ {A = View} (view (codecAfter c l)) (record { reader = view c .reader; state = stateAfter c l })
+view-after c l = view-codec c (stateAfter c l)
+
+pub view-fresh : (e : Encoding) → _≡_ {A = View} (view (freshC e)) (record { reader = readerOf e; state = readerOf e .fresh })
+view-fresh E.Evt2 = refl
+view-fresh E.Evt3 = refl

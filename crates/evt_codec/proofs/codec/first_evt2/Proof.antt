@@ -1,7 +1,8 @@
 use mathlib.Core.Path.{sym, _∙_}
 use native.Mathlib.Omega.{arith}
 use Rattle.laws_stream.specs.Words.{value-four}
-use Rattle.evt_codec.specs.Decode.{owed-idle, owed-evt2}
+use Rattle.evt_codec.specs.Decode.{owed-idle, owed-word}
+use Rattle.evt_codec.specs.declared.codec.Codec.the-variants.{Evt2}
 use borrow.Author.Needs.{needs}
 use Rattle.evt_codec.proofs.codec.first_evt2.Statement.{statement}
 use Rattle.evt_codec.proofs.codec.first_evt2.Tie as tie
@@ -12,7 +13,7 @@ returns c = owed-idle _ (c .before .before .before .args .bytes .now) (c .before
 returns-2 : tie.Need-returns-2
 returns-2 c =
     let a = c .before .before .before .before .before .before .before .before .before .args in
-    owed-evt2 (a .d) (a .bytes .now) _ (omega arith) (c .before .before .word32 .ensures ∙ sym (value-four (a .bytes .now) 0 (omega arith)))
+    owed-word (Evt2 (a .d)) (a .bytes .now) _ (omega arith) (c .before .before .word32 .ensures ∙ sym (value-four (a .bytes .now) 0 (omega arith)))
     (c .before .step .ensures)
 
 pub first-evt2-spec : {M : Type 1} → statement M

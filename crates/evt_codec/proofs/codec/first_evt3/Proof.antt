@@ -1,7 +1,8 @@
 use mathlib.Core.Path.{sym, _∙_}
 use native.Mathlib.Omega.{arith}
 use Rattle.laws_stream.specs.Words.{value-two}
-use Rattle.evt_codec.specs.Decode.{owed-idle, owed-evt3}
+use Rattle.evt_codec.specs.Decode.{owed-idle, owed-word}
+use Rattle.evt_codec.specs.declared.codec.Codec.the-variants.{Evt3}
 use borrow.Author.Needs.{needs}
 use Rattle.evt_codec.proofs.codec.first_evt3.Statement.{statement}
 use Rattle.evt_codec.proofs.codec.first_evt3.Tie as tie
@@ -12,7 +13,7 @@ returns c = owed-idle _ (c .before .before .before .args .bytes .now) (c .before
 returns-2 : tie.Need-returns-2
 returns-2 c =
     let a = c .before .before .before .before .before .before .before .args in
-    owed-evt3 (a .d) (a .bytes .now) _ (omega arith) (c .before .before .word16 .ensures ∙ sym (value-two (a .bytes .now) 0 (omega arith)))
+    owed-word (Evt3 (a .d)) (a .bytes .now) _ (omega arith) (c .before .before .word16 .ensures ∙ sym (value-two (a .bytes .now) 0 (omega arith)))
     (c .before .step .ensures)
 
 pub first-evt3-spec : {M : Type 1} → statement M

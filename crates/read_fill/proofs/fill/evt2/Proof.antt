@@ -8,7 +8,10 @@ use Rattle.evt_types.specs.Layout.{wordSize2}
 use Rattle.evt2_decoder.specs.Evt2.{reader2}
 use Rattle.evt2_decoder.specs.Range.{Bounded2, bounded-step2, bounded-sane2}
 use Rattle.read_fill.specs.Iteration.{Iteration, Filling, filling-start, filling-room, filling-next, filling-end}
-use Rattle.read_fill.specs.Loops.{start2, iteration2, small2}
+use Rattle.evt_codec.specs.Sound.{sound2}
+use Rattle.evt_codec.specs.declared.codec.Codec.the-variants.{Evt2}
+use Rattle.read_fill.specs.Loops.{bounded-words, word-narrow, word-few}
+use Rattle.read_fill.specs.Loops as Loops
 use Rattle.read_fill.proofs.fill.evt2.Statement.{statement}
 use Rattle.read_fill.proofs.fill.evt2.Tie as tie
 
@@ -25,19 +28,20 @@ iteration : (c : tie.After-s Inv-loop μ-loop) →
     Iteration wordSize2 reader2 (now (c .before .before .before .before .before .before .before .before .before .before .args .bytes)) (k .s) (k .i)
     (c .before .before .advance .result .next) (c .before .before .advance .result .events)
 iteration c =
-    iteration2 (omega (arith, c .before .before .before .before .loop-test .taken)) (c .before .before .before .four-at .result)
-    (c .before .before .before .four-at .ensures) (c .before .before .advance .result) (c .before .before .advance .ensures)
+    let step = c .before .before .advance .ensures in
+    Loops.iteration sound2 (omega (arith, c .before .before .before .before .loop-test .taken)) (c .before .before .before .four-at .ensures) (step .0) (step .1)
 
 small : (c : tie.After-s Inv-loop μ-loop) →
     let events = c .before .before .advance .result .events in
     Narrow events × (events .mask ≤ 1)
 small c =
-    small2 (c .before .before .before .before .before .loop .inv .stand .inv) (c .before .before .before .four-at .result)
-    (c .before .before .advance .result .events) (c .before .before .advance .ensures .1)
+    let is = c .before .before .advance .ensures .1 in
+    (word-narrow sound2 (c .before .before .before .before .before .loop .inv .stand .inv) is, omega (arith, word-few sound2 is))
 
 loop-holds : tie.Need-loop-holds Inv-loop μ-loop
 loop-holds c =
-    filling-start (omega arith) bounded-step2 (start2 (now (c .before .before .before .before .args .bytes)) (c .before .before .before .before .pre .0))
+    let s = c .before .before .before .before in
+    filling-start (omega arith) bounded-step2 (bounded-words (Evt2 (s .args .d)) (now (s .args .bytes)) (s .pre .0))
 
 advance-requires : tie.Need-advance-requires Inv-loop μ-loop
 advance-requires c κs = bounded-sane2 (c .before .before .loop .inv .stand .inv)

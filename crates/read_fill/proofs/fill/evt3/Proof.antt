@@ -1,4 +1,5 @@
 -- `read_fill::fill::evt3` meets its contract. The loop: `Filling`, of Iteration, over the decoder as its public struct has it.
+use mathlib.Core.Path.{ap}
 use Prim.Native.Nat.{_-_}
 use native.Mathlib.Omega.{arith}
 use borrow.Author.Needs.{needs}
@@ -9,7 +10,10 @@ use Rattle.evt_types.specs.Event.{Narrow}
 use Rattle.evt3_decoder.specs.Evt3.{reader3, slimmed}
 use Rattle.evt3_decoder.specs.Range.{Bounded3, bounded-step3, bounded-sane3, bounded-slim3}
 use Rattle.read_fill.specs.Iteration.{Fits, insideAll, Iteration, Filling, filling-start, filling-room, filling-next, filling-end}
-use Rattle.read_fill.specs.Loops.{start3, iteration3, small3}
+use Rattle.evt_codec.specs.Sound.{sound3}
+use Rattle.evt_codec.specs.declared.codec.Codec.the-variants.{Evt3}
+use Rattle.read_fill.specs.Loops.{bounded-words, word-narrow}
+use Rattle.read_fill.specs.Loops as Loops
 use Rattle.read_fill.proofs.fill.evt3.Statement.{statement}
 use Rattle.read_fill.proofs.fill.evt3.Tie as tie
 
@@ -33,18 +37,18 @@ iteration : (c : tie.After-clean Inv-loop μ-loop) →
     Iteration wordSize3 reader3 (now (c .before .before .before .before .before .before .before .before .before .before .before .args .bytes))
     (slimmed (k .s)) (k .i) (slimmed (c .before .before .advance .result .next)) (c .before .before .advance .result .events)
 iteration c =
-    iteration3 (omega (arith, c .before .before .before .before .loop-test .taken)) (c .before .before .before .two-at .result)
-    (c .before .before .before .two-at .ensures) (c .before .before .advance .result) (c .before .before .advance .ensures)
+    let step = c .before .before .advance .ensures in
+    Loops.iteration sound3 (omega (arith, c .before .before .before .before .loop-test .taken)) (c .before .before .before .two-at .ensures)
+    (ap slimmed (step .0)) (step .1)
 
 small : (c : tie.After-clean Inv-loop μ-loop) → Narrow (c .before .before .advance .result .events)
 small c =
-    small3 (c .before .before .before .before .before .loop .inv .stand .inv) (c .before .before .before .two-at .result)
-    (c .before .before .advance .result .events) (c .before .before .advance .ensures .1)
+    word-narrow sound3 (c .before .before .before .before .before .loop .inv .stand .inv) (c .before .before .advance .ensures .1)
 
 loop-holds : tie.Need-loop-holds Inv-loop μ-loop
 loop-holds c =
     let s = c .before .before .before .before .before in
-    rw (c .widen .ensures .0) (filling-start (omega arith) bounded-step3 (start3 (now (s .args .bytes)) (s .pre .0)))
+    rw (c .widen .ensures .0) (filling-start (omega arith) bounded-step3 (bounded-words (Evt3 (s .args .d)) (now (s .args .bytes)) (s .pre .0)))
 
 advance-requires : tie.Need-advance-requires Inv-loop μ-loop
 advance-requires c κs = bounded-sane3 (c .before .before .loop .inv .stand .inv)

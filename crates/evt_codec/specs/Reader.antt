@@ -1,0 +1,86 @@
+-- What the decoder of an encoding is, in one record. Whatever holds of a decoder of any encoding is said and proved over it, once.
+use mathlib.Core.Bool.{Bool}
+use mathlib.Core.List.{List}
+use Prim.Native.Nat.{ℕ, _<_, _^_}
+use Rattle.laws_stream.specs.Machine.{Machine}
+use Rattle.evt_types.specs.{declared.Encoding.Encoding, declared.vector.Vector.Vector, Event.Event, Trigger.Trigger, Layout.wordSize2, Layout.wordSize3}
+use Rattle.evt_types.specs.declared.Encoding.the-variants as E
+use Rattle.evt_codec.specs.declared.{codec.Codec.Codec, codec.Codec.the-variants.Evt2, codec.Codec.the-variants.Evt3}
+use Rattle.evt2_decoder.specs.{declared.Evt2Decoder.Evt2Decoder, Evt2.fresh2, Evt2.inRange2, Evt2.vector2, Evt2.reader2, Triggers.trigger2, Range.Bounded2}
+use Rattle.evt3_decoder.specs.{declared.Decoder.Decoder, Evt3.fresh3, Evt3.inRange3, Evt3.vector3, Evt3.reader3, Triggers.trigger3, Range.Bounded3}
+use Rattle.evt3_decoder.specs.Range.{Paced3}
+
+pub record Reader : Type 1 where
+  pub encoding : Encoding
+  pub State : Type 0
+  -- the bytes of a word, and the most events that one carries
+  pub size : ℕ
+  pub most : ℕ
+  pub fresh : State
+  -- what a word does to a state and the events that it carries; these as columns and a mask; its trigger
+  pub machine : Machine State ℕ Event
+  pub vector : State → ℕ → Vector
+  pub trigger : State → ℕ → List Trigger
+  pub started : State → Bool
+  pub time : State → ℕ
+  pub loops : State → ℕ
+  -- rule 10
+  pub inRange : State → Bool
+  -- the state takes n words more and no sum wraps: in all, and but for what the types of its fields say by themselves
+  pub Bounded : ℕ → State → Type 0
+  pub Able : ℕ → State → Type 0
+  pub Fitting : State → Type 0
+  pub codec : State → Codec
+
+abbrev pub evt2 : Reader
+evt2 = record {
+  encoding = E.Evt2;
+  State = Evt2Decoder;
+  size = wordSize2;
+  most = 1;
+  fresh = fresh2;
+  machine = reader2;
+  vector = vector2;
+  trigger = trigger2;
+  started = λ d. d .initialised;
+  time = λ d. d .time;
+  loops = λ d. d .«high_loops»;
+  inRange = inRange2;
+  Bounded = Bounded2;
+  Able = Bounded2;
+  Fitting = λ d. Unit;
+  codec = Evt2;
+}
+
+abbrev pub evt3 : Reader
+evt3 = record {
+  encoding = E.Evt3;
+  State = Decoder;
+  size = wordSize3;
+  most = 12;
+  fresh = fresh3;
+  machine = reader3;
+  vector = vector3;
+  trigger = trigger3;
+  started = λ d. d .initialised;
+  time = λ d. d .time;
+  loops = λ d. d .«high_loops»;
+  inRange = inRange3;
+  Bounded = Bounded3;
+  Able = Paced3;
+  Fitting = λ d. d .«base_x» < 2 ^ 16;
+  codec = Evt3;
+}
+
+abbrev pub readerOf : Encoding → Reader
+readerOf E.Evt2 = evt2
+readerOf E.Evt3 = evt3
+
+-- a decoder of some encoding, taken apart
+pub record View : Type 1 where
+  pub reader : Reader
+  pub state : reader .State
+
+abbrev pub view : Codec → View
+view (Evt2 d) = record { reader = evt2; state = d }
+view (Evt3 d) = record { reader = evt3; state = d }

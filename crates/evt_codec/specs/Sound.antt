@@ -1,0 +1,133 @@
+-- What every encoding's reader keeps: from a decoder in range (10) no sum wraps over as many bytes as are read (4), times stay below 2^63, a word has no more
+-- events than is said.
+use mathlib.Core.Path.{_≡_, refl}
+use mathlib.Core.Bool.{Bool, true, false}
+use mathlib.Core.List.{List}
+use Prim.Native.Nat.{ℕ, suc, _+_, _*_, _/_, _^_, _≤_, _<_}
+use native.Mathlib.Omega.{arith}
+use lib.ListN.{length}
+use Rattle.laws_stream.specs.{Loop.loops-one, Stream.after}
+use Rattle.evt_types.specs.{declared.Encoding.Encoding, Event.eventsOf, Event.Narrow, Layout.type2, Layout.type3, Layout.time3, Layout.grain3}
+use Rattle.evt_types.specs.declared.Encoding.the-variants as E
+use Rattle.evt2_decoder.specs.{declared.Evt2Decoder.Evt2Decoder, Evt2.vector2, Triggers.few-triggers2, Range.Bounded2, Range.bounded-step2, Range.bounded-narrow2}
+use Rattle.evt2_decoder.specs.Range.{bounded-range2, fresh-range2}
+use Rattle.evt3_decoder.specs.{declared.Decoder.Decoder, Evt3.step3, Evt3.vector3, Evt3.period3, Evt3.threshold3, Triggers.few-triggers3, Range.Bounded3}
+use Rattle.evt3_decoder.specs.{Range.Paced3, Range.bounded-step3, Range.bounded-narrow3, Range.regular-range3, Range.regular-step3, Range.fresh-range3}
+use Rattle.evt2_decoder.specs.Evt2 as Evt2
+use Rattle.evt3_decoder.specs.Evt3 as Evt3
+use Rattle.evt_codec.specs.declared.{codec.Codec.Codec, codec.Codec.the-variants.Evt2, codec.Codec.the-variants.Evt3}
+use Rattle.evt_codec.specs.Reader.{Reader, evt2, evt3, readerOf, view}
+
+pub record Sound (R : Reader) : Type 0 where
+  pub some : 0 < R .size
+  pub emits : (s : R .State) (w : ℕ) → R .machine .emit s w ≡ eventsOf (R .vector s w)
+  pub few : (s : R .State) (w : ℕ) → R .vector s w .mask < 2 ^ R .most
+  pub spread : (n : ℕ) → R .most * (n / R .size) ≤ 6 * n
+  pub few-triggers : (s : R .State) (w : ℕ) → length (R .trigger s w) ≤ 1
+  -- a state that takes n words more
+  pub steps : (n : ℕ) (s : R .State) (w : ℕ) → R .Bounded (suc n) s → R .Bounded n (R .machine .step s w)
+  pub narrow : (n : ℕ) (s : R .State) (w : ℕ) → R .Bounded n s → Narrow (R .vector s w)
+  pub less : {m n : ℕ} (s : R .State) → m ≤ n → R .Bounded (n / R .size) s → R .Bounded (m / R .size) s
+  pub able : (n : ℕ) (s : R .State) → R .Bounded n s → R .Able n s
+  pub fits : (n : ℕ) (s : R .State) → R .Able n s → R .Fitting s → R .Bounded n s
+  pub able-steps : (n : ℕ) (s : R .State) (w : ℕ) → R .Able (suc n) s → R .Able n (R .machine .step s w)
+  pub time< : (n : ℕ) (s : R .State) → R .Able n s → R .time s < 2 ^ 63
+  pub times< : (n : ℕ) (s : R .State) (w : ℕ) → R .Able n s → R .vector s w .t < 2 ^ 63
+  -- in range
+  pub range : (bytes : ℕ) (s : R .State) → R .inRange s ≡ true → bytes ≤ 2 ^ 30 → R .Able (bytes / R .size) s
+  pub fresh-fits : R .Fitting (R .fresh)
+  pub fresh-range : R .inRange (R .fresh) ≡ true
+  pub fresh-stays : (l : List ℕ) → length l ≤ 2 ^ 30 → R .inRange (after (R .size) (R .machine) (R .fresh) l) ≡ true
+
+-- ---- EVT2
+
+few2 : (d : Evt2Decoder) (w : ℕ) → vector2 d w .mask < 2 ^ 1
+unfolding vector2
+few2 d w = Evt2.by-kinds (λ k. Evt2.vectorAs k d w .mask < 2 ^ 1) (type2 w) (d .initialised) (omega arith) (λ on q. omega arith) (omega arith)
+
+time2 : (n : ℕ) (d : Evt2Decoder) → Bounded2 n d → d .time < 2 ^ 63
+time2 n d b = go (d .initialised) refl
+  where
+    go : (t : Bool) → d .initialised ≡ t → d .time < 2 ^ 63
+    go true e = let k = b .regular .started e in omega (arith, k .near, k .high, b .loops)
+    go false e = rw (b .regular .unstarted e) (omega arith)
+
+pub sound2 : Sound evt2
+sound2 = record {
+  some = omega arith;
+  emits = λ d w. refl;
+  few = few2;
+  spread = λ n. omega arith;
+  few-triggers = few-triggers2;
+  steps = bounded-step2;
+  narrow = λ n d w b. bounded-narrow2 w b;
+  less = λ d h b. record { regular = b .regular; loops = omega (arith, b .loops) };
+  able = λ n d b. b;
+  fits = λ n d a f. a;
+  able-steps = bounded-step2;
+  time< = time2;
+  times< = λ n d w b. bounded-narrow2 w b .t<;
+  range = λ bytes d r h. bounded-range2 (bytes / 4) d r (omega arith);
+  fresh-fits = tt;
+  fresh-range = refl;
+  fresh-stays = fresh-range2;
+}
+
+-- ---- EVT3
+
+few3 : (d : Decoder) (w : ℕ) → vector3 d w .mask < 2 ^ 12
+unfolding vector3
+few3 d w = Evt3.by-kinds (λ k. Evt3.vectorAs k d w .mask < 2 ^ 12) (type3 w) (d .initialised)
+    (λ o. omega arith) (λ o. omega arith) (λ o. omega arith) (λ o. omega arith) (λ o. omega arith) (λ o. omega arith) (λ o. omega arith)
+    (λ o. omega arith) (omega arith)
+
+loops3 : (d : Decoder) (w : ℕ) → step3 d w .«high_loops» ≤ suc (d .«high_loops»)
+unfolding step3
+loops3 d w =
+    let same : d .«high_loops» ≤ suc (d .«high_loops») = omega arith in
+    Evt3.by-kinds (λ k. Evt3.stepAs k d w .«high_loops» ≤ suc (d .«high_loops»)) (type3 w) (d .initialised)
+    (λ o. same) (λ o. loops-one period3 threshold3 (d .«time_base») (d .«high_loops») (time3 w * grain3) .1)
+    (λ o. same) (λ o. same) (λ o. same) (λ o. same) (λ o. same) (λ o. same) same
+
+time3-lt : (n : ℕ) (d : Decoder) → Paced3 n d → d .time < 2 ^ 63
+time3-lt n d b = go (d .initialised) refl
+  where
+    go : (t : Bool) → d .initialised ≡ t → d .time < 2 ^ 63
+    go true e = let k = b .regular .started e .0 in omega (arith, k .near, k .high, b .loops)
+    go false e = rw (b .regular .unstarted e) (omega arith)
+
+stamp3 : (d : Decoder) (w : ℕ) → d .time < 2 ^ 63 → vector3 d w .t < 2 ^ 63
+unfolding vector3
+stamp3 d w h = Evt3.by-kinds (λ k. Evt3.vectorAs k d w .t < 2 ^ 63) (type3 w) (d .initialised)
+    (λ o. omega arith) (λ o. omega arith) (λ o. omega arith) (λ o. omega arith) (λ o. h) (λ o. omega arith) (λ o. h) (λ o. h) (omega arith)
+
+pub sound3 : Sound evt3
+sound3 = record {
+  some = omega arith;
+  emits = λ d w. refl;
+  few = few3;
+  spread = λ n. omega arith;
+  few-triggers = few-triggers3;
+  steps = bounded-step3;
+  narrow = λ n d w b. bounded-narrow3 w b;
+  less = λ d h b. record { regular = b .regular; loops = omega (arith, b .loops); column = b .column };
+  able = λ n d b. record { regular = b .regular; loops = b .loops };
+  fits = λ n d a f. record { regular = a .regular; loops = a .loops; column = f };
+  able-steps = λ n d w b. record { regular = regular-step3 d w (b .regular); loops = omega (arith, b .loops, loops3 d w) };
+  time< = time3-lt;
+  times< = λ n d w b. stamp3 d w (time3-lt n d b);
+  range = λ bytes d r h. let k = regular-range3 d r in record { regular = k .0; loops = omega (arith, k .1) };
+  fresh-fits = omega arith;
+  fresh-range = refl;
+  fresh-stays = fresh-range3;
+}
+
+-- ---- every encoding's
+
+pub soundOf : (e : Encoding) → Sound (readerOf e)
+soundOf E.Evt2 = sound2
+soundOf E.Evt3 = sound3
+
+pub sound : (c : Codec) → Sound (view c .reader)
+sound (Evt2 d) = sound2
+sound (Evt3 d) = sound3

@@ -1,5 +1,5 @@
--- The public word layouts of EVT 2.0 and EVT 3.0: a type in the top four bits, and fields by bit position.
-use mathlib.Core.Path.{_≡_}
+-- The public word layouts of EVT 2.0, EVT 2.1 and EVT 3.0: a type in the top four bits, and fields by bit position.
+use mathlib.Core.Path.{_≡_, _∙_}
 use Prim.Native.Nat.{ℕ, suc, _+_, _-_, _*_, _/_, _%_, _^_, _<_}
 use native.Mathlib.Omega.{arith}
 
@@ -39,6 +39,42 @@ triggerId2 = field 12 8
 
 abbrev pub triggerValue2 : ℕ → ℕ
 triggerValue2 = field 0 0
+
+-- ---- EVT 2.1, words of 64 bits: the upper half is laid out as a word of EVT 2.0 (`upper-type` and so on), the lower is the mask of an event word
+
+abbrev pub wordSize21 : ℕ
+wordSize21 = 8
+
+abbrev pub type21 : ℕ → ℕ
+type21 = field 63 60
+
+-- EVT_NEG (0) and EVT_POS (1): low bits of the time, first column, row, a bit for each of 32 columns
+abbrev pub timeLow21 : ℕ → ℕ
+timeLow21 = field 59 54
+
+abbrev pub x21 : ℕ → ℕ
+x21 = field 53 43
+
+abbrev pub y21 : ℕ → ℕ
+y21 = field 42 32
+
+abbrev pub mask21 : ℕ → ℕ
+mask21 = field 31 0
+
+-- EVT_TIME_HIGH (8): bits 33..6 of the time
+abbrev pub timeHigh21 : ℕ → ℕ
+timeHigh21 = field 59 32
+
+-- EXT_TRIGGER (10): low bits of the time as of an event, channel, value
+abbrev pub triggerId21 : ℕ → ℕ
+triggerId21 = field 44 40
+
+abbrev pub triggerValue21 : ℕ → ℕ
+triggerValue21 = field 32 32
+
+-- the upper half of a word
+abbrev pub upper : ℕ → ℕ
+upper w = w / 2 ^ 32
 
 -- ---- EVT 3.0, words of 16 bits
 
@@ -80,7 +116,7 @@ triggerId3 = field 11 8
 abbrev pub triggerValue3 : ℕ → ℕ
 triggerValue3 = field 0 0
 
--- the type of a trigger, in both
+-- the type of a trigger, in all
 abbrev pub triggerType : ℕ
 triggerType = 10
 
@@ -94,6 +130,16 @@ timeWord2 high = 8 * 2 ^ 28 + high
 
 abbrev pub triggerWord2 : (low id value : ℕ) → ℕ
 triggerWord2 low id value = triggerType * 2 ^ 28 + low * 2 ^ 22 + id * 2 ^ 8 + value
+
+-- of EVT 2.1: a word of EVT 2.0 over a mask, which a time and a trigger haven't
+abbrev pub eventWord21 : (p low x y mask : ℕ) → ℕ
+eventWord21 p low x y mask = eventWord2 p low x y * 2 ^ 32 + mask
+
+abbrev pub timeWord21 : (high : ℕ) → ℕ
+timeWord21 high = timeWord2 high * 2 ^ 32
+
+abbrev pub triggerWord21 : (low id value : ℕ) → ℕ
+triggerWord21 low id value = triggerWord2 low id value * 2 ^ 32
 
 -- a word of EVT 3.0 whose twelve low bits are one field
 abbrev pub word3 : (type v : ℕ) → ℕ
@@ -256,3 +302,72 @@ module _ (w : ℕ) (w< : w < 2 ^ 16) where
 
   pub trigger-whole3 : type3 w ≡ triggerType → field 7 1 w ≡ 0 → triggerWord3 (triggerId3 w) (triggerValue3 w) ≡ w
   trigger-whole3 e unused = let p = rw (e, unused) at trigger-parts3 in omega (arith, p)
+
+-- ---- EVT 2.1: the fields of a word are those of its upper half
+
+module _ (w : ℕ) where
+  pub upper-type : type2 (upper w) ≡ type21 w
+  upper-type = omega arith
+
+  pub upper-low : timeLow2 (upper w) ≡ timeLow21 w
+  upper-low = omega arith
+
+  pub upper-x : x2 (upper w) ≡ x21 w
+  upper-x = omega arith
+
+  pub upper-y : y2 (upper w) ≡ y21 w
+  upper-y = omega arith
+
+  pub upper-time : timeHigh2 (upper w) ≡ timeHigh21 w
+  upper-time = omega arith
+
+  pub upper-id : triggerId2 (upper w) ≡ triggerId21 w
+  upper-id = omega arith
+
+  pub upper-value : triggerValue2 (upper w) ≡ triggerValue21 w
+  upper-value = omega arith
+
+  upper-unused : (field 21 13 (upper w) ≡ field 53 45 w) × (field 7 1 (upper w) ≡ field 39 33 w)
+  upper-unused = (omega arith, omega arith)
+
+  pub upper-fits : w < 2 ^ 64 → upper w < 2 ^ 32
+  upper-fits h = omega arith
+
+  pub halves : upper w * 2 ^ 32 + mask21 w ≡ w
+  halves = omega arith
+
+-- a word built of a word of EVT 2.0 and a mask reads back to both, and fits its width
+module _ (h mask : ℕ) (mask< : mask < 2 ^ 32) where
+  pub built-upper : upper (h * 2 ^ 32 + mask) ≡ h
+  built-upper = omega arith
+
+  pub built-mask : mask21 (h * 2 ^ 32 + mask) ≡ mask
+  built-mask = omega arith
+
+  pub built-fits : h < 2 ^ 32 → h * 2 ^ 32 + mask < 2 ^ 64
+  built-fits h< = omega arith
+
+-- a time and a trigger have no mask
+pub bare-mask : (h : ℕ) → mask21 (h * 2 ^ 32) ≡ 0
+bare-mask h = omega arith
+
+pub bare-upper : (h : ℕ) → upper (h * 2 ^ 32) ≡ h
+bare-upper h = omega arith
+
+-- and a word is the word built of its fields, its unused bits 0
+module _ (w : ℕ) (w< : w < 2 ^ 64) where
+  pub event-whole21 : eventWord21 (type21 w) (timeLow21 w) (x21 w) (y21 w) (mask21 w) ≡ w
+  event-whole21 =
+      let e = event-whole2 (upper w) (upper-fits w w<) in
+      omega (arith, e, upper-type w, upper-low w, upper-x w, upper-y w, halves w)
+
+  pub time-whole21 : type21 w ≡ 8 → mask21 w ≡ 0 → timeWord21 (timeHigh21 w) ≡ w
+  time-whole21 t m =
+      let e = time-whole2 (upper w) (upper-fits w w<) (upper-type w ∙ t) in
+      omega (arith, e, upper-time w, halves w)
+
+  pub trigger-whole21 : type21 w ≡ triggerType → field 53 45 w ≡ 0 → field 39 33 w ≡ 0 → mask21 w ≡ 0
+      → triggerWord21 (timeLow21 w) (triggerId21 w) (triggerValue21 w) ≡ w
+  trigger-whole21 t a b m =
+      let e = trigger-whole2 (upper w) (upper-fits w w<) (upper-type w ∙ t) (upper-unused w .0 ∙ a) (upper-unused w .1 ∙ b) in
+      omega (arith, e, upper-low w, upper-id w, upper-value w, halves w)

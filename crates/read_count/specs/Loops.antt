@@ -1,4 +1,4 @@
--- The iterations of the two encodings' loops that count, from what the code has at hand.
+-- The iterations of the encodings' loops that count, from what the code has at hand.
 use mathlib.Core.Path.{_≡_, refl, sym, ap, _∙_}
 use mathlib.Core.Bool.{Bool, true, false}
 use mathlib.Core.List.{List}
@@ -11,7 +11,9 @@ use Rattle.evt_types.specs.{Ahead.ahead, Ahead.ahead-some, declared.vector.Vect
 use Rattle.evt2_decoder.specs.{declared.Evt2Decoder.Evt2Decoder, Evt2.step2, Evt2.vector2, Evt2.reader2, Range.Bounded2, Range.bounded-step2}
 use Rattle.evt3_decoder.specs.{declared.Decoder.Decoder, Evt3.vector3, Evt3.reader3, Evt3.slimmed, Range.Bounded3, Range.bounded-step3}
 use Rattle.read_columns.specs.Inside.{insideOf, clock, latestOf}
-use Rattle.read_fill.specs.{Iteration.Iteration, Iteration.insideAll, Loops.start3}
+use Rattle.read_fill.specs.{Iteration.Iteration, Iteration.insideAll, Loops.bounded-words}
+use Rattle.read_fill.specs.Loops as Loops
+use Rattle.evt_codec.specs.{declared.codec.Codec.the-variants.Evt3, Sound.sound2}
 use Rattle.read_count.specs.{declared.evt3_step.CountingStep.CountingStep, Counting.Counting, Counting.counting-few, Counting.counting-next}
 use Rattle.read_count.specs.{Counting.counting-end, Passing.Passing, Passing.Reached, Passing.passing-stop, Passing.passing-next}
 use Rattle.read_count.specs.{Evt2Inside.keyBound, Evt2Inside.isEventInside, Evt2Inside.oneIf, Evt2Inside.event-count, Evt2Inside.event-step}
@@ -29,9 +31,7 @@ pub record Word2 (width height : ℕ) (bytes : List ℕ) (s : Evt2Decoder) (boun
 -- it is an event inside the sensor, or adds nothing
 module _ {width height : ℕ} {bytes : List ℕ} {s : Evt2Decoder} {bound i w : ℕ} (a : Word2 width height bytes s bound i w) where
   iteration : (s′ : Evt2Decoder) → s′ ≡ step2 s w → Iteration wordSize2 reader2 bytes s i s′ (vector2 s w)
-  iteration s′ is =
-      record
-      { word = w; more = omega (arith, a .more); is-word = a .is-word ∙ ahead-some wordSize2 bytes i (omega (arith, a .more)); is-next = is; is-events = refl }
+  iteration s′ is = Loops.iteration sound2 (omega (arith, a .more)) (a .is-word) is refl
 
   found : {b : Bool} → isEventInside bound height w ≡ b → oneIf b ≡ length (insideOf width height (vector2 s w))
   found e = sym (event-count width height s w ∙ ap oneIf (rw (a .is-bound) at e))
@@ -78,7 +78,7 @@ module _ {width height : ℕ} {bytes : List ℕ} {s : Evt2Decoder} {bound i w : 
 
 -- the loop's own form e of the decoder d
 pub started3 : {d e : Decoder} (l : List ℕ) → e ≡ d → Bounded3 (length l / wordSize3) d → Bounded3 (length (wordsOf wordSize3 l)) e
-started3 l is b = rw is (start3 l b)
+started3 l is b = rw is (bounded-words (Evt3 _) l b)
 
 pub ended3 : {width height : ℕ} {bytes : List ℕ} {d e s : Decoder} {n top i : ℕ} → e ≡ d → Counting wordSize3 reader3 Bounded3 width height e bytes s n top i
     → length bytes < i + wordSize3

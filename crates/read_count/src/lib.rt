@@ -7,7 +7,7 @@
 // the crate `read_fill` shows that this is enough.
 ghost use mathlib.Core.Path.{_≡_};
 ghost use lib.ListN.{length, drop};
-ghost use Rattle.read_fill.specs.Decode.{Bounded, Steady};
+ghost use Rattle.read_fill.specs.Decode.{Bounded, Able};
 ghost use Rattle.read_count.specs.Count.{countedAllOf, countedToOf};
 use evt_codec::Codec;
 use evt2_decoder::Evt2Decoder;
@@ -69,7 +69,7 @@ pub fn count_all(bytes: &[u8], codec: Codec, width: u64, height: u64) -> Counted
 // Passes over words as long as the events inside the sensor, those of the word with them, number at
 // most `most`. Slices by number start with it.
 pub fn count_to(bytes: &[u8], codec: Codec, width: u64, height: u64, most: usize) -> CountedTo
-    requires { ⌜ Steady (length (now bytes)) codec ⌝ }
+    requires { ⌜ Able (length (now bytes)) codec ⌝ }
     ensures { λ r. ⌜ (r ≡ countedToOf width height most codec (now (bytes .entry))) × Bounded (length (drop (r .at) (now (bytes .entry)))) (r .codec) ⌝ }
 {
     match codec {

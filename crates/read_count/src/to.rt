@@ -1,11 +1,11 @@
 // Passing over words up to a number of events: a loop for each encoding.
-ghost use Prim.Native.Nat.{_+_, _*_, _/_, _≤_, _^_};
+ghost use Prim.Native.Nat.{_/_};
 ghost use lib.ListN.{length};
 ghost use Rattle.evt_types.specs.Layout.{wordSize2, wordSize3};
 ghost use Rattle.evt2_decoder.specs.Evt2.{reader2};
 ghost use Rattle.evt3_decoder.specs.Evt3.{reader3};
 ghost use Rattle.evt2_decoder.specs.Range.{Bounded2};
-ghost use Rattle.evt3_decoder.specs.Range.{Bounded3, Regular3};
+ghost use Rattle.evt3_decoder.specs.Range.{Bounded3, Paced3};
 ghost use Rattle.read_count.specs.Passing.{Reached};
 use crate::LAST_BYTE2;
 use crate::LAST_BYTE3;
@@ -64,7 +64,7 @@ pub fn evt2(bytes: &[u8], d: Evt2Decoder, width: u64, height: u64, most: usize) 
 }
 
 pub fn evt3(bytes: &[u8], d: Decoder, width: u64, height: u64, most: usize) -> Evt3CountedTo
-    requires { ⌜ Regular3 d ⌝ ∗ ⌜ d .«high_loops» + length (now bytes) / wordSize3 ≤ 3 * 2 ^ 28 ⌝ }
+    requires { ⌜ Paced3 (length (now bytes) / wordSize3) d ⌝ }
     ensures { λ r. ⌜ Reached wordSize3 reader3 Bounded3 width height most d (now (bytes .entry)) (r .at) (r .count) (r .decoder) ⌝ }
 {
     let spans = evt3_step::span_table();

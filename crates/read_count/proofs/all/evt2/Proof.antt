@@ -12,7 +12,9 @@ use Rattle.read_count.specs.Counting.{Counting, counting-start, counting
 use Rattle.evt_types.specs.Ahead.{ahead}
 use Rattle.evt_types.specs.Layout.{wordSize2}
 use Rattle.read_count.specs.Evt2Inside.{keyBound}
-use Rattle.read_fill.specs.Loops.{start2, few2}
+use Rattle.evt_codec.specs.declared.codec.Codec.the-variants.{Evt2}
+use Rattle.read_fill.specs.Loops.{bounded-words}
+use Rattle.read_fill.specs.Laws.{inside-few}
 use Rattle.read_count.specs.Loops.{Word2, event-few, event-next, other-next}
 use Rattle.read_count.proofs.all.evt2.Statement.{statement}
 use Rattle.read_count.proofs.all.evt2.Tie as tie
@@ -25,8 +27,8 @@ abbrev μ-loop : tie.MeasureT-loop
 μ-loop bytes width height s₀ bound₀ n₀ top₀ i₀ w₀ s bound n top i w = length bytes - i
 
 loop-holds : tie.Need-loop-holds Inv-loop μ-loop
-loop-holds c = (
-  counting-start (omega arith) bounded-step2 (start2 (now (c .before .before .before .args .bytes)) (c .before .before .before .pre)),
+loop-holds c = let s = c .before .before .before in (
+  counting-start (omega arith) bounded-step2 (bounded-words (Evt2 (s .args .d)) (now (s .args .bytes)) (s .pre)),
   c .before .key-bound .ensures,
   c .four-at .ensures,
 )
@@ -42,7 +44,7 @@ add-n c =
       arith,
       event-few (record { more = c .before .before .before .before .loop-test .taken; is-word = inv .2; is-bound = inv .1 }) (inv .0)
           (sym (c .before .before .before .is-event-inside .ensures) ∙ c .before .before .if1 .taken),
-      few2 (a .width) (a .height) (a .d) (now (a .bytes)),
+      inside-few (a .width) (a .height) (Evt2 (a .d)) (now (a .bytes)),
     )
 
 advance-requires : tie.Need-advance-requires Inv-loop μ-loop

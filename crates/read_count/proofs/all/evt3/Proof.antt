@@ -11,7 +11,8 @@ use Rattle.evt3_decoder.specs.Range.{Bounded3, bounded-step3, bounded-sane3, bo
 use Rattle.read_count.specs.Counting.{Counting, counting-start}
 use Rattle.evt_types.specs.Ahead.{ahead}
 use Rattle.read_count.specs.Evt3Step.{decoderOf}
-use Rattle.read_fill.specs.Loops.{few3}
+use Rattle.evt_codec.specs.declared.codec.Codec.the-variants.{Evt3}
+use Rattle.read_fill.specs.Laws.{inside-few}
 use Rattle.read_count.specs.Loops.{started3, ended3, word3-few, word3-next}
 use Rattle.read_count.proofs.all.evt3.Statement.{statement}
 use Rattle.read_count.proofs.all.evt3.Tie as tie
@@ -57,8 +58,8 @@ add-n c =
         is-bound = c .before .before .before .before .before .before .before .before .before .before .before .column-bound .ensures;
         is-count = c .count-inside .ensures;
       }) (inv .0),
-      few3 (s .args .width) (s .args .height)
-          (slimmed (decoderOf (c .before .before .before .before .before .before .before .before .before .counting .result)))
+      inside-few (s .args .width) (s .args .height)
+          (Evt3 (slimmed (decoderOf (c .before .before .before .before .before .before .before .before .before .counting .result))))
           (now (s .args .bytes)),
       s .pre .loops,
     )

@@ -12,7 +12,8 @@ use Rattle.read_count.specs.Passing.{Passing, passing-start, passing-end
 use Rattle.evt_types.specs.Ahead.{ahead}
 use Rattle.evt_types.specs.Layout.{wordSize2}
 use Rattle.read_count.specs.Evt2Inside.{keyBound}
-use Rattle.read_fill.specs.Loops.{start2}
+use Rattle.evt_codec.specs.declared.codec.Codec.the-variants.{Evt2}
+use Rattle.read_fill.specs.Loops.{bounded-words}
 use Rattle.read_count.specs.Loops.{Word2, event-stop, event-pass, other-pass}
 use Rattle.read_count.proofs.to.evt2.Statement.{statement}
 use Rattle.read_count.proofs.to.evt2.Tie as tie
@@ -25,8 +26,8 @@ abbrev μ-loop : tie.MeasureT-loop
 μ-loop bytes width height most s₀ bound₀ n₀ i₀ w₀ s bound n i w = length bytes - i
 
 loop-holds : tie.Need-loop-holds Inv-loop μ-loop
-loop-holds c = (
-  passing-start (omega arith) bounded-step2 (start2 (now (c .before .before .before .args .bytes)) (c .before .before .before .pre)),
+loop-holds c = let s = c .before .before .before in (
+  passing-start (omega arith) bounded-step2 (bounded-words (Evt2 (s .args .d)) (now (s .args .bytes)) (s .pre)),
   c .before .key-bound .ensures,
   c .four-at .ensures,
 )

@@ -28,7 +28,7 @@ loop-holds c =
     let s = c .before .before .before .before .before .before .before .before in (
       passing-start (omega arith) bounded-step3 (started3 (now (s .args .bytes))
           (ap slimmed (c .before .counting .ensures ∙ c .before .before .widen .ensures .0))
-          (record { regular = s .pre .0; loops = s .pre .1; column = c .before .before .widen .ensures .1 .column })),
+          (record { regular = s .pre .regular; loops = s .pre .loops; column = c .before .before .widen .ensures .1 .column })),
       c .two-at .ensures,
     )
 
@@ -56,14 +56,14 @@ add-i c =
     let t = c .before .before .before .before .before .before .before .loop-test in
     let k = c .before .before .before .before .before .before .before .before .loop in
     let p = c .before .before .before .before .before .before .before .before .before .before .before .before .before .before .before .before .before .pre in
-    omega (arith, t .taken, k .inv .0 .within, p .1)
+    omega (arith, t .taken, k .inv .0 .within, p .loops)
 
 two-at-requires-2 : tie.Need-two-at-requires-2 Inv-loop μ-loop
 two-at-requires-2 c κs =
     let t = c .before .before .before .before .before .before .before .loop-test in
     let k = c .before .before .before .before .before .before .before .before .loop in
     let p = c .before .before .before .before .before .before .before .before .before .before .before .before .before .before .before .before .before .pre in
-    omega (arith, t .taken, k .inv .0 .within, p .1)
+    omega (arith, t .taken, k .inv .0 .within, p .loops)
 
 loop-again : tie.Need-loop-again Inv-loop μ-loop
 loop-again c =

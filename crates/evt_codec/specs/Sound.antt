@@ -1,12 +1,12 @@
 -- What every encoding's reader keeps: from a decoder in range (10) no sum wraps over as many bytes as are read (4), times stay below 2^63, a word has no more
 -- events than is said.
-use mathlib.Core.Path.{_≡_, refl}
+use mathlib.Core.Path.{_≡_, refl, sym, subst}
 use mathlib.Core.Bool.{Bool, true, false}
 use mathlib.Core.List.{List}
 use Prim.Native.Nat.{ℕ, suc, _+_, _*_, _/_, _^_, _≤_, _<_}
 use native.Mathlib.Omega.{arith}
 use lib.ListN.{length}
-use Rattle.laws_stream.specs.{Loop.loops-one, Stream.after}
+use Rattle.laws_stream.specs.{Loop.loops-one, Stream.after, Words.wordsOf, Words.length-words}
 use Rattle.evt_types.specs.{declared.Encoding.Encoding, Event.eventsOf, Event.Narrow, Layout.type2, Layout.type3, Layout.time3, Layout.grain3}
 use Rattle.evt_types.specs.declared.Encoding.the-variants as E
 use Rattle.evt2_decoder.specs.{declared.Evt2Decoder.Evt2Decoder, Evt2.vector2, Triggers.few-triggers2, Range.Bounded2, Range.bounded-step2, Range.bounded-narrow2}
@@ -17,6 +17,7 @@ use Rattle.evt2_decoder.specs.Evt2 as Evt2
 use Rattle.evt3_decoder.specs.Evt3 as Evt3
 use Rattle.evt_codec.specs.declared.{codec.Codec.Codec, codec.Codec.the-variants.Evt2, codec.Codec.the-variants.Evt3}
 use Rattle.evt_codec.specs.Reader.{Reader, evt2, evt3, readerOf, view}
+use Rattle.evt_codec.specs.Codec.{wordSize, inRangeC, Bounded, Able, Fitting}
 
 pub record Sound (R : Reader) : Type 0 where
   pub some : 0 < R .size
@@ -131,3 +132,21 @@ soundOf E.Evt3 = sound3
 pub sound : (c : Codec) → Sound (view c .reader)
 sound (Evt2 d) = sound2
 sound (Evt3 d) = sound3
+
+module _ (c : Codec) where
+  pub able-range : (bytes : ℕ) → inRangeC c ≡ true → bytes ≤ 2 ^ 30 → Able bytes c
+  able-range bytes r h = sound c .range bytes (view c .state) r h
+
+  pub able-bounded : (bytes : ℕ) → Bounded bytes c → Able bytes c
+  able-bounded bytes b = sound c .able (bytes / wordSize c) (view c .state) b
+
+  pub able-fitting : (bytes : ℕ) → Able bytes c → Fitting c → Bounded bytes c
+  able-fitting bytes a f = sound c .fits (bytes / wordSize c) (view c .state) a f
+
+  -- by the number of words
+  module _ (l : List ℕ) where
+    pub bounded-words : Bounded (length l) c → view c .reader .Bounded (length (wordsOf (wordSize c) l)) (view c .state)
+    bounded-words b = subst (λ (n : ℕ). view c .reader .Bounded n (view c .state)) (sym (length-words (wordSize c) l)) b
+
+    pub able-words : Able (length l) c → view c .reader .Able (length (wordsOf (wordSize c) l)) (view c .state)
+    able-words a = subst (λ (n : ℕ). view c .reader .Able n (view c .state)) (sym (length-words (wordSize c) l)) a

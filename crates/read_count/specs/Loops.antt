@@ -11,9 +11,9 @@ use Rattle.evt_types.specs.{Ahead.ahead, Ahead.ahead-some, declared.vector.Vect
 use Rattle.evt2_decoder.specs.{declared.Evt2Decoder.Evt2Decoder, Evt2.step2, Evt2.vector2, Evt2.reader2, Range.Bounded2, Range.bounded-step2}
 use Rattle.evt3_decoder.specs.{declared.Decoder.Decoder, Evt3.vector3, Evt3.reader3, Evt3.slimmed, Range.Bounded3, Range.bounded-step3}
 use Rattle.read_columns.specs.Inside.{insideOf, clock, latestOf}
-use Rattle.read_fill.specs.{Iteration.Iteration, Iteration.insideAll, Loops.bounded-words}
+use Rattle.read_fill.specs.{Iteration.Iteration, Iteration.insideAll}
 use Rattle.read_fill.specs.Loops as Loops
-use Rattle.evt_codec.specs.{declared.codec.Codec.the-variants.Evt3, Sound.sound2}
+use Rattle.evt_codec.specs.{declared.codec.Codec.the-variants.Evt3, Sound.sound2, Sound.bounded-words}
 use Rattle.read_count.specs.{declared.evt3_step.CountingStep.CountingStep, Counting.Counting, Counting.counting-few, Counting.counting-next}
 use Rattle.read_count.specs.{Counting.counting-end, Passing.Passing, Passing.Reached, Passing.passing-stop, Passing.passing-next}
 use Rattle.read_count.specs.{Evt2Inside.keyBound, Evt2Inside.isEventInside, Evt2Inside.oneIf, Evt2Inside.event-count, Evt2Inside.event-step}

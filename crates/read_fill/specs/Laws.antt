@@ -12,9 +12,9 @@ use Rattle.laws_stream.specs.{Machine.Machine, Machine.All, Machine.all-of, Mac
 use Rattle.laws_stream.specs.{Words.length-words, Words.words-end, Mask.bits, Order.greatest, Order.greatest-append, Order.greatest-le, Slice.sift, Slice.sift-append}
 use Rattle.laws_stream.specs.{Slice.sift-all, Slice.all-sift, Stream.decode-append, Stream.after-append, Stream.decode, Stream.after}
 use Rattle.evt_codec.specs.{declared.codec.Codec.Codec, Reader.view, Reader.View, Codec.freshC, Codec.wordSize, Codec.inRangeC, Codec.codec-view}
-use Rattle.evt_codec.specs.{Codec.view-after, Codec.view-fresh, Sound.sound, Sound.soundOf}
+use Rattle.evt_codec.specs.{Codec.view-after, Codec.view-fresh, Sound.sound, Sound.soundOf, Sound.able-range, Sound.able-fitting, Sound.bounded-words}
 use Rattle.read_columns.specs.Inside.{inside, clock, all-mapped, events-few, sift-few}
-use Rattle.read_fill.specs.{Decode.eventsFrom, Decode.codecAfter, Decode.insideEvents, Decode.Bounded, Decode.Fitting, Loops.bounded-words}
+use Rattle.read_fill.specs.{Decode.eventsFrom, Decode.codecAfter, Decode.insideEvents, Decode.Bounded, Decode.Fitting}
 
 -- ---- in parts: the first is a whole number of words
 
@@ -90,7 +90,7 @@ bounded-after c k n a h b =
 
 -- any decoder in range (10) takes as many bytes as are read (4)
 pub bounded-range : (c : Codec) (n : ℕ) → inRangeC c ≡ true → Fitting c → n ≤ 2 ^ 30 → Bounded n c
-bounded-range c n r f h = sound c .fits (n / wordSize c) (view c .state) (sound c .range n (view c .state) r h) f
+bounded-range c n r f h = able-fitting c n (able-range c n r h) f
 
 pub fitting-fresh : (e : Encoding) → Fitting (freshC e)
 fitting-fresh e = subst (λ (v : View). v .reader .Fitting (v .state)) (sym (view-fresh e)) (soundOf e .fresh-fits)

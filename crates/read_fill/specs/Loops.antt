@@ -4,14 +4,9 @@ use mathlib.Core.List.{List}
 use Prim.Native.Nat.{ℕ, _+_, _≤_, _<_, _^_}
 use native.Mathlib.Omega.{arith}
 use lib.ListN.{length}
-use Rattle.laws_stream.specs.Words.{wordsOf, length-words}
 use Rattle.evt_types.specs.{Ahead.ahead, Ahead.ahead-some, declared.vector.Vector.Vector, Event.eventsOf, Event.Narrow}
-use Rattle.evt_codec.specs.{declared.codec.Codec.Codec, Reader.Reader, Reader.view, Codec.wordSize, Codec.Bounded, Sound.Sound}
+use Rattle.evt_codec.specs.{Reader.Reader, Sound.Sound}
 use Rattle.read_fill.specs.Iteration.{Iteration}
-
--- by the number of words
-pub bounded-words : (c : Codec) (l : List ℕ) → Bounded (length l) c → view c .reader .Bounded (length (wordsOf (wordSize c) l)) (view c .state)
-bounded-words c l b = rw (length-words (wordSize c) l) b
 
 module _ {R : Reader} (S : Sound R) where
   -- the word that stands at index i, its step and its events

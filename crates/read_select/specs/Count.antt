@@ -12,10 +12,11 @@ use Rattle.read_window.specs.declared.{Window.Window, extent.Extent.Extent, tri
 use Rattle.read_window.specs.Trim.{Picked, picked-few, masked, masked-count}
 use Rattle.read_window.specs.Extent.{extentOf, extentWith, extent-none, extent-start, extent-append}
 use Rattle.read_select.specs.{declared.word.Notes.Notes, Word.Notable, Word.noted, Word.seenIn, Pass.endOf, Pass.surveyOf}
-use Rattle.read_select.specs.Iteration.{Source, Laws, Iteration, At, all, left, last, leftIf, lastIf, stops, stand-start, stand-end, none-left}
+use Rattle.evt_codec.specs.{Reader.Reader, Sound.Sound}
+use Rattle.read_select.specs.Iteration.{Iteration, At, all, left, last, leftIf, lastIf, stops, stand-start, stand-end, none-left}
 use Rattle.read_select.specs.Iteration.{narrow-here, number-here, given-left, pend-next, done-end, done-count}
 
-module _ (Q : Source) (win : Window) (number : ℕ) (s₀ : Q .State) (bytes : List ℕ) where
+module _ (Q : Reader) (win : Window) (number : ℕ) (s₀ : Q .State) (bytes : List ℕ) where
   -- `seen` is noted, and `es` are still to be handed over
   pub record Counting (es : List Event) (e : End (Q .State)) (s : Q .State) (k n : ℕ) (seen : Extent) (i : ℕ) : Type 0 where
     pub at : At Q win number s₀ bytes es e s k n i
@@ -32,8 +33,8 @@ module _ (Q : Source) (win : Window) (number : ℕ) (s₀ : Q .State) (bytes : L
   abbrev pub Counted : (s : Q .State) (t : Notes) (i : ℕ) → Type 0
   Counted s t i = Counting [] (record { number = t .number; state = s; consumed = 0 }) s (t .number) (t .count) (seenIn t) i
 
-module _ {Q : Source} (L : Laws Q) {win : Window} {number : ℕ} {s₀ : Q .State} {bytes : List ℕ} where
-  pub counts-start : Q .Inv (length (wordsOf (Q .size) bytes)) s₀ → length bytes ≤ 2 ^ 30 → number ≤ 2 ^ 62
+module _ {Q : Reader} (L : Sound Q) {win : Window} {number : ℕ} {s₀ : Q .State} {bytes : List ℕ} where
+  pub counts-start : Q .Bounded (length (wordsOf (Q .size) bytes)) s₀ → length bytes ≤ 2 ^ 30 → number ≤ 2 ^ 62
       → Counts Q win number s₀ bytes s₀ (record { number = number; count = 0; latest = 0; width = 0; height = 0 }) 0
   counts-start inv long low = record { at = stand-start L inv long low; notes = extent-start (all Q win number s₀ bytes) }
 

@@ -12,10 +12,11 @@ use Rattle.evt_types.specs.{Columns.going-start, Columns.going-run, Columns.goi
 use Rattle.read_columns.specs.Inside.{events-few}
 use Rattle.read_window.specs.{declared.Window.Window, declared.trim.Trimmed.Trimmed, Trim.Picked, Trim.picked-few, Trim.masked}
 use Rattle.read_select.specs.Pass.{Fits, endOf, filledOf}
-use Rattle.read_select.specs.Iteration.{Source, Laws, Iteration, At, all, left, last, leftIf, lastIf, stops, stand-start, stand-end, none-left}
+use Rattle.evt_codec.specs.{Reader.Reader, Sound.Sound}
+use Rattle.read_select.specs.Iteration.{Iteration, At, all, left, last, leftIf, lastIf, stops, stand-start, stand-end, none-left}
 use Rattle.read_select.specs.Iteration.{narrow-here, number-here, given-left, pend-next, done-end, done-count}
 
-module _ (Q : Source) (win : Window) (number : ℕ) (s₀ : Q .State) (bytes : List ℕ) (xs₀ ys₀ : List ℕ) (ts₀ : List ℤ) (ps₀ : List ℕ) where
+module _ (Q : Reader) (win : Window) (number : ℕ) (s₀ : Q .State) (bytes : List ℕ) (xs₀ ys₀ : List ℕ) (ts₀ : List ℤ) (ps₀ : List ℕ) where
   -- n events are in the columns, and `es` are still to be written
   pub record Filling (es : List Event) (e : End (Q .State)) (xs ys : List ℕ) (ts : List ℤ) (ps : List ℕ) (s : Q .State) (k n i : ℕ) : Type 0 where
     pub at : At Q win number s₀ bytes es e s k n i
@@ -32,8 +33,8 @@ module _ (Q : Source) (win : Window) (number : ℕ) (s₀ : Q .State) (bytes : L
   abbrev pub Full : (xs ys : List ℕ) (ts : List ℤ) (ps : List ℕ) (s : Q .State) (k n i : ℕ) → Type 0
   Full xs ys ts ps s k n i = Filling [] (record { number = k; state = s; consumed = 0 }) xs ys ts ps s k n i
 
-module _ {Q : Source} (L : Laws Q) {win : Window} {number : ℕ} {s₀ : Q .State} {bytes : List ℕ} {xs₀ ys₀ : List ℕ} {ts₀ : List ℤ} {ps₀ : List ℕ} where
-  pub fills-start : Q .Inv (length (wordsOf (Q .size) bytes)) s₀ → length bytes ≤ 2 ^ 30 → number ≤ 2 ^ 62
+module _ {Q : Reader} (L : Sound Q) {win : Window} {number : ℕ} {s₀ : Q .State} {bytes : List ℕ} {xs₀ ys₀ : List ℕ} {ts₀ : List ℤ} {ps₀ : List ℕ} where
+  pub fills-start : Q .Bounded (length (wordsOf (Q .size) bytes)) s₀ → length bytes ≤ 2 ^ 30 → number ≤ 2 ^ 62
       → Fills Q win number s₀ bytes xs₀ ys₀ ts₀ ps₀ xs₀ ys₀ ts₀ ps₀ s₀ number 0 0
   fills-start inv long low = record { at = stand-start L inv long low; going = going-start }
 

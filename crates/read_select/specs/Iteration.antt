@@ -6,37 +6,27 @@ use Prim.Native.Nat.{ℕ, suc, _+_, _*_, _/_, _≤_, _<_, _^_}
 use native.Mathlib.Omega.{arith}
 use native.Mathlib.Nat.{add-zero, zero-div, add-div-right}
 use lib.ListN.{length, take, drop, length-append}
-use Rattle.laws_stream.specs.{Machine.Machine, Words.wordsOf, Words.value, Words.words-next, Words.words-end, Slice.sift, Slice.unless, Select.End}
+use Rattle.laws_stream.specs.{Words.wordsOf, Words.value, Words.words-next, Words.words-end, Slice.sift, Slice.unless, Select.End}
 use Rattle.laws_stream.specs.{Select.endAt, Select.oneMore, Select.handed, Select.ended}
 use Rattle.laws_stream.specs.Select as Select
-use Rattle.evt_types.specs.{declared.vector.Vector.Vector, Event.Event, Event.eventsOf, Event.Narrow}
-use Rattle.evt_codec.specs.declared.codec.Codec.{Codec}
+use Rattle.evt_types.specs.{declared.vector.Vector.Vector, Event.Event, Event.eventsOf, Event.Narrow, Ahead.ahead, Ahead.ahead-some}
+use Rattle.evt_codec.specs.{Reader.Reader, Sound.Sound}
 use Rattle.read_columns.specs.Inside.{inside}
 use Rattle.read_window.specs.{declared.Window.Window, declared.trim.Trimmed.Trimmed, Window.selectionOf, Window.reading, Window.choose}
 use Rattle.read_window.specs.{Window.chosen-choose, Trim.Picked, Trim.masked, Trim.numbered, Trim.numbered-few}
 
--- a decoder: its machine over words of `size` bytes, the vector that a word carries, and what holds of a state that takes n words more
-pub record Source : Type 1 where
-  pub State : Type 0
-  pub size : ℕ
-  pub machine : Machine State ℕ Event
-  pub live : State → Bool
-  pub time : State → ℕ
-  pub vector : State → ℕ → Vector
-  pub codec : State → Codec
-  pub Inv : ℕ → State → Type 0
-
-pub record Laws (Q : Source) : Type 0 where
-  pub some : 0 < Q .size
-  pub emits : (s : Q .State) (w : ℕ) → Q .machine .emit s w ≡ eventsOf (Q .vector s w)
-  pub steps : (n : ℕ) (s : Q .State) (w : ℕ) → Q .Inv (suc n) s → Q .Inv n (Q .machine .step s w)
-  pub narrow : (n : ℕ) (s : Q .State) (w : ℕ) → Q .Inv n s → Narrow (Q .vector s w)
-
 -- the word at index i takes s to s′, with the events of v
-pub record Iteration (Q : Source) (bytes : List ℕ) (i : ℕ) (s s′ : Q .State) (v : Vector) : Type 0 where
+pub record Iteration (Q : Reader) (bytes : List ℕ) (i : ℕ) (s s′ : Q .State) (v : Vector) : Type 0 where
   pub h : i + Q .size ≤ length bytes
   pub is-next : s′ ≡ Q .machine .step s (value (take (Q .size) (drop i bytes)))
   pub is-events : v ≡ Q .vector s (value (take (Q .size) (drop i bytes)))
+
+-- a word as the loops read it, and its step
+pub iteration : {Q : Reader} {l : List ℕ} {i w : ℕ} {s s′ : Q .State} {v : Vector}
+    → i + Q .size ≤ length l → w ≡ ahead (Q .size) l i → s′ ≡ Q .machine .step s w → v ≡ Q .vector s w → Iteration Q l i s s′ v
+iteration {Q} {l} {i} {w} {s} h e n m =
+    let is = e ∙ ahead-some (Q .size) l i h in
+    record { h = h; is-next = n ∙ ap (Q .machine .step s) is; is-events = m ∙ ap (Q .vector s) is }
 
 -- an end, where c words were consumed before
 abbrev pub after : {S : Type 0} → ℕ → End S → End S
@@ -52,9 +42,9 @@ after-none {c = c} e h =
     let m : c + e .consumed ≡ e .consumed = omega arith in
     ap (λ (n : ℕ). record { number = e .number; state = e .state; consumed = n }) m
 
-module _ (Q : Source) (win : Window) (number : ℕ) (s₀ : Q .State) (bytes : List ℕ) where
+module _ (Q : Reader) (win : Window) (number : ℕ) (s₀ : Q .State) (bytes : List ℕ) where
   abbrev source : Select.Reading (Q .State) ℕ Event
-  source = reading (Q .machine) (Q .live) (Q .time) win
+  source = reading (Q .machine) (Q .started) (Q .time) win
 
   -- the words left at index i, the events that they hand over, and where they end
   abbrev rest : ℕ → List ℕ
@@ -86,7 +76,7 @@ module _ (Q : Source) (win : Window) (number : ℕ) (s₀ : Q .State) (bytes : L
     pub low : number ≤ 2 ^ 62
     pub high : k ≤ number + 32 * i
     pub few : n ≤ 32 * i
-    pub inv : Q .Inv (length (rest i)) s
+    pub inv : Q .Bounded (length (rest i)) s
     pub counts : n + length es ≡ length all
     pub ends : after (i / Q .size) e ≡ last number s₀ 0
 
@@ -100,8 +90,8 @@ module _ (Q : Source) (win : Window) (number : ℕ) (s₀ : Q .State) (bytes : L
   abbrev pub Done : (s : Q .State) (k n i : ℕ) → Type 0
   Done s k n i = At [] (record { number = k; state = s; consumed = 0 }) s k n i
 
-module _ {Q : Source} (L : Laws Q) {win : Window} {number : ℕ} {s₀ : Q .State} {bytes : List ℕ} where
-  pub stand-start : Q .Inv (length (wordsOf (Q .size) bytes)) s₀ → length bytes ≤ 2 ^ 30 → number ≤ 2 ^ 62 → Stand Q win number s₀ bytes s₀ number 0 0
+module _ {Q : Reader} (L : Sound Q) {win : Window} {number : ℕ} {s₀ : Q .State} {bytes : List ℕ} where
+  pub stand-start : Q .Bounded (length (wordsOf (Q .size) bytes)) s₀ → length bytes ≤ 2 ^ 30 → number ≤ 2 ^ 62 → Stand Q win number s₀ bytes s₀ number 0 0
   stand-start inv long low = record {
     within = omega arith;
     long = long;
@@ -153,7 +143,10 @@ module _ {Q : Source} (L : Laws Q) {win : Window} {number : ℕ} {s₀ : Q .Stat
         pub narrow-here : Narrow v
         narrow-here = rw (o .is-events) (L .narrow _ s w (u .inv))
 
-        inv-next : Q .Inv (length (rest Q win number s₀ bytes j)) s′
+        pub mask-here : v .mask < 2 ^ Q .most
+        mask-here = rw (o .is-events) (L .few s w)
+
+        inv-next : Q .Bounded (length (rest Q win number s₀ bytes j)) s′
         inv-next = rw (o .is-next) (L .steps _ s w (rw words-here at (u .inv)))
 
         -- those of its events that have a number
@@ -174,7 +167,7 @@ module _ {Q : Source} (L : Laws Q) {win : Window} {number : ℕ} {s₀ : Q .Stat
             let told = Select.numberedOf (source Q win number s₀ bytes) s w in
             ap (handed (source Q win number s₀ bytes) (selectionOf win) k s) words-here
             ∙ ap (λ (l : List Event). l ++ leftIf Q win number s₀ bytes (stops Q win number s₀ bytes (k + length told) t) (k + length told) t j)
-            (chosen-choose (Q .machine) (Q .live) (Q .time) win k told ∙ ap (choose win k) here-is)
+            (chosen-choose (Q .machine) (Q .started) (Q .time) win k told ∙ ap (choose win k) here-is)
             ∙ ap (λ (x : ℕ). choose win k here ++ leftIf Q win number s₀ bytes (stops Q win number s₀ bytes x t) x t j)
             (ap (λ (l : List Event). k + length l) here-is ∙ sym e)
             ∙ ap (λ (x : Q .State). choose win k here ++ leftIf Q win number s₀ bytes (stops Q win number s₀ bytes k′ x) k′ x j) (sym (o .is-next))

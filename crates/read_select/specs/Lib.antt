@@ -4,6 +4,5 @@ pub mod Word
 pub mod Iteration
 pub mod Count
 pub mod Fill
-pub mod Sources
 pub mod Uses
 pub mod Parts

@@ -7,8 +7,6 @@ use lib.Dec.{leb, ltb}
 use Rattle.laws_stream.specs.{Machine.Machine, Slice.onto}
 use Rattle.laws_stream.specs.Select as Select
 use Rattle.evt_types.specs.Event.{Event}
-use Rattle.evt2_decoder.specs.{declared.Evt2Decoder.Evt2Decoder, Evt2.reader2}
-use Rattle.evt3_decoder.specs.{declared.Decoder.Decoder, Evt3.reader3}
 use Rattle.read_columns.specs.Inside.{inside, clock}
 use Rattle.read_window.specs.declared.Window.{Window}
 
@@ -28,12 +26,6 @@ isStopped win k started time = leb (win .n1) k || (started && leb (win .t1) time
 -- what the rule of selection reads: a machine, whether a state of it is started, and a state's time; events outside width x height have no number
 abbrev pub reading : {S : Type 0} → Machine S ℕ Event → (S → Bool) → (S → ℕ) → Window → Select.Reading S ℕ Event
 reading M live time win = record { machine = M; inside = inside (win .width) (win .height); clock = clock; live = live; time = time }
-
-abbrev pub reading2 : Window → Select.Reading Evt2Decoder ℕ Event
-reading2 = reading reader2 (λ d. d .initialised) (λ d. d .time)
-
-abbrev pub reading3 : Window → Select.Reading Decoder ℕ Event
-reading3 = reading reader3 (λ d. d .initialised) (λ d. d .time)
 
 -- ---- the choice among events, whatever machine they come from
 

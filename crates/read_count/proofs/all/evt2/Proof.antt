@@ -13,7 +13,7 @@ use Rattle.evt_types.specs.Ahead.{ahead}
 use Rattle.evt_types.specs.Layout.{wordSize2}
 use Rattle.read_count.specs.Evt2Inside.{keyBound}
 use Rattle.evt_codec.specs.declared.codec.Codec.the-variants.{Evt2}
-use Rattle.read_fill.specs.Loops.{bounded-words}
+use Rattle.evt_codec.specs.Sound.{bounded-words}
 use Rattle.read_fill.specs.Laws.{inside-few}
 use Rattle.read_count.specs.Loops.{Word2, event-few, event-next, other-next}
 use Rattle.read_count.proofs.all.evt2.Statement.{statement}

@@ -8,9 +8,9 @@ use Rattle.evt_types.specs.Layout.{wordSize2}
 use Rattle.evt2_decoder.specs.Evt2.{reader2}
 use Rattle.evt2_decoder.specs.Range.{Bounded2, bounded-step2, bounded-sane2}
 use Rattle.read_fill.specs.Iteration.{Iteration, Filling, filling-start, filling-room, filling-next, filling-end}
-use Rattle.evt_codec.specs.Sound.{sound2}
+use Rattle.evt_codec.specs.Sound.{sound2, bounded-words}
 use Rattle.evt_codec.specs.declared.codec.Codec.the-variants.{Evt2}
-use Rattle.read_fill.specs.Loops.{bounded-words, word-narrow, word-few}
+use Rattle.read_fill.specs.Loops.{word-narrow, word-few}
 use Rattle.read_fill.specs.Loops as Loops
 use Rattle.read_fill.proofs.fill.evt2.Statement.{statement}
 use Rattle.read_fill.proofs.fill.evt2.Tie as tie

@@ -10,9 +10,9 @@ use Rattle.evt_types.specs.Event.{Narrow}
 use Rattle.evt3_decoder.specs.Evt3.{reader3, slimmed}
 use Rattle.evt3_decoder.specs.Range.{Bounded3, bounded-step3, bounded-sane3, bounded-slim3}
 use Rattle.read_fill.specs.Iteration.{Fits, insideAll, Iteration, Filling, filling-start, filling-room, filling-next, filling-end}
-use Rattle.evt_codec.specs.Sound.{sound3}
+use Rattle.evt_codec.specs.Sound.{sound3, bounded-words}
 use Rattle.evt_codec.specs.declared.codec.Codec.the-variants.{Evt3}
-use Rattle.read_fill.specs.Loops.{bounded-words, word-narrow}
+use Rattle.read_fill.specs.Loops.{word-narrow}
 use Rattle.read_fill.specs.Loops as Loops
 use Rattle.read_fill.proofs.fill.evt3.Statement.{statement}
 use Rattle.read_fill.proofs.fill.evt3.Tie as tie

@@ -9,44 +9,45 @@ use lib.ListN.{length}
 use Rattle.evt_types.specs.Layout.{wordSize3}
 use Rattle.evt3_decoder.specs.Range.{bounded-sane3, bounded-slim3}
 use Rattle.evt3_decoder.specs.Evt3.{slimmed}
+use Rattle.read_select.specs.Iteration as It
 use Rattle.read_select.specs.Iteration.{Iteration, narrow-here, number-here}
 use Rattle.read_select.specs.Count.{Counts, CountsIf, Counted, counts-start, counts-on, counts-stop, counted, counts-end, notable-here, counts-next}
-use Rattle.read_select.specs.Sources.{source3, laws3, inv3, iteration3}
+use Rattle.evt_codec.specs.{Reader.evt3, Sound.sound3, Sound.bounded-words, Sound.able-fitting, declared.codec.Codec.the-variants.Evt3}
 use Rattle.read_select.proofs.evt3.survey3.Statement.{statement}
 use Rattle.read_select.proofs.evt3.survey3.Tie as tie
 
 abbrev Inv-loop : tie.InvT-loop
-Inv-loop bytes win number s₀ t₀ i₀ s t i = Counts source3 win number (slimmed s₀) bytes (slimmed s) t i
+Inv-loop bytes win number s₀ t₀ i₀ s t i = Counts evt3 win number (slimmed s₀) bytes (slimmed s) t i
 
 abbrev μ-loop : tie.MeasureT-loop
 μ-loop bytes win number s₀ t₀ i₀ s t i = length bytes - i
 
 iteration : (c : tie.After-s Inv-loop μ-loop) →
     let k = c .before .before .before .before .before .loop in
-    Iteration source3 (now (c .before .before .before .before .before .before .before .before .args .bytes)) (k .i) (slimmed (k .s))
+    Iteration evt3 (now (c .before .before .before .before .before .before .before .before .args .bytes)) (k .i) (slimmed (k .s))
     (slimmed (c .before .before .advance .result .next)) (c .before .before .advance .result .events)
 iteration c =
-    iteration3 (c .before .before .before .before .loop-test .taken) (c .before .before .before .two-at .ensures)
+    It.iteration (omega (arith, c .before .before .before .before .loop-test .taken)) (c .before .before .before .two-at .ensures)
     (ap slimmed (c .before .before .advance .ensures .0)) (c .before .before .advance .ensures .1)
 
 -- after the word, before it is asked whether the pass stops
 pend : (c : tie.After-note Inv-loop μ-loop) →
     let a = c .before .before .before .before .before .before .before .before .before .before .args in
-    CountsIf source3 (a .win) (a .number) (slimmed (c .before .before .before .before .before .before .before .before .widen .result))
+    CountsIf evt3 (a .win) (a .number) (slimmed (c .before .before .before .before .before .before .before .before .widen .result))
     (now (a .bytes)) (slimmed (c .before .before .before .before .advance .result .next)) (c .note .result)
     (c .before .before .before .before .before .before .before .loop .i + wordSize3)
 pend c =
-    rw (c .note .ensures) (counts-next laws3 (c .before .before .before .before .before .before .before .loop .inv)
+    rw (c .note .ensures) (counts-next sound3 (c .before .before .before .before .before .before .before .loop .inv)
     (iteration (c .before .before)) (c .before .cut3 .result) (c .before .cut3 .ensures))
 
 done : (c : tie.Left-loop Inv-loop μ-loop) →
     let a = c .before .before .before .before .args in
-    Counted source3 (a .win) (a .number) (slimmed (c .before .before .widen .result)) (now (a .bytes)) (slimmed (c .loop-test .s))
+    Counted evt3 (a .win) (a .number) (slimmed (c .before .before .widen .result)) (now (a .bytes)) (slimmed (c .loop-test .s))
     (c .loop-test .t) (c .loop-test .i)
 done c =
     ⊎-elim
-    (λ w. rw (w .1, w .2, w .3) (counts-end laws3 (c .before .loop .inv) (omega arith)))
-    (λ w. rw (w .9, w .10, w .11) (counts-stop laws3 (sym (w .7 .ensures) ∙ w .8 .taken) (pend (record {
+    (λ w. rw (w .1, w .2, w .3) (counts-end sound3 (c .before .loop .inv) (omega arith)))
+    (λ w. rw (w .9, w .10, w .11) (counts-stop sound3 (sym (w .7 .ensures) ∙ w .8 .taken) (pend (record {
       before = record {
         before = record {
           before = record
@@ -61,8 +62,9 @@ done c =
 
 loop-holds : tie.Need-loop-holds Inv-loop μ-loop
 loop-holds c =
-    rw (c .widen .ensures .0) (counts-start laws3
-    (inv3 (c .before .before .args .d) (now (c .before .before .args .bytes)) (c .before .before .pre) (c .widen .ensures .1 .column))
+    rw (c .widen .ensures .0) (counts-start sound3
+    (bounded-words (Evt3 (c .before .before .args .d)) (now (c .before .before .args .bytes))
+    (able-fitting (Evt3 (c .before .before .args .d)) _ (c .before .before .pre .able) (c .widen .ensures .1 .column)))
     (c .before .before .pre .long) (c .before .before .pre .low))
 
 advance-requires : tie.Need-advance-requires Inv-loop μ-loop
@@ -71,17 +73,17 @@ advance-requires c κs = bounded-sane3 (c .before .before .loop .inv .at .inv)
 cut3-requires : tie.Need-cut3-requires Inv-loop μ-loop
 cut3-requires c κs =
     let at′ = c .before .before .before .before .before .loop .inv .at in
-    (narrow-here laws3 at′ (iteration c), number-here laws3 at′)
+    (narrow-here sound3 at′ (iteration c), number-here sound3 at′)
 
 note-requires : tie.Need-note-requires Inv-loop μ-loop
 note-requires c κs =
-    notable-here laws3 (c .before .before .before .before .before .before .loop .inv) (iteration (c .before)) (c .cut3 .result) (c .cut3 .ensures)
+    notable-here sound3 (c .before .before .before .before .before .before .loop .inv) (iteration (c .before)) (c .cut3 .result) (c .cut3 .ensures)
 
 loop-again : tie.Need-loop-again Inv-loop μ-loop
-loop-again c = counts-on laws3 (sym (c .before .stopped .ensures) ∙ c .if1 .left) (pend (c .before .before))
+loop-again c = counts-on sound3 (sym (c .before .stopped .ensures) ∙ c .if1 .left) (pend (c .before .before))
 
 returns : tie.Need-returns Inv-loop μ-loop
-returns c = rw (c .before .slim .ensures) (rw (c .before .before .before .before .widen .ensures .0) at (counted laws3 (done (c .before .before))))
+returns c = rw (c .before .slim .ensures) (rw (c .before .before .before .before .widen .ensures .0) at (counted sound3 (done (c .before .before))))
 
 pub survey3-spec : {M : Type 1} → statement M
 survey3-spec =

@@ -2,7 +2,7 @@
 use mathlib.Core.Path.{_≡_, refl, ap}
 use mathlib.Core.Bool.{Bool, true, false, cond, not, _&&_}
 use Prim.Native.Nat.{ℕ, _+_, _*_, _^_, _<_, min}
-use borrow.Author.Tests.{eq-eqb, ne-eqb}
+use borrow.Author.Tests.{eqb-true, eq-eqb, ne-eqb}
 use lib.Dec.{eqb, leb}
 use Rattle.laws_stream.specs.{Loop.loopsAfter, Loop.timeAfter, Machine.Machine}
 use Rattle.evt3_decoder.specs.declared.{Decoder.Decoder, WideDecoder.WideDecoder}
@@ -180,3 +180,16 @@ by-kinds P type true f h l y x b v u k =
     either P (eqb type 0) (y refl) (either P (eqb type 2) (x refl) (either P (eqb type 3) (b refl) (either P (eqb type 4) (v refl)
     (either P (eqb type 5) (u refl) (either P (eqb type 6) (l refl) (either P (eqb type 8) (h refl) k))))))
 by-kinds P type false f h l y x b v u k = either P (eqb type 8) (f refl) k
+
+-- a type that has a rule, or none of these
+pub by-type : (P : ℕ → Type 0) (k : ℕ) → P 0 → P 2 → P 3 → P 4 → P 5 → P 6 → P 8
+    → (eqb k 0 ≡ false → eqb k 2 ≡ false → eqb k 3 ≡ false → eqb k 4 ≡ false → eqb k 5 ≡ false → eqb k 6 ≡ false → eqb k 8 ≡ false → P k) → P k
+by-type P k p0 p2 p3 p4 p5 p6 p8 other =
+    at 0 p0 (λ e0. at 2 p2 (λ e2. at 3 p3 (λ e3. at 4 p4 (λ e4. at 5 p5 (λ e5. at 6 p6 (λ e6. at 8 p8 (λ e8. other e0 e2 e3 e4 e5 e6 e8)))))))
+  where
+    at : (n : ℕ) → P n → (eqb k n ≡ false → P k) → P k
+    at n g f = go (eqb k n) refl
+      where
+        go : (t : Bool) → eqb k n ≡ t → P k
+        go true e = rw (eqb-true k n e) g
+        go false e = f e

@@ -1,14 +1,17 @@
 -- What the decoder of an encoding is, in one record. Whatever holds of a decoder of any encoding is said and proved over it, once.
-use mathlib.Core.Bool.{Bool}
+use mathlib.Core.Bool.{Bool, _||_}
 use mathlib.Core.List.{List}
 use Prim.Native.Nat.{ℕ, _<_, _^_}
+use lib.Dec.{eqb, ltb}
 use Rattle.laws_stream.specs.Machine.{Machine}
 use Rattle.evt_types.specs.{declared.Encoding.Encoding, declared.vector.Vector.Vector, Event.Event, Trigger.Trigger, Layout.wordSize2, Layout.wordSize3}
+use Rattle.evt_types.specs.Layout.{type2, type3}
 use Rattle.evt_types.specs.declared.Encoding.the-variants as E
 use Rattle.evt_codec.specs.declared.{codec.Codec.Codec, codec.Codec.the-variants.Evt2, codec.Codec.the-variants.Evt3}
 use Rattle.evt2_decoder.specs.{declared.Evt2Decoder.Evt2Decoder, Evt2.fresh2, Evt2.inRange2, Evt2.vector2, Evt2.reader2, Triggers.trigger2, Range.Bounded2}
+use Rattle.evt2_decoder.specs.Range.{Regular2}
 use Rattle.evt3_decoder.specs.{declared.Decoder.Decoder, Evt3.fresh3, Evt3.inRange3, Evt3.vector3, Evt3.reader3, Triggers.trigger3, Range.Bounded3}
-use Rattle.evt3_decoder.specs.Range.{Paced3}
+use Rattle.evt3_decoder.specs.Range.{Paced3, Regular3}
 
 pub record Reader : Type 1 where
   pub encoding : Encoding
@@ -21,16 +24,29 @@ pub record Reader : Type 1 where
   pub machine : Machine State ℕ Event
   pub vector : State → ℕ → Vector
   pub trigger : State → ℕ → List Trigger
+  -- whether a word is of a type that carries events
+  pub carries : ℕ → Bool
   pub started : State → Bool
   pub time : State → ℕ
   pub loops : State → ℕ
-  -- rule 10
+  -- rule 10, and what every state keeps that came from one in range
   pub inRange : State → Bool
+  pub Regular : State → Type 0
   -- the state takes n words more and no sum wraps: in all, and but for what the types of its fields say by themselves
   pub Bounded : ℕ → State → Type 0
   pub Able : ℕ → State → Type 0
   pub Fitting : State → Type 0
   pub codec : State → Codec
+
+-- types 0 and 1 of EVT2, 2, 4 and 5 of EVT3
+abbrev pub carries2 : ℕ → Bool
+carries2 w = ltb (type2 w) 2
+
+abbrev pub carriesAs : (type : ℕ) → Bool
+carriesAs k = eqb k 2 || (eqb k 4 || eqb k 5)
+
+abbrev pub carries3 : ℕ → Bool
+carries3 w = carriesAs (type3 w)
 
 abbrev pub evt2 : Reader
 evt2 = record {
@@ -42,10 +58,12 @@ evt2 = record {
   machine = reader2;
   vector = vector2;
   trigger = trigger2;
+  carries = carries2;
   started = λ d. d .initialised;
   time = λ d. d .time;
   loops = λ d. d .«high_loops»;
   inRange = inRange2;
+  Regular = Regular2;
   Bounded = Bounded2;
   Able = Bounded2;
   Fitting = λ d. Unit;
@@ -62,10 +80,12 @@ evt3 = record {
   machine = reader3;
   vector = vector3;
   trigger = trigger3;
+  carries = carries3;
   started = λ d. d .initialised;
   time = λ d. d .time;
   loops = λ d. d .«high_loops»;
   inRange = inRange3;
+  Regular = Regular3;
   Bounded = Bounded3;
   Able = Paced3;
   Fitting = λ d. d .«base_x» < 2 ^ 16;

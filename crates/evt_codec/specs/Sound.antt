@@ -1,22 +1,24 @@
 -- What every encoding's reader keeps: from a decoder in range (10) no sum wraps over as many bytes as are read (4), times stay below 2^63, a word has no more
 -- events than is said.
-use mathlib.Core.Path.{_≡_, refl, sym, subst}
-use mathlib.Core.Bool.{Bool, true, false}
-use mathlib.Core.List.{List}
+use mathlib.Core.Path.{_≡_, refl, sym, ap, subst, _∙_}
+use mathlib.Core.Bool.{Bool, true, false, true≢false}
+use mathlib.Core.List.{List, []}
 use Prim.Native.Nat.{ℕ, suc, _+_, _*_, _/_, _^_, _≤_, _<_}
 use native.Mathlib.Omega.{arith}
 use lib.ListN.{length}
-use Rattle.laws_stream.specs.{Loop.loops-one, Stream.after, Words.wordsOf, Words.length-words}
-use Rattle.evt_types.specs.{declared.Encoding.Encoding, Event.eventsOf, Event.Narrow, Layout.type2, Layout.type3, Layout.time3, Layout.grain3}
+use borrow.Author.Tests.{lt-ltb}
+use Rattle.laws_stream.specs.{Machine.All, Loop.loops-one, Stream.after, Words.wordsOf, Words.length-words}
+use Rattle.evt_types.specs.{declared.Encoding.Encoding, declared.vector.Vector.Vector, Event.eventsOf, Event.events-timed, Event.events-masked, Event.Narrow}
+use Rattle.evt_types.specs.Layout.{type2, timeLow2, type3, time3, grain3}
 use Rattle.evt_types.specs.declared.Encoding.the-variants as E
-use Rattle.evt2_decoder.specs.{declared.Evt2Decoder.Evt2Decoder, Evt2.vector2, Triggers.few-triggers2, Range.Bounded2, Range.bounded-step2, Range.bounded-narrow2}
-use Rattle.evt2_decoder.specs.Range.{bounded-range2, fresh-range2}
+use Rattle.evt2_decoder.specs.{declared.Evt2Decoder.Evt2Decoder, Evt2.step2, Evt2.vector2, Triggers.few-triggers2, Range.Bounded2, Range.bounded-step2, Range.bounded-narrow2}
+use Rattle.evt2_decoder.specs.Range.{regular-step2, bounded-range2, fresh-range2}
 use Rattle.evt3_decoder.specs.{declared.Decoder.Decoder, Evt3.step3, Evt3.vector3, Evt3.period3, Evt3.threshold3, Triggers.few-triggers3, Range.Bounded3}
 use Rattle.evt3_decoder.specs.{Range.Paced3, Range.bounded-step3, Range.bounded-narrow3, Range.regular-range3, Range.regular-step3, Range.fresh-range3}
 use Rattle.evt2_decoder.specs.Evt2 as Evt2
 use Rattle.evt3_decoder.specs.Evt3 as Evt3
 use Rattle.evt_codec.specs.declared.{codec.Codec.Codec, codec.Codec.the-variants.Evt2, codec.Codec.the-variants.Evt3}
-use Rattle.evt_codec.specs.Reader.{Reader, evt2, evt3, readerOf, view}
+use Rattle.evt_codec.specs.Reader.{Reader, carries2, carriesAs, carries3, evt2, evt3, readerOf, view}
 use Rattle.evt_codec.specs.Codec.{wordSize, inRangeC, Bounded, Able, Fitting}
 
 pub record Sound (R : Reader) : Type 0 where
@@ -25,6 +27,12 @@ pub record Sound (R : Reader) : Type 0 where
   pub few : (s : R .State) (w : ℕ) → R .vector s w .mask < 2 ^ R .most
   pub spread : (n : ℕ) → R .most * (n / R .size) ≤ 6 * n
   pub few-triggers : (s : R .State) (w : ℕ) → length (R .trigger s w) ≤ 1
+  -- an event's time is the decoder's after its word; a word of another type carries none
+  pub stamped : (s : R .State) (w : ℕ) → All (λ e. e .t ≡ R .time (R .machine .step s w)) (R .machine .emit s w)
+  pub silent : (s : R .State) (w : ℕ) → R .carries w ≡ false → R .machine .emit s w ≡ []
+  pub regular : (n : ℕ) (s : R .State) → R .Able n s → R .Regular s
+  pub regular-steps : (s : R .State) (w : ℕ) → R .Regular s → R .Regular (R .machine .step s w)
+  pub unstarted : (s : R .State) → R .Regular s → R .started s ≡ false → R .time s ≡ 0
   -- a state that takes n words more
   pub steps : (n : ℕ) (s : R .State) (w : ℕ) → R .Bounded (suc n) s → R .Bounded n (R .machine .step s w)
   pub narrow : (n : ℕ) (s : R .State) (w : ℕ) → R .Bounded n s → Narrow (R .vector s w)
@@ -53,6 +61,19 @@ time2 n d b = go (d .initialised) refl
     go true e = let k = b .regular .started e in omega (arith, k .near, k .high, b .loops)
     go false e = rw (b .regular .unstarted e) (omega arith)
 
+none-stamped : (v : Vector) (t : ℕ) → v .mask ≡ 0 → All (λ e. e .t ≡ t) (eventsOf v)
+none-stamped v t z = rw (events-masked v z) tt
+
+stamped2 : (d : Evt2Decoder) (w : ℕ) → All (λ e. e .t ≡ step2 d w .time) (eventsOf (vector2 d w))
+unfolding step2 vector2
+stamped2 d w = Evt2.by-kinds (λ k. All (λ e. e .t ≡ Evt2.stepAs k d w .time) (eventsOf (Evt2.vectorAs k d w))) (type2 w) (d .initialised)
+    (none-stamped _ _ refl) (λ on q. events-timed (λ t. t ≡ d .«time_high» + timeLow2 w) _ refl) (none-stamped _ _ refl)
+
+silent2 : (d : Evt2Decoder) (w : ℕ) → carries2 w ≡ false → eventsOf (vector2 d w) ≡ []
+unfolding vector2
+silent2 d w z = Evt2.by-kinds (λ k. eventsOf (Evt2.vectorAs k d w) ≡ []) (type2 w) (d .initialised) (events-masked _ refl)
+    (λ on q. absurd (true≢false (sym (lt-ltb (type2 w) 2 q) ∙ z))) (events-masked _ refl)
+
 pub sound2 : Sound evt2
 sound2 = record {
   some = omega arith;
@@ -60,6 +81,11 @@ sound2 = record {
   few = few2;
   spread = λ n. omega arith;
   few-triggers = few-triggers2;
+  stamped = stamped2;
+  silent = silent2;
+  regular = λ n d b. b .regular;
+  regular-steps = regular-step2;
+  unstarted = λ d r off. ap (λ (d : Evt2Decoder). d .time) (r .unstarted off);
   steps = bounded-step2;
   narrow = λ n d w b. bounded-narrow2 w b;
   less = λ d h b. record { regular = b .regular; loops = omega (arith, b .loops) };
@@ -102,6 +128,32 @@ unfolding vector3
 stamp3 d w h = Evt3.by-kinds (λ k. Evt3.vectorAs k d w .t < 2 ^ 63) (type3 w) (d .initialised)
     (λ o. omega arith) (λ o. omega arith) (λ o. omega arith) (λ o. omega arith) (λ o. h) (λ o. omega arith) (λ o. h) (λ o. h) (omega arith)
 
+stamped3 : (d : Decoder) (w : ℕ) → All (λ e. e .t ≡ step3 d w .time) (eventsOf (vector3 d w))
+unfolding step3 vector3
+stamped3 d w =
+    let now : (v : Vector) → v .t ≡ d .time → All (λ e. e .t ≡ d .time) (eventsOf v) = λ v h. events-timed (λ t. t ≡ d .time) v h in
+    Evt3.by-kinds (λ k. All (λ e. e .t ≡ Evt3.stepAs k d w .time) (eventsOf (Evt3.vectorAs k d w))) (type3 w) (d .initialised)
+    (λ o. none-stamped _ _ refl) (λ o. none-stamped _ _ refl) (λ o. none-stamped _ _ refl) (λ o. none-stamped _ _ refl)
+    (λ o. now _ refl) (λ o. none-stamped _ _ refl) (λ o. now _ refl) (λ o. now _ refl) (none-stamped _ _ refl)
+
+silent3 : (d : Decoder) (w : ℕ) → carries3 w ≡ false → eventsOf (vector3 d w) ≡ []
+unfolding vector3
+silent3 d w = go (d .initialised)
+  where
+    no : {A : Type 0} → true ≡ false → A
+    no e = absurd (true≢false e)
+
+    started : carriesAs (type3 w) ≡ false → eventsOf (Evt3.vectorAs (Evt3.kindOn (type3 w)) d w) ≡ []
+    started = Evt3.by-type (λ k. carriesAs k ≡ false → eventsOf (Evt3.vectorAs (Evt3.kindOn k) d w) ≡ []) (type3 w)
+        (λ z. events-masked _ refl) (λ z. no z) (λ z. events-masked _ refl) (λ z. no z) (λ z. no z) (λ z. events-masked _ refl) (λ z. events-masked _ refl)
+        (λ e0 e2 e3 e4 e5 e6 e8 z. rw (e0, e2, e3, e4, e5, e6, e8) (events-masked _ refl))
+
+    go : (b : Bool) → carries3 w ≡ false → eventsOf (Evt3.vectorAs (Evt3.kindOf (type3 w) b) d w) ≡ []
+    go true z = started z
+    go false z = Evt3.by-kinds (λ k. eventsOf (Evt3.vectorAs k d w) ≡ []) (type3 w) false
+        (λ o. events-masked _ refl) (λ o. no (sym o)) (λ o. no (sym o)) (λ o. no (sym o)) (λ o. no (sym o)) (λ o. no (sym o)) (λ o. no (sym o))
+        (λ o. no (sym o)) (events-masked _ refl)
+
 pub sound3 : Sound evt3
 sound3 = record {
   some = omega arith;
@@ -109,6 +161,11 @@ sound3 = record {
   few = few3;
   spread = λ n. omega arith;
   few-triggers = few-triggers3;
+  stamped = stamped3;
+  silent = silent3;
+  regular = λ n d b. b .regular;
+  regular-steps = regular-step3;
+  unstarted = λ d r off. ap (λ (d : Decoder). d .time) (r .unstarted off);
   steps = bounded-step3;
   narrow = λ n d w b. bounded-narrow3 w b;
   less = λ d h b. record { regular = b .regular; loops = omega (arith, b .loops); column = b .column };

@@ -9,7 +9,7 @@ use lib.Count.{trailingZeros}
 use lib.Dec.{eqb}
 use lib.IntN.{pos}
 use borrow.Author.Tests.{eqb-true, eqb-false}
-use Rattle.laws_stream.specs.Mask.{bits, bits-zero, low-bit}
+use Rattle.laws_stream.specs.{Machine.All, Machine.all-of, Machine.all-mapped, Mask.bits, Mask.bits-zero, Mask.low-bit}
 use Rattle.evt_types.specs.declared.{RawEvent.RawEvent, vector.EventVector.EventVector, vector.NextEvent.NextEvent}
 use Rattle.evt_types.specs.declared.{vector.NextEvent.the-variants.Nothing, vector.NextEvent.the-variants.Event as First, vector.Vector.Vector}
 
@@ -36,6 +36,14 @@ noEvents = record { x = 0; y = 0; t = 0; p = 0; mask = 0 }
 
 pub no-events : eventsOf noEvents ≡ []
 no-events = ap (map (eventAt noEvents)) (bits-zero 32 0)
+
+-- all have its time
+pub events-timed : (P : ℕ → Type 0) (v : Vector) → P (v .t) → All (λ e. P (e .t)) (eventsOf v)
+events-timed P v h = all-mapped (λ e. P (e .t)) (eventAt v) (bits 32 (v .x) (v .mask)) (all-of _ (λ c. h) (bits 32 (v .x) (v .mask)))
+
+-- a vector without a bit has none
+pub events-masked : (v : Vector) → v .mask ≡ 0 → eventsOf v ≡ []
+events-masked v z = rw (z, bits-zero 32 (v .x))
 
 -- it fits the smaller struct
 pub record Narrow (v : Vector) : Type 0 where

@@ -1,5 +1,5 @@
 -- Words of n bytes, the low byte first. A last word that is broken off is no word.
-use mathlib.Core.Path.{_≡_, refl, sym, ap, _∙_}
+use mathlib.Core.Path.{_≡_, refl, sym, ap, subst, _∙_}
 use mathlib.Core.Logic.{_↔_}
 use mathlib.Core.List.{List, [], _∷_, _++_, append-assoc, append-nil}
 use Prim.Native.Nat.{ℕ, zero, suc, _+_, _*_, _/_, _%_, _^_, _≤_, _<_}
@@ -148,6 +148,10 @@ module _ (n : ℕ) where
         let ea : length a / n ≡ k = div-eq-of-eq-mul-left pos h in
         let e : length (a ++ b) / n ≡ k + length b / n = rw (length-append, h) (mul-add-div-right pos k (length b)) in
         rw (e, ea) (parse-append k (length b / n) a b h)
+
+    -- so many words have so many bytes
+    pub words-within : (k : ℕ) (l : List ℕ) → k ≤ length (wordsOf l) → k * n ≤ length l
+    words-within k l h = le-div-iff-mul-le pos .0 (subst (λ (m : ℕ). k ≤ m) (length-words l) h)
 
     -- at a whole number of words
     module _ (k : ℕ) (l : List ℕ) (h : k * n ≤ length l) where

@@ -9,7 +9,7 @@ use lib.Bits.{bitAnd}
 use lib.Count.{trailingZeros}
 use lib.Dec.{ltb}
 use borrow.Author.Tests.{le-ltb}
-use Rattle.laws_stream.specs.{Machine.All, Machine.all-of, Mask.bits, Mask.bits-zero, Mask.bits-one, Mask.bits-few, Mask.low-bit, Mask.trailing-wide}
+use Rattle.laws_stream.specs.{Machine.all-of, Machine.all-mapped, Mask.bits, Mask.bits-zero, Mask.bits-one, Mask.bits-few, Mask.low-bit, Mask.trailing-wide}
 use Rattle.laws_stream.specs.{Order.greatest, Slice.onto, Slice.sift, Slice.sift-none}
 use Rattle.evt_types.specs.{declared.vector.Vector.Vector, Num.isInside, Event.Event, Event.eventAt, Event.eventsOf}
 
@@ -40,10 +40,6 @@ module _ (v : Vector) where
 
   pub events-next : (m : ℕ) → 0 < m → m < 2 ^ 32 → eventsAt v m ≡ eventAt v (v .x + trailingZeros 64 m) ∷ eventsAt v (bitAnd m (m - 1))
   events-next m h l = ap (map (eventAt v)) (low-bit 32 (v .x) m h l) ∙ rw (trailing-wide 32 64 m h l (omega arith))
-
-pub all-mapped : {A B : Type 0} (P : B → Type 0) (f : A → B) (l : List A) → All (λ a. P (f a)) l → All P (map f l)
-all-mapped P f [] h = tt
-all-mapped P f (a ∷ l) h = (h .0, all-mapped P f l (h .1))
 
 module _ (width height : ℕ) (v : Vector) where
   pub inside-none : insideAt width height v 0 ≡ []

@@ -8,13 +8,13 @@ use native.Mathlib.Nat.{suc-add, zero-add, mul-add-div-right, mul-div-cancel}
 use lib.ListN.{length, length-append}
 use borrow.Author.Tests.{lt-ltb}
 use Rattle.evt_types.specs.{declared.Encoding.Encoding, declared.vector.Vector.Vector, Event.Event, Event.eventAt, Event.eventsOf, Event.Narrow}
-use Rattle.laws_stream.specs.{Machine.Machine, Machine.All, Machine.all-of, Machine.all-map, Machine.run, Machine.emits-few, Machine.emits-all, Words.wordsOf}
+use Rattle.laws_stream.specs.{Machine.Machine, Machine.All, Machine.all-of, Machine.all-map, Machine.all-mapped, Machine.run, Machine.emits-few, Machine.emits-all, Words.wordsOf}
 use Rattle.laws_stream.specs.{Words.length-words, Words.words-end, Mask.bits, Order.greatest, Order.greatest-append, Order.greatest-le, Slice.sift, Slice.sift-append}
 use Rattle.laws_stream.specs.{Slice.sift-all, Slice.all-sift, Stream.decode-append, Stream.after-append, Stream.decode, Stream.after}
-use Rattle.evt_codec.specs.{declared.codec.Codec.Codec, Reader.view, Reader.View, Codec.freshC, Codec.wordSize, Codec.inRangeC, Codec.codec-view}
-use Rattle.evt_codec.specs.{Codec.view-after, Codec.view-fresh, Sound.sound, Sound.soundOf, Sound.able-range, Sound.able-fitting, Sound.bounded-words}
-use Rattle.read_columns.specs.Inside.{inside, clock, all-mapped, events-few, sift-few}
-use Rattle.read_fill.specs.{Decode.eventsFrom, Decode.codecAfter, Decode.insideEvents, Decode.Bounded, Decode.Fitting}
+use Rattle.evt_codec.specs.{declared.codec.Codec.Codec, Reader.Reader, Reader.view, Reader.View, Codec.freshC, Codec.wordSize, Codec.inRangeC, Codec.codec-view}
+use Rattle.evt_codec.specs.{Codec.view-after, Codec.view-fresh, Sound.Sound, Sound.sound, Sound.soundOf, Sound.able-range, Sound.able-fitting, Sound.bounded-words}
+use Rattle.read_columns.specs.Inside.{inside, clock, events-few, sift-few}
+use Rattle.read_fill.specs.{Decode.eventsFrom, Decode.codecAfter, Decode.insideEvents, Decode.Bounded, Decode.Fitting, Iteration.insideAll}
 
 -- ---- in parts: the first is a whole number of words
 
@@ -53,20 +53,24 @@ codec-nil c = ap (λ (ws : List ℕ). view c .reader .codec (run (view c .reader
 
 -- ---- how many
 
-pub all-few : (c : Codec) (l : List ℕ) → length (eventsFrom c l) ≤ view c .reader .most * (length l / wordSize c)
-all-few c l =
-    let R = view c .reader in
-    let one : (s : R .State) (w : ℕ) → length (R .machine .emit s w) ≤ R .most =
-    λ s w. rw (sound c .emits s w) (events-few (R .vector s w) (R .most) (sound c .few s w)) in
-    subst (λ (n : ℕ). length (eventsFrom c l) ≤ R .most * n) (length-words (wordSize c) l)
-    (emits-few (R .machine) (R .most) one (view c .state) (wordsOf (wordSize c) l))
+module _ {R : Reader} (S : Sound R) (width height : ℕ) (s : R .State) (l : List ℕ) where
+  few-from : length (insideAll (R .size) (R .machine) width height s l) ≤ R .most * (length l / R .size)
+  few-from =
+      let one : (s : R .State) (w : ℕ) → length (R .machine .emit s w) ≤ R .most =
+      λ s w. rw (S .emits s w) (events-few (R .vector s w) (R .most) (S .few s w)) in
+      let all = subst (λ (n : ℕ). length (decode (R .size) (R .machine) s l) ≤ R .most * n) (length-words (R .size) l)
+      (emits-few (R .machine) (R .most) one s (wordsOf (R .size) l)) in
+      omega (arith, sift-few (inside width height) (decode (R .size) (R .machine) s l), all)
+
+  pub inside-from : length (insideAll (R .size) (R .machine) width height s l) ≤ 6 * length l
+  inside-from = omega (arith, few-from, S .spread (length l))
 
 pub inside-few : (width height : ℕ) (c : Codec) (l : List ℕ) → length (insideEvents width height c l) ≤ view c .reader .most * (length l / wordSize c)
-inside-few width height c l = omega (arith, sift-few (inside width height) (eventsFrom c l), all-few c l)
+inside-few width height c l = few-from (sound c) width height (view c .state) l
 
 -- of any encoding
 pub inside-bytes : (width height : ℕ) (c : Codec) (l : List ℕ) → length (insideEvents width height c l) ≤ 6 * length l
-inside-bytes width height c l = omega (arith, inside-few width height c l, sound c .spread (length l))
+inside-bytes width height c l = inside-from (sound c) width height (view c .state) l
 
 -- ---- decoders that a loop takes
 

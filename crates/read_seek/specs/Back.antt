@@ -9,9 +9,9 @@ use lib.ListN.{length, take, drop}
 use borrow.Author.Tests.{eq-eqb, ne-eqb}
 use Rattle.laws_stream.specs.{Machine.run, Words.wordsOf, Words.words-next, Words.words-end, Stream.split-words}
 use Rattle.evt_types.specs.{Ahead.ahead, Ahead.ahead-some, Layout.type3, Layout.y3, Layout.x3, Layout.polarity3, Layout.wordSize3}
-use Rattle.evt3_decoder.specs.{declared.Decoder.Decoder, Evt3.kindOn, Evt3.stepAs, Evt3.step3, Evt3.reader3}
+use Rattle.evt3_decoder.specs.{declared.Decoder.Decoder, Evt3.by-type, Evt3.kindOn, Evt3.stepAs, Evt3.step3, Evt3.reader3}
 use Rattle.read_seek.specs.declared.{back.Column.Column, times.Times.Times}
-use Rattle.read_seek.specs.Times.{timesOf, by-type, started-step, step-on}
+use Rattle.read_seek.specs.Times.{timesOf, started-step, step-on}
 
 -- ---- the row
 

@@ -8,11 +8,11 @@ use native.Mathlib.Nat.{add-mul}
 use lib.ListN.{length, take, drop}
 use lib.Seq.{take-add}
 use Rattle.laws_stream.specs.Machine.{Machine, run, run-append}
-use Rattle.laws_stream.specs.Words.{wordsOf, value, words-next, words-end, length-words}
+use Rattle.laws_stream.specs.Words.{wordsOf, value, words-next, words-end, words-dropped, length-words}
 use Rattle.laws_stream.specs.Seek.{Reach, reach, behind, behind-none, behind-stay, behind-more, strays, reach-nil, reach-on, reach-stop}
 use Rattle.evt_codec.specs.declared.codec.Codec.{Codec}
 use Rattle.evt_types.specs.Event.{Event}
-use Rattle.read_seek.specs.{Seek.soughtAs, Seek.further, Cut.drop-words}
+use Rattle.read_seek.specs.Seek.{soughtAs, further}
 
 module _ {S : Type 0} (n : ℕ) (M : Machine S ℕ Event) (time : S → ℕ) (carries : ℕ → Bool) (Inv : ℕ → S → Type 0) (t₀ t₁ : ℕ) (s₀ : S) (bytes : List ℕ) where
   -- the words left at index i, and how far a seek goes over them
@@ -78,7 +78,7 @@ module _ {S : Type 0} {n : ℕ} {M : Machine S ℕ Event} {time : S → ℕ} {ca
       -- the words before the next index
       taken : take (u .words + 1) (wordsOf n bytes) ≡ take (u .words) (wordsOf n bytes) ++ (w ∷ [])
       taken =
-          let e = drop-words M n pos (u .words) bytes (omega (arith, u .is-at)) in
+          let e = words-dropped n pos (u .words) bytes (omega (arith, u .is-at)) in
           take-add (u .words) 1 (wordsOf n bytes)
           ∙ ap (λ (l : List ℕ). take (u .words) (wordsOf n bytes) ++ take 1 l) (sym e ∙ ap (λ (k : ℕ). wordsOf n (drop k bytes)) (sym (u .is-at)) ∙ words-here)
 

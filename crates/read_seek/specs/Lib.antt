@@ -1,6 +1,5 @@
 -- What each file is stands at its head.
 pub mod Seek
-pub mod Cut
 pub mod Iteration
 pub mod Times
 pub mod Back

@@ -10,8 +10,8 @@ use Rattle.laws_stream.specs.{Words.length-words, Seek.Reach}
 use Rattle.evt_types.specs.{Ahead.ahead, Ahead.ahead-some, Layout.type2, Layout.type3, Layout.wordSize2, Layout.wordSize3}
 use Rattle.evt2_decoder.specs.{declared.Evt2Decoder.Evt2Decoder, Evt2.step2, Evt2.reader2, Range.Bounded2, Range.bounded-step2}
 use Rattle.evt3_decoder.specs.{declared.Decoder.Decoder, Evt3.step3, Evt3.reader3, Range.Bounded3, Range.bounded-step3, Range.bounded-sane3}
-use Rattle.evt_codec.specs.declared.codec.Codec.the-variants.{Evt2, Evt3}
-use Rattle.read_seek.specs.{declared.times.Times.Times, Seek.carries2, Seek.carriesAs, Seek.carries3, Seek.soughtOf, Seek.reach3, Times.timesOf}
+use Rattle.evt_codec.specs.{declared.codec.Codec.the-variants.Evt2, declared.codec.Codec.the-variants.Evt3, Reader.carries2, Reader.carriesAs, Reader.carries3}
+use Rattle.read_seek.specs.{declared.times.Times.Times, Seek.soughtOf, Seek.reach3, Times.timesOf}
 use Rattle.read_seek.specs.{Times.Slow, Times.ticked, Times.spannedOf, Times.step-on, Times.step-times}
 use Rattle.read_seek.specs.Iteration.{Seeking, Found, seeking-start, seeking-end, seeking-stop, seeking-next, found-is}
 

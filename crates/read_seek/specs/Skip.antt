@@ -7,16 +7,15 @@ use native.Mathlib.Omega.{arith}
 use lib.Dec.{ltb}
 use lib.ListN.{length, take, drop}
 use borrow.Author.Tests.{ne-eqb, le-ltb}
-use Rattle.laws_stream.specs.{Machine.run, Words.wordsOf, Words.length-words}
+use Rattle.laws_stream.specs.{Machine.run, Words.wordsOf, Words.length-words, Words.words-taken}
 use Rattle.evt_types.specs.{Ahead.ahead, Layout.type2, Layout.type3, Layout.wordSize2, Layout.wordSize3, Layout.grain2, Layout.grain3}
 use Rattle.evt2_decoder.specs.{declared.Evt2Decoder.Evt2Decoder, Evt2.step2, Range.Bounded2, Range.Regular2, Range.bounded-step2, Range.bounded-sane2}
 use Rattle.evt2_decoder.specs.{Range.regular-step2}
 use Rattle.evt3_decoder.specs.{declared.Decoder.Decoder, Evt3.step3, Evt3.reader3, Range.Bounded3, Range.bounded-step3, Range.regular-step3}
 use Rattle.evt_codec.specs.declared.codec.Codec.the-variants.{Evt2, Evt3}
 use Rattle.evt2_decoder.specs.Evt2 as Evt2
-use Rattle.read_seek.specs.{declared.times.Times.Times, Seek.carriesAs, Seek.Midway, Iteration.seeking-start, Iteration.seeking-same}
+use Rattle.read_seek.specs.{declared.times.Times.Times, Times.carriesAs, Seek.Midway, Iteration.seeking-start, Iteration.seeking-same}
 use Rattle.read_seek.specs.{Times.timesOf, Times.ticked, Times.tickedAs, Times.step-on, Times.step-times, Back.putBehind, Back.put-is}
-use Rattle.read_seek.specs.{Cut.take-words}
 use Rattle.read_seek.specs.Loops.{Seeking2, start2, iteration2, Seeking3, Passing, passing-start, passing-next, passing-slow}
 
 -- no time is before 0
@@ -180,7 +179,7 @@ module _ (t : ℕ) (d : Decoder) (bytes : List ℕ) where
       let came : u .state ≡ run reader3 d (wordsOf wordSize3 (take at bytes))
       =
       q .came ∙ ap (run reader3 d)
-      (sym (take-words reader3 wordSize3 (omega arith) (q .words) bytes (omega (arith, q .is-at, q .within)))
+      (sym (words-taken wordSize3 (omega arith) (q .words) bytes (omega (arith, q .is-at, q .within)))
       ∙ ap (λ (k : ℕ). wordsOf wordSize3 (take k bytes)) (sym (q .is-at))) in
       let is : e ≡ u .state = is-put ∙ put-is d (take at bytes) (u .state) on column came c (u .is) in
       rw is (record

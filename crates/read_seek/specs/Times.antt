@@ -3,11 +3,10 @@ use mathlib.Core.Path.{_≡_, refl, ap}
 use mathlib.Core.Bool.{Bool, true, false, cond}
 use Prim.Native.Nat.{ℕ, _+_, _*_, _<_, _^_}
 use lib.Dec.{eqb}
-use borrow.Author.Tests.{eqb-true}
 use Rattle.laws_stream.specs.{Loop.loopsAfter, Loop.timeAfter, Seek.Reach}
-use Rattle.evt3_decoder.specs.{declared.Decoder.Decoder, Evt3.kindOn, Evt3.kindOf, Evt3.stepAs, Evt3.step3, Evt3.period3, Evt3.threshold3}
+use Rattle.evt3_decoder.specs.{declared.Decoder.Decoder, Evt3.by-type, Evt3.kindOn, Evt3.kindOf, Evt3.stepAs, Evt3.step3, Evt3.period3, Evt3.threshold3}
 use Rattle.evt_types.specs.Layout.{type3, time3, wordSize3, grain3}
-pub use Rattle.read_seek.specs.Seek.{carriesAs}
+pub use Rattle.evt_codec.specs.Reader.{carriesAs}
 use Rattle.read_seek.specs.declared.{evt3.Spanned.Spanned, times.Times.Times}
 
 abbrev pub timesOf : Decoder → Times
@@ -34,19 +33,6 @@ ticked c w = tickedAs (type3 w) c w
 -- what the loop by times alone tells of where a seek ends
 abbrev pub spannedOf : Reach Decoder → Spanned
 spannedOf r = record { at = r .words * wordSize3; stray = r .stray; times = timesOf (r .state) }
-
--- a type that has a rule, or none of these
-pub by-type : (P : ℕ → Type 0) (k : ℕ) → P 0 → P 2 → P 3 → P 4 → P 5 → P 6 → P 8
-    → (eqb k 0 ≡ false → eqb k 2 ≡ false → eqb k 3 ≡ false → eqb k 4 ≡ false → eqb k 5 ≡ false → eqb k 6 ≡ false → eqb k 8 ≡ false → P k) → P k
-by-type P k p0 p2 p3 p4 p5 p6 p8 other =
-    at 0 p0 (λ e0. at 2 p2 (λ e2. at 3 p3 (λ e3. at 4 p4 (λ e4. at 5 p5 (λ e5. at 6 p6 (λ e6. at 8 p8 (λ e8. other e0 e2 e3 e4 e5 e6 e8)))))))
-  where
-    at : (n : ℕ) → P n → (eqb k n ≡ false → P k) → P k
-    at n g f = go (eqb k n) refl
-      where
-        go : (t : Bool) → eqb k n ≡ t → P k
-        go true e = rw (eqb-true k n e) g
-        go false e = f e
 
 -- a started decoder goes by the type alone
 pub started-step : (d : Decoder) (w : ℕ) → d .initialised ≡ true → step3 d w ≡ stepAs (kindOn (type3 w)) d w

@@ -5,20 +5,17 @@ use mathlib.Core.List.{List, [], _∷_, _++_}
 use Prim.Native.Nat.{ℕ, suc, _+_, _^_, _≤_, _<_}
 use native.Mathlib.Omega.{arith}
 use lib.ListN.{length, take, drop, length-append, take-append-drop}
-use Rattle.laws_stream.specs.{Machine.All, Machine.all-of, Machine.run, Machine.emits, Machine.emits-all, Words.wordsOf, Mask.bits}
+use Rattle.laws_stream.specs.{Machine.All, Machine.run, Machine.emits, Machine.emits-all, Words.wordsOf}
 use Rattle.laws_stream.specs.{Slice.sift, Slice.all-sift, Slice.andThen, Slice.until, Slice.Past, Slice.within, Slice.timely, Select.byNumber}
 use Rattle.laws_stream.specs.Select as Select
-use Rattle.evt_types.specs.{declared.vector.Vector.Vector, Event.Event, Event.eventAt, Event.eventsOf}
+use Rattle.evt_types.specs.Event.{Event, eventsOf, events-timed}
 use Rattle.evt_codec.specs.{declared.codec.Codec.Codec, Reader.Reader, Reader.View, Reader.view, Codec.wordSize, Codec.eventsFrom, Sound.Sound, Sound.sound}
 use Rattle.evt_codec.specs.Sound.{able-words}
-use Rattle.read_columns.specs.Inside.{inside, clock, all-mapped}
+use Rattle.read_columns.specs.Inside.{inside, clock}
 use Rattle.read_window.specs.{declared.Window.Window, Window.selectionOf}
 use Rattle.read_select.specs.Pass.{readingBy, handedOver, Able}
 
 -- ---- no time reaches 2^63
-
-stamped : (v : Vector) → v .t < 2 ^ 63 → All (λ e. e .t < 2 ^ 63) (eventsOf v)
-stamped v h = all-mapped (λ e. e .t < 2 ^ 63) (eventAt v) (bits 32 (v .x) (v .mask)) (all-of _ (λ c. h) (bits 32 (v .x) (v .mask)))
 
 module _ {R : Reader} (S : Sound R) (win : Window) (no-end : 2 ^ 63 ≤ win .t1) (s : R .State) (ws : List ℕ) (able : R .Able (length ws) s) where
   -- no decoder on the way reaches t1
@@ -34,7 +31,7 @@ module _ {R : Reader} (S : Sound R) (win : Window) (no-end : 2 ^ 63 ≤ win .t1)
       all-timely (e ∷ es) h = (timely clock (win .t0) (win .t1) e (omega arith) (omega (arith, h .0)), all-timely es (h .1))
 
       in-time : (n : ℕ) (u : R .State) (w : ℕ) → R .Able (suc n) u → All (λ e. Select.inTime (readingBy R win) (selectionOf win) e ≡ true) (R .machine .emit u w)
-      in-time n u w i = rw (S .emits u w) (all-timely (eventsOf (R .vector u w)) (stamped (R .vector u w) (S .times< (suc n) u w i)))
+      in-time n u w i = rw (S .emits u w) (all-timely (eventsOf (R .vector u w)) (events-timed (λ t. t < 2 ^ 63) (R .vector u w) (S .times< (suc n) u w i)))
 
 -- ---- over every encoding
 

@@ -13,12 +13,12 @@ use lib.Count.{ones, trailingZeros, trailing-of-zero}
 use lib.Dec.{leb, ltb}
 use lib.Pow.{pow-lt, shl-exact}
 use borrow.Author.Tests.{leb-true, ltb-true, lt-leb, lt-ltb, le-ltb}
-use Rattle.laws_stream.specs.{Machine.All, Machine.all-of, Machine.all-map, Machine.and-both, Mask.trailing-wide, Slice.onto, Slice.sift-all}
+use Rattle.laws_stream.specs.{Machine.All, Machine.all-mapped, Machine.all-of, Machine.all-map, Machine.and-both, Mask.trailing-wide, Slice.onto, Slice.sift-all}
 use Rattle.laws_stream.specs.Mask.{Inc, bits, parity, bits-zero, bits-one, bits-even, bits-odd, bits-in, bits-count, clear-lt, low-bit, trailing-lt}
 use Rattle.laws_stream.specs.Select as Select
 use Rattle.evt_types.specs.{declared.vector.Vector.Vector, Event.Event, Event.eventAt, Event.eventsOf, Event.Narrow, Num.isInside}
 use Rattle.read_columns.specs.Inside.{inside, insideAt, inside-none, inside-next, inside-one, inside-out, eventsAt, events-none, events-few, firstOf}
-use Rattle.read_columns.specs.Inside.{sift-few, all-mapped}
+use Rattle.read_columns.specs.Inside.{sift-few}
 use Rattle.read_window.specs.declared.{Window.Window, trim.Trimmed.Trimmed}
 use Rattle.read_window.specs.Window.{isWithin, isSpanned, selectionOf, anyReading, choose}
 

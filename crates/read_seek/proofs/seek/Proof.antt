@@ -2,7 +2,8 @@ use native.Mathlib.Omega.{arith}
 use lib.ListN.{length, drop, length-drop}
 use denote.Ref.{now}
 use Rattle.laws_stream.specs.Part.{rest-of}
-use Rattle.read_seek.specs.Laws.{able-bounded, midway-within, midway-found}
+use Rattle.evt_codec.specs.Sound.{able-bounded}
+use Rattle.read_seek.specs.Laws.{midway-within, midway-found}
 use borrow.Author.Needs.{needs}
 use Rattle.read_seek.proofs.seek.Statement.{statement}
 use Rattle.read_seek.proofs.seek.Tie as tie

@@ -7,11 +7,11 @@ use native.Mathlib.Nat.{mul-le-mul-right}
 use native.Mathlib.Omega.{arith}
 use lib.ListN.{length, length-map}
 use Rattle.laws_stream.specs.{Machine.run, Words.wordsOf, Words.length-words}
-use Rattle.evt2_decoder.specs.{Evt2.fresh2, Evt2.vector2, Evt2.inRange2, Evt2.few2, Range.Bounded2, Range.bounded-step2, Range.bounded-narrow2}
-use Rattle.evt2_decoder.specs.Range.{bounded-range2, fresh-range-words2}
+use Rattle.evt2_decoder.specs.{declared.Evt2Decoder.Evt2Decoder, Evt2.fresh2, Evt2.vector2, Evt2.inRange2, Evt2.few2, Range.Bounded2, Range.bounded-step2}
+use Rattle.evt2_decoder.specs.Range.{bounded-narrow2, bounded-range2, fresh-range-words2}
 use Rattle.evt_types.specs.{Event.Narrow, Layout.wordSize21, Layout.mask21, Layout.upper}
 use Rattle.evt21_decoder.specs.{declared.Evt21Decoder.Evt21Decoder, Evt21.as2, Evt21.fresh21, Evt21.step21, Evt21.vector21, Evt21.reader21}
-use Rattle.evt21_decoder.specs.Evt21.{inRange21, run-wide2, run-upper}
+use Rattle.evt21_decoder.specs.Evt21.{inRange21, wide, run-wide2, run-upper}
 
 -- the decoder can take n words more, and no sum wraps
 abbrev pub Bounded21 : ℕ → Evt21Decoder → Type 0
@@ -24,11 +24,14 @@ pub bounded-step21 : (n : ℕ) (d : Evt21Decoder) (w : ℕ) → Bounded21 (suc n
 bounded-step21 n d w = bounded-step2 n (as2 d) (upper w)
 
 -- a word has at most 32 events
-pub few21 : (d : Evt21Decoder) (w : ℕ) → vector21 d w .mask < 2 ^ 32
-few21 d w =
-    let one : vector2 (as2 d) (upper w) .mask ≤ 1 = omega (arith, few2 (as2 d) (upper w)) in
-    let most : vector21 d w .mask ≤ 1 * mask21 w = mul-le-mul-right (mask21 w) one in
+pub few-wide : (d : Evt2Decoder) (w m : ℕ) → m < 2 ^ 32 → wide (vector2 d w) m .mask < 2 ^ 32
+few-wide d w m h =
+    let one : vector2 d w .mask ≤ 1 = omega (arith, few2 d w) in
+    let most : wide (vector2 d w) m .mask ≤ 1 * m = mul-le-mul-right m one in
     omega (arith, most)
+
+pub few21 : (d : Evt21Decoder) (w : ℕ) → vector21 d w .mask < 2 ^ 32
+few21 d w = few-wide (as2 d) (upper w) (mask21 w) (omega arith)
 
 pub bounded-narrow21 : {n : ℕ} {d : Evt21Decoder} (w : ℕ) → Bounded21 n d → Narrow (vector21 d w)
 bounded-narrow21 {n} {d} w b =

@@ -1,7 +1,8 @@
 use mathlib.Core.Path.{ap}
+use Prim.Native.Nat.{_<_, _^_}
 use native.Mathlib.Omega.{arith}
-use Rattle.evt_types.specs.{declared.vector.Vector.Vector, Layout.mask21}
-use Rattle.evt21_decoder.specs.{Evt21.of2, Evt21.wide, Range.few21}
+use Rattle.evt_types.specs.{declared.vector.Vector.Vector, Layout.upper, Layout.mask21}
+use Rattle.evt21_decoder.specs.{Evt21.wide, Range.few-wide}
 use borrow.Author.Needs.{needs}
 use Rattle.evt21_decoder.proofs.advance.Statement.{statement}
 use Rattle.evt21_decoder.proofs.advance.Tie as tie
@@ -10,7 +11,9 @@ mul-events : tie.Need-mul-events
 mul-events c =
     let b = c .before .before .before .before in
     let a = b .before .args in
-    rw (b .advance .ensures .1, c .before .bits .ensures) (omega (arith, few21 (of2 (a .decoder)) (a .word)))
+    let m = c .before .bits in
+    let fits : m .result < 2 ^ 32 = rw (m .ensures) (omega arith) in
+    rw (b .advance .ensures .1) (omega (arith, few-wide (a .decoder) (upper (a .word)) (m .result) fits))
 
 returns : tie.Need-returns
 returns c =

@@ -78,13 +78,16 @@ regular-range2 d h = go (d .initialised) refl
           omega arith,
         )
 
--- at most 2^30 bytes from a fresh decoder
-pub fresh-range2 : (l : List ℕ) → length l ≤ 2 ^ 30 → inRange2 (run reader2 fresh2 (wordsOf wordSize2 l)) ≡ true
-fresh-range2 l h =
-    let ws = wordsOf wordSize2 l in
+-- at most 2^28 words from a fresh decoder
+pub fresh-range-words2 : (ws : List ℕ) → length ws ≤ 2 ^ 28 → inRange2 (run reader2 fresh2 ws) ≡ true
+fresh-range-words2 ws h =
     let few = charge-run period2 threshold2 reader2 (λ d. d .«time_high») (λ d. d .«high_loops») Regular2 regular-step2 slow2 fresh2 ws regular-fresh2 in
     range2 (run reader2 fresh2 ws) (run-keeps reader2 Regular2 regular-step2 fresh2 ws regular-fresh2)
-    (omega (arith, few, charge-fresh period2 threshold2 (omega arith), length-words 4 l))
+    (omega (arith, few, charge-fresh period2 threshold2 (omega arith)))
+
+-- which at most 2^30 bytes are
+pub fresh-range2 : (l : List ℕ) → length l ≤ 2 ^ 30 → inRange2 (run reader2 fresh2 (wordsOf wordSize2 l)) ≡ true
+fresh-range2 l h = fresh-range-words2 (wordsOf wordSize2 l) (omega (arith, length-words 4 l))
 
 -- the decoder can take n words more, and no sum wraps
 pub record Bounded2 (n : ℕ) (d : Evt2Decoder) : Type 0 where

@@ -50,10 +50,6 @@ pub record Sound (R : Reader) : Type 0 where
 
 -- ---- EVT2
 
-few2 : (d : Evt2Decoder) (w : ℕ) → vector2 d w .mask < 2 ^ 1
-unfolding vector2
-few2 d w = Evt2.by-kinds (λ k. Evt2.vectorAs k d w .mask < 2 ^ 1) (type2 w) (d .initialised) (omega arith) (λ on q. omega arith) (omega arith)
-
 time2 : (n : ℕ) (d : Evt2Decoder) → Bounded2 n d → d .time < 2 ^ 63
 time2 n d b = go (d .initialised) refl
   where
@@ -78,7 +74,7 @@ pub sound2 : Sound evt2
 sound2 = record {
   some = omega arith;
   emits = λ d w. refl;
-  few = few2;
+  few = Evt2.few2;
   spread = λ n. omega arith;
   few-triggers = few-triggers2;
   stamped = stamped2;

@@ -6,8 +6,8 @@ use Prim.Native.Nat.{ℕ, _-_, _*_, _/_, _≤_, _<_, min}
 use lib.Dec.{leb}
 use lib.IntN.{ℤ}
 use lib.ListN.{length, drop}
-use Rattle.evt_codec.specs.declared.{codec.Codec.Codec, codec.Codec.the-variants.Evt2, codec.Codec.the-variants.Evt3}
-use Rattle.evt_types.specs.{Columns.colX, Columns.colY, Columns.colT, Columns.colP, Event.Event, Layout.wordSize2, Layout.wordSize3}
+use Rattle.evt_codec.specs.{declared.codec.Codec.Codec, Reader.view, Codec.wordSize}
+use Rattle.evt_types.specs.{Columns.colX, Columns.colY, Columns.colT, Columns.colP, Event.Event}
 use Rattle.read_window.specs.declared.Window.{Window}
 use Rattle.read_capacity.specs.declared.{Delivered.Delivered, Delivered.the-variants.Written, Delivered.the-variants.Needed}
 
@@ -39,8 +39,7 @@ pub record Delivers (es : List Event) (r : Delivered) (xs₀ ys₀ : List ℕ) (
 
 -- more events than this n bytes can't have
 abbrev pub mostFrom : Codec → (n : ℕ) → ℕ
-mostFrom (Evt2 d) n = n / wordSize2
-mostFrom (Evt3 d) n = n / wordSize3 * 12
+mostFrom c n = n / wordSize c * view c .reader .most
 
 -- nor a window of numbers n0 to before n1
 abbrev pub mostOver : Window → Codec → (n : ℕ) → ℕ

@@ -1,23 +1,23 @@
 -- A pass hands over no more than its bounds say, and what was written or needed is what specs/Deliver.antt defines.
-use mathlib.Core.Path.{_≡_, refl, ap, _∙_}
+use mathlib.Core.Path.{_≡_, refl, ap, subst, _∙_}
 use mathlib.Core.Bool.{Bool, true, false, _&&_}
 use mathlib.Core.List.{List, [], _∷_, _++_, map}
 use Prim.Native.Nat.{ℕ, suc, _-_, _≤_, _<_, min, max}
 use native.Mathlib.Omega.{arith}
-use native.Mathlib.Nat.{zero-add}
+use native.Mathlib.Nat.{zero-add, mul-comm}
 use lib.Dec.{leb, ltb}
 use lib.IntN.{ℤ}
 use lib.ListN.{length, take, drop, length-map}
 use borrow.Author.Tests.{leb-true, ltb-true, le-leb, lt-leb}
-use Rattle.evt_types.specs.{Layout.wordSize2, Layout.wordSize3, Columns.colX, Columns.colY, Columns.colT, Columns.colP, Columns.Wrote, Columns.Fits}
+use Rattle.evt_types.specs.{Columns.colX, Columns.colY, Columns.colT, Columns.colP, Columns.Wrote, Columns.Fits}
 use Rattle.evt_types.specs.{Event.Event}
 use Rattle.laws_stream.specs.{Columns.written-front, Slice.onto, Words.wordsOf}
 use Rattle.laws_stream.specs.Select as Select
-use Rattle.evt_codec.specs.declared.{codec.Codec.Codec, codec.Codec.the-variants.Evt2, codec.Codec.the-variants.Evt3}
+use Rattle.evt_codec.specs.{declared.codec.Codec.Codec, Reader.view, Codec.wordSize}
 use Rattle.read_count.specs.{declared.CountedAll.CountedAll, Count.countedAllOf}
-use Rattle.read_fill.specs.{declared.FilledAll.FilledAll, Decode.insideEvents, Decode.filledAllOf, Loops.few2, Loops.few3}
-use Rattle.read_window.specs.{declared.Window.Window, Window.selectionOf, Window.reading2, Window.reading3}
-use Rattle.read_select.specs.{declared.Filled.Filled, declared.SurveyTotals.SurveyTotals, Pass.handedOver, Pass.surveyed, Pass.filled}
+use Rattle.read_fill.specs.{declared.FilledAll.FilledAll, Decode.insideEvents, Decode.filledAllOf, Laws.inside-few}
+use Rattle.read_window.specs.{declared.Window.Window, Window.selectionOf}
+use Rattle.read_select.specs.{declared.Filled.Filled, declared.SurveyTotals.SurveyTotals, Pass.readingBy, Pass.handedOver, Pass.surveyed, Pass.filled}
 use Rattle.read_select.specs.{Uses.numberedOver, Uses.over-few}
 use Rattle.read_capacity.specs.declared.Delivered.the-variants.{Written, Needed}
 use Rattle.read_capacity.specs.Deliver.{shortest, Handed, Delivers, mostFrom, mostOver, Enough}
@@ -71,11 +71,7 @@ module _ (width height : ℕ) (c : Codec) (bytes : List ℕ) where
   inner = insideEvents width height c bytes
 
   pub few-inside : length inner ≤ mostFrom c (length bytes)
-  few-inside = go c
-    where
-      go : (c : Codec) → length (insideEvents width height c bytes) ≤ mostFrom c (length bytes)
-      go (Evt2 d) = few2 width height d bytes
-      go (Evt3 d) = omega (arith, few3 width height d bytes)
+  few-inside = subst (λ (n : ℕ). length inner ≤ n) (mul-comm (view c .reader .most) _) (inside-few width height c bytes)
 
   pub need-all-most : (room most : ℕ) → most ≡ mostFrom c (length bytes) → most ≤ room → Enough inner room most
   need-all-most room most e h = enough-most inner room most (omega (arith, few-inside)) h
@@ -112,18 +108,10 @@ module _ (win : Window) (k : ℕ) (c : Codec) (bytes : List ℕ) where
   over = handedOver win k c bytes
 
   over-span : length over ≤ win .n1 - win .n0
-  over-span = go c
-    where
-      go : (c : Codec) → length (handedOver win k c bytes) ≤ win .n1 - win .n0
-      go (Evt2 d) = handed-span (reading2 win) (selectionOf win) k d (wordsOf wordSize2 bytes)
-      go (Evt3 d) = handed-span (reading3 win) (selectionOf win) k d (wordsOf wordSize3 bytes)
+  over-span = handed-span (readingBy (view c .reader) win) (selectionOf win) k (view c .state) (wordsOf (wordSize c) bytes)
 
   pub numbered-most : length (numberedOver win c bytes) ≤ mostFrom c (length bytes)
-  numbered-most = go c
-    where
-      go : (c : Codec) → length (numberedOver win c bytes) ≤ mostFrom c (length bytes)
-      go (Evt2 d) = few2 (win .width) (win .height) d bytes
-      go (Evt3 d) = omega (arith, few3 (win .width) (win .height) d bytes)
+  numbered-most = few-inside (win .width) (win .height) c bytes
 
   few-over : (most : ℕ) → most ≡ mostOver win c (length bytes) → length over ≤ most
   few-over most e = omega (arith, over-span, over-few win k c bytes, numbered-most)

@@ -11,8 +11,7 @@ use lib.IntN.{ℤ}
 use borrow.Author.Tests.{eqb-true, leb-true, ltb-true}
 use lib.ListN.{length, take, drop, length-take, length-drop}
 use Rattle.laws_stream.specs.{Machine.and-both, Part.between, Part.rest-of}
-use Rattle.evt_codec.specs.declared.{codec.Codec.Codec, codec.Codec.the-variants.Evt2, codec.Codec.the-variants.Evt3}
-use Rattle.evt_codec.specs.Codec.{inRangeC}
+use Rattle.evt_codec.specs.{declared.codec.Codec.Codec, Codec.inRangeC, Sound.able-fitting}
 use Rattle.evt_types.specs.Event.{Event}
 use Rattle.read_count.specs.{declared.CountedTo.CountedTo, Count.countedToOf}
 use Rattle.read_fill.specs.{Decode.insideEvents, Decode.Bounded, Decode.Fitting, Laws.bounded-less, Laws.inside-bytes}
@@ -105,14 +104,6 @@ module _ {es : List Event} {c : Codec} {l : List ℕ} {r : Delivered} {xs₀ ys�
 
 -- ---- what is planned
 
-numbered-inside : (win : Window) (c : Codec) (l : List ℕ) → numberedOver win c l ≡ insideEvents (win .width) (win .height) c l
-numbered-inside win (Evt2 d) l = refl
-numbered-inside win (Evt3 d) l = refl
-
-able-fitting : (c : Codec) (n : ℕ) → Able n c → Fitting c → Bounded n c
-able-fitting (Evt2 d) n a f = a
-able-fitting (Evt3 d) n a f = record { regular = a .regular; loops = a .loops; column = f }
-
 -- under the window, up to the end
 module _ (win : Window) (k : ℕ) (c : Codec) (l : List ℕ) where
   to-the-end : (at k′ : ℕ) (c′ : Codec) → at ≤ length l → handedOver win k c l ≡ handedOver win k′ c′ (drop at l) → Ready c′ k′ (length (drop at l))
@@ -133,8 +124,7 @@ module _ (win : Window) (k : ℕ) (c : Codec) (l : List ℕ) (ready : Ready c k 
   plainly-whole whole fit = record {
     same =
         over-all win c l (ready .able) (whole .no-start) (whole .no-end) k (omega (arith, whole .timed .first))
-        (rw (numbered-inside win c l) (omega (arith, inside-bytes (win .width) (win .height) c l, ready .long, ready .low, whole .timed .last)))
-        ∙ numbered-inside win c l;
+        (omega (arith, inside-bytes (win .width) (win .height) c l, ready .long, ready .low, whole .timed .last));
     long = ready .long;
     able = able-fitting c (length l) (ready .able) fit;
   }

@@ -1,4 +1,5 @@
 use mathlib.Core.Path.{sym, ap}
+use native.Mathlib.Omega.{arith}
 use Rattle.evt_codec.specs.declared.codec.Codec.{Codec}
 use Rattle.read_capacity.specs.Deliver.{mostFrom}
 use borrow.Author.Needs.{needs}
@@ -6,7 +7,7 @@ use Rattle.read_capacity.proofs.most_from.Statement.{statement}
 use Rattle.read_capacity.proofs.most_from.Tie as tie
 
 returns : tie.Need-returns
-returns c = sym (ap (λ (d : Codec). mostFrom d (c .before .before .args .n)) (c .enum-told .given .1))
+returns c = rw (c .enum-told .given .1) (omega arith)
 
 returns-2 : tie.Need-returns-2
 returns-2 c = sym (ap (λ (d : Codec). mostFrom d (c .before .before .args .n)) (c .enum-told2 .given .1))

@@ -1,13 +1,12 @@
 use native.Mathlib.Omega.{arith}
 use lib.ListN.{length}
-use Rattle.read_deliver.specs.PassOver.{steady-able}
 use Rattle.read_deliver.specs.Plan.{few-number, planned-number}
 use borrow.Author.Needs.{needs}
 use Rattle.read_deliver.proofs.plan.plan_number.Statement.{statement}
 use Rattle.read_deliver.proofs.plan.plan_number.Tie as tie
 
 count-to-requires : tie.Need-count-to-requires
-count-to-requires c κs = steady-able (c .before .before .args .codec) (length (c .before .before .args .bytes .now)) (c .before .before .pre .0 .able)
+count-to-requires c κs = c .before .before .pre .0 .able
 
 add-next : tie.Need-add-next
 add-next c =

@@ -9,11 +9,12 @@ use lib.ListN.{length}
 use borrow.Author.Tests.{lt-ltb}
 use Rattle.laws_stream.specs.{Machine.All, Loop.loops-one, Stream.after, Words.wordsOf, Words.length-words}
 use Rattle.evt_types.specs.{declared.Encoding.Encoding, declared.vector.Vector.Vector, Event.eventsOf, Event.events-timed, Event.events-masked, Event.Narrow}
-use Rattle.evt_types.specs.Layout.{type2, timeLow2, type3, time3, grain3}
+use Rattle.evt_types.specs.{Event.noEvents, Event.no-events, Trigger.Trigger, Trigger.triggerIf, Trigger.trigger-other}
+use Rattle.evt_types.specs.Layout.{type2, timeLow2, type3, time3, grain3, triggerType}
 use Rattle.evt_types.specs.declared.Encoding.the-variants as E
-use Rattle.evt2_decoder.specs.{declared.Evt2Decoder.Evt2Decoder, Evt2.step2, Evt2.vector2, Triggers.few-triggers2, Range.Bounded2, Range.bounded-step2, Range.bounded-narrow2}
+use Rattle.evt2_decoder.specs.{declared.Evt2Decoder.Evt2Decoder, Evt2.step2, Evt2.vector2, Triggers.few-triggers2, Triggers.trigger2, Triggers.triggerIn2, Triggers.trigger-alone2, Range.Bounded2, Range.bounded-step2, Range.bounded-narrow2}
 use Rattle.evt2_decoder.specs.Range.{regular-step2, bounded-range2, fresh-range2}
-use Rattle.evt3_decoder.specs.{declared.Decoder.Decoder, Evt3.step3, Evt3.vector3, Evt3.period3, Evt3.threshold3, Triggers.few-triggers3, Range.Bounded3}
+use Rattle.evt3_decoder.specs.{declared.Decoder.Decoder, Evt3.step3, Evt3.vector3, Evt3.period3, Evt3.threshold3, Triggers.few-triggers3, Triggers.trigger3, Triggers.triggerIn3, Triggers.trigger-alone3, Range.Bounded3}
 use Rattle.evt3_decoder.specs.{Range.Paced3, Range.bounded-step3, Range.bounded-narrow3, Range.regular-range3, Range.regular-step3, Range.fresh-range3}
 use Rattle.evt2_decoder.specs.Evt2 as Evt2
 use Rattle.evt3_decoder.specs.Evt3 as Evt3
@@ -26,7 +27,9 @@ pub record Sound (R : Reader) : Type 0 where
   pub emits : (s : R .State) (w : ℕ) → R .machine .emit s w ≡ eventsOf (R .vector s w)
   pub few : (s : R .State) (w : ℕ) → R .vector s w .mask < 2 ^ R .most
   pub spread : (n : ℕ) → R .most * (n / R .size) ≤ 6 * n
+  -- a trigger stands alone in its word
   pub few-triggers : (s : R .State) (w : ℕ) → length (R .trigger s w) ≤ 1
+  pub apart : (s : R .State) (w : ℕ) → 0 < length (R .machine .emit s w) → R .trigger s w ≡ []
   -- an event's time is the decoder's after its word; a word of another type carries none
   pub stamped : (s : R .State) (w : ℕ) → All (λ e. e .t ≡ R .time (R .machine .step s w)) (R .machine .emit s w)
   pub silent : (s : R .State) (w : ℕ) → R .carries w ≡ false → R .machine .emit s w ≡ []
@@ -60,6 +63,14 @@ time2 n d b = go (d .initialised) refl
 none-stamped : (v : Vector) (t : ℕ) → v .mask ≡ 0 → All (λ e. e .t ≡ t) (eventsOf v)
 none-stamped v t z = rw (events-masked v z) tt
 
+-- a word of a trigger's type has no event
+alone : (started : Bool) (type : ℕ) (g : Trigger) (v : Vector) → (type ≡ triggerType → v ≡ noEvents) → 0 < length (eventsOf v) → triggerIf started type g ≡ []
+alone started type g v h some = trigger-other started type g (λ e. let z = ap length (ap eventsOf (h e) ∙ no-events) in omega (arith, z))
+
+apart2 : (d : Evt2Decoder) (w : ℕ) → 0 < length (eventsOf (vector2 d w)) → trigger2 d w ≡ []
+unfolding trigger2
+apart2 d w = alone (d .initialised) (type2 w) (triggerIn2 d w) (vector2 d w) (λ e. trigger-alone2 d w e .1)
+
 stamped2 : (d : Evt2Decoder) (w : ℕ) → All (λ e. e .t ≡ step2 d w .time) (eventsOf (vector2 d w))
 unfolding step2 vector2
 stamped2 d w = Evt2.by-kinds (λ k. All (λ e. e .t ≡ Evt2.stepAs k d w .time) (eventsOf (Evt2.vectorAs k d w))) (type2 w) (d .initialised)
@@ -77,6 +88,7 @@ sound2 = record {
   few = Evt2.few2;
   spread = λ n. omega arith;
   few-triggers = few-triggers2;
+  apart = apart2;
   stamped = stamped2;
   silent = silent2;
   regular = λ n d b. b .regular;
@@ -124,6 +136,10 @@ unfolding vector3
 stamp3 d w h = Evt3.by-kinds (λ k. Evt3.vectorAs k d w .t < 2 ^ 63) (type3 w) (d .initialised)
     (λ o. omega arith) (λ o. omega arith) (λ o. omega arith) (λ o. omega arith) (λ o. h) (λ o. omega arith) (λ o. h) (λ o. h) (omega arith)
 
+apart3 : (d : Decoder) (w : ℕ) → 0 < length (eventsOf (vector3 d w)) → trigger3 d w ≡ []
+unfolding trigger3
+apart3 d w = alone (d .initialised) (type3 w) (triggerIn3 d w) (vector3 d w) (λ e. trigger-alone3 d w e .1)
+
 stamped3 : (d : Decoder) (w : ℕ) → All (λ e. e .t ≡ step3 d w .time) (eventsOf (vector3 d w))
 unfolding step3 vector3
 stamped3 d w =
@@ -157,6 +173,7 @@ sound3 = record {
   few = few3;
   spread = λ n. omega arith;
   few-triggers = few-triggers3;
+  apart = apart3;
   stamped = stamped3;
   silent = silent3;
   regular = λ n d b. b .regular;

@@ -25,7 +25,8 @@ use Rattle.read_capacity.specs.{Deliver.Delivers, Laws.handed-none}
 use Rattle.header.specs.declared.{HeaderAnswer.HeaderAnswer, HeaderAnswer.the-variants.Header, HeaderAnswer.the-variants.Refused as NoHeader}
 use Rattle.read_columns.specs.Inside.{inside}
 use Rattle.read_window.specs.declared.Window.{Window}
-use Rattle.read_select.specs.{Pass.Ready, Pass.handedOver, Uses.able-range, Uses.numberedOver, Uses.over-limit}
+use Rattle.read_select.specs.{Pass.Ready, Pass.handedOver, Uses.over-limit}
+use Rattle.evt_codec.specs.Sound.{able-range}
 use Rattle.header.specs.declared.Header as header
 use Rattle.header.specs.Header.{hasZero, headerOf}
 use Rattle.read_rules.specs.Read.{kept, bodyEvents, shortest, Handed, toldRead, ReadEvents, bodyOutcome, wordsCheck, wordsOutcome, rawOutcome}
@@ -43,11 +44,6 @@ sensorEvents width height e body = insideEvents width height (freshC e) body
 abbrev pub limitWindow : (width height n : ℕ) → Window
 limitWindow width height n = record { width = width; height = height; n0 = 0; n1 = n; t0 = 0; t1 = 18446744073709551615 }
 
-numbered-inside : (width height n : ℕ) (e : Encoding) (body : List ℕ)
-    → numberedOver (limitWindow width height n) (freshC e) body ≡ sensorEvents width height e body
-numbered-inside width height n Evt2 body = refl
-numbered-inside width height n Evt3 body = refl
-
 pub ready-fresh : (e : Encoding) (n : ℕ) → n ≤ 2 ^ 30 → Ready (freshC e) 0 n
 ready-fresh e n h = record { able = able-range (freshC e) n (range-fresh e) h; long = h; low = omega arith }
 
@@ -55,23 +51,14 @@ pub handed-limit : (width height n : ℕ) (e : Encoding) (body : List ℕ) → l
     → handedOver (limitWindow width height n) 0 (freshC e) body ≡ take n (sensorEvents width height e body)
 handed-limit width height n e body h =
     over-limit (limitWindow width height n) (freshC e) body (ready-fresh e (length body) h .able) refl (omega arith) refl
-    ∙ ap (take n) (numbered-inside width height n e body)
 
 -- ---- the events of a body
 
 -- with a size or without
 kept-inside : (size : SensorSize) (e : Encoding) (body : List ℕ) → length body ≤ 2 ^ 30
     → kept size (eventsFrom (freshC e) body) ≡ sensorEvents (sensorOf size .width) (sensorOf size .height) e body
-kept-inside Unknown e body h = from e
-  where
-    from : (e : Encoding) → eventsFrom (freshC e) body ≡ sensorEvents 65536 65536 e body
-    from Evt2 = sym (all-inside (freshC Evt2) body (bounded-fresh Evt2 (length body) h))
-    from Evt3 = sym (all-inside (freshC Evt3) body (bounded-fresh Evt3 (length body) h))
-kept-inside (Known w k) e body h = from e
-  where
-    from : (e : Encoding) → sift (inside w k) (eventsFrom (freshC e) body) ≡ sensorEvents w k e body
-    from Evt2 = refl
-    from Evt3 = refl
+kept-inside Unknown e body h = sym (all-inside (freshC e) body (bounded-fresh e (length body) h))
+kept-inside (Known w k) e body h = refl
 
 pub body-all : (size : SensorSize) (e : Encoding) (body : List ℕ) → length body ≤ 2 ^ 30
     → bodyEvents e size Unlimited body ≡ sensorEvents (sensorOf size .width) (sensorOf size .height) e body
@@ -149,7 +136,10 @@ module _ (size : SensorSize) (e : Encoding) (limit : Limit) (codec : Codec) (is-
   pub delivers-body : (body : List ℕ) (win : Window) {r : Delivered} {xs₀ ys₀ : List ℕ} {ts₀ : List ℤ} {ps₀ xs ys : List ℕ} {ts : List ℤ} {ps : List ℕ}
       → length body ≤ 2 ^ 30 → win ≡ windowOf size limit
       → Delivers (handedOver win 0 codec body) r xs₀ ys₀ ts₀ ps₀ xs ys ts ps → Delivers (bodyEvents e size limit body) r xs₀ ys₀ ts₀ ps₀ xs ys ts ps
-  delivers-body body win h w d = rw (← body-handed size e limit body h, ← w, ← is-fresh) d
+  delivers-body body win h w d =
+      let same : handedOver win 0 codec body ≡ bodyEvents e size limit body =
+      (λ i. handedOver (w i) 0 (is-fresh i) body) ∙ body-handed size e limit body h in
+      rw same at d
 
   pub ready-new : (n : ℕ) → n ≤ 2 ^ 30 → Ready codec 0 n
   ready-new n h = rw is-fresh (ready-fresh e n h)

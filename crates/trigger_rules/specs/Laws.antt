@@ -4,34 +4,28 @@ use mathlib.Core.Bool.{Bool, true, false, cond, true≢false}
 use mathlib.Core.List.{List, [], _∷_, _++_, append-nil}
 use Prim.Native.Nat.{ℕ, suc, _+_, _-_, _*_, _/_, _≤_, _<_, _^_}
 use native.Mathlib.Omega.{arith}
-use native.Mathlib.Nat.{le-div-iff-mul-le}
 use lib.Dec.{eqb, ltb}
 use lib.IntN.{ℤ}
 use lib.ListN.{length, take, drop, length-append}
 use lib.Seq.{take-all}
 use borrow.Author.Tests.{lt-ltb, le-ltb, ne-eqb, eqb-true}
 use Rattle.laws_stream.specs.Machine.{Machine, All, all-of, all-map, run, emits, emits-few}
-use Rattle.laws_stream.specs.{Words.value, Words.wordsOf, Words.wordsOf-append, Words.words-taken, Words.words-next, Words.words-end, Words.length-words}
-use Rattle.laws_stream.specs.{Slice.sift, Slice.sift-all, Slice.sift-append, Stream.decode, Stream.after, Stream.decode-append, PassOver.numbersIn}
+use Rattle.laws_stream.specs.{Words.value, Words.wordsOf, Words.wordsOf-append, Words.words-within, Words.words-taken, Words.words-next, Words.words-end}
+use Rattle.laws_stream.specs.{Words.length-words, Slice.sift, Slice.sift-all, Slice.sift-append, Stream.decode, Stream.after, Stream.decode-append, PassOver.numbersIn}
 use Rattle.laws_stream.specs.Beside.{emitting, emitsBefore, before-none, before-few, before-most, before-nth, before-alike, ended-within, before-ended}
-use Rattle.laws_stream.specs.Select.{Reading, Selection, numberedOf, ended, Calm}
-use Rattle.evt_types.specs.declared.Encoding.the-variants as E
+use Rattle.laws_stream.specs.Select.{Reading, numberedOf}
 use Rattle.evt_types.specs.declared.{Encoding.Encoding, Limit.Limit, Limit.the-variants.Unlimited, Limit.the-variants.AtMost}
 use Rattle.evt_types.specs.declared.{Refusal.Refusal, Refusal.the-variants.InvalidSensorSize, Refusal.the-variants.ColumnsTooShort}
 use Rattle.evt_types.specs.declared.{Refusal.the-variants.TriggerColumnsTooShort, SensorSize.SensorSize, SensorSize.the-variants.Unknown}
 use Rattle.evt_types.specs.{declared.SensorSize.the-variants.Known, declared.vector.Vector.Vector, Event.Event, Event.eventsOf, Event.Narrow}
-use Rattle.evt_types.specs.{Event.noEvents, Event.no-events, Trigger.trigger-other, Layout.type2, Layout.type3, Layout.triggerType}
-use Rattle.evt_types.specs.{Trigger.Trigger, Trigger.HandedTriggers, Trigger.shortest3, Trigger.triggers-none, Layout.wordSize2, Layout.wordSize3}
+use Rattle.evt_types.specs.{Trigger.Trigger, Trigger.HandedTriggers, Trigger.shortest3, Trigger.triggers-none}
 use Rattle.evt_types.specs.Outcome.{Outcome, refuse, give, never-given}
-use Rattle.evt_codec.specs.{declared.codec.Codec.Codec, Codec.freshC, Codec.wordSize, Triggers.triggersFrom}
-use Rattle.evt2_decoder.specs.{Evt2.reader2, Evt2.step2, Evt2.vector2, Range.Bounded2, Range.bounded-step2, Range.bounded-narrow2}
-use Rattle.evt2_decoder.specs.{Evt2.fresh2, Triggers.triggerIn2, Triggers.trigger2, Triggers.trigger-alone2, Triggers.triggers2, Triggers.few-triggers2}
-use Rattle.evt3_decoder.specs.{Evt3.reader3, Evt3.step3, Evt3.vector3, Range.Bounded3, Range.bounded-step3, Range.bounded-narrow3}
-use Rattle.evt3_decoder.specs.{Evt3.fresh3, Triggers.triggerIn3, Triggers.trigger3, Triggers.trigger-alone3, Triggers.triggers3, Triggers.few-triggers3}
-use Rattle.read_columns.specs.Inside.{inside}
+use Rattle.evt_codec.specs.{declared.codec.Codec.Codec, Reader.view, Codec.freshC, Codec.wordSize, Codec.Bounded, Triggers.triggersFrom}
+use Rattle.evt_codec.specs.{Triggers.triggersBefore, Sound.sound, Sound.able-bounded, Sound.bounded-words}
+use Rattle.read_columns.specs.Inside.{inside, sift-few}
 use Rattle.read_fill.specs.{Laws.Small, Laws.vector-small, Laws.bounded-fresh}
-use Rattle.read_window.specs.{declared.Window.Window, Window.selectionOf, Window.reading}
-use Rattle.read_select.specs.{declared.SurveyTotals.SurveyTotals, Pass.endOver, Pass.surveyed, Uses.calm2, Uses.calm3}
+use Rattle.read_window.specs.{declared.Window.Window, Window.selectionOf}
+use Rattle.read_select.specs.{declared.SurveyTotals.SurveyTotals, Pass.readingBy, Pass.endOver, Pass.surveyed, Uses.calm}
 use Rattle.read_rules.specs.declared.ReadAnswer.{ReadAnswer}
 use Rattle.read_rules.specs.declared.ReadAnswer.the-variants as R
 use Rattle.read_rules.specs.Read.{kept, ReadEvents, Reads, bodyOutcome, bodyEvents, shortest}
@@ -56,37 +50,35 @@ agree size v n = all-map Small _ (one size) (eventsOf v) (vector-small v n)
     one Unknown e s = rw (lt-ltb (e .x) 65536 (s .x<), lt-ltb (e .y) 65536 (s .y<))
     one (Known w h) e s = refl
 
--- a pass up to event m, of any encoding: a word that carries a trigger carries no event
-module _ {S : Type 0} (n : ℕ) (pos : 0 < n) (step : S → ℕ → S) (vector : S → ℕ → Vector) (live : S → Bool) (time : S → ℕ) (type : ℕ → ℕ)
-    (alone : (s : S) (w : ℕ) → type w ≡ triggerType → (step s w ≡ s) × (vector s w ≡ noEvents)) (f : S → ℕ → List Trigger)
-    (other : (s : S) (w : ℕ) → (type w ≡ triggerType → ⊥) → f s w ≡ []) (Inv : ℕ → S → Type 0)
-    (uses : (k : ℕ) (s : S) (w : ℕ) → Inv (suc k) s → Inv k (step s w)) (narrow : (k : ℕ) (s : S) (w : ℕ) → Inv k s → Narrow (vector s w))
-    (size : SensorSize) (m : ℕ) where
-  abbrev passed : Reading S ℕ Event
-  passed = reading (record { step = step; emit = λ s w. eventsOf (vector s w) }) live time (windowOf size (AtMost m))
+-- a pass up to event m
+module _ (size : SensorSize) (m : ℕ) (c : Codec) (body : List ℕ) (short : length body ≤ 2 ^ 30) (b : Bounded (length body) c) where
+  abbrev win : Window
+  win = windowOf size (AtMost m)
 
-  abbrev win : Selection
-  win = selectionOf (windowOf size (AtMost m))
+  abbrev passed : Reading (view c .reader .State) ℕ Event
+  passed = readingBy (view c .reader) win
 
-  apart : (s : S) (w : ℕ) → 0 < length (numberedOf passed s w) → f s w ≡ []
-  apart s w h = other s w (λ e. none (alone s w e .1))
-    where
-      none : vector s w ≡ noEvents → ⊥
-      none e = let z : length (numberedOf passed s w) ≡ 0 = rw (e, no-events) in absurd (omega arith)
+  apart : (s : view c .reader .State) (w : ℕ) → 0 < length (numberedOf passed s w) → view c .reader .trigger s w ≡ []
+  apart s w h = sound c .apart s w (omega (arith, sift-few (passed .inside) (view c .reader .machine .emit s w)))
 
-  consumed-ends : (s : S) (body : List ℕ) → Inv (length body / n) s → Calm passed win s (wordsOf n body) → 0 < m →
-      let at = ended passed win 0 s (wordsOf n body) .consumed * n in
-      (at ≤ length body) × (decode n (emitting (passed .machine) f) s (take at body) ≡ emitsBefore (passed .machine) f (keeps size) m s (wordsOf n body))
-  consumed-ends s body b c h =
-      let ws = wordsOf n body in
-      let consumed = ended passed win 0 s ws .consumed in
-      let within : consumed * n ≤ length body = le-div-iff-mul-le pos .0 (rw length-words at (ended-within passed win f apart 0 s ws)) in
-      let z : m - 0 ≡ m = omega arith in (
+  -- the words that it consumes have the triggers
+  consumed-ends : 0 < m →
+      let at = endOver win 0 c body .consumed * wordSize c in
+      (at ≤ length body) × (triggersFrom c (take at body) ≡ triggersBefore (keeps size) m c body)
+  consumed-ends h =
+      let R = view c .reader in
+      let ws = wordsOf (wordSize c) body in
+      let consumed = endOver win 0 c body .consumed in
+      let within = words-within (wordSize c) (sound c .some) consumed body (ended-within passed (selectionOf win) (R .trigger) apart 0 (view c .state) ws) in
+      let z : m - 0 ≡ m = omega arith in
+      let alike : (k : ℕ) (s : R .State) (w : ℕ) → R .Bounded (suc k) s → All (λ e. keeps size e ≡ passed .inside e) (R .machine .emit s w) =
+      λ k s w i. rw (sound c .emits s w) (agree size (R .vector s w) (sound c .narrow (suc k) s w i)) in (
         within,
-        ap (emits (emitting (passed .machine) f) s) (words-taken n pos consumed body within)
-            ∙ sym (rw z at (before-ended passed win f apart 0 s ws h c))
-            ∙ sym (before-alike (passed .machine) f (keeps size) (passed .inside) Inv uses (λ k s w i. agree size (vector s w) (narrow (suc k) s w i)) m s ws
-            (rw (← length-words n body) at b)),
+        ap (emits (emitting (R .machine) (R .trigger)) (view c .state)) (words-taken (wordSize c) (sound c .some) consumed body within)
+            ∙ sym (rw z at (before-ended passed (selectionOf win) (R .trigger) apart 0 (view c .state) ws h
+            (calm win c body (omega arith) (able-bounded c (length body) b))))
+            ∙ sym (before-alike (R .machine) (R .trigger) (keeps size) (passed .inside) (R .Bounded) (sound c .steps) alike m (view c .state) ws
+            (bounded-words c body b)),
       )
 
 -- where the words that a pass up to the limit consumes end
@@ -96,20 +88,18 @@ module _ (size : SensorSize) (body : List ℕ) (short : length body ≤ 2 ^ 30) 
 
   pub ends-none : (e : Encoding) → EndsAt e 0 0
   unfolding bodyTriggers
-  ends-none E.Evt2 = (omega arith, sym (before-none reader2 trigger2 (keeps size) fresh2 (wordsOf wordSize2 body)))
-  ends-none E.Evt3 = (omega arith, sym (before-none reader3 trigger3 (keeps size) fresh3 (wordsOf wordSize3 body)))
+  ends-none e =
+      let R = view (freshC e) .reader in
+      let none = words-end (R .size) (sound (freshC e) .some) [] 0 (omega (arith, sound (freshC e) .some)) in (
+        omega arith,
+        ap (emits (emitting (R .machine) (R .trigger)) (view (freshC e) .state)) none
+            ∙ sym (before-none (R .machine) (R .trigger) (keeps size) (view (freshC e) .state) (wordsOf (R .size) body)),
+      )
 
   pub ends-at : (e : Encoding) (n : ℕ) → 0 < n
       → EndsAt e n (endOver (windowOf size (AtMost n)) 0 (freshC e) body .consumed * wordSize (freshC e))
-  unfolding bodyTriggers trigger2 trigger3
-  ends-at E.Evt2 n h =
-      consumed-ends wordSize2 (omega arith) step2 vector2 (λ d. d .initialised) (λ d. d .time) type2 trigger-alone2 trigger2
-      (λ d w. trigger-other (d .initialised) (type2 w) (triggerIn2 d w)) Bounded2 bounded-step2 (λ k d. bounded-narrow2) size n fresh2 body
-      (bounded-fresh E.Evt2 (length body) short) (calm2 (windowOf size (AtMost n)) (omega arith) fresh2 body (ready-fresh E.Evt2 (length body) short .able)) h
-  ends-at E.Evt3 n h =
-      consumed-ends wordSize3 (omega arith) step3 vector3 (λ d. d .initialised) (λ d. d .time) type3 trigger-alone3 trigger3
-      (λ d w. trigger-other (d .initialised) (type3 w) (triggerIn3 d w)) Bounded3 bounded-step3 (λ k d. bounded-narrow3) size n fresh3 body
-      (bounded-fresh E.Evt3 (length body) short) (calm3 (windowOf size (AtMost n)) (omega arith) fresh3 body (ready-fresh E.Evt3 (length body) short .able)) h
+  unfolding bodyTriggers
+  ends-at e n h = consumed-ends size n (freshC e) body short (bounded-fresh e (length body) short) h
 
   -- by what the code has at hand
   pub ends-by : (e : Encoding) (n : ℕ) → 0 < n → {c : Codec} → c ≡ freshC e → {win : Window} → win ≡ windowOf size (AtMost n)
@@ -124,17 +114,26 @@ module _ (size : SensorSize) (body : List ℕ) (short : length body ≤ 2 ^ 30) 
 
 -- a word has at most one, so columns of so many places suffice
 abbrev pub mostTriggers : Encoding → (bytes : ℕ) → ℕ
-mostTriggers E.Evt2 n = n / wordSize2
-mostTriggers E.Evt3 n = n / wordSize3
+mostTriggers e n = n / wordSize (freshC e)
 
 pub triggers-few : (e : Encoding) (size : SensorSize) (limit : Limit) (body : List ℕ) → length (bodyTriggers e size limit body) ≤ mostTriggers e (length body)
 unfolding bodyTriggers
-triggers-few E.Evt2 size Unlimited body = omega (arith, emits-few triggers2 1 few-triggers2 fresh2 (wordsOf wordSize2 body), length-words wordSize2 body)
-triggers-few E.Evt2 size (AtMost n) body =
-    omega (arith, before-most reader2 trigger2 (keeps size) few-triggers2 n fresh2 (wordsOf wordSize2 body), length-words wordSize2 body)
-triggers-few E.Evt3 size Unlimited body = omega (arith, emits-few triggers3 1 few-triggers3 fresh3 (wordsOf wordSize3 body), length-words wordSize3 body)
-triggers-few E.Evt3 size (AtMost n) body =
-    omega (arith, before-most reader3 trigger3 (keeps size) few-triggers3 n fresh3 (wordsOf wordSize3 body), length-words wordSize3 body)
+triggers-few e size Unlimited body =
+    let R = view (freshC e) .reader in
+    let ws = wordsOf (R .size) body in
+    omega (
+      arith,
+      emits-few (emitting (R .machine) (R .trigger)) 1 (sound (freshC e) .few-triggers) (view (freshC e) .state) ws,
+      length-words (R .size) body,
+    )
+triggers-few e size (AtMost n) body =
+    let R = view (freshC e) .reader in
+    let ws = wordsOf (R .size) body in
+    omega (
+      arith,
+      before-most (R .machine) (R .trigger) (keeps size) (sound (freshC e) .few-triggers) n (view (freshC e) .state) ws,
+      length-words (R .size) body,
+    )
 
 -- ---- what is refused where the trigger columns are too short
 
@@ -264,8 +263,9 @@ kept-keeps (Known w h) es = refl
 pub limit-few : (e : Encoding) (size : SensorSize) (n : ℕ) (body : List ℕ) → length (bodyEvents e size Unlimited body) < n
     → bodyTriggers e size (AtMost n) body ≡ bodyTriggers e size Unlimited body
 unfolding bodyTriggers bodyEvents
-limit-few E.Evt2 size n body h = before-few reader2 trigger2 (keeps size) n fresh2 (wordsOf wordSize2 body) (rw kept-keeps at h)
-limit-few E.Evt3 size n body h = before-few reader3 trigger3 (keeps size) n fresh3 (wordsOf wordSize3 body) (rw kept-keeps at h)
+limit-few e size n body h =
+    let R = view (freshC e) .reader in
+    before-few (R .machine) (R .trigger) (keeps size) n (view (freshC e) .state) (wordsOf (R .size) body) (rw kept-keeps at h)
 
 -- those of the words a where the next word, w, has the n-th event
 nth-bytes : {S : Type 0} (size : ℕ) → 0 < size → (M : Machine S ℕ Event) (f : S → ℕ → List Trigger) (keep : Event → Bool) (n : ℕ) (s : S)
@@ -286,16 +286,17 @@ pub limit-nth : (e : Encoding) (size : SensorSize) (n k : ℕ) (a w b : List ℕ
     → length (bodyEvents e size Unlimited a) < n → n ≤ length (bodyEvents e size Unlimited (a ++ w))
     → bodyTriggers e size (AtMost n) (a ++ (w ++ b)) ≡ bodyTriggers e size Unlimited a
 unfolding bodyTriggers bodyEvents
-limit-nth E.Evt2 size n k a w b is-a is-w less most =
-    nth-bytes wordSize2 (omega arith) reader2 trigger2 (keeps size) n fresh2 k a w b is-a is-w (rw kept-keeps at less) (rw kept-keeps at most)
-limit-nth E.Evt3 size n k a w b is-a is-w less most =
-    nth-bytes wordSize3 (omega arith) reader3 trigger3 (keeps size) n fresh3 k a w b is-a is-w (rw kept-keeps at less) (rw kept-keeps at most)
+limit-nth e size n k a w b is-a is-w less most =
+    let R = view (freshC e) .reader in
+    nth-bytes (R .size) (sound (freshC e) .some) (R .machine) (R .trigger) (keeps size) n (view (freshC e) .state) k a w b is-a is-w
+    (rw kept-keeps at less) (rw kept-keeps at most)
 
 -- none for a limit of 0
 pub limit-none : (e : Encoding) (size : SensorSize) (body : List ℕ) → bodyTriggers e size (AtMost 0) body ≡ []
 unfolding bodyTriggers
-limit-none E.Evt2 size body = before-none reader2 trigger2 (keeps size) fresh2 (wordsOf wordSize2 body)
-limit-none E.Evt3 size body = before-none reader3 trigger3 (keeps size) fresh3 (wordsOf wordSize3 body)
+limit-none e size body =
+    let R = view (freshC e) .reader in
+    before-none (R .machine) (R .trigger) (keeps size) (view (freshC e) .state) (wordsOf (R .size) body)
 
 -- ---- what the triggers don't change
 

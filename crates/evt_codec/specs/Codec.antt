@@ -1,5 +1,5 @@
 -- A decoder of any encoding, over what its encoding's reader says.
-use mathlib.Core.Path.{_≡_, refl}
+use mathlib.Core.Path.{_≡_, refl, ap}
 use mathlib.Core.Bool.{Bool, cond}
 use mathlib.Core.List.{List}
 use Prim.Native.Nat.{ℕ, _/_}
@@ -79,6 +79,14 @@ view-codec (Evt3 d) s = refl
 
 pub view-after : (c : Codec) (l : List ℕ) → _≡_ {A = View} (view (codecAfter c l)) (record { reader = view c .reader; state = stateAfter c l })
 view-after c l = view-codec c (stateAfter c l)
+
+-- the encoding stays
+pub encoding-after : (c : Codec) (l : List ℕ) → encodingOf (codecAfter c l) ≡ encodingOf c
+encoding-after c l = ap (λ (v : View). v .reader .encoding) (view-after c l)
+
+pub encoding-fresh : (e : Encoding) → encodingOf (freshC e) ≡ e
+encoding-fresh E.Evt2 = refl
+encoding-fresh E.Evt3 = refl
 
 pub view-fresh : (e : Encoding) → _≡_ {A = View} (view (freshC e)) (record { reader = readerOf e; state = readerOf e .fresh })
 view-fresh E.Evt2 = refl

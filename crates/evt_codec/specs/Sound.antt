@@ -33,6 +33,8 @@ pub record Sound (R : Reader) : Type 0 where
   -- an event's time is the decoder's after its word; a word of another type carries none
   pub stamped : (s : R .State) (w : ℕ) → All (λ e. e .t ≡ R .time (R .machine .step s w)) (R .machine .emit s w)
   pub silent : (s : R .State) (w : ℕ) → R .carries w ≡ false → R .machine .emit s w ≡ []
+  -- what is started stays so
+  pub stays : (s : R .State) (w : ℕ) → R .started s ≡ true → R .started (R .machine .step s w) ≡ true
   pub regular : (n : ℕ) (s : R .State) → R .Able n s → R .Regular s
   pub regular-steps : (s : R .State) (w : ℕ) → R .Regular s → R .Regular (R .machine .step s w)
   pub unstarted : (s : R .State) → R .Regular s → R .started s ≡ false → R .time s ≡ 0
@@ -81,6 +83,10 @@ unfolding vector2
 silent2 d w z = Evt2.by-kinds (λ k. eventsOf (Evt2.vectorAs k d w) ≡ []) (type2 w) (d .initialised) (events-masked _ refl)
     (λ on q. absurd (true≢false (sym (lt-ltb (type2 w) 2 q) ∙ z))) (events-masked _ refl)
 
+stays2 : (d : Evt2Decoder) (w : ℕ) → d .initialised ≡ true → step2 d w .initialised ≡ true
+unfolding step2
+stays2 d w h = Evt2.by-kinds (λ k. Evt2.stepAs k d w .initialised ≡ true) (type2 w) (d .initialised) refl (λ s l. h) h
+
 pub sound2 : Sound evt2
 sound2 = record {
   some = omega arith;
@@ -91,6 +97,7 @@ sound2 = record {
   apart = apart2;
   stamped = stamped2;
   silent = silent2;
+  stays = stays2;
   regular = λ n d b. b .regular;
   regular-steps = regular-step2;
   unstarted = λ d r off. ap (λ (d : Evt2Decoder). d .time) (r .unstarted off);
@@ -166,6 +173,11 @@ silent3 d w = go (d .initialised)
         (λ o. events-masked _ refl) (λ o. no (sym o)) (λ o. no (sym o)) (λ o. no (sym o)) (λ o. no (sym o)) (λ o. no (sym o)) (λ o. no (sym o))
         (λ o. no (sym o)) (events-masked _ refl)
 
+stays3 : (d : Decoder) (w : ℕ) → d .initialised ≡ true → step3 d w .initialised ≡ true
+unfolding step3
+stays3 d w h = Evt3.by-kinds (λ k. Evt3.stepAs k d w .initialised ≡ true) (type3 w) (d .initialised)
+    (λ o. refl) (λ o. refl) (λ o. h) (λ o. h) (λ o. h) (λ o. h) (λ o. h) (λ o. h) h
+
 pub sound3 : Sound evt3
 sound3 = record {
   some = omega arith;
@@ -176,6 +188,7 @@ sound3 = record {
   apart = apart3;
   stamped = stamped3;
   silent = silent3;
+  stays = stays3;
   regular = λ n d b. b .regular;
   regular-steps = regular-step3;
   unstarted = λ d r off. ap (λ (d : Decoder). d .time) (r .unstarted off);

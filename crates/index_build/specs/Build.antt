@@ -9,7 +9,7 @@ use lib.ListN.{length, take, drop}
 use Rattle.laws_stream.specs.Order.{greatest}
 use Rattle.evt_types.specs.declared.{SensorSize.SensorSize, SensorSize.the-variants.Unknown, SensorSize.the-variants.Known}
 use Rattle.evt_types.specs.{Event.Event, Num.mostBytes, Outcome.Outcome, Outcome.onOutcome}
-use Rattle.evt_codec.specs.{declared.codec.Codec.Codec, Codec.freshC, Codec.codecAfter}
+use Rattle.evt_codec.specs.{declared.codec.Codec.Codec, Codec.freshC, Codec.wordSize, Codec.codecAfter}
 use Rattle.read_columns.specs.Inside.{clock}
 use Rattle.read_fill.specs.Decode.{Bounded, insideEvents}
 use Rattle.read_count.specs.Count.{countedAllOf}
@@ -90,8 +90,8 @@ pub record Begun (l : List ℕ) (room : ℕ) (t : Builder) : Type 0 where
   pub start : t .offset ≤ length l
   pub long : length l ≤ mostBytes
   pub takes : Bounded mostBytes (t .codec)
-  pub quarter : ℕ
-  pub aligned : t .spacing ≡ quarter * 4
+  pub words : ℕ
+  pub aligned : t .spacing ≡ words * wordSize (t .codec)
   pub small : t .spacing ≤ 4194304
   pub within : (j : ℕ) → j < t .cap → j * t .spacing ≤ length l - t .offset
   pub fits : t .cap ≤ room

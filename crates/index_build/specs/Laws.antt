@@ -13,7 +13,7 @@ use lib.Seq.{take-add, drop-drop, take-suc-set, drop-set-lt, length-take-le, tak
 use borrow.Author.Tests.{ltb-true, ltb-false}
 use Rattle.laws_stream.specs.{Order.greatest, Slice.sift}
 use Rattle.evt_types.specs.{Event.Event, Num.mostBytes}
-use Rattle.evt_codec.specs.Codec.{codecAfter}
+use Rattle.evt_codec.specs.Codec.{wordSize, codecAfter}
 use Rattle.read_columns.specs.Inside.{clock, inside}
 use Rattle.read_fill.specs.Decode.{Bounded, insideEvents}
 use Rattle.read_count.specs.{Count.countedAllOf, declared.CountedAll.CountedAll}
@@ -104,8 +104,8 @@ module _ (l : List ℕ) (t : Builder) where
     front-long : length front ≡ j * t .spacing
     front-long = length-take-le (j * t .spacing) (drop (t .offset) l) (omega (arith, s .within j lt, length-drop (t .offset) l))
 
-    front-words : length front ≡ (j * s .quarter) * 4
-    front-words = front-long ∙ ap (λ (n : ℕ). j * n) (s .aligned) ∙ sym (native.Mathlib.Nat.mul-assoc j (s .quarter) 4)
+    front-words : length front ≡ (j * s .words) * wordSize (t .codec)
+    front-words = front-long ∙ ap (λ (n : ℕ). j * n) (s .aligned) ∙ sym (native.Mathlib.Nat.mul-assoc j (s .words) (wordSize (t .codec)))
 
     next-front : frontOf l t (suc j) ≡ front ++ chunk
     next-front =
@@ -115,7 +115,7 @@ module _ (l : List ℕ) (t : Builder) where
     -- an iteration takes the builder before record j to the builder before the next
     pub builder-next : nextOf l (builderAt l t j) ≡ builderAt l t (suc j)
     builder-next =
-        let w = j * s .quarter in
+        let w = j * s .words in
         let offset : t .offset + j * t .spacing + t .spacing ≡ t .offset + suc j * t .spacing = omega (arith, suc-mul j (t .spacing)) in
         let seen : List ℕ → List Event = insideEvents (t .width) (t .height) (t .codec) in
         let count = ap (λ (b : List ℕ). length (seen b)) next-front ∙ count-append (t .codec) w front chunk front-words (t .width) (t .height) in
@@ -127,13 +127,13 @@ module _ (l : List ℕ) (t : Builder) where
     pub builder-fit : Fit l (builderAt l t j)
     builder-fit =
         let rest = length l - (t .offset + j * t .spacing) in
-        let k : (j * s .quarter) * 4 + rest ≤ mostBytes = omega (arith, front-words, front-long, s .within j lt, s .long) in
+        let k : (j * s .words) * wordSize (t .codec) + rest ≤ mostBytes = omega (arith, front-words, front-long, s .within j lt, s .long) in
         let h : length front ≤ mostBytes = omega (arith, front-long, s .within j lt, s .long) in
         record {
           start = omega (arith, s .within j lt, s .start);
           long = s .long;
           step = s .small;
-          takes = bounded-after (t .codec) (j * s .quarter) rest front front-words (bounded-less (t .codec) k (s .takes));
+          takes = bounded-after (t .codec) (j * s .words) rest front front-words (bounded-less (t .codec) k (s .takes));
           few = omega (arith, inside-bytes (t .width) (t .height) (t .codec) front, front-long);
           early = latest-small (t .codec) front (bounded-less (t .codec) h (s .takes)) (t .width) (t .height);
           place = lt;

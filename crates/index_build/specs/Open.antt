@@ -1,6 +1,6 @@
 -- What opening comes to: a body that is accepted, and that what its builder yields is what specs/Index.antt defines.
 use mathlib.Core.Path.{_≡_, refl, sym, ap, subst, _∙_}
-use mathlib.Core.Bool.{Bool, true, false, cond}
+use mathlib.Core.Bool.{Bool, true, false, cond, true≢false}
 use mathlib.Core.List.{List, [], _∷_, _++_}
 use Prim.Native.Nat.{ℕ, zero, suc, _+_, _-_, _*_, _/_, _%_, _≤_, _<_, _^_}
 use native.Mathlib.Omega.{arith}
@@ -15,7 +15,7 @@ use Rattle.evt_types.specs.declared.{Encoding.Encoding, Encoding.the-variants.E
 use Rattle.evt_types.specs.declared.{Refusal.the-variants.InvalidSensorSize, Refusal.the-variants.TooLong, Refusal.the-variants.InvalidSpacing}
 use Rattle.evt_types.specs.declared.{Refusal.the-variants.TooFewRecords, SensorSize.SensorSize, SensorSize.the-variants.Unknown}
 use Rattle.evt_types.specs.{declared.SensorSize.the-variants.Known, Event.Event, Num.mostBytes, Outcome.Outcome, Outcome.refuse, Outcome.give}
-use Rattle.evt_codec.specs.{declared.codec.Codec.Codec, Codec.freshC, Codec.eventsFrom, Codec.codecAfter}
+use Rattle.evt_codec.specs.{declared.codec.Codec.Codec, Codec.freshC, Codec.wordSize, Codec.eventsFrom, Codec.codecAfter}
 use Rattle.read_columns.specs.Inside.{clock}
 use Rattle.read_fill.specs.{Decode.insideEvents, Laws.bounded-fresh, Laws.all-inside, Laws.inside-bytes}
 use Rattle.header.specs.declared.Header as header
@@ -39,21 +39,28 @@ use Rattle.index_build.specs.Build.{Begun, builderAt, madeAt, spanWidth,
 pub record Spaced (spacing : ℕ) : Type 0 where
   pub low : 4 ≤ spacing
   pub high : spacing ≤ 4194304
-  pub fours : spacing ≡ spacing / 4 * 4
 
-pub spaced : (e : Encoding) (spacing : ℕ) → spacingOk e spacing ≡ true → Spaced spacing
-unfolding spacingOk
-spaced e spacing h = go (ltb spacing 4) refl (ltb 4194304 spacing) refl e h
-  where
-    go : (a : Bool) → ltb spacing 4 ≡ a → (b : Bool) → ltb 4194304 spacing ≡ b → (e : Encoding)
-        → cond a false (cond b false (eqb (spacing % alignment e) 0)) ≡ true → Spaced spacing
-    go true p b q e h = let z : _≡_ {A = Bool} false true = h in absurd (no z)
-      where
-        no : _≡_ {A = Bool} false true → ⊥
-        no z = let y : _≡_ {A = ℕ} 0 1 = ap (λ (t : Bool). cond t 1 0) z in omega arith
-    go false p true q e h = let y : _≡_ {A = ℕ} 0 1 = ap (λ (t : Bool). cond t 1 0) h in absurd (omega arith)
-    go false p false q Evt2 h = record { low = ltb-false spacing 4 p; high = ltb-false 4194304 spacing q; fours = omega (arith, eqb-true (spacing % 4) 0 h) }
-    go false p false q Evt3 h = record { low = ltb-false spacing 4 p; high = ltb-false 4194304 spacing q; fours = omega (arith, eqb-true (spacing % 4) 0 h) }
+-- what is a multiple of the alignment is a whole number of words
+whole-words : (e : Encoding) (spacing : ℕ) → spacing % alignment e ≡ 0 → spacing ≡ spacing / wordSize (freshC e) * wordSize (freshC e)
+whole-words Evt2 spacing h = omega arith
+whole-words Evt3 spacing h = omega arith
+
+module _ (e : Encoding) (spacing : ℕ) (h : spacingOk e spacing ≡ true) where
+  is-spaced : Spaced spacing × (spacing % alignment e ≡ 0)
+  unfolding spacingOk
+  is-spaced = go (ltb spacing 4) refl (ltb 4194304 spacing) refl h
+    where
+      go : (a : Bool) → ltb spacing 4 ≡ a → (b : Bool) → ltb 4194304 spacing ≡ b
+          → cond a false (cond b false (eqb (spacing % alignment e) 0)) ≡ true → Spaced spacing × (spacing % alignment e ≡ 0)
+      go true p b q h = absurd (true≢false (sym h))
+      go false p true q h = absurd (true≢false (sym h))
+      go false p false q h = (record { low = ltb-false spacing 4 p; high = ltb-false 4194304 spacing q }, eqb-true (spacing % alignment e) 0 h)
+
+  pub spaced : Spaced spacing
+  spaced = is-spaced .0
+
+  pub aligned : spacing ≡ spacing / wordSize (freshC e) * wordSize (freshC e)
+  aligned = whole-words e spacing (is-spaced .1)
 
 module _ (n spacing : ℕ) (s : Spaced spacing) where
   -- a record but the first has bytes before it
@@ -157,8 +164,8 @@ module _ (m : List ℕ) (b : Body) (room : ℕ) (ok : Accepted m room b) where
   abbrev insides : List ℕ → List Event
   insides = insideEvents (spanWidth (b .size)) (spanHeight (b .size)) (freshC (b .encoding))
 
-  is-spaced : Spaced (b .spacing)
-  is-spaced = spaced (b .encoding) (b .spacing) (ok .allowed)
+  its-spacing : Spaced (b .spacing)
+  its-spacing = spaced (b .encoding) (b .spacing) (ok .allowed)
 
   body-long : length body ≤ mostBytes
   body-long = omega (arith, length-drop (b .start) l, ok .long)
@@ -169,12 +176,12 @@ module _ (m : List ℕ) (b : Body) (room : ℕ) (ok : Accepted m room b) where
     start = ok .within;
     long = ok .long;
     takes = bounded-fresh (b .encoding) mostBytes (omega arith);
-    quarter = b .spacing / 4;
-    aligned = is-spaced .fours;
-    small = is-spaced .high;
-    within = λ j lt. omega (arith, count-within (length body) (b .spacing) is-spaced j lt, length-drop (b .start) l);
+    words = b .spacing / wordSize (freshC (b .encoding));
+    aligned = aligned (b .encoding) (b .spacing) (ok .allowed);
+    small = its-spacing .high;
+    within = λ j lt. omega (arith, count-within (length body) (b .spacing) its-spacing j lt, length-drop (b .start) l);
     fits = ok .fits;
-    few = count-few (length body) (b .spacing) is-spaced body-long;
+    few = count-few (length body) (b .spacing) its-spacing body-long;
   }
 
   record-is : (j : ℕ) → madeAt l t j ≡ recordAt (b .size) (b .encoding) (b .start) (b .spacing) body j
@@ -201,7 +208,7 @@ module _ (m : List ℕ) (b : Body) (room : ℕ) (ok : Accepted m room b) where
 
   opening-is : concluded (builderAt l t (needOf b)) ≡ openingOf b
   opening-is =
-      let all : take (needOf b * b .spacing) body ≡ body = take-all (needOf b * b .spacing) body (count-covers (length body) (b .spacing) is-spaced) in
+      let all : take (needOf b * b .spacing) body ≡ body = take-all (needOf b * b .spacing) body (count-covers (length body) (b .spacing) its-spacing) in
       let k : insides (take (needOf b * b .spacing) body) ≡ bodyKept b = ap insides all ∙ kept-inside (b .size) (b .encoding) body body-long in
       λ i. record {
         source = record {

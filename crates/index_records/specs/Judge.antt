@@ -1,24 +1,20 @@
 -- When a record is out of range (rule 10), given what the record before it was.
 use mathlib.Core.Path.{_≡_, refl}
-use mathlib.Core.Bool.{Bool, true, false, cond}
+use mathlib.Core.Bool.{Bool, true, false, cond, not}
 use mathlib.Core.List.{List, [], _∷_}
 use Prim.Native.Nat.{ℕ, _+_, _-_, _%_, _^_}
-use lib.Dec.{ltb}
+use lib.Dec.{eqb, ltb}
 use lib.IntN.{pos}
 use lib.Signed.{leZ}
 use Rattle.evt_types.specs.declared.Encoding.{Encoding}
-use Rattle.evt_types.specs.declared.Encoding.the-variants as Enc
-use Rattle.evt_codec.specs.Codec.{inRangeC}
-use Rattle.evt_codec.specs.declared.{codec.Codec.Codec, codec.Codec.the-variants.Evt2, codec.Codec.the-variants.Evt3}
+use Rattle.evt_types.specs.Num.{encodingNumber}
+use Rattle.evt_codec.specs.{declared.codec.Codec.Codec, Codec.encodingOf, Codec.inRangeC}
 use Rattle.index_build.specs.declared.{Checkpoint.Checkpoint, RawSliceSource.RawSliceSource}
 use Rattle.index_records.specs.declared.{JudgeState.JudgeState, Judging.Judging}
 
--- a record of the other encoding
+-- a record of another encoding
 abbrev pub isOther : Codec → Encoding → Bool
-isOther (Evt2 d) Enc.Evt2 = false
-isOther (Evt2 d) Enc.Evt3 = true
-isOther (Evt3 d) Enc.Evt2 = true
-isOther (Evt3 d) Enc.Evt3 = false
+isOther c e = not (eqb (encodingNumber (encodingOf c)) (encodingNumber e))
 
 -- before the first of n records: without one the index is out of range, and from 2^64 on the body's start is no place at all
 abbrev pub firstJudging : RawSliceSource → (n : ℕ) → Judging

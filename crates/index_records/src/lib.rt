@@ -6,12 +6,13 @@
 ghost use mathlib.Core.Path.{_≡_};
 ghost use mathlib.Core.Bool.{false, cond};
 ghost use Prim.Native.Nat.{_<_};
-ghost use Rattle.evt_codec.specs.Codec.{inRangeC};
+ghost use Rattle.evt_codec.specs.Codec.{encodingOf, inRangeC};
 ghost use Rattle.index_records.specs.Choose.{passesOf};
 ghost use Rattle.index_records.specs.BinarySearch.{middleOf, placeOf, bracketOf, narrowed, firstSearch, chosenOf};
 ghost use Rattle.index_records.specs.Judge.{isOther, standsOf, aheadOf, onwardOf, placesOf, admitsOf, judgedOf, judgedAll, judgeAt, judgedNext};
 use evt_codec::Codec;
 use evt_types::Encoding;
+use evt_types::encoding_number;
 use index_build::Checkpoint;
 
 // What a slice asks of the record it starts at: a count at most `index`, or, by time, a time below
@@ -133,19 +134,19 @@ pub struct Judging {
     pub time: i64,
 }
 
+fn encoding_of(codec: Codec) -> Encoding
+    ensures { λ r. ⌜ r ≡ encodingOf codec ⌝ }
+{
+    match codec {
+        Codec::Evt2(_) => Encoding::Evt2,
+        Codec::Evt3(_) => Encoding::Evt3,
+    }
+}
+
 fn is_other(codec: Codec, encoding: Encoding) -> bool
     ensures { λ r. ⌜ r ≡ isOther codec encoding ⌝ }
 {
-    match codec {
-        Codec::Evt2(_) => match encoding {
-            Encoding::Evt2 => false,
-            Encoding::Evt3 => true,
-        },
-        Codec::Evt3(_) => match encoding {
-            Encoding::Evt2 => true,
-            Encoding::Evt3 => false,
-        },
-    }
+    encoding_number(encoding_of(codec)) != encoding_number(encoding)
 }
 
 // Whether a record may stand there, its decoder aside.

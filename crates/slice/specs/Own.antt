@@ -1,6 +1,6 @@
 -- Slices over an index of the recording itself, its records unaltered: the index is in range, and slices are exact at every spacing.
 use mathlib.Core.Path.{_≡_, refl, sym, ap, _∙_}
-use mathlib.Core.Bool.{Bool, true, false}
+use mathlib.Core.Bool.{Bool, true, false, not}
 use mathlib.Core.List.{List, [], _∷_, _++_}
 use Prim.Native.Nat.{ℕ, zero, suc, _+_, _-_, _*_, _/_, _^_, _≤_, _<_, max}
 use native.Mathlib.Omega.{arith}
@@ -13,20 +13,20 @@ use lib.Signed.{leZ, ltZ}
 use borrow.Author.Tests.{leb-true, ltb-true, lt-ltb, le-ltb, le-leb, eq-eqb}
 use Rattle.laws_stream.specs.{Machine.All, Machine.all-append-left, Machine.all-drop, Order.greatest, Order.greatest-append, Order.greatest-lt}
 use Rattle.laws_stream.specs.{Select.byNumber, Slice.sift, Slice.sift-all, Slice.sift-append, Slice.all-early}
-use Rattle.evt_types.specs.declared.{Encoding.Encoding, Encoding.the-variants.Evt2, Encoding.the-variants.Evt3, SensorSize.SensorSize}
+use Rattle.evt_types.specs.declared.{Encoding.Encoding, SensorSize.SensorSize}
 use Rattle.evt_types.specs.{declared.SensorSize.the-variants.Unknown, declared.SensorSize.the-variants.Known, Columns.colX, Columns.colY, Event.Event}
-use Rattle.evt_types.specs.{Outcome.give}
-use Rattle.evt_codec.specs.Codec.{freshC, inRangeC, eventsFrom, codecAfter}
+use Rattle.evt_types.specs.{Outcome.give, Num.encodingNumber}
+use Rattle.evt_codec.specs.Codec.{freshC, wordSize, encodingOf, inRangeC, eventsFrom, codecAfter, encoding-after, encoding-fresh}
 use Rattle.read_columns.specs.Inside.{inside, clock}
 use Rattle.read_fill.specs.Laws.{events-append, events-nil, fresh-range, inside-bytes}
 use Rattle.header.specs.Header.{hasZero}
 use Rattle.read_window.specs.declared.Window.{Window}
-use Rattle.read_select.specs.{Uses.isTimely, Uses.numberedOver, Uses.PastOver, Parts.Whole, Parts.time-from}
+use Rattle.read_select.specs.{Uses.isTimely, Uses.numberedOver, Uses.PastOver, Parts.time-from}
 use Rattle.read_rules.specs.Read.{kept, widthOf, heightOf}
 use Rattle.index_build.specs.declared.{Checkpoint.Checkpoint, RawSliceSource.RawSliceSource}
 use Rattle.index_build.specs.Index.{keptEvents, recordAt, firsts, recordCount, recordsOf, spacingOk, sourceOf}
 use Rattle.index_records.specs.{InRange.recordInRange, InRange.recordsInRange, InRange.indexInRange, Judge.isOther, JudgeLaws.last-passes}
-use Rattle.index_build.specs.Open.{spaced, count-within, kept-inside}
+use Rattle.index_build.specs.Open.{spaced, aligned, count-within, kept-inside}
 use Rattle.slice_rules.specs.Slice.{startingAt, sizeOf, firstOf, endOf, indexEvents, isDuring, eventsUntil, timeEvents, sliceCheck}
 use Rattle.slice_rules.specs.Times.{natural, before-natural, during-natural, timeWindow, time-over}
 
@@ -58,8 +58,8 @@ starting p g f (suc n) es h a b = rw (firsts-up f (suc n)) (last-passes (λ c. g
 
 -- ---- events that count
 
--- in chunks of 4 bytes
-kept-split : (size : SensorSize) (e : Encoding) (k : ℕ) (a b : List ℕ) → length a ≡ k * 4
+-- behind a whole number of words
+kept-split : (size : SensorSize) (e : Encoding) (k : ℕ) (a b : List ℕ) → length a ≡ k * wordSize (freshC e)
     → keptEvents size e (a ++ b) ≡ keptEvents size e a ++ kept size (eventsFrom (codecAfter (freshC e) a) b)
 kept-split Unknown e k a b h = events-append (freshC e) k a b h
 kept-split (Known w d) e k a b h =
@@ -141,17 +141,9 @@ in-range-by s offset count time c a b d f g h k m =
     )
 
 same-encoding : (e : Encoding) (l : List ℕ) → isOther (codecAfter (freshC e) l) e ≡ false
-same-encoding Evt2 l = refl
-same-encoding Evt3 l = refl
-
--- words in 4 bytes
-abbrev perFour : Encoding → ℕ
-perFour Evt2 = 1
-perFour Evt3 = 2
-
-whole-words : (e : Encoding) (k : ℕ) (a b : List ℕ) → length a ≡ k * 4 → Whole a b (k * perFour e) (freshC e)
-whole-words Evt2 k a b h = omega arith
-whole-words Evt3 k a b h = omega arith
+same-encoding e l =
+    let is : encodingOf (codecAfter (freshC e) l) ≡ e = encoding-after (freshC e) l ∙ encoding-fresh e in
+    ap not (eq-eqb _ (encodingNumber e) (ap encodingNumber is))
 
 module _ (size : SensorSize) (e : Encoding) (start spacing : ℕ) (l : List ℕ) (within : start ≤ length l) (long : length l ≤ 2 ^ 30)
     (allowed : spacingOk e spacing ≡ true) where
@@ -188,14 +180,18 @@ module _ (size : SensorSize) (e : Encoding) (start spacing : ℕ) (l : List ℕ)
     front-long : length (front j) ≡ j * spacing
     front-long = length-take-le (j * spacing) body front-within
 
-    front-fours : length (front j) ≡ (j * (spacing / 4)) * 4
-    front-fours = front-long ∙ ap (λ (n : ℕ). j * n) (spaced e spacing allowed .fours) ∙ sym (mul-assoc j (spacing / 4) 4)
+    abbrev words : ℕ
+    words = j * (spacing / wordSize (freshC e))
+
+    front-words : length (front j) ≡ words * wordSize (freshC e)
+    front-words =
+        front-long ∙ ap (λ (n : ℕ). j * n) (aligned e spacing allowed) ∙ sym (mul-assoc j (spacing / wordSize (freshC e)) (wordSize (freshC e)))
 
     body-split : front j ++ drop (start + j * spacing) l ≡ body
     body-split = ap (λ (b : List ℕ). front j ++ b) (sym (drop-drop (j * spacing) start l)) ∙ take-append-drop (j * spacing) body
 
     events-split : es ≡ seen j ++ kept size (onward j)
-    events-split = ap (keptEvents size e) (sym body-split) ∙ kept-split size e (j * (spacing / 4)) (front j) (drop (start + j * spacing) l) front-fours
+    events-split = ap (keptEvents size e) (sym body-split) ∙ kept-split size e words (front j) (drop (start + j * spacing) l) front-words
 
     seen-few : length (seen j) ≤ 2 ^ 33
     seen-few =
@@ -214,7 +210,7 @@ module _ (size : SensorSize) (e : Encoding) (start spacing : ℕ) (l : List ℕ)
     seen-next : seen (suc j) ≡ seen j ++ between
     seen-next =
         ap (λ (n : ℕ). keptEvents size e (take n body)) (suc-mul j spacing) ∙ ap (keptEvents size e) (take-add (j * spacing) spacing body)
-        ∙ kept-split size e (j * (spacing / 4)) (front j) (take spacing (drop (j * spacing) body)) front-fours
+        ∙ kept-split size e words (front j) (take spacing (drop (j * spacing) body)) front-words
 
     counts-rise : length (seen j) ≤ length (seen (suc j))
     counts-rise = omega (arith, ap length seen-next, length-append (seen j) between)
@@ -300,7 +296,7 @@ module _ (size : SensorSize) (e : Encoding) (start spacing : ℕ) (l : List ℕ)
         let front-sized : kept (sizeOf source) (eventsFrom (freshC e) (front j)) ≡ seen j
         = kept-derived size es (eventsFrom (freshC e) (front j)) (all-first (Held size es) es (seen j) (kept size (onward j)) (events-split j lt)) in
         time-over (source .width) (source .height) 0 0 t0 t1 (codecAfter (freshC e) (front j)) rest
-        ∙ time-from (front j) rest (j * (spacing / 4) * perFour e) window (freshC e) (whole-words e (j * (spacing / 4)) (front j) rest (front-fours j lt))
+        ∙ time-from (front j) rest (words j lt) window (freshC e) (front-words j lt)
         (rw front-sized early) (rw (body-split j lt) past)
         ∙ ap (λ (b : List ℕ). sift (isTimely window) (numberedOver window (freshC e) b)) (body-split j lt)
         ∙ ap (sift (isTimely window)) sized-all ∙ ap (λ (f : Event → Bool). sift f es) (sym (during-natural t0 t1))

@@ -1,9 +1,10 @@
 -- The parts of a slice come to what specs/Slice.antt defines.
-use mathlib.Core.Path.{_≡_, refl, sym, ap, _∙_}
+use mathlib.Core.Path.{_≡_, refl, sym, ap, subst, _∙_}
 use mathlib.Core.Bool.{Bool, true, false, cond, true≢false}
 use mathlib.Core.List.{List, [], _∷_}
 use Prim.Native.Nat.{ℕ, _+_, _-_, _*_, _≤_, _<_, _^_, min}
 use native.Mathlib.Omega.{arith}
+use native.Mathlib.Nat.{mul-comm}
 use lib.Dec.{leb, ltb}
 use lib.IntN.{ℤ}
 use lib.Signed.{ltZ}
@@ -12,13 +13,12 @@ use borrow.Author.Tests.{leb-true, leb-false, ltb-false, lt-ltb, le-ltb}
 use Rattle.laws_stream.specs.{Slice.sift, Select.byNumber, Part.rest-of}
 use Rattle.laws_stream.specs.Select as Select
 use Rattle.evt_types.specs.declared.Refusal.the-variants.{InvalidSensorSize, TooLong, ColumnsTooShort, InvalidSpacing, StateOutOfRange}
-use Rattle.evt_codec.specs.declared.{codec.Codec.Codec, codec.Codec.the-variants.Evt2, codec.Codec.the-variants.Evt3}
-use Rattle.evt_codec.specs.Codec.{eventsFrom}
+use Rattle.evt_codec.specs.{declared.codec.Codec.Codec, Reader.view, Codec.eventsFrom, Sound.sound, Sound.able-range}
 use Rattle.evt_types.specs.{Event.Event, Num.mostBytes, Outcome.Outcome, Outcome.refuse, Outcome.give, Outcome.onOutcome, Outcome.given-if}
 use Rattle.evt_types.specs.{Outcome.given-unless, declared.Refusal.Refusal}
 use Rattle.header.specs.Header.{hasZero}
 use Rattle.read_window.specs.declared.Window.{Window}
-use Rattle.read_select.specs.{Pass.Ready, Pass.Able, Uses.able-range, Uses.numberedOver, Uses.over-by-number, Uses.over-by-time}
+use Rattle.read_select.specs.{Pass.Ready, Pass.Able, Uses.numberedOver, Uses.over-by-number, Uses.over-by-time}
 use Rattle.read_rules.specs.Read.{kept}
 use Rattle.read_capacity.specs.declared.{Delivered.Delivered, Delivered.the-variants.Written, Delivered.the-variants.Needed}
 use Rattle.read_capacity.specs.{Deliver.shortest, Deliver.Handed, Deliver.Delivers, Deliver.mostFrom, Laws.numbered-most, Laws.handed-none}
@@ -32,8 +32,7 @@ use Rattle.slice_rules.specs.Slice.{sliceCheck, roomOutcome, sliceOutcom
 use Rattle.slice_rules.specs.From.{numberWindow, askedByNumber, askedByTime, passedFrom, answerOf, startOf, SlicesFrom, Startable}
 
 most-small : (c : Codec) (n : ℕ) → mostFrom c n ≤ 6 * n
-most-small (Evt2 d) n = omega arith
-most-small (Evt3 d) n = omega arith
+most-small c n = subst (λ (k : ℕ). k ≤ 6 * n) (mul-comm (view c .reader .most) _) (sound c .spread n)
 
 -- ---- an outcome's promises
 

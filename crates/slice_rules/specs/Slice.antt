@@ -7,15 +7,12 @@ use lib.Dec.{leb, ltb}
 use lib.IntN.{ℤ, pos}
 use lib.ListN.{length, drop}
 use lib.Signed.{leZ, ltZ}
-use Rattle.evt_types.specs.{Layout.wordSize2, Layout.wordSize3, declared.SensorSize.SensorSize, declared.SensorSize.the-variants.Known, Event.Event}
+use Rattle.evt_types.specs.{declared.SensorSize.SensorSize, declared.SensorSize.the-variants.Known, Event.Event}
 use Rattle.evt_types.specs.{Num.mostBytes, Outcome.Outcome, Outcome.refuse, Outcome.give, Outcome.onOutcome, Outcome.verdict, Outcome.handedBy}
 use Rattle.evt_types.specs.{Told.Told, Told.told, Told.accepted}
 use Rattle.laws_stream.specs.{Machine.emits, Select.byNumber, Slice.sift, Slice.until, Words.wordsOf}
 use Rattle.evt_types.specs.declared.Refusal.the-variants.{InvalidSensorSize, TooLong, ColumnsTooShort, InvalidSpacing, StateOutOfRange}
-use Rattle.evt_codec.specs.declared.{codec.Codec.Codec, codec.Codec.the-variants.Evt2, codec.Codec.the-variants.Evt3}
-use Rattle.evt_codec.specs.Codec.{eventsFrom}
-use Rattle.evt2_decoder.specs.Evt2.{reader2}
-use Rattle.evt3_decoder.specs.Evt3.{reader3}
+use Rattle.evt_codec.specs.{declared.codec.Codec.Codec, Reader.view, Codec.eventsFrom}
 use Rattle.header.specs.Header.{hasZero}
 use Rattle.read_rules.specs.Read.{kept, shortest, Handed}
 use Rattle.index_build.specs.{declared.Checkpoint.Checkpoint, declared.RawSliceSource.RawSliceSource, Index.spacingOk}
@@ -59,8 +56,9 @@ isAt t1 started time = started && leZ t1 (pos time)
 
 -- the events of the words up to the first after which the decoder is started and its time is t1 or more, that word's too
 abbrev pub eventsUntil : ℤ → Codec → List ℕ → List Event
-eventsUntil t1 (Evt2 d) l = emits reader2 d (until reader2 (λ d. isAt t1 (d .initialised) (d .time)) d (wordsOf wordSize2 l))
-eventsUntil t1 (Evt3 d) l = emits reader3 d (until reader3 (λ d. isAt t1 (d .initialised) (d .time)) d (wordsOf wordSize3 l))
+eventsUntil t1 c l =
+    let R = view c .reader in
+    emits (R .machine) (view c .state) (until (R .machine) (λ s. isAt t1 (R .started s) (R .time s)) (view c .state) (wordsOf (R .size) l))
 
 -- from the last record whose time is below t0; kept are those with t0 ≤ t < t1
 unfoldable pub timeEvents : List ℕ → RawSliceSource → List Checkpoint → (t0 t1 : ℤ) → List Event

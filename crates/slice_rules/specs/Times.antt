@@ -8,11 +8,9 @@ use lib.Dec.{leb, ltb, leb·zero}
 use lib.IntN.{ℤ, pos, negsuc}
 use lib.Signed.{leZ, ltZ}
 use borrow.Author.Tests.{le-ltb}
-use Rattle.evt_types.specs.{Layout.wordSize2, Layout.wordSize3, declared.SensorSize.the-variants.Known}
+use Rattle.evt_types.specs.declared.SensorSize.the-variants.{Known}
 use Rattle.laws_stream.specs.{Machine.emits, Slice.sift, Slice.until, Slice.within, Words.wordsOf}
-use Rattle.evt_codec.specs.declared.{codec.Codec.Codec, codec.Codec.the-variants.Evt2, codec.Codec.the-variants.Evt3}
-use Rattle.evt2_decoder.specs.Evt2.{reader2}
-use Rattle.evt3_decoder.specs.Evt3.{reader3}
+use Rattle.evt_codec.specs.{declared.codec.Codec.Codec, Reader.view}
 use Rattle.read_columns.specs.Inside.{inside, clock}
 pub use Rattle.evt_types.specs.Num.{natural}
 use Rattle.read_window.specs.declared.Window.{Window}
@@ -41,7 +39,7 @@ module _ (w h n0 n1 : ℕ) (t0 t1 : ℤ) where
 
   pub time-over : (c : Codec) (l : List ℕ)
       → sift (isDuring t0 t1) (kept (Known w h) (eventsUntil t1 c l)) ≡ sift (isTimely timeWindow) (untilOver timeWindow c l)
-  time-over (Evt2 d) l = λ i. sift (during-natural t0 t1 i)
-      (sift (inside w h) (emits reader2 d (until reader2 (λ d. at-natural t1 i (d .initialised) (d .time)) d (wordsOf wordSize2 l))))
-  time-over (Evt3 d) l = λ i. sift (during-natural t0 t1 i)
-      (sift (inside w h) (emits reader3 d (until reader3 (λ d. at-natural t1 i (d .initialised) (d .time)) d (wordsOf wordSize3 l))))
+  time-over c l =
+      let R = view c .reader in
+      λ i. sift (during-natural t0 t1 i) (sift (inside w h) (emits (R .machine) (view c .state)
+      (until (R .machine) (λ s. at-natural t1 i (R .started s) (R .time s)) (view c .state) (wordsOf (R .size) l))))

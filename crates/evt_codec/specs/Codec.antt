@@ -88,6 +88,10 @@ pub encoding-fresh : (e : Encoding) → encodingOf (freshC e) ≡ e
 encoding-fresh E.Evt2 = refl
 encoding-fresh E.Evt3 = refl
 
+-- by the encoding
+pub view-of : (e : Encoding) (s : readerOf e .State) → _≡_ {A = View} (view (readerOf e .codec s)) (record { reader = readerOf e; state = s })
+view-of E.Evt2 s = refl
+view-of E.Evt3 s = refl
+
 pub view-fresh : (e : Encoding) → _≡_ {A = View} (view (freshC e)) (record { reader = readerOf e; state = readerOf e .fresh })
-view-fresh E.Evt2 = refl
-view-fresh E.Evt3 = refl
+view-fresh e = view-of e (readerOf e .fresh)

@@ -19,8 +19,9 @@ use Rattle.read_select.specs.Uses.{PastOver}
 use Rattle.write_buffer.specs.{declared.EncoderState.EncoderState, Sent.freshState}
 use Rattle.write_words.specs.{Encode.encodeNotes, Encode.encodeState, Encode.encodeSize, Encode.encodeBytes, Laws.encode-notes}
 use Rattle.laws_formats.specs.Ready.{limit, sayable, sayable-true}
-use Rattle.laws_formats.specs.Either.{StateOf, codecOf, freshOf, readerOf, appender, ReadyOf, AgreeOf, formatOf, lawfulOf, events-are, fresh-ready}
-use Rattle.laws_formats.specs.Either.{isStarted, clockTime, ready-ahead, past-over}
+use Rattle.laws_formats.specs.Either.{StateOf, codecOf, freshOf, appender, ReadyOf, AgreeOf, formatOf, lawfulOf, events-are, fresh-ready}
+use Rattle.laws_formats.specs.Either.{ready-ahead, past-over}
+use Rattle.evt_codec.specs.Reader.{readerOf}
 
 -- all the events of some appends
 abbrev pub flat : List (List Event) → List Event
@@ -91,7 +92,7 @@ module _ (e : Encoding) where
 
   -- FROM ANY WRITER that agrees with the decoder, which is ready for the events; they agree after it
   pub sent-understood : (d : StateOf e) (v : EncoderState) (gs : List (List Event)) → AgreeOf e v d → ReadyOf e d (flat gs)
-      → Understood d (appendNotes e v gs) × AgreeOf e (run (appender e) v gs) (run (readerOf e) d (words (appendNotes e v gs)))
+      → Understood d (appendNotes e v gs) × AgreeOf e (run (appender e) v gs) (run (readerOf e .machine) d (words (appendNotes e v gs)))
   sent-understood d v gs agree ready = writes (formatOf e) (lawfulOf e) v d gs [] (valid gs) agree (rw (append-nil, given-all) ready)
 
   -- FROM A FRESH WRITER to a fresh decoder
@@ -115,7 +116,7 @@ module _ (e : Encoding) where
     pub whole-past : (win : Window) → PastOver win (codecOf e d) (noteBytes e ns)
     whole-past win =
         past-over e win d (noteBytes e ns)
-        (good-timed (formatOf e) (lawfulOf e) (isStarted e) (clockTime e) clock (λ d es rd l. ready-ahead e d es rd) (win .t0) (win .t1) d ns understood)
+        (good-timed (formatOf e) (lawfulOf e) (readerOf e .started) (readerOf e .time) clock (λ d es rd l. ready-ahead e d es rd) (win .t0) (win .t1) d ns understood)
 
     -- THE CUT: of the first c bytes, the events whose words lie whole within them
     pub cut-events : (c : ℕ) → eventsFrom (codecOf e d) (take c (noteBytes e ns)) ≡ notes (take (c / encodeSize e) ns)
@@ -124,4 +125,4 @@ module _ (e : Encoding) where
     pub cut-past : (c : ℕ) (win : Window) → PastOver win (codecOf e d) (take c (noteBytes e ns))
     cut-past c win =
         past-over e win d (take c (noteBytes e ns))
-        (cut-timed (formatOf e) (lawfulOf e) (isStarted e) (clockTime e) clock (λ d es rd l. ready-ahead e d es rd) (win .t0) (win .t1) d ns understood c)
+        (cut-timed (formatOf e) (lawfulOf e) (readerOf e .started) (readerOf e .time) clock (λ d es rd l. ready-ahead e d es rd) (win .t0) (win .t1) d ns understood c)

@@ -31,8 +31,7 @@ use lib.ListN.{length, take, drop, replicate, length-replicate}
 use Rattle.laws_stream.specs.{Machine.Machine, Machine.Note, Machine.All, Machine.words, Machine.notes, Slice.sift, Words.stream}
 use Rattle.evt_types.specs.{Event.Event, Outcome.Outcome, Layout.type2, Layout.type3, declared.SensorSize.SensorSize}
 use Rattle.evt_types.specs.{declared.SensorSize.the-variants.Known, declared.SensorSize.the-variants.Unknown}
-use Rattle.evt2_decoder.specs.Evt2.{fresh2, reader2}
-use Rattle.evt3_decoder.specs.Evt3.{fresh3, reader3}
+use Rattle.evt_codec.specs.Reader.{readerOf}
 use Rattle.evt_types.specs.declared.{Encoding.Encoding, Encoding.the-variants.Evt2, Encoding.the-variants.Evt3, Limit.the-variants.Unlimited}
 use Rattle.write_buffer.specs.Columns.{eventsIn}
 use Rattle.write_words.specs.Encode.{encodeNotes, encodeSize}
@@ -136,8 +135,7 @@ givenAlong M d [] = Unit
 givenAlong M d (w ∷ ws) = (M .emit d (w .word) ≡ w .events) × givenAlong M (M .step d (w .word)) ws
 
 abbrev pub GivenAt : Encoding → List (Note ℕ Event) → Type 0
-GivenAt Evt2 ws = givenAlong reader2 fresh2 ws
-GivenAt Evt3 ws = givenAlong reader3 fresh3 ws
+GivenAt e ws = givenAlong (readerOf e .machine) (readerOf e .fresh) ws
 
 -- ---- the cut, and the joined stream
 

@@ -12,16 +12,15 @@ use Rattle.laws_stream.specs.Machine.{Machine, Note, Says, All, all-append, all
 use Rattle.laws_stream.specs.{Order.Rise, Slice.sift-all}
 use Rattle.evt_types.specs.Event.{Event}
 use Rattle.evt_codec.specs.Codec.{eventsFrom}
-use Rattle.evt_types.specs.declared.{Encoding.Encoding, Encoding.the-variants.Evt2, Encoding.the-variants.Evt3}
-use Rattle.evt2_decoder.specs.Evt2.{fresh2, reader2}
-use Rattle.evt3_decoder.specs.Evt3.{fresh3, reader3}
+use Rattle.evt_types.specs.declared.Encoding.{Encoding}
+use Rattle.evt_codec.specs.Reader.{readerOf}
 use Rattle.header.specs.Header.{hasZero}
 use Rattle.read_columns.specs.Inside.{clock, inside}
 use Rattle.read_window.specs.declared.Window.{Window}
 use Rattle.read_select.specs.Uses.{PastOver}
 use Rattle.write_words.specs.Encode.{encodeSize}
 use Rattle.write_rules.specs.{declared.RawEventSink.RawEventSink, Rules.freshSink}
-use Rattle.laws_formats.specs.{Ready.limit, Ready.sayable, Either.codecOf, Either.freshOf, Either.lawfulOf, Either.fresh-is}
+use Rattle.laws_formats.specs.{Ready.limit, Ready.sayable, Either.codecOf, Either.freshOf, Either.lawfulOf}
 use Rattle.laws_formats.specs.Appends.{noteBytes, rise-inside, Understood, resumed-understood, resumed-bytes, whole-events, whole-past, cut-events, cut-past}
 use Rattle.laws_handover.specs.Handover.{Call, acceptedEvents, streamOf, streamWords, fresh, Front, bare, frontBytes, startOf, beforeCut, whole, others}
 use Rattle.laws_handover.specs.Handover.{joined, Typed, givenAlong, GivenAt, Suits, widest, Exact, Claim, DemandThree}
@@ -47,8 +46,7 @@ given-along M Fit Ready d [] more p = tt
 given-along M Fit Ready d (w ∷ ws) more p = (p .says, given-along M Fit Ready (M .step d (w .word)) ws more (p .rest))
 
 given-at : (e : Encoding) (ws : List (Note ℕ Event)) → Understood e (freshOf e) ws → GivenAt e ws
-given-at Evt2 ws u = given-along reader2 _ _ fresh2 ws [] u
-given-at Evt3 ws u = given-along reader3 _ _ fresh3 ws [] u
+given-at e ws u = given-along (readerOf e .machine) _ _ (readerOf e .fresh) ws [] u
 
 module _ (e : Encoding) where
   sized : 0 < encodeSize e
@@ -91,7 +89,7 @@ module _ (e : Encoding) where
 
     read : (body : List ℕ) (es : List Event) → eventsFrom (codecOf e (freshOf e)) body ≡ es
         → ((win : Window) → PastOver win (codecOf e (freshOf e)) body) → Exact e f (front ++ body) es
-    read body es h p = exact e body es (rw (fresh-is e) h) (rw (fresh-is e) p) f
+    read body es h p = exact e body es h p f
 
     module _ (bytes : List ℕ) (ws : List (Note ℕ Event)) (es : List Event) (s : Sent e f bytes ws es) where
       -- all of it, and before a cut

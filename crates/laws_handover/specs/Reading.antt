@@ -20,7 +20,7 @@ use Rattle.read_rules.specs.Read.{wordsOutcome, rawOutcome, bodyOutcome, bodyEv
 use Rattle.index_build.specs.declared.RawSliceSource.{RawSliceSource}
 use Rattle.index_build.specs.Index.{keptEvents, bodyAt, indexOutcome, openWordsOutcome, openRawOutcome}
 use Rattle.slice_rules.specs.{declared.SliceAnswer.SliceAnswer, Slice.sliceCheck, Slice.sliceOutcome, Slice.SlicesFrom}
-use Rattle.slice.specs.Opened.{OpenedAs, opened-body, opened-rules, opened-number, opened-time}
+use Rattle.slice.specs.{Own.ownWindow, Opened.OpenedAs, Opened.opened-body, Opened.opened-rules, Opened.opened-number, Opened.opened-time}
 use Rattle.laws_handover.specs.Handover.{Front, bare, headed, frontBytes, Way, asWords, asRecording, encodingBy, sizeBy, startBy, readBy, openBy}
 use Rattle.laws_handover.specs.Handover.{Suits, Gives, readingAs, Decodes, recordsBy, openingAs, Indexes, Reads, Exact}
 
@@ -108,7 +108,8 @@ module _ (way : Way) (bytes : List ℕ) (comes : Comes way bytes) where
           let passes = opened-rules bytes start e size spacing opening records is in (
             o .is-answer,
             (λ i0 i1. slice-gives bytes (opening .source) _ passes _ _ (opened-number bytes start e size spacing opening records is i0 i1)),
-            (λ t0 t1. slice-gives bytes (opening .source) _ passes _ _ (opened-time bytes start e size spacing opening records is t0 t1 (past _))),
+            (λ t0 t1. slice-gives bytes (opening .source) _ passes _ _
+                (opened-time bytes start e size spacing opening records is t0 t1 (past (ownWindow size e start bytes t0 t1)))),
           )
 
 -- THE WORDS BEHIND A FRONT, whose events are es

@@ -12,9 +12,8 @@ use Rattle.read_columns.specs.Inside.{inside, clock}
 use Rattle.read_window.specs.{declared.Window.Window, Window.selectionOf}
 use Rattle.read_select.specs.{Pass.readingBy, Uses.isTimely, Uses.PastOver}
 use Rattle.index_build.specs.declared.{Checkpoint.Checkpoint, Opening.Opening}
-use Rattle.read_rules.specs.Read.{widthOf, heightOf}
-use Rattle.slice_rules.specs.{Slice.isDuring, Slice.timeEvents, Times.timeWindow}
-use Rattle.slice.specs.{Own.ownEvents, Opened.OpenedAs, Opened.opened-time}
+use Rattle.slice_rules.specs.Slice.{isDuring, timeEvents}
+use Rattle.slice.specs.{Own.ownEvents, Own.ownWindow, Opened.OpenedAs, Opened.opened-time}
 
 -- once started, the decoder's time never falls from word to word
 abbrev pub TimesRise : Codec → List ℕ → Type 0
@@ -34,6 +33,4 @@ pub during-all : (l : List ℕ) (start : ℕ) (e : Encoding) (size : SensorSize)
     (w : OpenedAs l start e size spacing o records) → TimesRise (freshC e) (drop start l) → (t0 t1 : ℤ)
     → timeEvents l (o .source) (take (o .records) records) t0 t1 ≡ sift (isDuring t0 t1) (ownEvents size e start l)
 during-all l start e size spacing o records w r t0 t1 =
-    let es = ownEvents size e start l in
-    opened-time l start e size spacing o records w t0 t1
-    (past-rising (timeWindow (widthOf size es) (heightOf size es) 0 0 t0 t1) (freshC e) (drop start l) r)
+    opened-time l start e size spacing o records w t0 t1 (past-rising (ownWindow size e start l t0 t1) (freshC e) (drop start l) r)

@@ -119,10 +119,13 @@ abbrev pub ownRecords : SensorSize → Encoding → (start spacing : ℕ) → Li
 ownRecords size e start spacing l = recordsOf size e start spacing (drop start l)
 
 -- no event that is in time follows the first word after which the decoder is started and its time is t1 or more
-abbrev pub OwnPast : SensorSize → Encoding → (start : ℕ) → List ℕ → (t0 t1 : ℤ) → Type 0
-OwnPast size e start l t0 t1 =
+abbrev pub ownWindow : SensorSize → Encoding → (start : ℕ) → List ℕ → (t0 t1 : ℤ) → Window
+ownWindow size e start l t0 t1 =
     let es = ownEvents size e start l in
-    PastOver (timeWindow (widthOf size es) (heightOf size es) 0 0 t0 t1) (freshC e) (drop start l)
+    timeWindow (widthOf size es) (heightOf size es) 0 0 t0 t1
+
+abbrev pub OwnPast : SensorSize → Encoding → (start : ℕ) → List ℕ → (t0 t1 : ℤ) → Type 0
+OwnPast size e start l t0 t1 = PastOver (ownWindow size e start l t0 t1) (freshC e) (drop start l)
 
 in-range-by : (s : RawSliceSource) (offset count : ℕ) (time : ℤ) (c : Checkpoint) → offset < 2 ^ 64 → c .«byte_offset» ≡ offset
     → isOther (c .codec) (s .encoding) ≡ false → inRangeC (c .codec) ≡ true

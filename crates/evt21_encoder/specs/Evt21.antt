@@ -1,20 +1,21 @@
 -- EVT 2.1: the words that a writer sends of a run of events in one block of 32 columns.
-use mathlib.Core.Path.{_≡_, refl, ap, _∙_}
+use mathlib.Core.Path.{_≡_, refl, ap}
 use mathlib.Core.Bool.{Bool, true, false, _&&_}
-use mathlib.Core.List.{List, [], _∷_, _++_, append-nil, map}
-use Prim.Native.Nat.{ℕ, suc, _+_, _*_, _/_, _%_, _^_, _≤_, _<_, min}
+use mathlib.Core.List.{List, [], _∷_, _++_, append-nil}
+use Prim.Native.Nat.{ℕ, suc, _+_, _*_, _/_, _%_, _^_, _≤_, _<_}
 use native.Mathlib.Omega.{arith}
 use lib.Dec.{eqb, ltb}
 use lib.ListN.{length, length-map}
 use borrow.Author.Tests.{eqb-true, ltb-true}
 use Rattle.laws_stream.specs.Machine.{Machine, Note, All, and-both, words, notes}
-use Rattle.laws_stream.specs.{Mask.Inc, Mask.mask, Mask.bits, Mask.bits-mask, Mask.mask-lt, Words.Fits}
-use Rattle.evt_types.specs.{Event.Event, Event.eventAt, Event.eventsOf, Layout.wordSize21, Layout.grain2, Layout.eventWord21, Layout.timeWord21}
+use Rattle.laws_stream.specs.{Mask.Inc, Mask.mask, Mask.mask-lt, Words.Fits}
+use Rattle.evt_types.specs.{Event.Event, Event.eventsOf, Layout.wordSize21, Layout.grain2, Layout.eventWord21, Layout.timeWord21}
 use Rattle.evt_types.specs.{Layout.event-fits2, Layout.built-fits, declared.vector.Vector.Vector}
 use Rattle.write_buffer.specs.{declared.EncoderState.EncoderState, Columns.event, Sent.due}
 use Rattle.write_buffer.specs.{Due.bothBytes, Due.both-is, Due.both-few, Storing.piece, Storing.bytesFrom, Emits.emits-few}
 use Rattle.evt2_encoder.specs.Evt2.{highSent2, encoded2}
-use Rattle.evt3_run_rules.specs.Runs.{Run, firstX, firstOf, spread, given, givenBy, runsBy, runsBy-are, inc-from}
+use Rattle.evt3_run_rules.specs.Runs.{Run, firstX, firstOf, given, givenBy, runsBy, runsBy-are, inc-from}
+use Rattle.evt3_run_rules.specs.Vectors.{mask-events}
 
 -- the first column of the block of 32 that x is in
 abbrev pub blockOf : (x : ℕ) → ℕ
@@ -79,28 +80,16 @@ block-cons x xs q b =
 pub runs-are21 : (es : List Event) → All Valid21 (runs21 es) × (givenBy (runs21 es) ≡ es)
 runs-are21 = runsBy-are next21 Block block-single block-cons
 
-module _ {xs : List ℕ} (b : Block xs) where
-  pub mask-small21 : maskOf xs < 2 ^ 32
-  mask-small21 = mask-lt 32 (blockOf (firstX xs)) _ (blockOf (firstX xs)) xs (omega arith) (omega arith) (b .rises)
-
-  pub mask-columns21 : bits 32 (blockOf (firstX xs)) (maskOf xs) ≡ xs
-  mask-columns21 = bits-mask 32 (blockOf (firstX xs)) _ (blockOf (firstX xs)) xs (omega arith) (omega arith) (b .rises)
+pub mask-small21 : {xs : List ℕ} → Block xs → maskOf xs < 2 ^ 32
+mask-small21 {xs} b = mask-lt 32 (blockOf (firstX xs)) _ (blockOf (firstX xs)) xs (omega arith) (omega arith) (b .rises)
 
 -- a run as the vector that its word holds
 abbrev pub vectorOf21 : Run → Vector
 vectorOf21 r = record { x = blockOf (firstX (r .xs)); y = r .y; t = r .t; p = r .p; mask = maskOf (r .xs) }
 
-spread-min : (v : Vector) (at to : ℕ) (xs : List ℕ) → to ≤ 65536 → Inc at to xs → map (eventAt v) xs ≡ spread (v .t) (v .y) (v .p) xs
-spread-min v at to [] h i = refl
-spread-min v at to (x ∷ xs) h i =
-    let e : min x 65535 ≡ x = omega (arith, i .1) in
-    rw e (ap {B = List Event} (λ (l : List Event). event x (v .y) (v .t) (v .p) ∷ l) (spread-min v (suc x) to xs h (i .2)))
-
 -- has the run's events
 pub vector-events21 : (r : Run) → Valid21 r → firstX (r .xs) < 2 ^ 16 → eventsOf (vectorOf21 r) ≡ given r
-vector-events21 r b h =
-    let at = blockOf (firstX (r .xs)) in
-    ap (map (eventAt (vectorOf21 r))) (mask-columns21 b) ∙ spread-min (vectorOf21 r) at (at + 32) (r .xs) (omega arith) (b .rises)
+vector-events21 r b h = mask-events 32 (vectorOf21 r) (r .xs) (omega arith) (omega arith) refl (b .rises)
 
 -- the words of a run carry its events
 pub encode-notes21 : (v : EncoderState) (r : Run) → notes (encode21 v r) ≡ given r

@@ -1,23 +1,22 @@
 -- EVT 2.1: the loop over the events. The word of a run is stored at each of its events, with a bit more in the mask each time.
 use mathlib.Core.Path.{_≡_, refl, sym, ap, _∙_}
-use mathlib.Core.Bool.{Bool, true, false, cond, true≢false}
+use mathlib.Core.Bool.{Bool, true, false, cond}
 use mathlib.Core.List.{List, [], _∷_, _++_, append-assoc, map}
-use Prim.Native.Nat.{ℕ, zero, suc, _+_, _-_, _*_, _/_, _%_, _^_, _≤_, _<_}
+use Prim.Native.Nat.{ℕ, suc, _+_, _-_, _*_, _/_, _%_, _^_, _≤_, _<_}
 use native.Mathlib.Omega.{arith}
 use native.Mathlib.Nat.{add-zero, zero-add, pow-le-pow-right}
-use native.Mathlib.Numerals.{add-one}
 use lib.Dec.{eqb, ltb}
-use lib.IntN.{ℤ, pos}
-use lib.ListN.{length, getD, take, drop, length-append}
+use lib.IntN.{ℤ}
+use lib.ListN.{length, take, drop}
 use lib.Pow.{pow-pos}
 use lib.Seq.{sets}
 use borrow.Author.Tests.{eqb-true, eq-eqb, ltb-true, ltb-false}
-use Rattle.laws_stream.specs.{Machine.run, Machine.and-both, Mask.mask, Words.bytes, Words.length-bytes, Columns.sets-append}
-use Rattle.evt_types.specs.{Event.Event, Layout.wordSize21, Layout.grain2, Columns.colX, Num.natural}
+use Rattle.laws_stream.specs.{Machine.run, Machine.and-both, Mask.mask, Words.bytes, Columns.sets-append}
+use Rattle.evt_types.specs.{Event.Event, Layout.wordSize21, Layout.grain2, Columns.colX}
 use Rattle.write_buffer.specs.declared.{EncoderState.EncoderState, Put.Put}
 use Rattle.write_buffer.specs.{Columns.Sized, Columns.eventsIn, Columns.eventsPast, Columns.eventOf, Columns.events-at, Columns.events-end}
 use Rattle.write_buffer.specs.{Sent.sentNumber, Sent.number-is, Sent.state-some, Due.dueBytes, Due.bothBytes, Due.both-length, Due.both-few}
-use Rattle.write_buffer.specs.Storing.{Roomy, sets-over, bytesFrom, bytes-cons, Storing, storing-start, storing-iteration, storing-over, storing-room, storing-end}
+use Rattle.write_buffer.specs.Storing.{Roomy, bytesFrom, bytes-cons, Storing, storing-start, storing-iteration, storing-over, storing-room, storing-end}
 use Rattle.evt2_encoder.specs.Evt2.{highSent2, stateOf2, encoded2, writer2}
 use Rattle.evt2_encoder.specs.Pass2.{Fit2, Fitting2, Within2, eventAt2, stateAt2, state-step2}
 use Rattle.evt3_run_rules.specs.Runs.{Run, firstOf, single, prepend, goesBy, GoesBy, goesBy-true, glueBy, runAt, runsBy-at, followBy, goes}

@@ -285,8 +285,10 @@ module _ {xs ys : List ℕ} {ts : List ℤ} {ps : List ℕ} (sized : Sized xs ys
 
           under-placed : Placed v₀ all at₀ out₀ (eventAt2 xs ys ps i t) m es high place out
           under-placed =
-              rw (et, em, ep) (placed v₀ all at₀ out₀ b a e es (stateAt2 v₀ i high) (sym q) (u .is-high) (state-step2 v₀ i high e) (omega (arith, fitting i .fit-t))
-              (rw (events-at xs ys ts ps sized i h) at (u .closed)) (rw (events-at xs ys ts ps sized i h) at (u .opens)))
+              let next = events-at xs ys ts ps sized i h in
+              rw (et, em, ep)
+              (placed v₀ all at₀ out₀ b a e es (stateAt2 v₀ i high) (sym q) (u .is-high) (state-step2 v₀ i high e) (omega (arith, fitting i .fit-t))
+              (rw next at (u .closed)) (rw next at (u .opens)))
 
           place-le : place ≤ at
           place-le = rw ep (go b)

@@ -56,6 +56,10 @@ module _ (size : ℕ) where
     pub both-few : length (bothBytes b w next) ≤ size + size
     both-few = omega (arith, both-length, due-few b w)
 
+    -- both have room
+    pub room-due : (out : List ℕ) (at : ℕ) → Roomy out at (length (bothBytes b w next)) → Roomy out at size
+    room-due out at r h = omega (arith, r h, both-length)
+
     module _ (out : List ℕ) (at : ℕ) {a : ℕ} (e : a ≡ cond b at (at + size)) where
       after : a ≡ at + length (dueBytes b w)
       after = e ∙ due-is b w at
@@ -65,10 +69,5 @@ module _ (size : ℕ) where
           → (a + size ≡ at + length (bothBytes b w next)) × (o₂ ≡ sets out at (bothBytes b w next))
       both-stored p q = (omega (arith, after, both-length), q ∙ due-next b w out at after p (bytes size next) (omega (arith, length-bytes size next)))
 
-      -- have room
-      module _ (r : Roomy out at (length (bothBytes b w next))) where
-        pub room-due : Roomy out at size
-        room-due h = omega (arith, r h, both-length)
-
-        pub room-next : (o : List ℕ) → length o ≡ length out → Roomy o a size
-        room-next o n h = omega (arith, r (omega (arith, n)), n, after, both-length)
+      pub room-next : (o : List ℕ) → length o ≡ length out → Roomy out at (length (bothBytes b w next)) → Roomy o a size
+      room-next o n r h = omega (arith, r (omega (arith, n)), n, after, both-length)

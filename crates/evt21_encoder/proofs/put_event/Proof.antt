@@ -13,10 +13,8 @@ put64-requires : tie.Need-put64-requires
 put64-requires c κs =
     let s = c .before .before .before .before .before in
     let a = s .args in
-    let past = c .before .before .past .ensures in (
-      omega arith,
-      room-due wordSize21 (eqb (a .high) (a .t / grain2)) (highWord21 (a .t)) (maskedWord21 (event (a .x) (a .y) (a .t) (a .p)) (a .mask)) (now (a .out)) (a .at) past (s .pre .1),
-    )
+    let w = maskedWord21 (event (a .x) (a .y) (a .t) (a .p)) (a .mask) in
+    (omega arith, room-due wordSize21 (eqb (a .high) (a .t / grain2)) (highWord21 (a .t)) w (now (a .out)) (a .at) (s .pre .1))
 
 put64-requires-2 : tie.Need-put64-requires-2
 put64-requires-2 c κs =
@@ -26,8 +24,8 @@ put64-requires-2 c κs =
     let sent = eqb (a .high) (a .t / grain2) in
     let w = maskedWord21 (event (a .x) (a .y) (a .t) (a .p)) (a .mask) in (
       omega (arith, due-place wordSize21 sent (a .at) past),
-      room-next wordSize21 sent (highWord21 (a .t)) w (now (a .out)) (a .at) past (s .pre .1) (c .before .before .before .put64 .last .0)
-          (c .before .before .out .given),
+      room-next wordSize21 sent (highWord21 (a .t)) w (now (a .out)) (a .at) past (c .before .before .before .put64 .last .0)
+          (c .before .before .out .given) (s .pre .1),
     )
 
 add-result : tie.Need-add-result
@@ -42,8 +40,9 @@ returns c =
     let a = b .before .before .before .before .before .before .args in
     let high = rw (b .before .high-word .ensures) at (b .put64 .ensures) in
     let word = rw (b .before .before .before .before .event-word .ensures) at (c .before .before .put642 .ensures) in
-    both-stored wordSize21 (eqb (a .high) (a .t / grain2)) (highWord21 (a .t)) (maskedWord21 (event (a .x) (a .y) (a .t) (a .p)) (a .mask)) (now (a .out)) (a .at)
-    (b .before .before .before .past .ensures) high word
+    let w = maskedWord21 (event (a .x) (a .y) (a .t) (a .p)) (a .mask) in
+    both-stored wordSize21 (eqb (a .high) (a .t / grain2)) (highWord21 (a .t)) w (now (a .out)) (a .at) (b .before .before .before .past .ensures)
+    high word
 
 pub put-event-spec : {M : Type 1} → statement M
 put-event-spec =

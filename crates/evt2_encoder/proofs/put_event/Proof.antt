@@ -13,10 +13,8 @@ put32-requires : tie.Need-put32-requires
 put32-requires c κs =
     let s = c .before .before .before .before .before in
     let a = s .args in
-    let past = c .before .before .past .ensures in (
-      omega arith,
-      room-due wordSize2 (eqb (a .high) (a .t / grain2)) (highWord2 (a .t)) (wordOf2 (event (a .x) (a .y) (a .t) (a .p))) (now (a .out)) (a .at) past (s .pre .1),
-    )
+    let w = wordOf2 (event (a .x) (a .y) (a .t) (a .p)) in
+    (omega arith, room-due wordSize2 (eqb (a .high) (a .t / grain2)) (highWord2 (a .t)) w (now (a .out)) (a .at) (s .pre .1))
 
 put32-requires-2 : tie.Need-put32-requires-2
 put32-requires-2 c κs =
@@ -26,8 +24,8 @@ put32-requires-2 c κs =
     let sent = eqb (a .high) (a .t / grain2) in
     let w = wordOf2 (event (a .x) (a .y) (a .t) (a .p)) in (
       omega (arith, due-place wordSize2 sent (a .at) past),
-      room-next wordSize2 sent (highWord2 (a .t)) w (now (a .out)) (a .at) past (s .pre .1) (c .before .before .before .put32 .last .0)
-          (c .before .before .out .given),
+      room-next wordSize2 sent (highWord2 (a .t)) w (now (a .out)) (a .at) past (c .before .before .before .put32 .last .0)
+          (c .before .before .out .given) (s .pre .1),
     )
 
 add-result : tie.Need-add-result
@@ -42,8 +40,9 @@ returns c =
     let a = b .before .before .before .before .before .before .args in
     let high = rw (b .before .high-word .ensures) at (b .put32 .ensures) in
     let word = rw (b .before .before .before .before .event-word .ensures) at (c .before .before .put322 .ensures) in
-    both-stored wordSize2 (eqb (a .high) (a .t / grain2)) (highWord2 (a .t)) (wordOf2 (event (a .x) (a .y) (a .t) (a .p))) (now (a .out)) (a .at)
-    (b .before .before .before .past .ensures) high word
+    let w = wordOf2 (event (a .x) (a .y) (a .t) (a .p)) in
+    both-stored wordSize2 (eqb (a .high) (a .t / grain2)) (highWord2 (a .t)) w (now (a .out)) (a .at) (b .before .before .before .past .ensures)
+    high word
 
 pub put-event-spec : {M : Type 1} → statement M
 put-event-spec =

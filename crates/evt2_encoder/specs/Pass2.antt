@@ -1,7 +1,7 @@
 -- EVT2: the bytes of an event's words, and the loop over the events.
 use mathlib.Core.Path.{_≡_, refl, sym, ap, _∙_}
-use mathlib.Core.Bool.{Bool, true, false, cond}
-use mathlib.Core.List.{List, [], _∷_, _++_}
+use mathlib.Core.Bool.{Bool}
+use mathlib.Core.List.{List, _∷_}
 use Prim.Native.Nat.{ℕ, zero, suc, _+_, _*_, _/_, _^_, _≤_, _<_}
 use native.Mathlib.Omega.{arith}
 use native.Mathlib.Numerals.{add-one}
@@ -9,13 +9,14 @@ use lib.Dec.{eqb}
 use lib.IntN.{ℤ, pos}
 use lib.ListN.{length, getD}
 use lib.Seq.{sets}
-use Rattle.laws_stream.specs.{Machine.run, Machine.words, Columns.sets-append, Words.stream, Words.bytes}
+use Rattle.laws_stream.specs.Machine.{run}
 use Rattle.evt_types.specs.{Event.Event, Layout.wordSize2, Layout.grain2, Num.natural}
 use Rattle.write_buffer.specs.declared.{EncoderState.EncoderState, Put.Put}
 use Rattle.write_buffer.specs.Columns.{event, Sized, Whole, eventsIn, eventsPast, eventOf, events-at, events-end}
-use Rattle.write_buffer.specs.Sent.{carries, due, stateAt, sentNumber, number-is}
+use Rattle.write_buffer.specs.Due.{bothBytes, both-is, both-few}
+use Rattle.write_buffer.specs.Sent.{carries, stateAt, sentNumber, number-is}
 use Rattle.evt2_encoder.specs.Evt2.{highWord2, wordOf2, highSent2, encode2, stateOf2, encoded2, writer2}
-use Rattle.write_buffer.specs.Storing.{Roomy, sets-over, piece, bytesFrom, Going, going-start, going-iteration, going-room, going-end}
+use Rattle.write_buffer.specs.Storing.{Roomy, piece, bytesFrom, Going, going-start, going-iteration, going-room, going-end}
 
 -- an event whose words cut nothing off: rule 7 refuses every other
 pub record Fit2 (e : Event) : Type 0 where
@@ -47,50 +48,23 @@ stream2 = bytesFrom wordSize2 writer2
 
 -- by whether the high half was sent
 abbrev pub eventBytes2 : (sent : Bool) → Event → List ℕ
-eventBytes2 b e = stream wordSize2 (words (due b (highWord2 (e .t)) ++ (carries (wordOf2 e) e ∷ [])))
+eventBytes2 b e = bothBytes wordSize2 b (highWord2 (e .t)) (wordOf2 e)
 
 abbrev pub passed2 : EncoderState → List Event → ℕ → Put
 passed2 v es at = record { state = run writer2 v es; at = at + length (stream2 v es) }
 
-pub few-event2 : (b : Bool) (e : Event) → length (eventBytes2 b e) ≤ 8
-few-event2 true e = omega arith
-few-event2 false e = omega arith
-
 pub event-bytes2 : (v : EncoderState) (e : Event) → bytes2 v e ≡ eventBytes2 (highSent2 v e) e
 unfolding encode2
-event-bytes2 v e = refl
+event-bytes2 v e = both-is wordSize2 (highSent2 v e) (highWord2 (e .t)) (carries (wordOf2 e) e)
 
 pub few2 : (v : EncoderState) (e : Event) → length (bytes2 v e) ≤ 8
-few2 v e = rw event-bytes2 (few-event2 (highSent2 v e) e)
-
--- both words stored one after the other, the second in the place of the first where that isn't due
-pub stored-event2 : (sent : Bool) (e : Event) (out : List ℕ) {o₁ o₂ : List ℕ} (at : ℕ) {a h w : ℕ} → a ≡ cond sent at (at + wordSize2) → h ≡ highWord2 (e .t)
-    → w ≡ wordOf2 e → o₁ ≡ sets out at (bytes wordSize2 h) → o₂ ≡ sets o₁ a (bytes wordSize2 w)
-    → (a + wordSize2 ≡ at + length (eventBytes2 sent e)) × (o₂ ≡ sets out at (eventBytes2 sent e))
-stored-event2 true e out at q h w o p =
-    (omega arith, p ∙ rw (o, q, h, w) (sets-over out at (bytes wordSize2 (highWord2 (e .t))) (bytes wordSize2 (wordOf2 e)) (omega arith)))
-stored-event2 false e out at q h w o p =
-    (omega arith, p ∙ rw (o, q, h, w) (sym (sets-append out at (bytes wordSize2 (highWord2 (e .t))) (bytes wordSize2 (wordOf2 e)))))
-
-pub place-event2 : (sent : Bool) (at : ℕ) {a : ℕ} → a ≡ cond sent at (at + wordSize2) → a ≤ at + wordSize2
-place-event2 true at q = omega arith
-place-event2 false at q = omega arith
-
--- and both have room
-pub room-high2 : (sent : Bool) (e : Event) (out : List ℕ) (at : ℕ) → Roomy out at (length (eventBytes2 sent e)) → Roomy out at wordSize2
-room-high2 true e out at r h = r h
-room-high2 false e out at r h = omega (arith, r h)
-
-pub room-event2 : (sent : Bool) (e : Event) (out o : List ℕ) (at : ℕ) {a : ℕ} → a ≡ cond sent at (at + wordSize2) → length o ≡ length out
-    → Roomy out at (length (eventBytes2 sent e)) → Roomy o a wordSize2
-room-event2 true e out o at q n r h = omega (arith, r (omega arith))
-room-event2 false e out o at q n r h = omega (arith, r (omega arith))
+few2 v e = rw event-bytes2 (both-few wordSize2 (highSent2 v e) (highWord2 (e .t)) (wordOf2 e))
 
 -- the state at index i, where `high` was sent last
 abbrev pub stateAt2 : EncoderState → ℕ → (high : ℕ) → EncoderState
 stateAt2 v i high = stateAt i v (stateOf2 v high)
 
-state-step2 : (v : EncoderState) (i high : ℕ) (e : Event) → encoded2 (stateAt2 v i high) e ≡ stateAt2 v (suc i) (e .t / grain2)
+pub state-step2 : (v : EncoderState) (i high : ℕ) (e : Event) → encoded2 (stateAt2 v i high) e ≡ stateAt2 v (suc i) (e .t / grain2)
 state-step2 v zero high e = refl
 state-step2 v (suc i) high e = refl
 
@@ -130,7 +104,7 @@ module _ {xs ys : List ℕ} {ts : List ℤ} {ps : List ℕ} (sized : Sized xs ys
     under-iteration2 h fitting t is r out′ q o =
         let e = eventAt2 xs ys ps i t in
         let all = words-are e (omega (arith, fitting i .fit-t)) in
-        let few = few-event2 (eqb high (t / grain2)) e in
+        let few = both-few wordSize2 (eqb high (t / grain2)) (highWord2 t) (wordOf2 e) in
         let more = next-is h e (rw is) in
         record {
           within = omega arith;

@@ -21,14 +21,14 @@ use write_buffer::time_at;
 
 // Nothing is cut off of what rule 7 lets pass, so these two need none of the remainders of the
 // definitions.
-fn high_word(t: u64) -> u32
+pub fn high_word(t: u64) -> u32
     requires { ⌜ t < 2 ^ 34 ⌝ }
     ensures { λ r. ⌜ r ≡ highWord2 t ⌝ }
 {
     (8 << 28) + (t / Evt2Decoder::GRAIN) as u32
 }
 
-fn event_word(x: u16, y: u16, t: u64, p: u8) -> u32
+pub fn event_word(x: u16, y: u16, t: u64, p: u8) -> u32
     requires { ⌜ Fit2 (event x y t p) ⌝ }
     ensures { λ r. ⌜ r ≡ wordOf2 (event x y t p) ⌝ }
 {

@@ -4,21 +4,21 @@ use mathlib.Core.Bool.{Bool, true, false, cond}
 use mathlib.Core.List.{List, _++_, append-assoc}
 use Prim.Native.Nat.{ℕ, _+_, _*_, _/_, _%_, _^_, _≤_, _<_}
 use native.Mathlib.Omega.{arith}
-use native.Mathlib.Nat.{add-zero}
 use lib.Dec.{eqb}
 use lib.ListN.{length, length-append}
 use lib.Seq.{sets}
-use Rattle.laws_stream.specs.{Machine.words, Machine.words-append, Columns.sets-append, Words.stream, Words.bytes, Words.stream-append}
+use Rattle.laws_stream.specs.{Machine.words, Machine.words-append, Words.stream, Words.bytes, Words.stream-append}
 use Rattle.evt_types.specs.{Layout.wordSize3, Layout.grain3, declared.Sent.Sent}
-use Rattle.write_buffer.specs.{declared.EncoderState.EncoderState, Sent.due, Sent.sentNumber, Sent.number-is, Storing.sets-over}
+use Rattle.write_buffer.specs.{declared.EncoderState.EncoderState, Sent.due, Sent.sentNumber, Sent.number-is}
+use Rattle.write_buffer.specs.Due.{dueBytes, due-few, due-next}
 use Rattle.evt3_lead_words.specs.Evt3.{highWord3, lowWord3, rowWord3, lowKept, highSent3, lowSent3, rowSent3, leads3}
 
-abbrev pub dueBytes : (sent : Bool) → ℕ → List ℕ
-dueBytes b w = stream wordSize3 (words (due b w))
+abbrev pub dueBytes3 : (sent : Bool) → ℕ → List ℕ
+dueBytes3 = dueBytes wordSize3
 
 -- of three words, each by whether its content was sent
 abbrev pub dueThree : (b₁ b₂ b₃ : Bool) (w₁ w₂ w₃ : ℕ) → List ℕ
-dueThree b₁ b₂ b₃ w₁ w₂ w₃ = dueBytes b₁ w₁ ++ (dueBytes b₂ w₂ ++ dueBytes b₃ w₃)
+dueThree b₁ b₂ b₃ w₁ w₂ w₃ = dueBytes3 b₁ w₁ ++ (dueBytes3 b₂ w₂ ++ dueBytes3 b₃ w₃)
 
 abbrev pub leadBytes : EncoderState → (t y : ℕ) → List ℕ
 leadBytes v t y = stream wordSize3 (words (leads3 v t y))
@@ -37,38 +37,23 @@ pub record Leads (high low row t y at : ℕ) (out₀ : List ℕ) (r : ℕ) (out 
   pub place : r ≡ at + length (leadsBytes high low row t y)
   pub next : (l : List ℕ) → wordSize3 ≤ length l → sets out r l ≡ sets out₀ at (leadsBytes high low row t y ++ l)
 
--- ---- one word
-
-pub due-few : (b : Bool) (w : ℕ) → length (dueBytes b w) ≤ wordSize3
-due-few true w = omega arith
-due-few false w = omega arith
-
-pub due-is : (b : Bool) (w at : ℕ) → cond b at (at + wordSize3) ≡ at + length (dueBytes b w)
-due-is true w at = omega arith
-due-is false w at = refl
-
-due-next : (b : Bool) (w : ℕ) (out : List ℕ) (at : ℕ) {o : List ℕ} {r : ℕ} → r ≡ at + length (dueBytes b w) → o ≡ sets out at (bytes wordSize3 w)
-    → (l : List ℕ) → wordSize3 ≤ length l → sets o r l ≡ sets out at (dueBytes b w ++ l)
-due-next true w out at e o l h = let z : at + 0 ≡ at = add-zero at in rw (e, o, z) (sets-over out at (bytes wordSize3 w) l h)
-due-next false w out at e o l h = rw (e, o) (sym (sets-append out at (bytes wordSize3 w) l))
-
 -- ---- three words
 
 module _ (b₁ b₂ b₃ : Bool) (w₁ w₂ w₃ : ℕ) where
   abbrev one : List ℕ
-  one = dueBytes b₁ w₁
+  one = dueBytes3 b₁ w₁
 
   abbrev two : List ℕ
-  two = dueBytes b₂ w₂
+  two = dueBytes3 b₂ w₂
 
   abbrev three : List ℕ
-  three = dueBytes b₃ w₃
+  three = dueBytes3 b₃ w₃
 
   pub three-length : length (dueThree b₁ b₂ b₃ w₁ w₂ w₃) ≡ length one + (length two + length three)
   three-length = length-append one (two ++ three) ∙ rw (length-append two)
 
   pub three-few : length (dueThree b₁ b₂ b₃ w₁ w₂ w₃) ≤ 3 * wordSize3
-  three-few = omega (arith, three-length, due-few b₁ w₁, due-few b₂ w₂, due-few b₃ w₃)
+  three-few = omega (arith, three-length, due-few wordSize3 b₁ w₁, due-few wordSize3 b₂ w₂, due-few wordSize3 b₃ w₃)
 
   three-words : stream wordSize3 (words (due b₁ w₁ ++ (due b₂ w₂ ++ due b₃ w₃))) ≡ dueThree b₁ b₂ b₃ w₁ w₂ w₃
   three-words =
@@ -78,9 +63,9 @@ module _ (b₁ b₂ b₃ : Bool) (w₁ w₂ w₃ : ℕ) where
       → q ≡ p + length two → o₂ ≡ sets o₁ p (bytes wordSize3 w₂) → r ≡ q + length three → o₃ ≡ sets o₂ q (bytes wordSize3 w₃)
       → (l : List ℕ) → wordSize3 ≤ length l → sets o₃ r l ≡ sets out at (dueThree b₁ b₂ b₃ w₁ w₂ w₃ ++ l)
   three-next out at {o₁} {o₂} {o₃} {p} {q} ep op eq oq er or l h =
-      due-next b₃ w₃ o₂ q er or l h
-      ∙ due-next b₂ w₂ o₁ p eq oq (three ++ l) (omega (arith, length-append three l))
-      ∙ due-next b₁ w₁ out at ep op (two ++ (three ++ l)) (omega (arith, length-append two (three ++ l), length-append three l))
+      due-next wordSize3 b₃ w₃ o₂ q er or l h
+      ∙ due-next wordSize3 b₂ w₂ o₁ p eq oq (three ++ l) (omega (arith, length-append three l))
+      ∙ due-next wordSize3 b₁ w₁ out at ep op (two ++ (three ++ l)) (omega (arith, length-append two (three ++ l), length-append three l))
       ∙ ap (sets out at) (sym (append-assoc one (two ++ three) l ∙ ap (λ (k : List ℕ). one ++ k) (append-assoc two three l)))
 
 -- ---- the words of time and row
@@ -111,16 +96,16 @@ module _ (high low row t y : ℕ) where
   isLow = eqb (lowNumber high low t) (t % grain3)
 
   pub leads-length : length (leadsBytes high low row t y)
-      ≡ length (dueBytes isHigh (highWord3 t)) + (length (dueBytes isLow (lowWord3 t)) + length (dueBytes (eqb row y) (rowWord3 y)))
+      ≡ length (dueBytes3 isHigh (highWord3 t)) + (length (dueBytes3 isLow (lowWord3 t)) + length (dueBytes3 (eqb row y) (rowWord3 y)))
   leads-length = three-length isHigh isLow (eqb row y) (highWord3 t) (lowWord3 t) (rowWord3 y)
 
   pub leads-few : length (leadsBytes high low row t y) ≤ 3 * wordSize3
   leads-few = three-few isHigh isLow (eqb row y) (highWord3 t) (lowWord3 t) (rowWord3 y)
 
   pub leads-stored : (out : List ℕ) (at : ℕ) {o₁ o₂ o₃ : List ℕ} {a b c : ℕ}
-      → a ≡ at + length (dueBytes isHigh (highWord3 t)) → o₁ ≡ sets out at (bytes wordSize3 (highWord3 t))
-      → b ≡ a + length (dueBytes isLow (lowWord3 t)) → o₂ ≡ sets o₁ a (bytes wordSize3 (lowWord3 t))
-      → c ≡ b + length (dueBytes (eqb row y) (rowWord3 y)) → o₃ ≡ sets o₂ b (bytes wordSize3 (rowWord3 y))
+      → a ≡ at + length (dueBytes3 isHigh (highWord3 t)) → o₁ ≡ sets out at (bytes wordSize3 (highWord3 t))
+      → b ≡ a + length (dueBytes3 isLow (lowWord3 t)) → o₂ ≡ sets o₁ a (bytes wordSize3 (lowWord3 t))
+      → c ≡ b + length (dueBytes3 (eqb row y) (rowWord3 y)) → o₃ ≡ sets o₂ b (bytes wordSize3 (rowWord3 y))
       → Leads high low row t y at out c o₃
   leads-stored out at ea oa eb ob ec oc = record {
     place = omega (arith, leads-length);

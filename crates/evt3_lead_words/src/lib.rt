@@ -10,7 +10,7 @@ ghost use Rattle.laws_stream.specs.Words.{bytes};
 ghost use Rattle.evt_types.specs.Layout.{wordSize3};
 ghost use Rattle.write_buffer.specs.Storing.{Roomy};
 ghost use Rattle.evt3_lead_words.specs.Evt3.{highWord3, lowWord3, rowWord3};
-ghost use Rattle.evt3_lead_words.specs.Leads.{dueBytes, leadsBytes, Leads};
+ghost use Rattle.evt3_lead_words.specs.Leads.{dueBytes3, leadsBytes, Leads};
 use evt_types::fields::bits;
 use evt3_decoder::Decoder;
 
@@ -43,7 +43,7 @@ fn low_kept(sent: bool, low: u64) -> u64
 // then takes its place.
 fn put_lead(sent: bool, w: u16, out: &mut [u8], at: usize) -> usize
     requires { ⌜ (at < 2 ^ 61) × Roomy (now out) at wordSize3 ⌝ }
-    ensures { λ r. ⌜ r ≡ at + length (dueBytes sent w) ⌝ ∗ ⌜ now (out .exit) ≡ sets (now (out .entry)) at (bytes wordSize3 w) ⌝ }
+    ensures { λ r. ⌜ r ≡ at + length (dueBytes3 sent w) ⌝ ∗ ⌜ now (out .exit) ≡ sets (now (out .entry)) at (bytes wordSize3 w) ⌝ }
 {
     write_buffer::put16(&mut *out, at, w);
     write_buffer::past(sent, Decoder::WORD_SIZE, at)

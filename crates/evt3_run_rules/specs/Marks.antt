@@ -13,7 +13,7 @@ use lib.Pow.{shr-shr}
 use borrow.Author.Tests.{lt-ltb, le-ltb, ltb-true, ltb-false, eq-eqb, ne-eqb}
 use Rattle.laws_stream.specs.Mask.{trailing-lt}
 use Rattle.evt_types.specs.{Event.Event, Num.natural}
-use Rattle.evt3_run_rules.specs.{declared.Found.Found, Runs.goes, Runs.goes-true, Runs.follow}
+use Rattle.evt3_run_rules.specs.{declared.Found.Found, Runs.goes, Runs.goes-true, Runs.follow, Runs.followBy}
 use Rattle.write_buffer.specs.Columns.{Sized, eventOf, eventsPast, events-at, events-end}
 
 -- the second event goes on the run of the first
@@ -211,7 +211,7 @@ module _ (xs ys : List ℕ) (ts : List ℤ) (ps : List ℕ) where
     -- the event after i tells whether the run at i goes on
     go-is : (b c : Bool) (i : ℕ) → ltb (i + 1) (length xs) ≡ b → joins (eventOf xs ys ts ps i) (eventOf xs ys ts ps (i + 1)) ≡ c
         → goOn i ≡ under (stopIf b c) (goOn (i + 1))
-    unfolding follow
+    unfolding followBy
     go-is true true i p q =
         let g = goes-true _ _ _ _ (eventOf xs ys ts ps (i + 1)) q in
         rw (events-at xs ys ts ps sized (i + 1) (ltb-true (i + 1) (length xs) p), q, g .is-t, g .is-y, g .is-p)

@@ -1,15 +1,15 @@
 -- EVT3: the decoder understands the writer.
 use mathlib.Core.Path.{_≡_, refl, sym, ap, _∙_, subst⁻¹}
 use mathlib.Core.Bool.{Bool, true, false, cond, true≢false}
-use mathlib.Core.List.{List, [], _∷_, _++_, append-assoc, map}
+use mathlib.Core.List.{List, [], _∷_, _++_, append-assoc}
 use Prim.Native.Nat.{ℕ, zero, suc, _+_, _-_, _*_, _/_, _%_, _^_, _≤_, _<_, min}
 use native.Mathlib.Omega.{arith}
 use lib.Dec.{eqb}
 use lib.ListN.{length, getD}
 use borrow.Author.Tests.{eqb-true}
 use Rattle.laws_stream.specs.{Machine.Note, Machine.run, Machine.words, Machine.notes, Format.Format, Format.Lawful, Format.Good, Loop.tracks-same}
-use Rattle.laws_stream.specs.{Mask.Inc, Mask.mask, Mask.bits, Mask.bits-mask, Mask.mask-lt, Order.Rise, Order.rise-from, Order.rise-suffix}
-use Rattle.evt_types.specs.{declared.Encoding.the-variants.Evt3, declared.Sent.Sent, declared.vector.Vector.Vector, Event.Event, Event.eventAt}
+use Rattle.laws_stream.specs.{Mask.Inc, Mask.mask, Mask.mask-lt, Order.Rise, Order.rise-from, Order.rise-suffix}
+use Rattle.evt_types.specs.{declared.Encoding.the-variants.Evt3, declared.Sent.Sent, Event.Event}
 use Rattle.evt_types.specs.{Event.eventsOf, Layout.column-polarity3, Layout.column-x3, Layout.column-fits3}
 use Rattle.evt3_decoder.specs.{declared.Decoder.Decoder, Evt3.first-word}
 use Rattle.evt_types.specs.Layout.{type3, x3, polarity3, mask12, time3, word-type3, word-time3, word-mask12, word-y3, word-fits3, column-type3, grain3}
@@ -17,6 +17,7 @@ use Rattle.evt3_decoder.specs.Evt3.{fresh3, period3, threshold3, atCoarse, past
 use Rattle.read_columns.specs.Inside.{clock}
 use Rattle.write_buffer.specs.{declared.EncoderState.EncoderState, Columns.event, Sent.freshState, Sent.sentIs, Sent.due}
 use Rattle.evt3_run_rules.specs.Runs.{Run, given, spread, Rising, Valid, firstX, lastX}
+use Rattle.evt3_run_rules.specs.Vectors.{mask-events}
 use Rattle.evt3_lead_words.specs.Evt3.{highWord3, lowWord3, rowWord3, lowKept, highSent3, lowSent3, rowSent3, leads3, singleWord3, baseWord3, maskWord3, nearby}
 use Rattle.evt3_lead_words.specs.Evt3.{beyond, maskCount, vectored, singles, masks, vectors, body3, encode3, encoded3, writer3}
 use Rattle.evt3_run_words.specs.Masks.{near-inc}
@@ -101,19 +102,6 @@ said-singles t y p (x ∷ xs) d more f r =
 
 -- ---- events by masks
 
-spread-at : (v : Vector) (b to : ℕ) (xs : List ℕ) → to ≤ 65536 → Inc b to xs → map (eventAt v) xs ≡ spread (v .t) (v .y) (v .p) xs
-spread-at v b to [] h i = refl
-spread-at v b to (x ∷ xs) h i =
-    let e : min x 65535 ≡ x = omega (arith, i .1) in
-    rw (e, spread-at v (suc x) to xs h (i .2))
-
-mask-events : (v : Vector) (xs : List ℕ) → v .x + 12 ≤ 65536 → v .mask ≡ mask (v .x) xs → Inc (v .x) (v .x + 12) xs
-    → eventsOf v ≡ spread (v .t) (v .y) (v .p) xs
-mask-events v xs h e i =
-    ap (λ (m : ℕ). map (eventAt v) (bits 32 (v .x) m)) e
-    ∙ ap (map (eventAt v)) (bits-mask 32 (v .x) (v .x + 12) (v .x) xs (omega arith) (omega arith) i)
-    ∙ spread-at v (v .x) (v .x + 12) xs h i
-
 said-masks : (t y p k b : ℕ) (xs : List ℕ) (d : Decoder) (more : List Event) → Fixed t y d → d .«base_x» ≡ b → number (d .polarity) ≡ p → b + 12 * k ≤ 65535
     → Inc b (b + 12 * k) xs → Rises t (spread t y p xs ++ more) → Reads t y d (masks t y p k b xs) more
 said-masks t y p zero b xs d more f eb ep fits i r = (fixed-ready t y d more f (rw (none-left b (b + 12 * 0) xs (omega arith) i) at r), f)
@@ -132,7 +120,7 @@ said-masks t y p (suc k) b xs d more f eb ep fits i r =
     let next : min (d .«base_x» + 12) 65535 ≡ b + 12 = omega arith in
     let inc : Inc (d .«base_x») (d .«base_x» + 12) near = rw eb (n .0) in
     said-word t y d (past 12 d) w (spread t y p near) (spread t y p far) (masks t y p k (b + 12) far) more (by .0)
-    (ap eventsOf (by .1) ∙ mask-events (vectorAs (kindOn 4) d w) near (omega arith) is-mask inc ∙ rw (f .at-time, f .at-row, ep))
+    (ap eventsOf (by .1) ∙ mask-events 12 (vectorAs (kindOn 4) d w) near (omega arith) (omega arith) is-mask inc ∙ rw (f .at-time, f .at-row, ep))
     (word-fits3 4 (mask b near % 4096) (omega arith) m<) (masks-notes t y p k (b + 12) far i′)
     (fixed-ready t y d (spread t y p near ++ (spread t y p far ++ more)) f r₂)
     (said-masks t y p k (b + 12) far (past 12 d) more

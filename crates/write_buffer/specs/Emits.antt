@@ -3,6 +3,7 @@ use mathlib.Core.Path.{_≡_, refl, ap}
 use mathlib.Core.List.{List, [], _∷_, _++_}
 use Prim.Native.Nat.{ℕ, _*_, _≤_}
 use native.Mathlib.Omega.{arith}
+use native.Mathlib.Nat.{mul-add}
 use lib.ListN.{length, length-append}
 use Rattle.laws_stream.specs.Machine.{Machine, Note, All, all-append, emits, words, words-append, notes, notes-append}
 use Rattle.laws_stream.specs.Words.{Fits}
@@ -29,18 +30,19 @@ module _ {Q I E : Type 0} (W : Machine Q I (Note ℕ E)) where
     emits-notes one v [] va = refl
     emits-notes one v (a ∷ l) va = rw (notes-append, one v a (va .0), emits-notes one (W .step v a) l (va .1))
 
-    pub emits-few : (size : ℕ) → ((v : Q) (a : I) → Valid a → length (piece size W v a) ≤ 8 * length (f a))
-        → (v : Q) (l : List I) → All Valid l → length (bytesFrom size W v l) ≤ 8 * length (concatMap f l)
+    pub emits-few : (most size : ℕ) → ((v : Q) (a : I) → Valid a → length (piece size W v a) ≤ most * length (f a))
+        → (v : Q) (l : List I) → All Valid l → length (bytesFrom size W v l) ≤ most * length (concatMap f l)
     unfolding bytesFrom
-    emits-few size one v [] va = omega arith
-    emits-few size one v (a ∷ l) va =
+    emits-few most size one v [] va = omega arith
+    emits-few most size one v (a ∷ l) va =
         let here = piece size W v a in
         let rest = bytesFrom size W (W .step v a) l in
         omega (
           arith,
           ap length (bytes-cons size W v a l),
           length-append here rest,
-          length-append (f a) (concatMap f l),
+          ap (λ (n : ℕ). most * n) (length-append (f a) (concatMap f l)),
+          mul-add most (length (f a)) (length (concatMap f l)),
           one v a (va .0),
-          emits-few size one (W .step v a) l (va .1),
+          emits-few most size one (W .step v a) l (va .1),
         )

@@ -1,9 +1,9 @@
 -- Bytes stored piece by piece, as far as a list reaches; and a loop that gives a writer its input piece by piece, and stores the bytes of its words.
 use mathlib.Core.Path.{_≡_, refl, sym, ap, _∙_}
 use mathlib.Core.List.{List, [], _∷_, _++_}
-use Prim.Native.Nat.{ℕ, suc, _+_, _/_, _%_, _^_, _≤_, _<_}
+use Prim.Native.Nat.{ℕ, zero, suc, _+_, _*_, _/_, _%_, _^_, _≤_, _<_}
 use native.Mathlib.Omega.{arith}
-use native.Mathlib.Nat.{add-zero}
+use native.Mathlib.Nat.{add-zero, zero-add, suc-add, pow-suc}
 use native.Mathlib.Numerals.{add-one, add-two, add-three}
 use lib.ListN.{length, set, length-append}
 use lib.Pow.{shr-shr}
@@ -33,6 +33,22 @@ module _ (out : List ℕ) (at w : ℕ) {a b : ℕ} (ea : a ≡ byteAt w 0) (eb :
 
   pub stored-four : {c d : ℕ} → c ≡ byteAt w 16 → d ≡ byteAt w 24 → set (set (set (set out at a) (at + 1) b) (at + 2) c) (at + 3) d ≡ sets out at (bytes 4 w)
   stored-four ec ed = rw (add-one, add-two, add-three, ea, eb, ec, ed) (ap (sets out at) (bytes-four w))
+
+-- by halves
+bytes-both : (n m a b : ℕ) → a < 256 ^ n → bytes n a ++ bytes m b ≡ bytes (n + m) (a + 256 ^ n * b)
+bytes-both zero m a b h = let e : a + 256 ^ 0 * b ≡ b = omega arith in rw (zero-add, e)
+bytes-both (suc n) m a b h =
+    let over = 256 ^ n * b in
+    let e : a + 256 ^ suc n * b ≡ a + 256 * over = rw pow-suc (omega arith) in
+    let low : (a + 256 * over) % 256 ≡ a % 256 = omega arith in
+    let high : (a + 256 * over) / 256 ≡ a / 256 + over = omega arith in
+    rw (suc-add, e, low, high) (ap (λ (l : List ℕ). a % 256 ∷ l) (bytes-both n m (a / 256) b (omega arith)))
+
+pub stored-eight : (out : List ℕ) (at w : ℕ) {o₁ o₂ : List ℕ} {a b : ℕ} → a ≡ w / 2 ^ 0 % 2 ^ 32 → b ≡ w / 2 ^ 32 % 2 ^ 32 → w < 2 ^ 64
+    → o₁ ≡ sets out at (bytes 4 a) → o₂ ≡ sets o₁ (at + 4) (bytes 4 b) → o₂ ≡ sets out at (bytes 8 w)
+stored-eight out at w {a = a} {b = b} ea eb w< p q =
+    let e : a + 256 ^ 4 * b ≡ w = omega arith in
+    q ∙ rw p (sym (sets-append out at (bytes 4 a) (bytes 4 b)) ∙ ap (sets out at) (bytes-both 4 4 a b (omega arith) ∙ ap (bytes 8) e))
 
 -- n bytes have room from `at` on, or there is no byte at all: then nothing is stored
 abbrev pub Roomy : (out : List ℕ) (at n : ℕ) → Type 0
@@ -75,6 +91,12 @@ module _ {all : List ℕ} {at₀ : ℕ} {out₀ : List ℕ} where
     count = omega (arith, ap length e, length-append w rest, s .count);
     stores = rw o (sym (sets-append out at w rest) ∙ ap (sets out at) (sym e) ∙ s .stores);
   }
+
+  -- what is stored in the place of what is left, and no longer than that, is lost
+  pub storing-over : {left : List ℕ} {at : ℕ} {out out′ : List ℕ} (w : List ℕ) → length w ≤ length left → out′ ≡ sets out at w
+      → Storing all at₀ out₀ left at out → Storing all at₀ out₀ left at out′
+  storing-over {left} {at} {out} w h o s =
+      record { long = ap length o ∙ length-sets out at w ∙ s .long; count = s .count; stores = rw o (sets-over out at w left h ∙ s .stores) }
 
   -- what comes next has room where all has
   pub storing-room : {left : List ℕ} {at : ℕ} {out : List ℕ} (w rest : List ℕ) → left ≡ w ++ rest → Storing all at₀ out₀ left at out

@@ -98,6 +98,15 @@ pub fn put32(out: &mut [u8], at: usize, w: u32)
     }
 }
 
+// The low half first.
+pub fn put64(out: &mut [u8], at: usize, w: u64)
+    requires { ⌜ (at < 2 ^ 61) × Roomy (now out) at 8 ⌝ }
+    ensures { λ r. ⌜ now (out .exit) ≡ sets (now (out .entry)) at (bytes 8 w) ⌝ }
+{
+    put32(&mut *out, at, bits(w, 0, 32) as u32);
+    put32(&mut *out, at + 4, bits(w, 32, 32) as u32);
+}
+
 // The place after a word of n bytes at `at`, unless its content was sent.
 pub fn past(sent: bool, n: usize, at: usize) -> usize
     requires { ⌜ (n < 2 ^ 62) × (at < 2 ^ 62) ⌝ }

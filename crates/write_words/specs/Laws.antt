@@ -146,6 +146,6 @@ few-run v r va = let n : length (given r) ≡ length (r .xs) = length-map (r .xs
 pub encode-few : (e : Encoding) (v : EncoderState) (es : List Event) → length (encodeBytes e v es) ≤ 8 * length es
 unfolding encodeBytes bytesFrom
 encode-few Evt2 v es =
-    let few = emits-few writer2 (λ e. Unit) (λ e. e ∷ []) wordSize2 (λ v e u. few2 v e) v es (all-of _ (λ e. tt) es) in
+    let few = emits-few writer2 (λ e. Unit) (λ e. e ∷ []) 8 wordSize2 (λ v e u. few2 v e) v es (all-of _ (λ e. tt) es) in
     omega (arith, few, ap length (events-single es))
-encode-few Evt3 v es = let r = runs-are es in omega (arith, emits-few writer3 Valid given wordSize3 few-run v (runs es) (r .0), ap length (r .1))
+encode-few Evt3 v es = let r = runs-are es in omega (arith, emits-few writer3 Valid given 8 wordSize3 few-run v (runs es) (r .0), ap length (r .1))

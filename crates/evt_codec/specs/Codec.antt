@@ -8,7 +8,7 @@ use lib.ListN.{length, take}
 use Rattle.laws_stream.specs.{Words.value, Stream.decode, Stream.after}
 use Rattle.evt_types.specs.{declared.Encoding.Encoding, declared.vector.Vector.Vector, Event.Event, Event.noEvents}
 use Rattle.evt_types.specs.declared.Encoding.the-variants as E
-use Rattle.evt_codec.specs.declared.{codec.Codec.Codec, codec.Codec.the-variants.Evt2, codec.Codec.the-variants.Evt3}
+use Rattle.evt_codec.specs.declared.{codec.Codec.Codec, codec.Codec.the-variants.Evt2, codec.Codec.the-variants.Evt21, codec.Codec.the-variants.Evt3}
 use Rattle.evt_codec.specs.Reader.{View, view, readerOf}
 
 abbrev pub freshC : Encoding → Codec
@@ -71,10 +71,12 @@ Fitting c = view c .reader .Fitting (view c .state)
 
 pub codec-view : (c : Codec) → view c .reader .codec (view c .state) ≡ c
 codec-view (Evt2 d) = refl
+codec-view (Evt21 d) = refl
 codec-view (Evt3 d) = refl
 
 pub view-codec : (c : Codec) (s : view c .reader .State) → _≡_ {A = View} (view (view c .reader .codec s)) (record { reader = view c .reader; state = s })
 view-codec (Evt2 d) s = refl
+view-codec (Evt21 d) s = refl
 view-codec (Evt3 d) s = refl
 
 pub view-after : (c : Codec) (l : List ℕ) → _≡_ {A = View} (view (codecAfter c l)) (record { reader = view c .reader; state = stateAfter c l })
@@ -86,11 +88,13 @@ encoding-after c l = ap (λ (v : View). v .reader .encoding) (view-after c l)
 
 pub encoding-fresh : (e : Encoding) → encodingOf (freshC e) ≡ e
 encoding-fresh E.Evt2 = refl
+encoding-fresh E.Evt21 = refl
 encoding-fresh E.Evt3 = refl
 
 -- by the encoding
 pub view-of : (e : Encoding) (s : readerOf e .State) → _≡_ {A = View} (view (readerOf e .codec s)) (record { reader = readerOf e; state = s })
 view-of E.Evt2 s = refl
+view-of E.Evt21 s = refl
 view-of E.Evt3 s = refl
 
 pub view-fresh : (e : Encoding) → _≡_ {A = View} (view (freshC e)) (record { reader = readerOf e; state = readerOf e .fresh })

@@ -5,11 +5,13 @@ use Prim.Native.Nat.{ℕ, _<_, _^_}
 use lib.Dec.{eqb, ltb}
 use Rattle.laws_stream.specs.Machine.{Machine}
 use Rattle.evt_types.specs.{declared.Encoding.Encoding, declared.vector.Vector.Vector, Event.Event, Trigger.Trigger, Layout.wordSize2, Layout.wordSize3}
-use Rattle.evt_types.specs.Layout.{type2, type3}
+use Rattle.evt_types.specs.Layout.{type2, type3, upper, wordSize21}
 use Rattle.evt_types.specs.declared.Encoding.the-variants as E
-use Rattle.evt_codec.specs.declared.{codec.Codec.Codec, codec.Codec.the-variants.Evt2, codec.Codec.the-variants.Evt3}
+use Rattle.evt_codec.specs.declared.{codec.Codec.Codec, codec.Codec.the-variants.Evt2, codec.Codec.the-variants.Evt21, codec.Codec.the-variants.Evt3}
 use Rattle.evt2_decoder.specs.{declared.Evt2Decoder.Evt2Decoder, Evt2.fresh2, Evt2.inRange2, Evt2.vector2, Evt2.reader2, Triggers.trigger2, Range.Bounded2}
 use Rattle.evt2_decoder.specs.Range.{Regular2}
+use Rattle.evt21_decoder.specs.{declared.Evt21Decoder.Evt21Decoder, Evt21.as2, Evt21.fresh21, Evt21.inRange21, Evt21.vector21, Evt21.reader21}
+use Rattle.evt21_decoder.specs.{Triggers.trigger21, Range.Bounded21}
 use Rattle.evt3_decoder.specs.{declared.Decoder.Decoder, Evt3.fresh3, Evt3.inRange3, Evt3.vector3, Evt3.reader3, Triggers.trigger3, Range.Bounded3}
 use Rattle.evt3_decoder.specs.Range.{Paced3, Regular3}
 
@@ -70,6 +72,32 @@ evt2 = record {
   codec = Evt2;
 }
 
+-- of EVT2.1 too
+abbrev pub carries21 : ℕ → Bool
+carries21 w = carries2 (upper w)
+
+abbrev pub evt21 : Reader
+evt21 = record {
+  encoding = E.Evt21;
+  State = Evt21Decoder;
+  size = wordSize21;
+  most = 32;
+  fresh = fresh21;
+  machine = reader21;
+  vector = vector21;
+  trigger = trigger21;
+  carries = carries21;
+  started = λ d. d .initialised;
+  time = λ d. d .time;
+  loops = λ d. d .«high_loops»;
+  inRange = inRange21;
+  Regular = λ d. Regular2 (as2 d);
+  Bounded = Bounded21;
+  Able = Bounded21;
+  Fitting = λ d. Unit;
+  codec = Evt21;
+}
+
 abbrev pub evt3 : Reader
 evt3 = record {
   encoding = E.Evt3;
@@ -94,6 +122,7 @@ evt3 = record {
 
 abbrev pub readerOf : Encoding → Reader
 readerOf E.Evt2 = evt2
+readerOf E.Evt21 = evt21
 readerOf E.Evt3 = evt3
 
 -- a decoder of some encoding, taken apart
@@ -103,4 +132,5 @@ pub record View : Type 1 where
 
 abbrev pub view : Codec → View
 view (Evt2 d) = record { reader = evt2; state = d }
+view (Evt21 d) = record { reader = evt21; state = d }
 view (Evt3 d) = record { reader = evt3; state = d }

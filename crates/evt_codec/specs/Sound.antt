@@ -5,21 +5,24 @@ use mathlib.Core.Bool.{Bool, true, false, true≢false}
 use mathlib.Core.List.{List, []}
 use Prim.Native.Nat.{ℕ, suc, _+_, _*_, _/_, _^_, _≤_, _<_}
 use native.Mathlib.Omega.{arith}
+use native.Mathlib.Nat.{zero-mul}
 use lib.ListN.{length}
 use borrow.Author.Tests.{lt-ltb}
 use Rattle.laws_stream.specs.{Machine.All, Loop.loops-one, Stream.after, Words.wordsOf, Words.length-words}
 use Rattle.evt_types.specs.{declared.Encoding.Encoding, declared.vector.Vector.Vector, Event.eventsOf, Event.events-timed, Event.events-masked, Event.Narrow}
 use Rattle.evt_types.specs.{Event.noEvents, Event.no-events, Trigger.Trigger, Trigger.triggerIf, Trigger.trigger-other}
-use Rattle.evt_types.specs.Layout.{type2, timeLow2, type3, time3, grain3, triggerType}
+use Rattle.evt_types.specs.Layout.{type2, timeLow2, type3, time3, grain3, triggerType, upper, upper-type, mask21}
 use Rattle.evt_types.specs.declared.Encoding.the-variants as E
 use Rattle.evt2_decoder.specs.{declared.Evt2Decoder.Evt2Decoder, Evt2.step2, Evt2.vector2, Triggers.few-triggers2, Triggers.trigger2, Triggers.triggerIn2, Triggers.trigger-alone2, Range.Bounded2, Range.bounded-step2, Range.bounded-narrow2}
 use Rattle.evt2_decoder.specs.Range.{regular-step2, bounded-range2, fresh-range2}
+use Rattle.evt21_decoder.specs.{declared.Evt21Decoder.Evt21Decoder, Evt21.as2, Evt21.wide, Evt21.vector21, Range.few21, Range.bounded-step21, Range.bounded-narrow21}
+use Rattle.evt21_decoder.specs.{Range.bounded-range21, Range.fresh-range21, Triggers.trigger21, Triggers.few-triggers21, Triggers.trigger-alone21}
 use Rattle.evt3_decoder.specs.{declared.Decoder.Decoder, Evt3.step3, Evt3.vector3, Evt3.period3, Evt3.threshold3, Triggers.few-triggers3, Triggers.trigger3, Triggers.triggerIn3, Triggers.trigger-alone3, Range.Bounded3}
 use Rattle.evt3_decoder.specs.{Range.Paced3, Range.bounded-step3, Range.bounded-narrow3, Range.regular-range3, Range.regular-step3, Range.fresh-range3}
 use Rattle.evt2_decoder.specs.Evt2 as Evt2
 use Rattle.evt3_decoder.specs.Evt3 as Evt3
-use Rattle.evt_codec.specs.declared.{codec.Codec.Codec, codec.Codec.the-variants.Evt2, codec.Codec.the-variants.Evt3}
-use Rattle.evt_codec.specs.Reader.{Reader, carries2, carriesAs, carries3, evt2, evt3, readerOf, view}
+use Rattle.evt_codec.specs.declared.{codec.Codec.Codec, codec.Codec.the-variants.Evt2, codec.Codec.the-variants.Evt21, codec.Codec.the-variants.Evt3}
+use Rattle.evt_codec.specs.Reader.{Reader, carries2, carries21, carriesAs, carries3, evt2, evt21, evt3, readerOf, view}
 use Rattle.evt_codec.specs.Codec.{wordSize, inRangeC, Bounded, Able, Fitting}
 
 pub record Sound (R : Reader) : Type 0 where
@@ -113,6 +116,53 @@ sound2 = record {
   fresh-fits = tt;
   fresh-range = refl;
   fresh-stays = fresh-range2;
+}
+
+-- ---- EVT2.1: as EVT2 over the upper halves
+
+stamped21 : (d : Evt21Decoder) (w : ℕ) → All (λ e. e .t ≡ step2 (as2 d) (upper w) .time) (eventsOf (vector21 d w))
+unfolding step2 vector2
+stamped21 d w =
+    Evt2.by-kinds (λ k. All (λ e. e .t ≡ Evt2.stepAs k (as2 d) (upper w) .time) (eventsOf (wide (Evt2.vectorAs k (as2 d) (upper w)) (mask21 w))))
+    (type2 (upper w)) (d .initialised)
+    (none-stamped _ _ (zero-mul (mask21 w))) (λ on q. events-timed (λ t. t ≡ d .«time_high» + timeLow2 (upper w)) _ refl) (none-stamped _ _ (zero-mul (mask21 w)))
+
+silent21 : (d : Evt21Decoder) (w : ℕ) → carries21 w ≡ false → eventsOf (vector21 d w) ≡ []
+unfolding vector2
+silent21 d w z =
+    Evt2.by-kinds (λ k. eventsOf (wide (Evt2.vectorAs k (as2 d) (upper w)) (mask21 w)) ≡ []) (type2 (upper w)) (d .initialised)
+    (events-masked _ (zero-mul (mask21 w))) (λ on q. absurd (true≢false (sym (lt-ltb (type2 (upper w)) 2 q) ∙ z))) (events-masked _ (zero-mul (mask21 w)))
+
+apart21 : (d : Evt21Decoder) (w : ℕ) → 0 < length (eventsOf (vector21 d w)) → trigger21 d w ≡ []
+unfolding trigger2
+apart21 d w = alone (d .initialised) (type2 (upper w)) (triggerIn2 (as2 d) (upper w)) (vector21 d w) (λ e. trigger-alone21 d w (sym (upper-type w) ∙ e) .1)
+
+pub sound21 : Sound evt21
+sound21 = record {
+  some = omega arith;
+  emits = λ d w. refl;
+  few = few21;
+  spread = λ n. omega arith;
+  few-triggers = few-triggers21;
+  apart = apart21;
+  stamped = stamped21;
+  silent = silent21;
+  stays = λ d w on. stays2 (as2 d) (upper w) on;
+  regular = λ n d b. b .regular;
+  regular-steps = λ d w r. regular-step2 (as2 d) (upper w) r;
+  unstarted = λ d r off. ap (λ (d : Evt2Decoder). d .time) (r .unstarted off);
+  steps = bounded-step21;
+  narrow = λ n d w b. bounded-narrow21 w b;
+  less = λ d h b. record { regular = b .regular; loops = omega (arith, b .loops) };
+  able = λ n d b. b;
+  fits = λ n d a f. a;
+  able-steps = bounded-step21;
+  time< = λ n d b. time2 n (as2 d) b;
+  times< = λ n d w b. bounded-narrow21 w b .t<;
+  range = λ bytes d r h. bounded-range21 (bytes / 8) d r (omega arith);
+  fresh-fits = tt;
+  fresh-range = refl;
+  fresh-stays = fresh-range21;
 }
 
 -- ---- EVT3
@@ -210,10 +260,12 @@ sound3 = record {
 
 pub soundOf : (e : Encoding) → Sound (readerOf e)
 soundOf E.Evt2 = sound2
+soundOf E.Evt21 = sound21
 soundOf E.Evt3 = sound3
 
 pub sound : (c : Codec) → Sound (view c .reader)
 sound (Evt2 d) = sound2
+sound (Evt21 d) = sound21
 sound (Evt3 d) = sound3
 
 module _ (c : Codec) where

@@ -1,4 +1,4 @@
-// A decoder of either encoding.
+// A decoder of any encoding.
 ghost use mathlib.Core.Path.{_≡_};
 ghost use mathlib.Core.List.{[]};
 ghost use Rattle.evt_types.specs.Event.{noEvents};
@@ -14,11 +14,14 @@ use evt_types::TriggerAnswer;
 use evt_types::fields::word16;
 use evt_types::fields::word32;
 use evt_types::vector;
+use evt_types::words;
 use evt2_decoder::Evt2Decoder;
+use evt21_decoder::Evt21Decoder;
 use evt3_decoder::Decoder;
 
 pub enum Codec {
     Evt2(Evt2Decoder),
+    Evt21(Evt21Decoder),
     Evt3(Decoder),
 }
 
@@ -34,6 +37,7 @@ impl Codec {
     {
         match encoding {
             Encoding::Evt2 => Codec::Evt2(Evt2Decoder::new()),
+            Encoding::Evt21 => Codec::Evt21(Evt21Decoder::new()),
             Encoding::Evt3 => Codec::Evt3(Decoder::new()),
         }
     }
@@ -43,6 +47,7 @@ impl Codec {
     {
         match self {
             Codec::Evt2(_) => Evt2Decoder::WORD_SIZE,
+            Codec::Evt21(_) => Evt21Decoder::WORD_SIZE,
             Codec::Evt3(_) => Decoder::WORD_SIZE,
         }
     }
@@ -52,6 +57,7 @@ impl Codec {
     {
         match self {
             Codec::Evt2(d) => d.in_range(),
+            Codec::Evt21(d) => d.in_range(),
             Codec::Evt3(d) => d.in_range(),
         }
     }
@@ -63,6 +69,7 @@ impl Codec {
     {
         match self {
             Codec::Evt2(d) => first_evt2(d, bytes),
+            Codec::Evt21(d) => first_evt21(d, bytes),
             Codec::Evt3(d) => first_evt3(d, bytes),
         }
     }
@@ -101,6 +108,7 @@ impl Codec {
     {
         match self {
             Codec::Evt2(d) => trigger_evt2(d, bytes),
+            Codec::Evt21(d) => trigger_evt21(d, bytes),
             Codec::Evt3(d) => trigger_evt3(d, bytes),
         }
     }
@@ -125,6 +133,15 @@ fn trigger_evt2(d: Evt2Decoder, bytes: &[u8]) -> TriggerAnswer
     d.trigger(word32(bytes[0], bytes[1], bytes[2], bytes[3]))
 }
 
+fn trigger_evt21(d: Evt21Decoder, bytes: &[u8]) -> TriggerAnswer
+    ensures { λ r. ⌜ OwedTrigger (triggerOutcome (inRangeC (Codec.Evt21 d)) (triggerC (Codec.Evt21 d) (now (bytes .entry)))) r ⌝ }
+{
+    if bytes.len() < Evt21Decoder::WORD_SIZE {
+        return Codec::Evt21(d).no_trigger();
+    }
+    d.trigger(words::eight_at(bytes, 0))
+}
+
 fn trigger_evt3(d: Decoder, bytes: &[u8]) -> TriggerAnswer
     ensures { λ r. ⌜ OwedTrigger (triggerOutcome (inRangeC (Codec.Evt3 d)) (triggerC (Codec.Evt3 d) (now (bytes .entry)))) r ⌝ }
 {
@@ -145,6 +162,21 @@ fn first_evt2(d: Evt2Decoder, bytes: &[u8]) -> CodecDecoded
     let answer = s.answer;
     CodecDecoded {
         next: Codec::Evt2(next),
+        answer,
+    }
+}
+
+fn first_evt21(d: Evt21Decoder, bytes: &[u8]) -> CodecDecoded
+    ensures { λ r. ⌜ DecodedC (Codec.Evt21 d) (now (bytes .entry)) r ⌝ }
+{
+    if bytes.len() < Evt21Decoder::WORD_SIZE {
+        return Codec::Evt21(d).idle();
+    }
+    let s = d.step(words::eight_at(bytes, 0));
+    let next = s.next;
+    let answer = s.answer;
+    CodecDecoded {
+        next: Codec::Evt21(next),
         answer,
     }
 }

@@ -17,6 +17,13 @@ pub fn word16(a: u8, b: u8) -> u16
     a as u16 + b as u16 * 256
 }
 
+// Of its halves.
+pub fn word64(low: u32, high: u32) -> u64
+    ensures { λ r. ⌜ r ≡ low + high * 4294967296 ⌝ }
+{
+    low as u64 + high as u64 * 4294967296
+}
+
 pub fn word32(a: u8, b: u8, c: u8, d: u8) -> u32
     ensures { λ r. ⌜ r ≡ a + b * 256 + c * 65536 + d * 16777216 ⌝ }
 {

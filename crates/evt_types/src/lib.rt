@@ -24,6 +24,7 @@ pub struct RawTrigger {
 
 pub enum Encoding {
     Evt2,
+    Evt21,
     Evt3,
 }
 
@@ -33,6 +34,7 @@ pub fn encoding_number(encoding: Encoding) -> u32
 {
     match encoding {
         Encoding::Evt2 => 2,
+        Encoding::Evt21 => 21,
         Encoding::Evt3 => 3,
     }
 }

@@ -51,6 +51,19 @@ value-four l i h =
     let f : i + 3 ≡ suc (suc (suc i)) = omega arith in
     rw (add-one, e, f) (omega (arith, a, b, c, d))
 
+-- by its halves
+pub value-eight : (l : List ℕ) (i : ℕ) → i + 8 ≤ length l → value (take 8 (drop i l)) ≡ value (take 4 (drop i l)) + value (take 4 (drop (i + 4) l)) * 4294967296
+value-eight l i h =
+    let a = value-next 7 l i (omega arith) in
+    let b = value-next 6 l (suc i) (omega arith) in
+    let c = value-next 5 l (suc (suc i)) (omega arith) in
+    let d = value-next 4 l (suc (suc (suc i))) (omega arith) in
+    let e : i + 1 ≡ suc i = omega arith in
+    let f : i + 2 ≡ suc (suc i) = omega arith in
+    let g : i + 3 ≡ suc (suc (suc i)) = omega arith in
+    let k : i + 4 ≡ suc (suc (suc (suc i))) = omega arith in
+    rw (value-four l i (omega arith), e, f, g, k) (omega (arith, a, b, c, d))
+
 empty : (a : List ℕ) → length a ≡ 0 → a ≡ []
 empty [] h = refl
 empty (x ∷ a) h = absurd (omega arith)

@@ -6,12 +6,16 @@ returns : tie.Need-returns
 returns c = rw (c .before .before .self .given .1) (c .trigger-evt2 .ensures)
 
 returns-2 : tie.Need-returns-2
-returns-2 c = rw (c .before .before .self2 .given .1) (c .trigger-evt3 .ensures)
+returns-2 c = rw (c .before .before .self2 .given .1) (c .trigger-evt21 .ensures)
+
+returns-3 : tie.Need-returns-3
+returns-3 c = rw (c .before .before .self3 .given .1) (c .trigger-evt3 .ensures)
 
 pub trigger-spec : {M : Type 1} → statement M
 trigger-spec =
     tie.close
     (tie.spec
-    (λ c. search needs) (λ c κs. search needs) (λ c. search needs) (λ c κs. search needs)
+    (λ c. search needs) (λ c κs. search needs) (λ c. search needs) (λ c κs. search needs) (λ c. search needs) (λ c κs. search needs)
     returns
-    returns-2)
+    returns-2
+    returns-3)

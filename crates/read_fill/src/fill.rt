@@ -1,7 +1,7 @@
 // Filling four columns: a loop for each encoding.
 ghost use mathlib.Core.Path.{_≡_};
 ghost use lib.ListN.{length};
-ghost use Rattle.evt_codec.specs.declared.codec.Codec.the-variants.{Evt2, Evt3};
+ghost use Rattle.evt_codec.specs.declared.codec.Codec.the-variants.{Evt2, Evt21, Evt3};
 ghost use Rattle.evt_types.specs.Columns.{Wrote};
 ghost use Rattle.read_fill.specs.Iteration.{Fits};
 ghost use Rattle.read_fill.specs.Decode.{Bounded, insideEvents, filledAllOf};
@@ -10,12 +10,16 @@ use evt_codec::Codec;
 use evt_types::words;
 use evt2_decoder::Evt2Decoder;
 use evt2_decoder::advance;
+use evt21_decoder::Evt21Decoder;
+use evt21_decoder::of_evt2;
 use evt3_decoder::Decoder;
 use evt3_decoder::WideDecoder;
 use evt3_decoder::widen;
 
-// A loop tests for a word's last byte as `words::four_at` and `two_at` do, whose tests then fall away.
+// A loop tests for a word's last byte as `words::four_at` and the others do, whose tests then fall away.
 const LAST_BYTE2: usize = Evt2Decoder::WORD_SIZE - 1;
+
+const LAST_BYTE21: usize = Evt21Decoder::WORD_SIZE - 1;
 
 const LAST_BYTE3: usize = Decoder::WORD_SIZE - 1;
 
@@ -50,6 +54,41 @@ pub fn evt2(
     FilledAll {
         count: n,
         codec: Codec::Evt2(s),
+    }
+}
+
+pub fn evt21(
+    bytes: &[u8],
+    d: Evt21Decoder,
+    width: u64,
+    height: u64,
+    xs: &mut [u16],
+    ys: &mut [u16],
+    ts: &mut [i64],
+    ps: &mut [u8],
+) -> FilledAll
+    requires { ⌜ Bounded (length (now bytes)) (Evt21 d) ⌝ ∗ ⌜ Fits (length (insideEvents width height (Evt21 d) (now bytes)))
+        (length (now xs)) (length (now ys)) (length (now ts)) (length (now ps)) ⌝ }
+    ensures { λ r. ⌜ r ≡ filledAllOf width height (Evt21 d) (now (bytes .entry)) ⌝
+        ∗ ⌜ Wrote (insideEvents width height (Evt21 d) (now (bytes .entry))) 0
+        (now (xs .entry)) (now (ys .entry)) (now (ts .entry)) (now (ps .entry))
+        (now (xs .exit)) (now (ys .exit)) (now (ts .exit)) (now (ps .exit)) ⌝ }
+{
+    let mut s = d.evt2();
+    let mut n: usize = 0;
+    let mut i: usize = 0;
+    while i + LAST_BYTE21 < bytes.len() {
+        let w = words::eight_at(bytes, i);
+        let step = evt21_decoder::advance(s, w);
+        let v = step.events;
+        s = step.next;
+        i += Evt21Decoder::WORD_SIZE;
+        n = read_columns::place(v, width, height, n, &mut *xs, &mut *ys, &mut *ts, &mut *ps);
+    }
+    let decoder = of_evt2(s);
+    FilledAll {
+        count: n,
+        codec: Codec::Evt21(decoder),
     }
 }
 

@@ -27,6 +27,7 @@ pub fn in_range(codec: Codec) -> bool
 {
     match codec {
         Codec::Evt2(d) => d.in_range(),
+        Codec::Evt21(d) => d.in_range(),
         Codec::Evt3(d) => d.in_range(),
     }
 }
@@ -52,6 +53,18 @@ pub fn fill_all(
     match codec {
         Codec::Evt2(d) => {
             fill::evt2(
+                bytes,
+                d,
+                width,
+                height,
+                &mut *xs,
+                &mut *ys,
+                &mut *ts,
+                &mut *ps,
+            )
+        }
+        Codec::Evt21(d) => {
+            fill::evt21(
                 bytes,
                 d,
                 width,

@@ -30,7 +30,8 @@ module _ {R : Reader} (S : Sound R) (win : Window) (no-end : 2 ^ 63 ≤ win .t1)
       all-timely [] h = tt
       all-timely (e ∷ es) h = (timely clock (win .t0) (win .t1) e (omega arith) (omega (arith, h .0)), all-timely es (h .1))
 
-      in-time : (n : ℕ) (u : R .State) (w : ℕ) → R .Able (suc n) u → All (λ e. Select.inTime (readingBy R win) (selectionOf win) e ≡ true) (R .machine .emit u w)
+      in-time : (n : ℕ) (u : R .State) (w : ℕ) → R .Able (suc n) u
+          → All (λ e. Select.inTime (readingBy R win) (selectionOf win) e ≡ true) (R .machine .emit u w)
       in-time n u w i = rw (S .emits u w) (all-timely (eventsOf (R .vector u w)) (events-timed (λ t. t < 2 ^ 63) (R .vector u w) (S .times< (suc n) u w i)))
 
 -- ---- over every encoding

@@ -31,6 +31,7 @@ pub struct Filled {
 }
 
 mod evt2;
+mod evt21;
 mod evt3;
 mod word;
 
@@ -43,6 +44,7 @@ pub fn survey(bytes: &[u8], codec: Codec, win: Window, number: u64) -> SurveyTot
 {
     match codec {
         Codec::Evt2(d) => evt2::survey2(bytes, d, win, number),
+        Codec::Evt21(d) => evt21::survey21(bytes, d, win, number),
         Codec::Evt3(d) => evt3::survey3(bytes, d, win, number),
     }
 }
@@ -69,6 +71,18 @@ pub fn fill(
     match codec {
         Codec::Evt2(d) => {
             evt2::fill2(
+                bytes,
+                d,
+                win,
+                number,
+                &mut *xs,
+                &mut *ys,
+                &mut *ts,
+                &mut *ps,
+            )
+        }
+        Codec::Evt21(d) => {
+            evt21::fill21(
                 bytes,
                 d,
                 win,

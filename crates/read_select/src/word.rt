@@ -1,4 +1,4 @@
-// What one word adds to a pass, for the loops of both encodings.
+// What one word adds to a pass, for the loops of every encoding.
 ghost use mathlib.Core.Path.{_≡_};
 ghost use Prim.Native.Nat.{_+_, _-_, _≤_, _<_, _^_};
 ghost use Rattle.evt_types.specs.Event.{Narrow};
@@ -76,6 +76,23 @@ pub fn keep3(v: Vector, win: Window, k: u64) -> Trimmed
     }
     if v.mask == 1 {
         return trim::single(v, win, k);
+    }
+    if trim::whole(v, win, k) {
+        return Trimmed {
+            mask: v.mask,
+            extra: 0,
+        };
+    }
+    trim::pick(v, win, k)
+}
+
+// The same of EVT 2.1, for both its loops: there a bit alone is seldom the lowest.
+pub fn cut21(v: Vector, win: Window, k: u64) -> Trimmed
+    requires { ⌜ Narrow v ⌝ ∗ ⌜ k < 2 ^ 62 + 2 ^ 61 ⌝ }
+    ensures { λ r. ⌜ Picked v win k r ⌝ }
+{
+    if v.mask == 0 {
+        return Trimmed { mask: 0, extra: 0 };
     }
     if trim::whole(v, win, k) {
         return Trimmed {

@@ -59,7 +59,8 @@ done c =
 
 loop-holds : tie.Need-loop-holds Inv-loop μ-loop
 loop-holds c =
-    counts-start sound2 (bounded-words (Evt2 (c .before .args .d)) (now (c .before .args .bytes)) (c .before .pre .able)) (c .before .pre .long) (c .before .pre .low)
+    let s = c .before in
+    counts-start sound2 (bounded-words (Evt2 (s .args .d)) (now (s .args .bytes)) (s .pre .able)) (s .pre .long) (s .pre .low)
 
 advance-requires : tie.Need-advance-requires Inv-loop μ-loop
 advance-requires c κs = bounded-sane2 (c .before .before .loop .inv .at .inv)

@@ -147,6 +147,11 @@ encode-fits Evt3 v es = emits-fit writer3 wordSize3 encode-fits3 v (runs es)
 few-run : (v : EncoderState) (r : Run) → Valid r → length (bytes3 v r) ≤ 8 * length (given r)
 few-run v r va = let n : length (given r) ≡ length (r .xs) = length-map (r .xs) (λ x. event x (r .y) (r .t) (r .p)) in omega (arith, few3 v r (va .some))
 
+pub most-le : (e : Encoding) (n : ℕ) → mostBytes e n ≤ 16 * n
+most-le Evt2 n = omega arith
+most-le Evt21 n = omega arith
+most-le Evt3 n = omega arith
+
 pub encode-few : (e : Encoding) (v : EncoderState) (es : List Event) → length (encodeBytes e v es) ≤ mostBytes e (length es)
 unfolding encodeBytes bytesFrom
 encode-few Evt2 v es =

@@ -2,23 +2,21 @@
 use Prim.Native.Nat.{ℕ, _<_, _≤_}
 use mathlib.Core.Path.{_≡_, refl, sym, _∙_, ap}
 use mathlib.Core.List.{List, [], _∷_}
-use mathlib.Core.Bool.{Bool, true, false, cond, _||_}
+use mathlib.Core.Bool.{Bool, true, false, cond}
 use native.Mathlib.Omega.{arith}
 use lib.ListN.{length, take}
-use lib.Dec.{eqb}
 use borrow.Author.Tests.{lt-ltb, le-ltb}
-use Rattle.evt_types.specs.declared.{Encoding.Encoding, Encoding.the-variants.Evt2, Encoding.the-variants.Evt3}
-use Rattle.evt_types.specs.declared.{Refusal.the-variants.InvalidSensorSize, Refusal.the-variants.UnknownEncoding}
+use Rattle.evt_types.specs.declared.{Encoding.Encoding, Refusal.the-variants.InvalidSensorSize, Refusal.the-variants.UnknownEncoding}
 use Rattle.evt_types.specs.declared.{Refusal.the-variants.HeaderNotAscii, Refusal.the-variants.TooLong, SensorSize.SensorSize}
 use Rattle.header.specs.declared.{HeaderAnswer.HeaderAnswer, HeaderAnswer.the-variants.Refused, Named.the-variants.As}
 use Rattle.header.specs.declared.{Named.the-variants.Nothing, Scan.Scan}
 use Rattle.header_text.specs.Text.{notAscii, any, begins, same}
 use Rattle.header.specs.Lines.{headerLines, headerBytes, bodyStart, keyOf}
-use Rattle.header.specs.Header.{geometryName, formatName, evtName, evt2, evt3, two, three, Said, readLine, readAll, nothing, saidBy, encodingOf}
+use Rattle.header.specs.Header.{geometryName, formatName, evtName, Said, readLine, readAll, nothing, saidBy, encodingOf}
 use Rattle.header.specs.Header.{sizeThatHolds, hasZero, withEncoding, linesOutcome, answerBy, toldHeader, headerOf, Parsed}
 use Rattle.evt_types.specs.Num.{mostBytes}
 use Rattle.evt_types.specs.Outcome.{refuse, give}
-use Rattle.header.specs.Notes.{versionOf, seenOf, noteLine, noteAll, blankNote, scanOf, nameOf}
+use Rattle.header.specs.Notes.{seenOf, noteLine, noteAll, blankNote, scanOf, nameOf}
 use Rattle.header_text.specs.Cases.{by-bool}
 use Rattle.header.specs.Laws.{header-part, body-within, verdict-of}
 
@@ -35,24 +33,12 @@ note-all said [] = refl
 note-all said (l ∷ ls) = rw (note-read said l) (note-all (readLine said l) ls)
 
 pub note-start : (ls : List (List ℕ)) → noteAll blankNote ls ≡ seenOf (readAll nothing ls)
-unfolding versionOf begins
+unfolding begins
 note-start ls = note-all nothing ls
 
-named-by : (a b c d : Bool)
-    → cond (eqb (cond a 3 (cond b 2 0)) 3 || eqb (cond c 3 (cond d 2 0)) 3) (As Evt3)
-    (cond (eqb (cond a 3 (cond b 2 0)) 2 || eqb (cond c 3 (cond d 2 0)) 2) (As Evt2) Nothing)
-    ≡ cond (a || c) (As Evt3) (cond (b || d) (As Evt2) Nothing)
-named-by true b c d = refl
-named-by false true true d = refl
-named-by false true false true = refl
-named-by false true false false = refl
-named-by false false true d = refl
-named-by false false false true = refl
-named-by false false false false = refl
-
 pub named : (said : Said) → nameOf (seenOf said) ≡ encodingOf said
-unfolding nameOf encodingOf versionOf
-named said = named-by (begins evt3 (said .format)) (begins evt2 (said .format)) (begins three (said .evt)) (begins two (said .evt))
+unfolding nameOf encodingOf
+named said = refl
 
 -- ---- the answer
 

@@ -1,15 +1,18 @@
 -- Worked examples of the verdict, computed: the listing's header, bytes 25 80, an empty file, a height of 0, the caller's size over it, and
--- end lines.
+-- end lines; and of the encodings that values name.
 use Prim.Native.Nat.{ℕ}
 use mathlib.Core.Path.{_≡_, refl}
 use mathlib.Core.List.{List, [], _∷_}
+use Rattle.evt_types.specs.declared.Encoding.the-variants.{Evt2, Evt21, Evt3}
 use Rattle.evt_types.specs.declared.SensorSize.the-variants.{Unknown, Known}
 use Rattle.evt_types.specs.Told.{accepted, refused}
 use Rattle.header_text.specs.Text.{isBlank, upTo, from, any, restOf, trimStart, trimEnd, trimOf, lowerOf, begins, same}
 use Rattle.header_text.specs.Size.{isDigit, allDigits, digitsValue, numberFrom, digitsOf, numberOf, both, sizeAt, geometryOf}
+use Rattle.header.specs.declared.Named.the-variants.{As}
 use Rattle.header.specs.Lines.{isEnd, joined, linesOf, startsPercent, leading, throughEnd, headerLines, joinedLines, headerBytes, bodyStart}
 use Rattle.header.specs.Lines.{bodyOf, keyOf, valueOf}
-use Rattle.header.specs.Header.{readLine, readAll, saidBy, encodingOf, sizeThatHolds, hasZero, withEncoding, linesOutcome, headerVerdict}
+use Rattle.header.specs.Header.{evt2, evt21, twoOne, three, Said, readLine, readAll, saidBy, encodingOf, sizeThatHolds, hasZero, withEncoding}
+use Rattle.header.specs.Header.{linesOutcome, headerVerdict}
 
 -- `% format EVT3`, `% geometry 64x48`, and three bytes of the body
 abbrev listing : List ℕ
@@ -54,3 +57,15 @@ unfolding isBlank upTo from any restOf trimStart trimEnd trimOf lowerOf begins s
     both sizeAt geometryOf isEnd joined linesOf startsPercent leading throughEnd headerLines joinedLines headerBytes bodyStart bodyOf keyOf valueOf readLine
     readAll saidBy encodingOf sizeThatHolds hasZero withEncoding linesOutcome
 worked = refl
+
+-- what the last `format` and `evt` line say
+abbrev values : List ℕ → List ℕ → Said
+values format evt = record { format = format; evt = evt; size = Unknown }
+
+-- `EVT21`; `2.10`; `evt2` and `2.1`; `evt21` and `3`; `evt2.1`; `21`
+pub names :
+    encodingOf (values (69 ∷ 86 ∷ 84 ∷ 50 ∷ 49 ∷ []) []) ∷ encodingOf (values [] (50 ∷ 46 ∷ 49 ∷ 48 ∷ [])) ∷ encodingOf (values evt2 twoOne)
+    ∷ encodingOf (values evt21 three) ∷ encodingOf (values (101 ∷ 118 ∷ 116 ∷ 50 ∷ 46 ∷ 49 ∷ []) []) ∷ encodingOf (values [] (50 ∷ 49 ∷ [])) ∷ []
+    ≡ As Evt21 ∷ As Evt21 ∷ As Evt21 ∷ As Evt3 ∷ As Evt2 ∷ As Evt2 ∷ []
+unfolding encodingOf begins lowerOf
+names = refl

@@ -9,14 +9,14 @@ use lib.Seq.{drop-drop}
 use lib.Dec.{eqb}
 use borrow.Author.Tests.{lt-ltb, le-ltb, ne-eqb}
 use Rattle.evt_types.specs.declared.SensorSize.{SensorSize}
-use Rattle.header.specs.declared.{Scan.Scan, Seen.Seen}
+use Rattle.header.specs.declared.{Scan.Scan, Seen.Seen, Versions.Versions}
 use Rattle.header_text.specs.Text.{isBlank, isByte, upTo, from, any, trimOf, same}
 use Rattle.header_text.specs.Size.{geometryOf}
 use Rattle.header.specs.Lines.{isEnd, joined, linesOf, startsPercent, leading, throughEnd, headerLines, joinedLines, headerBytes, bodyStart}
 use Rattle.header.specs.Lines.{bodyOf, keyOf, valueOf}
-use Rattle.header.specs.Header.{geometryName, formatName, evtName, evt2, evt3, two, three}
+use Rattle.header.specs.Header.{geometryName, formatName, evtName}
 use Rattle.header_text.specs.Cases.{by-bool}
-use Rattle.header.specs.Notes.{lineLength, versionOf, noteLine, noteAll, blankNote, scanOf}
+use Rattle.header.specs.Notes.{lineLength, formatVersions, evtVersions, noteLine, noteAll, blankNote, scanOf}
 use Rattle.header_text.proofs.TextLaws.{at-drop, at-end, lt-upTo, count-take, count-drop}
 
 -- ---- the first line
@@ -90,13 +90,13 @@ module _ (seen : Seen) (l key value : List ℕ) (p : Parts l key value) where
   line-geometry g e f = rw (named-as geometryName true e, f, p .value-is)
 
   module _ (d : same geometryName key ≡ false) where
-    pub line-format : (v : ℕ) → same formatName key ≡ true → v ≡ versionOf evt2 evt3 value
+    pub line-format : (v : Versions) → same formatName key ≡ true → v ≡ formatVersions value
         → _≡_ {A = Seen} (record { format = v; evt = seen .evt; size = seen .size }) (noteLine seen l)
     unfolding noteLine
     line-format v e f = rw (named-as geometryName false d, named-as formatName true e, f, p .value-is)
 
     module _ (d′ : same formatName key ≡ false) where
-      pub line-evt : (v : ℕ) → same evtName key ≡ true → v ≡ versionOf two three value
+      pub line-evt : (v : Versions) → same evtName key ≡ true → v ≡ evtVersions value
           → _≡_ {A = Seen} (record { format = seen .format; evt = v; size = seen .size }) (noteLine seen l)
       unfolding noteLine
       line-evt v e f = rw (named-as geometryName false d, named-as formatName false d′, named-as evtName true e, f, p .value-is)

@@ -5,8 +5,8 @@ use mathlib.Core.List.{List, [], _∷_}
 use mathlib.Core.Bool.{Bool, false, cond, _||_}
 use lib.ListN.{length}
 use lib.Dec.{ltb, eqb}
-use Rattle.evt_types.specs.declared.{Encoding.the-variants.Evt2, Encoding.the-variants.Evt3, Refusal.the-variants.InvalidSensorSize}
-use Rattle.evt_types.specs.declared.{Refusal.the-variants.UnknownEncoding, Refusal.the-variants.HeaderNotAscii, Refusal.the-variants.TooLong}
+use Rattle.evt_types.specs.declared.Encoding.the-variants.{Evt2, Evt21, Evt3}
+use Rattle.evt_types.specs.declared.Refusal.the-variants.{InvalidSensorSize, UnknownEncoding, HeaderNotAscii, TooLong}
 use Rattle.evt_types.specs.declared.{SensorSize.SensorSize, SensorSize.the-variants.Unknown, SensorSize.the-variants.Known}
 use Rattle.evt_types.specs.{Num.mostBytes, Num.encodingNumber, Outcome.Outcome, Outcome.refuse, Outcome.give, Outcome.onOutcome, Outcome.verdict}
 use Rattle.evt_types.specs.{Told.Told, Told.accepted, Told.told}
@@ -30,11 +30,17 @@ evtName = 101 ∷ 118 ∷ 116 ∷ []
 abbrev pub evt2 : List ℕ
 evt2 = 101 ∷ 118 ∷ 116 ∷ 50 ∷ []
 
+abbrev pub evt21 : List ℕ
+evt21 = 101 ∷ 118 ∷ 116 ∷ 50 ∷ 49 ∷ []
+
 abbrev pub evt3 : List ℕ
 evt3 = 101 ∷ 118 ∷ 116 ∷ 51 ∷ []
 
 abbrev pub two : List ℕ
 two = 50 ∷ []
+
+abbrev pub twoOne : List ℕ
+twoOne = 50 ∷ 46 ∷ 49 ∷ []
 
 abbrev pub three : List ℕ
 three = 51 ∷ []
@@ -69,11 +75,12 @@ readAll said (l ∷ ls) = readAll (readLine said l) ls
 unfoldable pub saidBy : List ℕ → Said
 saidBy s = readAll nothing (headerLines s)
 
--- EVT3 if the format begins `evt3` or the evt value begins `3`; else EVT2 for `evt2` or `2`
+-- EVT3 if the format begins `evt3` or the evt value begins `3`; else EVT2.1 for `evt21` or `2.1`; else EVT2 for `evt2` or `2`
 unfoldable pub encodingOf : Said → Named
 encodingOf said =
     cond (begins evt3 (said .format) || begins three (said .evt)) (As Evt3)
-    (cond (begins evt2 (said .format) || begins two (said .evt)) (As Evt2) Nothing)
+    (cond (begins evt21 (said .format) || begins twoOne (said .evt)) (As Evt21)
+    (cond (begins evt2 (said .format) || begins two (said .evt)) (As Evt2) Nothing))
 
 -- the size that holds: the caller's, or without one the header's
 unfoldable pub sizeThatHolds : SensorSize → SensorSize → SensorSize

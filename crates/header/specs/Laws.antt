@@ -1,26 +1,25 @@
--- Laws of the definitions that callers cite: the header is a part of the recording, where an end line stands in it, the verdict is what the
--- answer tells, answers are told apart, and what an acceptance says.
+-- Laws of the definitions that callers cite: the header is a part of the recording, where an end line stands in it, one that doesn't name EVT2.1,
+-- the verdict is what the answer tells, answers are told apart, and what an acceptance says.
 use Prim.Native.Nat.{ℕ, _≤_}
 use mathlib.Core.Path.{_≡_, refl, sym, _∙_, ap}
 use mathlib.Core.List.{List, [], _∷_, _++_, append-assoc, append-nil}
-use mathlib.Core.Bool.{Bool, true, false, cond}
+use mathlib.Core.Bool.{Bool, true, false, cond, _||_}
 use native.Mathlib.Omega.{arith}
 use lib.ListN.{length, take, getD, length-take}
 use lib.Seq.{take-at}
 use lib.Dec.{ltb, eqb}
 use borrow.Author.Tests.{ltb-false}
-use Rattle.evt_types.specs.declared.{Encoding.Encoding, Encoding.the-variants.Evt2, Encoding.the-variants.Evt3, Refusal.the-variants.UnknownEncoding}
-use Rattle.evt_types.specs.declared.Refusal.the-variants.{HeaderNotAscii, TooLong}
+use Rattle.evt_types.specs.declared.{Encoding.Encoding, Encoding.the-variants.Evt2, Encoding.the-variants.Evt21, Encoding.the-variants.Evt3}
+use Rattle.evt_types.specs.declared.Refusal.the-variants.{UnknownEncoding, HeaderNotAscii, TooLong}
 use Rattle.evt_types.specs.declared.{SensorSize.SensorSize, SensorSize.the-variants.Unknown, SensorSize.the-variants.Known}
 use Rattle.evt_types.specs.Told.{Told, told, told-apart, told-numbered, naturals, accepted-naturals}
 use Rattle.header.specs.declared.{HeaderAnswer.HeaderAnswer, HeaderAnswer.the-variants.Header, HeaderAnswer.the-variants.Refused, Named.Named}
 use Rattle.header.specs.declared.{Named.the-variants.As, Named.the-variants.Nothing}
 use Rattle.header.specs.declared.Header as header
-use Rattle.header_text.specs.{Cases.by-bool, Text.notAscii, Text.any}
+use Rattle.header_text.specs.{Cases.by-bool, Text.notAscii, Text.any, Text.begins}
 use Rattle.header.specs.Lines.{isEnd, joined, linesOf, startsPercent, leading, throughEnd, headerLines, joinedLines, headerBytes, bodyStart}
-use Rattle.header.specs.Header.{saidBy, encodingOf, sizeThatHolds, hasZero, sizeValues, headerValues, toldHeader, withEncoding}
-use Rattle.header.specs.Header.{linesOutcome, headerOutcome}
-use Rattle.header.specs.Header.{answerBy, headerOf, headerVerdict}
+use Rattle.header.specs.Header.{evt2, evt21, evt3, two, twoOne, three, Said, saidBy, encodingOf, sizeThatHolds, hasZero, sizeValues, headerValues}
+use Rattle.header.specs.Header.{toldHeader, withEncoding, linesOutcome, headerOutcome, answerBy, headerOf, headerVerdict}
 use Rattle.evt_types.specs.Num.{mostBytes, encodingNumber}
 use Rattle.laws_stream.specs.Machine.{All}
 use Rattle.evt_types.specs.Outcome.{Outcome, refuse, give, verdict, never-given, given-unless}
@@ -101,6 +100,23 @@ at-end s before l behind is none ends = rw is (through before none)
     through [] h = rw ends
     through (k ∷ ls) h = rw (h .0) (ap (λ (m : List (List ℕ)). k ∷ m) (through ls (h .1)))
 
+-- ---- a header that doesn't name EVT2.1
+
+-- the encoding, where there is no EVT2.1
+abbrev pub namedBefore : Said → Named
+namedBefore said =
+    cond (begins evt3 (said .format) || begins three (said .evt)) (As Evt3)
+    (cond (begins evt2 (said .format) || begins two (said .evt)) (As Evt2) Nothing)
+
+-- A HEADER WHOSE FORMAT DOESN'T BEGIN `evt21` AND WHOSE EVT VALUE DOESN'T BEGIN `2.1` is answered as if there were no EVT2.1
+pub named-as-before : (s : List ℕ) (given : SensorSize) → begins evt21 (saidBy s .format) ≡ false → begins twoOne (saidBy s .evt) ≡ false
+    → headerOutcome s given
+    ≡ cond (ltb mostBytes (length s)) (refuse TooLong)
+    (cond (any notAscii (headerBytes s)) (refuse HeaderNotAscii)
+    (withEncoding (bodyStart s) (sizeThatHolds given (saidBy s .size)) (namedBefore (saidBy s))))
+unfolding linesOutcome headerBytes bodyStart saidBy encodingOf
+named-as-before s given format evt = rw (format, evt)
+
 -- ---- the verdict is what the answer tells
 
 told-by : (o : Outcome header.Header) → toldHeader (answerBy o) ≡ verdict headerValues o
@@ -118,14 +134,16 @@ meant v =
     record {
       «data_offset» = getD v 0 0;
       «sensor_size» = cond (eqb (getD v 2 0) 0) Unknown (Known (getD v 3 0) (getD v 4 0));
-      encoding = cond (eqb (getD v 1 0) 2) Evt2 Evt3;
+      encoding = cond (eqb (getD v 1 0) 2) Evt2 (cond (eqb (getD v 1 0) 21) Evt21 Evt3);
     }
 
 meant-values : (at : ℕ) (size : SensorSize) (e : Encoding)
     → meant (at ∷ encodingNumber e ∷ sizeValues size) ≡ record { «data_offset» = at; «sensor_size» = size; encoding = e }
 meant-values at Unknown Evt2 = refl
+meant-values at Unknown Evt21 = refl
 meant-values at Unknown Evt3 = refl
 meant-values at (Known w h) Evt2 = refl
+meant-values at (Known w h) Evt21 = refl
 meant-values at (Known w h) Evt3 = refl
 
 meant-told : (h : header.Header) → meant (naturals (toldHeader (Header h) .values)) ≡ h

@@ -6,7 +6,7 @@
 ghost use mathlib.Core.Path.{_≡_};
 ghost use Rattle.header.specs.Lines.{bodyOf, isEnd};
 ghost use Rattle.header.specs.Header.{sizeThatHolds, hasZero, IsRefused, Parsed};
-ghost use Rattle.header.specs.Notes.{lineLength, versionOf, noteLine, scanOf, nameOf};
+ghost use Rattle.header.specs.Notes.{lineLength, versionsOf, noteLine, scanOf, nameOf};
 use evt_types::Encoding;
 use evt_types::MOST_BYTES;
 use evt_types::Refusal;
@@ -32,11 +32,18 @@ pub enum HeaderAnswer {
     Refused(Refusal),
 }
 
-// What is kept of the lines read so far: the size, and of the last `format` and `evt` value the
-// version that it begins with, 2 or 3, or 0.
+// Which versions a value begins with.
+struct Versions {
+    three: bool,
+    two_one: bool,
+    two: bool,
+}
+
+// What is kept of the lines read so far: the size, and which versions the last `format` and the last
+// `evt` value begin with.
 struct Seen {
-    format: u8,
-    evt: u8,
+    format: Versions,
+    evt: Versions,
     size: SensorSize,
 }
 
@@ -52,17 +59,14 @@ enum Named {
     As(Encoding),
 }
 
-// The version that a value begins with.
-fn version(s: &[u8], two: &[u8], three: &[u8]) -> u8
-    ensures { λ r. ⌜ r ≡ versionOf (now (two .entry)) (now (three .entry)) (now (s .entry)) ⌝ }
+fn versions_of(s: &[u8], three: &[u8], two_one: &[u8], two: &[u8]) -> Versions
+    ensures { λ r. ⌜ r ≡ versionsOf (now (three .entry)) (now («two_one» .entry)) (now (two .entry)) (now (s .entry)) ⌝ }
 {
-    if begins_with(s, three) {
-        return 3;
+    Versions {
+        three: begins_with(s, three),
+        two_one: begins_with(s, two_one),
+        two: begins_with(s, two),
     }
-    if begins_with(s, two) {
-        return 2;
-    }
-    0
 }
 
 // A line without the blanks around it and the `%`s before it.
@@ -99,7 +103,7 @@ fn read_line(seen: Seen, line: &[u8]) -> Seen
     }
     if is_word(key, b"format") {
         return Seen {
-            format: version(value, b"evt2", b"evt3"),
+            format: versions_of(value, b"evt3", b"evt21", b"evt2"),
             evt,
             size,
         };
@@ -107,7 +111,7 @@ fn read_line(seen: Seen, line: &[u8]) -> Seen
     if is_word(key, b"evt") {
         return Seen {
             format,
-            evt: version(value, b"2", b"3"),
+            evt: versions_of(value, b"3", b"2.1", b"2"),
             size,
         };
     }
@@ -128,9 +132,14 @@ fn line_length(s: &[u8]) -> usize
 fn scan_lines(s: &[u8]) -> Scan
     ensures { λ r. ⌜ r ≡ scanOf (now (s .entry)) ⌝ }
 {
+    let none = Versions {
+        three: false,
+        two_one: false,
+        two: false,
+    };
     let mut seen = Seen {
-        format: 0,
-        evt: 0,
+        format: none,
+        evt: none,
         size: SensorSize::Unknown,
     };
     let mut at = 0;
@@ -150,20 +159,19 @@ fn scan_lines(s: &[u8]) -> Scan
     Scan { at, seen }
 }
 
-// EVT3 before EVT2, whichever of the two keys names it.
+// EVT3 before EVT2.1 before EVT2, whichever of the two keys names it.
 fn name_encoding(seen: Seen) -> Named
     ensures { λ r. ⌜ r ≡ nameOf seen ⌝ }
 {
-    if seen.format == 3 {
+    let format = seen.format;
+    let evt = seen.evt;
+    if format.three || evt.three {
         return Named::As(Encoding::Evt3);
     }
-    if seen.evt == 3 {
-        return Named::As(Encoding::Evt3);
+    if format.two_one || evt.two_one {
+        return Named::As(Encoding::Evt21);
     }
-    if seen.format == 2 {
-        return Named::As(Encoding::Evt2);
-    }
-    if seen.evt == 2 {
+    if format.two || evt.two {
         return Named::As(Encoding::Evt2);
     }
     Named::Nothing

@@ -8,7 +8,7 @@ use native.Mathlib.Omega.{arith}
 use lib.ListN.{length}
 use lib.Dec.{eqb}
 use borrow.Author.Tests.{le-ltb, lt-leb, eq-eqb, ne-eqb}
-use Rattle.evt_types.specs.declared.{Encoding.Encoding, Encoding.the-variants.Evt2, Encoding.the-variants.Evt3}
+use Rattle.evt_types.specs.declared.{Encoding.Encoding, Encoding.the-variants.Evt2, Encoding.the-variants.Evt21, Encoding.the-variants.Evt3}
 use Rattle.evt_types.specs.declared.{Refusal.the-variants.InvalidSensorSize, SensorSize.SensorSize, SensorSize.the-variants.Unknown}
 use Rattle.evt_types.specs.declared.{SensorSize.the-variants.Known}
 use Rattle.header_text.specs.Text.{isBlank, isByte, notAscii, upTo, from, any, restOf, trimStart, trimEnd, trimOf, lowerOf, begins, same}
@@ -20,7 +20,7 @@ use Rattle.header.specs.Header.{geometryName, Said, nothing, readLine, readAll,
 use Rattle.header.specs.Header.{answerBy, headerOf}
 use Rattle.evt_types.specs.Outcome.{refuse, give}
 use Rattle.write_text.specs.Text.{ascii, decimal}
-use Rattle.write_header.specs.Header.{formatLine, headerText}
+use Rattle.write_header.specs.Header.{formatText, formatLine, headerText}
 use Rattle.laws_header.specs.Texts.{none-append, parted, header-line}
 use Rattle.laws_header.specs.Numbers.{decimal-none, number-decimal, decimal-start, decimal-end, decimal-trimmed}
 
@@ -40,8 +40,7 @@ endLine = ascii "% end\n"
 
 text-lines : (e : Encoding) (w h : ℕ) (body : List ℕ) → headerText e w h ++ body ≡ formatLine e ++ (sizeLine w h ++ (generatorLine ++ (endLine ++ body)))
 unfolding headerText
-text-lines Evt2 w h body = simp append-assoc refl
-text-lines Evt3 w h body = simp append-assoc refl
+text-lines e w h body = simp append-assoc refl
 
 size-none : (p : ℕ → Bool) → ((b : ℕ) → 48 ≤ b → b ≤ 57 → p b ≡ false) → p 120 ≡ false → (w h : ℕ) → any p (sizeText w h) ≡ false
 unfolding any
@@ -83,16 +82,28 @@ module _ (w h : ℕ) where
     unfolding readLine same begins lowerOf
     size-read said = rw (size-key, size-value, size-known (said .size))
 
+-- ---- the line of the format, encoding by encoding: what is read of it, which encoding that names, and that it is one line, no end line and ASCII
+
+-- a header with the size that holds, or a refusal where that has a zero
+abbrev pub answer : ℕ → SensorSize → Encoding → HeaderAnswer
+answer at size e =
+    answerBy (cond (hasZero size) (refuse InvalidSensorSize) (give (record { «data_offset» = at; «sensor_size» = size; encoding = e })))
+
+record Format (e : Encoding) : Type 0 where
+  read : readLine nothing (formatLine e) ≡ record { format = formatText e; evt = []; size = Unknown }
+  names : (at : ℕ) (size read : SensorSize)
+      → answerBy (withEncoding at size (encodingOf (record { format = formatText e; evt = []; size = read }))) ≡ answer at size e
+  line : any (isByte 10) (ascii " format " ++ formatText e) ≡ false
+  goes-on : isEnd (formatLine e) ≡ false
+  is-ascii : any notAscii (formatLine e) ≡ false
+
+format-line : (e : Encoding) → Format e
+unfolding readLine encodingOf withEncoding any isEnd same begins lowerOf keyOf valueOf bodyOf trimOf trimStart trimEnd from upTo isBlank
+format-line Evt2 = record { read = refl; names = λ at size read. refl; line = refl; goes-on = refl; is-ascii = refl }
+format-line Evt21 = record { read = refl; names = λ at size read. refl; line = refl; goes-on = refl; is-ascii = refl }
+format-line Evt3 = record { read = refl; names = λ at size read. refl; line = refl; goes-on = refl; is-ascii = refl }
+
 -- ---- the other lines
-
-abbrev encodingText : Encoding → List ℕ
-encodingText Evt2 = ascii "EVT2"
-encodingText Evt3 = ascii "EVT3"
-
-format-read : (e : Encoding) → readLine nothing (formatLine e) ≡ record { format = encodingText e; evt = []; size = Unknown }
-unfolding readLine same begins lowerOf keyOf valueOf bodyOf trimOf trimStart trimEnd from upTo isBlank
-format-read Evt2 = refl
-format-read Evt3 = refl
 
 others-read : (said : Said) → readLine (readLine said generatorLine) endLine ≡ said
 unfolding readLine same begins lowerOf keyOf valueOf bodyOf trimOf trimStart trimEnd from upTo isBlank
@@ -104,46 +115,34 @@ size-goes-on : (w h : ℕ) → isEnd (sizeLine w h) ≡ false
 unfolding isEnd same begins lowerOf
 size-goes-on w h = rw (size-body w h, and-false)
 
+-- a line of a key and a value
+value-line : (name text t : List ℕ) → any (isByte 10) (name ++ text) ≡ false → isEnd (37 ∷ (name ++ (text ++ ascii "\n"))) ≡ false
+    → headerLines (37 ∷ (name ++ ((text ++ ascii "\n") ++ t))) ≡ (37 ∷ (name ++ (text ++ ascii "\n"))) ∷ headerLines t
+value-line name text t none on =
+    rw (append-assoc text (ascii "\n") t, ← append-assoc name text (10 ∷ t))
+    (header-line (name ++ text) t none ∙ rw (append-assoc name text (ascii "\n"), on))
+
 format-first : (e : Encoding) (t : List ℕ) → headerLines (formatLine e ++ t) ≡ formatLine e ∷ headerLines t
-unfolding any isEnd same begins lowerOf bodyOf trimOf trimStart trimEnd from isBlank
-format-first Evt2 t = header-line (ascii " format EVT2") t refl
-format-first Evt3 t = header-line (ascii " format EVT3") t refl
+format-first e t = value-line (ascii " format ") (formatText e) t (format-line e .line) (format-line e .goes-on)
 
 size-first : (w h : ℕ) (t : List ℕ) → headerLines (sizeLine w h ++ t) ≡ sizeLine w h ∷ headerLines t
 unfolding any
 size-first w h t =
-    rw (append-assoc (sizeText w h) (ascii "\n") t)
-    (header-line (ascii " geometry " ++ sizeText w h) t (size-none (isByte 10) (λ b l u. ne-eqb b 10 (λ e. omega arith)) refl w h)
-    ∙ rw (append-assoc (ascii " geometry ") (sizeText w h) (ascii "\n"), size-goes-on w h))
+    value-line (ascii " geometry ") (sizeText w h) t (size-none (isByte 10) (λ b l u. ne-eqb b 10 (λ e. omega arith)) refl w h) (size-goes-on w h)
 
 end-last : (t : List ℕ) → headerLines (generatorLine ++ (endLine ++ t)) ≡ generatorLine ∷ endLine ∷ []
 unfolding any isEnd same begins lowerOf bodyOf trimOf trimStart trimEnd from isBlank
 end-last t = header-line (ascii " generator eventcv") (endLine ++ t) refl ∙ rw (header-line (ascii " end") t refl)
 
--- a header with the size that holds, or a refusal where that has a zero
-abbrev pub answer : ℕ → SensorSize → Encoding → HeaderAnswer
-answer at size e =
-    answerBy (cond (hasZero size) (refuse InvalidSensorSize) (give (record { «data_offset» = at; «sensor_size» = size; encoding = e })))
-
-encoding-read : (at : ℕ) (size read : SensorSize) (e : Encoding)
-    → answerBy (withEncoding at size (encodingOf (record { format = encodingText e; evt = []; size = read }))) ≡ answer at size e
-unfolding withEncoding encodingOf begins lowerOf
-encoding-read at size read Evt2 = refl
-encoding-read at size read Evt3 = refl
-
 text-ascii : (e : Encoding) (w h : ℕ) → any notAscii (headerText e w h) ≡ false
 unfolding any headerText
-text-ascii e w h = go e
+text-ascii e w h = none-append notAscii (formatLine e) _ (format-line e .is-ascii) rest
   where
     size : (n : ℕ) → any notAscii (decimal n) ≡ false
     size n = decimal-none n notAscii (λ b l u. lt-leb 128 b (omega arith))
 
-    rest : any notAscii (decimal w ++ (ascii "x" ++ (decimal h ++ (ascii "\n" ++ (generatorLine ++ endLine))))) ≡ false
+    rest : any notAscii (ascii "% geometry " ++ (decimal w ++ (ascii "x" ++ (decimal h ++ (ascii "\n" ++ (generatorLine ++ endLine)))))) ≡ false
     rest = none-append notAscii (decimal w) _ (size w) (none-append notAscii (decimal h) _ (size h) refl)
-
-    go : (e : Encoding) → any notAscii (headerText e w h) ≡ false
-    go Evt2 = rest
-    go Evt3 = rest
 
 -- ---- the whole header, before any body
 
@@ -156,16 +155,16 @@ module _ (e : Encoding) (w h : ℕ) (body : List ℕ) where
   bytes-are = rw lines-are (sym (text-lines e w h []) ∙ append-nil (headerText e w h))
 
   module _ (w< : w < 2 ^ 64) (h< : h < 2 ^ 64) where
-    said-is : readAll nothing (headerLines (headerText e w h ++ body)) ≡ record { format = encodingText e; evt = []; size = Known w h }
+    said-is : readAll nothing (headerLines (headerText e w h ++ body)) ≡ record { format = formatText e; evt = []; size = Known w h }
     unfolding readAll
-    said-is = rw (lines-are, format-read e, size-read w h w< h<) (others-read _)
+    said-is = rw (lines-are, format-line e .read, size-read w h w< h<) (others-read _)
 
     module _ (fits : length (headerText e w h ++ body) ≤ 2 ^ 30) where
       -- the size that holds is the caller's, or without one the header's
       pub read-back-given : (given : SensorSize)
           → headerOf (headerText e w h ++ body) given ≡ answer (length (headerText e w h)) (sizeThatHolds given (Known w h)) e
       unfolding headerOf linesOutcome
-      read-back-given given = rw (le-ltb (2 ^ 30) _ fits, bytes-are, text-ascii e w h, said-is) (encoding-read _ _ _ e)
+      read-back-given given = rw (le-ltb (2 ^ 30) _ fits, bytes-are, text-ascii e w h, said-is) (format-line e .names _ _ _)
 
       -- a written header names its encoding and its size, and the body starts where it ends
       pub read-back : 0 < w → 0 < h

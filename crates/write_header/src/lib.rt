@@ -13,10 +13,11 @@ use write_text::put_decimal;
 use write_text::put_text;
 
 fn put_format(version: Encoding, out: &mut [u8]) -> usize
-    ensures { λ r. ⌜ Stored 14 (now (out .entry)) 0 (formatLine version) r (now (out .exit)) ⌝ }
+    ensures { λ r. ⌜ Stored 15 (now (out .entry)) 0 (formatLine version) r (now (out .exit)) ⌝ }
 {
     match version {
         Encoding::Evt2 => put_text(&mut *out, 0, b"% format EVT2\n"),
+        Encoding::Evt21 => put_text(&mut *out, 0, b"% format EVT21\n"),
         Encoding::Evt3 => put_text(&mut *out, 0, b"% format EVT3\n"),
     }
 }

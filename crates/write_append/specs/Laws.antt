@@ -15,7 +15,7 @@ use Rattle.evt_types.specs.declared.{Encoding.Encoding, Encoding.the-variants.E
 use Rattle.write_buffer.specs.{declared.EncoderState.EncoderState, Columns.event, Columns.eventsIn}
 use Rattle.write_words.specs.Encode.{encodeState, encodeBytes}
 use Rattle.evt2_encoder.specs.Evt2.{writer2}
-use Rattle.evt21_encoder.specs.Pass21.{run-events}
+use Rattle.evt21_encoder.specs.Pass21.{run-events21}
 use Rattle.evt3_run_rules.specs.Runs.{Run, goes, goes-true, firstOf, single, prepend, glue, runs, runAt, runs-at, follow}
 use Rattle.evt3_lead_words.specs.Evt3.{writer3}
 use Rattle.write_rules.specs.declared.{LastTime.LastTime, LastTime.the-variants.Never, LastTime.the-variants.At, RawEventSink.RawEventSink}
@@ -148,7 +148,7 @@ after-some : (e : Encoding) (v : EncoderState) (n m : ℕ) (k : LastTime) (f : E
     → lastInRange e (encodeState e v (f ∷ es)) m l ≡ true
 after-some Evt2 v n m k f es l h q r = after-high v n m k f es l h q (r .time) (r .is-last) (r .fine) (r .same)
 after-some Evt21 v n m k f es l h q r =
-    rw (same-range (encodeState Evt21 v (f ∷ es)) m l, run-events v (f ∷ es))
+    rw (same-range (encodeState Evt21 v (f ∷ es)) m l, run-events21 v (f ∷ es))
     (after-high v n m k f es l h (sym (same-range v n k) ∙ q) (r .time) (r .is-last) (r .fine) (r .same))
 after-some Evt3 v n m k f es l h q r =
     rw (

@@ -16,7 +16,7 @@ use Rattle.evt_types.specs.declared.{Refusal.the-variants.OutputTooShort}
 use Rattle.write_buffer.specs.{declared.EncoderState.EncoderState, declared.Put.Put, Columns.eventsIn, Columns.Sized, Columns.events-length}
 use Rattle.write_buffer.specs.{Storing.Roomy, Storing.roomy-rest, Storing.stored-both}
 use Rattle.evt2_encoder.specs.Pass2.{Fitting2}
-use Rattle.write_words.specs.{Laws.encode-few, Encode.encodeState, Encode.mostBytes, Encode.passed, Encode.Fitting}
+use Rattle.write_words.specs.{Laws.encode-few, Encode.encodeState, Encode.encodeMost, Encode.passed, Encode.Fitting}
 use Rattle.write_header.specs.Header.{headerText, header-few}
 use Rattle.write_rules.specs.declared.{Check.the-variants.Passed, Check.the-variants.Failed, LastTime.LastTime, LastTime.the-variants.At}
 use Rattle.write_rules.specs.{declared.RawEventSink.RawEventSink, Range.eventsInRange, Rules.checkOutcome, Rules.checkOf, Checks.event-fine}
@@ -168,7 +168,7 @@ module _ (s : RawEventSink) (width height : ℕ) (xs ys : List ℕ) (ts : List �
       roomy-rest out o 0 h (wordBytes s xs ys ts ps) (a ∙ sym (zero-add (length h))) n (rw (← d) at r)
 
   pub sends-few : Sized xs ys ts ps → width < 2 ^ 64 → height < 2 ^ 64
-      → length (sends s width height xs ys ts ps) ≤ 96 + mostBytes (s .version) (length xs)
+      → length (sends s width height xs ys ts ps) ≤ 96 + encodeMost (s .version) (length xs)
   sends-few z lw lh =
       let h = dueHeader s width height xs ys ts ps in
       let w = wordBytes s xs ys ts ps in
@@ -177,7 +177,7 @@ module _ (s : RawEventSink) (width height : ℕ) (xs ys : List ℕ) (ts : List �
         length-append h w,
         due-few (headerDue s xs) (s .version) width height lw lh,
         encode-few (s .version) (s .state) (eventsIn xs ys ts ps),
-        ap (mostBytes (s .version)) (events-length xs ys ts ps z 0),
+        ap (encodeMost (s .version)) (events-length xs ys ts ps z 0),
       )
 
 -- what is missing, or 0

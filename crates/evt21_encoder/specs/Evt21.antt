@@ -100,8 +100,8 @@ encode-notes21 v r = go (highSent2 v (firstOf r))
     go true = append-nil (given r)
     go false = append-nil (given r)
 
-word-fits : (e : Event) (m : ℕ) → maskedWord21 e m < 256 ^ wordSize21
-word-fits e m =
+pub word-fits21 : (e : Event) (m : ℕ) → maskedWord21 e m < 256 ^ wordSize21
+word-fits21 e m =
     let h = event-fits2 (e .p % 2) (e .t % grain2) (blockOf (e .x) % 2048) (e .y % 2048) (omega arith) (omega arith) (omega arith) (omega arith) in
     omega (arith, built-fits _ (m % 2 ^ 32) (omega arith) h)
 
@@ -110,8 +110,8 @@ unfolding encode21
 encode-fits21 v r = go (highSent2 v (firstOf r))
   where
     go : (b : Bool) → All (Fits wordSize21) (words (due b (highWord21 (r .t)) ++ (record { word = wordOf21 r; events = given r } ∷ [])))
-    go true = (word-fits (firstOf r) (maskOf (r .xs)), tt)
-    go false = (omega arith, (word-fits (firstOf r) (maskOf (r .xs)), tt))
+    go true = (word-fits21 (firstOf r) (maskOf (r .xs)), tt)
+    go false = (omega arith, (word-fits21 (firstOf r) (maskOf (r .xs)), tt))
 
 pub run-bytes21 : (v : EncoderState) (r : Run)
     → piece wordSize21 writer21 v r ≡ bothBytes wordSize21 (highSent2 v (firstOf r)) (highWord21 (r .t)) (wordOf21 r)

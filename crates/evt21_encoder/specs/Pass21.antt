@@ -62,7 +62,7 @@ glue-run : (b : Bool) (v : EncoderState) (e : Event) (r : Run) (rs : List Run) �
 glue-run true v e r rs q = let g = goesBy-true next21 (e .t) (e .y) (e .p) (e .x) (firstOf r) q in rw (g .is-t)
 glue-run false v e r rs q = refl
 
-run-events : (v : EncoderState) (es : List Event) → run writer21 v (runs21 es) ≡ run writer2 v es
+pub run-events : (v : EncoderState) (es : List Event) → run writer21 v (runs21 es) ≡ run writer2 v es
 run-events v [] = refl
 run-events v (e ∷ es) = go (runs21 es) (run-events (encoded2 v e) es)
   where

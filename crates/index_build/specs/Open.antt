@@ -283,11 +283,7 @@ grown f a (b ∷ es) = omega (arith, grown f b es)
 
 module _ (e : Encoding) (body : List ℕ) (long : length body ≤ mostBytes) where
   numbered-all : numberedOver wholeWindow (freshC e) body ≡ eventsFrom (freshC e) body
-  numbered-all = same e ∙ kept-inside Unknown e body long
-    where
-      same : (e : Encoding) → numberedOver wholeWindow (freshC e) body ≡ insideEvents 65536 65536 (freshC e) body
-      same Evt2 = refl
-      same Evt3 = refl
+  numbered-all = kept-inside Unknown e body long
 
   pub handed-all : handedOver wholeWindow 0 (freshC e) body ≡ eventsFrom (freshC e) body
   handed-all =

@@ -1,21 +1,22 @@
 -- Each encoding as a format whose writer is given an append's events at a time, over the definitions that contracts cite.
 use mathlib.Core.Path.{_≡_, refl, sym, ap, subst, _∙_}
-use mathlib.Core.List.{List, [], _∷_}
+use mathlib.Core.List.{List, [], _∷_, _++_}
 use Prim.Native.Nat.{ℕ, _≤_}
 use native.Mathlib.Omega.{arith}
 use Rattle.evt_types.specs.Event.{Event}
 use Rattle.laws_stream.specs.{Machine.Machine, Machine.Note, Machine.All, Machine.all-of, Words.wordsOf, Format.Format, Format.Lawful, Format.through}
 use Rattle.laws_stream.specs.{Format.givens, Stream.decode, Order.Rise, Order.rise-all, Slice.Past, Slice.reached, Slice.past-then}
-use Rattle.evt_types.specs.declared.{Encoding.Encoding, Encoding.the-variants.Evt2, Encoding.the-variants.Evt3}
+use Rattle.evt_types.specs.declared.{Encoding.Encoding, Encoding.the-variants.Evt2, Encoding.the-variants.Evt21, Encoding.the-variants.Evt3}
 use Rattle.evt_codec.specs.{declared.codec.Codec.Codec, Reader.View, Reader.readerOf, Codec.view-of, Codec.eventsFrom}
 use Rattle.read_columns.specs.Inside.{inside, clock}
 use Rattle.read_window.specs.declared.Window.{Window}
 use Rattle.read_select.specs.Uses.{isTimely, PastWords, PastOver}
 use Rattle.write_buffer.specs.{declared.EncoderState.EncoderState, Sent.freshState}
-use Rattle.evt3_run_rules.specs.Runs.{Run, runs, runs-are, givenBy}
+use Rattle.evt3_run_rules.specs.Runs.{Run, runs, runs-are, given, givenBy}
+use Rattle.evt21_encoder.specs.Evt21.{runs21, runs-are21}
 use Rattle.write_words.specs.Encode.{encodeNotes, encodeState, encodeSize}
-use Rattle.laws_formats.specs.{Ready.limit, Ready.sayable, Lawful2.Ready2, Lawful2.format2, Lawful2.lawful2, Lawful3.Ready3, Lawful3.format3}
-use Rattle.laws_formats.specs.{Lawful3.lawful3}
+use Rattle.laws_formats.specs.{Ready.limit, Ready.sayable, Lawful2.Ready2, Lawful2.format2, Lawful2.lawful2, Lawful21.Ready21}
+use Rattle.laws_formats.specs.{Lawful21.format21, Lawful21.lawful21, Lawful3.Ready3, Lawful3.format3, Lawful3.lawful3}
 
 -- a decoder of the encoding
 abbrev pub StateOf : Encoding → Type 0
@@ -33,10 +34,12 @@ appender e = record { step = encodeState e; emit = encodeNotes e }
 
 abbrev pub ReadyOf : (e : Encoding) → StateOf e → List Event → Type 0
 ReadyOf Evt2 d es = Ready2 d es
+ReadyOf Evt21 d es = Ready21 d es
 ReadyOf Evt3 d es = Ready3 d es
 
 abbrev pub AgreeOf : (e : Encoding) → EncoderState → StateOf e → Type 0
 AgreeOf Evt2 v d = format2 .Agree v d
+AgreeOf Evt21 v d = format21 .Agree v d
 AgreeOf Evt3 v d = format3 .Agree v d
 
 abbrev pub formatOf : (e : Encoding) → Format (StateOf e) EncoderState (List Event) Event
@@ -58,19 +61,21 @@ all-given2 : (g : List Event) → givens format2 g ≡ g
 all-given2 [] = refl
 all-given2 (a ∷ g) = ap {B = List Event} (λ (l : List Event). a ∷ l) (all-given2 g)
 
-all-given3 : (rs : List Run) → givens format3 rs ≡ givenBy rs
-all-given3 [] = refl
-all-given3 (r ∷ rs) = rw (all-given3 rs)
+all-given : {S : Type 0} (F : Format S EncoderState Run Event) → F .given ≡ given → (rs : List Run) → givens F rs ≡ givenBy rs
+all-given F same [] = refl
+all-given F same (r ∷ rs) = λ i. same i r ++ all-given F same rs i
 
 pub lawfulOf : (e : Encoding) → Lawful (formatOf e)
 lawfulOf Evt2 = through format2 (λ g. g) (λ g. g) (λ g. Unit) lawful2 all-given2 (λ g va. all-of _ (λ a. tt) g)
-lawfulOf Evt3 = through format3 runs (λ g. g) (λ g. Unit) lawful3 (λ g. all-given3 (runs g) ∙ runs-are g .1) (λ g va. runs-are g .0)
+lawfulOf Evt21 = through format21 runs21 (λ g. g) (λ g. Unit) lawful21 (λ g. all-given format21 refl (runs21 g) ∙ runs-are21 g .1) (λ g va. runs-are21 g .0)
+lawfulOf Evt3 = through format3 runs (λ g. g) (λ g. Unit) lawful3 (λ g. all-given format3 refl (runs g) ∙ runs-are g .1) (λ g va. runs-are g .0)
 
 -- ---- in the words of a codec
 
 -- both sides have words of one size
 size-is : (e : Encoding) → readerOf e .size ≡ encodeSize e
 size-is Evt2 = refl
+size-is Evt21 = refl
 size-is Evt3 = refl
 
 pub events-are : (e : Encoding) (d : StateOf e) (l : List ℕ) → eventsFrom (codecOf e d) l ≡ decode (encodeSize e) (readerOf e .machine) d l
@@ -81,6 +86,7 @@ events-are e d l =
 -- a fresh decoder is ready for all that can be said
 pub fresh-ready : (e : Encoding) (es : List Event) → Rise clock (sayable (limit e)) 0 es → ReadyOf e (freshOf e) es
 fresh-ready Evt2 es r = record { counted = omega arith; past = omega arith; rises = r }
+fresh-ready Evt21 es r = record { counted = omega arith; past = omega arith; rises = r }
 fresh-ready Evt3 es r = record { counted = omega arith; past = omega arith; rises = r }
 
 -- ---- time
@@ -88,6 +94,7 @@ fresh-ready Evt3 es r = record { counted = omega arith; past = omega arith; rise
 -- no event to come is before the decoder's time
 pub ready-ahead : (e : Encoding) (d : StateOf e) (es : List Event) → ReadyOf e d es → All (λ a. readerOf e .time d ≤ clock a) es
 ready-ahead Evt2 d es rd = rise-all clock (sayable (limit Evt2)) (d .time) es (rd .rises)
+ready-ahead Evt21 d es rd = rise-all clock (sayable (limit Evt21)) (d .time) es (rd .rises)
 ready-ahead Evt3 d es rd = rise-all clock (sayable (limit Evt3)) (d .time) es (rd .rises)
 
 pub past-over : (e : Encoding) (win : Window) (d : StateOf e) (l : List ℕ)

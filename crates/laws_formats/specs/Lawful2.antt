@@ -5,7 +5,7 @@ use mathlib.Core.List.{List, [], _∷_, _++_}
 use Prim.Native.Nat.{ℕ, _+_, _*_, _/_, _%_, _^_, _≤_, _<_}
 use native.Mathlib.Omega.{arith}
 use Rattle.laws_stream.specs.{Machine.run, Machine.words, Format.Format, Format.Lawful, Format.Good, Loop.tracks-same, Order.rise-first}
-use Rattle.evt_types.specs.{declared.Encoding.the-variants.Evt2, Event.Event, Event.eventsOf}
+use Rattle.evt_types.specs.{declared.Encoding.the-variants.Evt2, Event.Event, Event.eventsOf, Event.noEvents}
 use Rattle.evt2_decoder.specs.declared.Evt2Decoder.{Evt2Decoder}
 use Rattle.evt_types.specs.Layout.{type2, timeLow2, x2, y2, event-type2, event-low2, event-x2, event-y2, event-fits2, time-type2, time-high2, time-fits2}
 use Rattle.evt_types.specs.Layout.{grain2}
@@ -69,48 +69,59 @@ module _ (d : Evt2Decoder) (e : Event) (f : Sayable (limit Evt2) e) (on : d .ini
   by-event : (step2 d w ≡ Reader.stepAs Reader.event d w) × (vector2 d w ≡ Reader.vectorAs Reader.event d w)
   by-event = event-word d w (type2 w) refl (omega (arith, is-p, f .p<)) on
 
-  pub event-emits : eventsOf (vector2 d w) ≡ e ∷ []
-  event-emits =
-      ap eventsOf (by-event .1) ∙ one-event (x2 w) (y2 w) (d .«time_high» + timeLow2 w) (type2 w) (omega (arith, is-x, f .x<)) ∙ rw (is-x, is-y, is-t, is-p)
+  pub event-vector : vector2 d w ≡ record { x = e .x; y = e .y; t = e .t; p = e .p; mask = 1 }
+  event-vector = by-event .1 ∙ rw (is-x, is-y, is-t, is-p)
 
   pub event-steps : step2 d w ≡ record { initialised = d .initialised; «time_high» = d .«time_high»; time = e .t; «high_loops» = d .«high_loops» }
   event-steps = by-event .0 ∙ rw is-t
 
-  pub said-event : (more : List Event) → Ready2 d (e ∷ more) → Good format2 d (carries w e ∷ []) more × High2 (step2 d w) (e .t / grain2)
+  said-event : (more : List Event) → Ready2 d (e ∷ more) → Good format2 d (carries w e ∷ []) more × High2 (step2 d w) (e .t / grain2)
   said-event more rd = (
     record {
       ready = rd;
       fits = event-fits2 (e .p % 2) (e .t % grain2) (e .x % 2048) (e .y % 2048) p<2 low< x<2048 y<2048;
-      says = event-emits;
+      says = ap eventsOf event-vector ∙ one-event (e .x) (e .y) (e .t) (e .p) (omega (arith, f .x<));
       rest = rw event-steps (record { counted = rd .counted; past = omega (arith, at); rises = rd .rises .1 });
     },
     rw event-steps (on, at),
   )
 
--- ---- the word that sends the coarse half of t, where t is in the loop that the decoder counts
+-- ---- the word that sends the coarse half of an event's time, to a decoder that is ready for the event
 
-module _ (d : Evt2Decoder) (t : ℕ) (low : d .«high_loops» * period2 ≤ t) (high : t < d .«high_loops» * period2 + period2) (le : d .«time_high» ≤ t) where
+-- the decoder after it
+abbrev pub risen : Evt2Decoder → (t : ℕ) → Evt2Decoder
+risen d t = record { initialised = true; «time_high» = t / grain2 * grain2; time = t / grain2 * grain2; «high_loops» = d .«high_loops» }
+
+module _ (d : Evt2Decoder) (e : Event) (more : List Event) (rd : Ready2 d (e ∷ more)) where
   abbrev q : ℕ
-  q = t / grain2 % 2 ^ 28
+  q = e .t / grain2 % 2 ^ 28
 
-  q< : q < 2 ^ 28
-  q< = omega arith
+  abbrev high : ℕ
+  high = highWord2 (e .t)
 
-  by-time : (step2 d (highWord2 t) ≡ Reader.stepAs Reader.timeHigh d (highWord2 t))
-      × (vector2 d (highWord2 t) ≡ Reader.vectorAs Reader.timeHigh d (highWord2 t))
-  by-time = time-word d (highWord2 t) (type2 (highWord2 t)) refl (time-type2 q q<)
+  by-time : (step2 d high ≡ Reader.stepAs Reader.timeHigh d high) × (vector2 d high ≡ Reader.vectorAs Reader.timeHigh d high)
+  by-time = time-word d high (type2 high) refl (time-type2 q (omega arith))
 
-  pub high-fits : highWord2 t < 256 ^ 4
-  high-fits = time-fits2 q q<
+  pub high-vector : vector2 d high ≡ noEvents
+  high-vector = by-time .1
 
-  pub high-emits : eventsOf (vector2 d (highWord2 t)) ≡ []
-  high-emits = ap eventsOf (by-time .1) ∙ no-event
-
-  pub high-steps : step2 d (highWord2 t)
-      ≡ record { initialised = true; «time_high» = t / grain2 * grain2; time = t / grain2 * grain2; «high_loops» = d .«high_loops» }
+  pub high-steps : step2 d high ≡ risen d (e .t)
   high-steps =
-      let k = tracks-same period2 threshold2 (d .«time_high») (d .«high_loops») (q * 64) (t / grain2 * grain2) (omega arith) (omega arith) in
-      by-time .0 ∙ rw (time-high2 q q<, k .0, k .1)
+      let f = sayable-true (limit Evt2) e (rd .rises .0 .fine) in
+      let le : d .«time_high» ≤ e .t = omega (arith, rd .past, rd .rises .0 .rises) in
+      let low : d .«high_loops» * period2 ≤ e .t = omega (arith, rd .counted) in
+      let top : e .t < d .«high_loops» * period2 + period2 = omega (arith, f .t<) in
+      let k = tracks-same period2 threshold2 (d .«time_high») (d .«high_loops») (q * 64) (e .t / grain2 * grain2) (omega arith) (omega arith) in
+      by-time .0 ∙ rw (time-high2 q (omega arith), k .0, k .1)
+
+  pub high-ready : Ready2 (risen d (e .t)) (e ∷ more)
+  high-ready =
+      let low : d .«high_loops» * period2 ≤ e .t = omega (arith, rd .counted, rd .past, rd .rises .0 .rises) in
+      record {
+        counted = omega arith;
+        past = omega arith;
+        rises = rise-first clock (sayable (limit Evt2)) (d .time) (e .t / grain2 * grain2) e more (omega arith) (rd .rises);
+      }
 
 -- ---- the law
 
@@ -118,19 +129,17 @@ group-as : (b : Bool) (d : Evt2Decoder) (e : Event) (more : List Event) → (b �
     → let ns = due b (highWord2 (e .t)) ++ (carries (wordOf2 e) e ∷ []) in Good format2 d ns more × High2 (run reader2 d (words ns)) (e .t / grain2)
 group-as true d e more h rd = said-event d e (sayable-true (limit Evt2) e (rd .rises .0 .fine)) (h refl .0) (h refl .1) more rd
 group-as false d e more h rd =
-    let f = sayable-true (limit Evt2) e (rd .rises .0 .fine) in
-    let le : d .«time_high» ≤ e .t = omega (arith, rd .past, rd .rises .0 .rises) in
-    let low : d .«high_loops» * period2 ≤ e .t = omega (arith, rd .counted) in
-    let high : e .t < d .«high_loops» * period2 + period2 = omega (arith, f .t<) in
-    let next : Evt2Decoder =
-    record { initialised = true; «time_high» = e .t / grain2 * grain2; time = e .t / grain2 * grain2; «high_loops» = d .«high_loops» } in
-    let up : step2 d (highWord2 (e .t)) ≡ next = high-steps d (e .t) low high le in
-    let r = said-event next e f refl refl more (record {
-      counted = omega arith;
-      past = omega arith;
-      rises = rise-first clock (sayable (limit Evt2)) (d .time) (e .t / grain2 * grain2) e more (omega arith) (rd .rises);
-    }) in
-    (record { ready = rd; fits = high-fits d (e .t) low high le; says = high-emits d (e .t) low high le; rest = rw up (r .0) }, rw up (r .1))
+    let up = high-steps d e more rd in
+    let r = said-event (risen d (e .t)) e (sayable-true (limit Evt2) e (rd .rises .0 .fine)) refl refl more (high-ready d e more rd) in
+    (
+      record {
+        ready = rd;
+        fits = time-fits2 (e .t / grain2 % 2 ^ 28) (omega arith);
+        says = ap eventsOf (high-vector d e more rd) ∙ no-event;
+        rest = rw up (r .0);
+      },
+      rw up (r .1),
+    )
 
 pub lawful2 : Lawful format2
 unfolding encode2

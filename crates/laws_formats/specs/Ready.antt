@@ -7,8 +7,8 @@ use native.Mathlib.Omega.{arith}
 use lib.Dec.{leb, ltb}
 use borrow.Author.Tests.{leb-true, ltb-true, eqb-true}
 use Rattle.laws_stream.specs.{Machine.and-both, Mask.bits-zero, Mask.bits-one, Order.Rise}
-use Rattle.evt_types.specs.declared.{Encoding.Encoding, Encoding.the-variants.Evt2, Encoding.the-variants.Evt3, Sent.Sent, Sent.the-variants.Nothing}
-use Rattle.evt_types.specs.{declared.Sent.the-variants.Value, Event.Event, Event.eventsOf, Event.noEvents}
+use Rattle.evt_types.specs.declared.{Encoding.Encoding, Encoding.the-variants.Evt2, Encoding.the-variants.Evt21, Encoding.the-variants.Evt3, Sent.Sent}
+use Rattle.evt_types.specs.{declared.Sent.the-variants.Nothing, declared.Sent.the-variants.Value, Event.Event, Event.eventsOf, Event.noEvents}
 use Rattle.evt2_decoder.specs.Evt2.{period2}
 use Rattle.evt3_decoder.specs.Evt3.{period3}
 use Rattle.read_columns.specs.Inside.{clock}
@@ -17,6 +17,7 @@ use Rattle.write_buffer.specs.{Columns.event, Sent.sentIs}
 -- the times that a writer's words can say, those of the first loop: rule 7's bound is not above it
 abbrev pub limit : Encoding → ℕ
 limit Evt2 = period2
+limit Evt21 = period2
 limit Evt3 = period3
 
 -- the events that a writer's words can say

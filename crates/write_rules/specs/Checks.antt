@@ -14,7 +14,7 @@ use lib.IntN.{ℤ, pos, negsuc}
 use lib.Signed.{ltZ, nonNeg}
 use borrow.Author.Tests.{eqb-true, leb-true, ltb-true, ltb-false, lt-ltb, le-ltb}
 use Rattle.laws_stream.specs.Machine.{and-both}
-use Rattle.evt_types.specs.declared.{Encoding.Encoding, Encoding.the-variants.Evt2, Encoding.the-variants.Evt3, Refusal.Refusal}
+use Rattle.evt_types.specs.declared.{Encoding.Encoding, Encoding.the-variants.Evt2, Encoding.the-variants.Evt21, Encoding.the-variants.Evt3, Refusal.Refusal}
 use Rattle.evt_types.specs.{Outcome.Outcome, Outcome.refuse, Outcome.give, Outcome.given-if, Outcome.given-unless, Outcome.given-then, Num.natural}
 use Rattle.write_buffer.specs.{declared.EncoderState.EncoderState, Columns.Sized, Columns.Whole, Every.everyFrom, Every.Gathered}
 use Rattle.write_buffer.specs.{Every.gathered-iteration, Every.gathered-end}
@@ -144,6 +144,7 @@ every-at f d (a ∷ l) e h (suc i) = every-at f d l e (and-both (f a) (every f l
 
 zero-in-range : (e : Encoding) → timeInRange e (pos 0) ≡ true
 zero-in-range Evt2 = refl
+zero-in-range Evt21 = refl
 zero-in-range Evt3 = refl
 
 -- rule 7 for one event

@@ -6,8 +6,8 @@ use lib.Dec.{eqb, ltb, leb}
 use lib.IntN.{ℤ}
 use lib.Signed.{ltZ, nonNeg}
 use Rattle.evt_types.specs.Layout.{grain2, grain3}
-use Rattle.evt_types.specs.declared.{Encoding.Encoding, Encoding.the-variants.Evt2, Encoding.the-variants.Evt3, Sent.Sent, Sent.the-variants.Nothing}
-use Rattle.evt_types.specs.{declared.Sent.the-variants.Value, Num.natural}
+use Rattle.evt_types.specs.declared.{Encoding.Encoding, Encoding.the-variants.Evt2, Encoding.the-variants.Evt21, Encoding.the-variants.Evt3}
+use Rattle.evt_types.specs.{declared.Sent.Sent, declared.Sent.the-variants.Nothing, declared.Sent.the-variants.Value, Num.natural}
 use Rattle.write_buffer.specs.declared.EncoderState.{EncoderState}
 use Rattle.write_rules.specs.declared.{LastTime.LastTime, LastTime.the-variants.Never, LastTime.the-variants.At, RawEventSink.RawEventSink}
 
@@ -15,6 +15,7 @@ use Rattle.write_rules.specs.declared.{LastTime.LastTime, LastTime.the-v
 
 abbrev pub timeBound : Encoding → ℕ
 timeBound Evt2 = 2 ^ 34
+timeBound Evt21 = 2 ^ 34
 timeBound Evt3 = 2 ^ 24
 
 abbrev pub timeInRange : Encoding → ℤ → Bool
@@ -61,9 +62,14 @@ abbrev pub sentAtMost : Sent → (most : ℕ) → Bool
 sentAtMost Nothing most = true
 sentAtMost (Value g) most = leb g most
 
+-- nothing but a high half is sent
+abbrev pub highInRange : EncoderState → (high : ℕ) → Bool
+highInRange v high = belongs (v .«time_high») high && (isNothing (v .«time_low») && isNothing (v .y))
+
 -- the halves are those of the last time; EVT3 alone has a low half and a row
 abbrev pub sentInRange : Encoding → EncoderState → (last : ℕ) → Bool
-sentInRange Evt2 v t = belongs (v .«time_high») (t / grain2) && (isNothing (v .«time_low») && isNothing (v .y))
+sentInRange Evt2 v t = highInRange v (t / grain2)
+sentInRange Evt21 v t = highInRange v (t / grain2)
 sentInRange Evt3 v t = belongs (v .«time_high») (t / grain3) && (belongs (v .«time_low») (t % grain3) && sentAtMost (v .y) 2047)
 
 -- without a last time nothing was sent and none counted

@@ -1,7 +1,7 @@
 // Whether a writer is in range (10), and a time (7).
 ghost use mathlib.Core.Path.{_≡_};
 ghost use mathlib.Core.Bool.{_&&_};
-ghost use Rattle.write_rules.specs.Range.{timeBound, timeInRange, isNothing, belongs, sentAtMost, sentInRange, lastInRange};
+ghost use Rattle.write_rules.specs.Range.{timeBound, timeInRange, isNothing, belongs, sentAtMost, highInRange, sentInRange, lastInRange};
 use crate::LastTime;
 use evt_types::Encoding;
 use evt_types::Sent;
@@ -9,6 +9,9 @@ use evt_types::num::natural_time;
 use evt2_decoder::Evt2Decoder;
 use evt3_decoder::Decoder;
 use write_buffer::EncoderState;
+
+// Times that EVT2 and EVT 2.1 can say.
+const EVT2_TIMES: u64 = 17179869184;
 
 fn is_nothing(s: Sent) -> bool
     ensures { λ r. ⌜ r ≡ isNothing s ⌝ }
@@ -43,7 +46,8 @@ fn time_bound(version: Encoding) -> u64
     ensures { λ r. ⌜ r ≡ timeBound version ⌝ }
 {
     match version {
-        Encoding::Evt2 => 17179869184,
+        Encoding::Evt2 => EVT2_TIMES,
+        Encoding::Evt21 => EVT2_TIMES,
         Encoding::Evt3 => 16777216,
     }
 }
@@ -70,6 +74,16 @@ pub fn time(version: Encoding, t: i64) -> bool
     }
 }
 
+// Nothing but a high half is sent.
+fn only_high(state: EncoderState, q: u64) -> bool
+    ensures { λ r. ⌜ r ≡ highInRange state q ⌝ }
+{
+    let high = state.time_high;
+    let low = state.time_low;
+    let row = state.y;
+    and3(is_or_nothing(high, q), is_nothing(low), is_nothing(row))
+}
+
 fn sent(version: Encoding, state: EncoderState, t: u64) -> bool
     ensures { λ r. ⌜ r ≡ sentInRange version state t ⌝ }
 {
@@ -77,11 +91,8 @@ fn sent(version: Encoding, state: EncoderState, t: u64) -> bool
     let low = state.time_low;
     let row = state.y;
     match version {
-        Encoding::Evt2 => and3(
-            is_or_nothing(high, t / Evt2Decoder::GRAIN),
-            is_nothing(low),
-            is_nothing(row),
-        ),
+        Encoding::Evt2 => only_high(state, t / Evt2Decoder::GRAIN),
+        Encoding::Evt21 => only_high(state, t / Evt2Decoder::GRAIN),
         Encoding::Evt3 => and3(
             is_or_nothing(high, t / Decoder::GRAIN),
             is_or_nothing(low, t % Decoder::GRAIN),

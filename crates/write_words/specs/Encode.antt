@@ -1,39 +1,50 @@
--- The words of events in either encoding: what the writer's contracts cite.
+-- The words of events in each encoding: what the writer's contracts cite.
 use mathlib.Core.List.{List}
-use Prim.Native.Nat.{ℕ, _+_}
+use Prim.Native.Nat.{ℕ, _+_, _*_}
 use lib.IntN.{ℤ}
 use lib.ListN.{length}
 use Rattle.laws_stream.specs.{Machine.Note, Machine.run, Machine.emits, Machine.words, Words.stream}
-use Rattle.evt_types.specs.{Event.Event, Layout.wordSize2, Layout.wordSize3}
-use Rattle.evt_types.specs.declared.{Encoding.Encoding, Encoding.the-variants.Evt2, Encoding.the-variants.Evt3}
+use Rattle.evt_types.specs.{Event.Event, Layout.wordSize2, Layout.wordSize21, Layout.wordSize3}
+use Rattle.evt_types.specs.declared.{Encoding.Encoding, Encoding.the-variants.Evt2, Encoding.the-variants.Evt21, Encoding.the-variants.Evt3}
 use Rattle.write_buffer.specs.declared.{EncoderState.EncoderState, Put.Put}
 use Rattle.evt2_encoder.specs.{Evt2.writer2, Pass2.Fitting2}
+use Rattle.evt21_encoder.specs.Evt21.{runs21, writer21}
 use Rattle.evt3_run_rules.specs.Runs.{runs}
 use Rattle.evt3_lead_words.specs.Evt3.{writer3}
 
 -- the words of events, each with a note of those that it carries
 abbrev pub encodeNotes : Encoding → EncoderState → List Event → List (Note ℕ Event)
 encodeNotes Evt2 v es = emits writer2 v es
+encodeNotes Evt21 v es = emits writer21 v (runs21 es)
 encodeNotes Evt3 v es = emits writer3 v (runs es)
 
 -- what has been sent after them
 abbrev pub encodeState : Encoding → EncoderState → List Event → EncoderState
 encodeState Evt2 v es = run writer2 v es
+encodeState Evt21 v es = run writer21 v (runs21 es)
 encodeState Evt3 v es = run writer3 v (runs es)
 
 -- the bytes of a word
 abbrev pub encodeSize : Encoding → ℕ
 encodeSize Evt2 = wordSize2
+encodeSize Evt21 = wordSize21
 encodeSize Evt3 = wordSize3
 
 unfoldable pub encodeBytes : Encoding → EncoderState → List Event → List ℕ
 encodeBytes e v es = stream (encodeSize e) (words (encodeNotes e v es))
 
+-- the most bytes of n events: two words of EVT2 or of EVT 2.1 for each, or four of EVT3
+abbrev pub mostBytes : Encoding → (n : ℕ) → ℕ
+mostBytes Evt2 n = 8 * n
+mostBytes Evt21 n = 16 * n
+mostBytes Evt3 n = 8 * n
+
 -- after a pass whose words go from `at` on
 abbrev pub passed : Encoding → EncoderState → List Event → (at : ℕ) → Put
 passed e v es at = record { state = encodeState e v es; at = at + length (encodeBytes e v es) }
 
--- columns whose events a pass can be given: EVT2's cuts none off
+-- columns whose events a pass can be given: those of EVT2 and of EVT 2.1 cut none off
 abbrev pub Fitting : Encoding → List ℕ → List ℕ → List ℤ → List ℕ → Type 0
 Fitting Evt2 xs ys ts ps = Fitting2 xs ys ts ps
+Fitting Evt21 xs ys ts ps = Fitting2 xs ys ts ps
 Fitting Evt3 xs ys ts ps = Unit

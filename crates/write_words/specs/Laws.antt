@@ -1,4 +1,4 @@
--- The words of events carry them in order, fit their width, and are at most 8 bytes for each event.
+-- The words of events carry them in order, fit their width, and are not too many.
 use mathlib.Core.Path.{_≡_, refl, ap, _∙_}
 use mathlib.Core.Bool.{Bool, true, false, cond}
 use mathlib.Core.List.{List, [], _∷_, _++_}
@@ -8,15 +8,16 @@ use lib.Dec.{ltb}
 use lib.ListN.{length, length-map}
 use Rattle.laws_stream.specs.Machine.{Note, All, all-of, all-append, words, words-append, notes, notes-append}
 use Rattle.laws_stream.specs.{Mask.Inc, Mask.mask, Words.Fits}
-use Rattle.evt_types.specs.{Event.Event, Layout.wordSize2, Layout.wordSize3}
-use Rattle.evt_types.specs.declared.{Encoding.Encoding, Encoding.the-variants.Evt2, Encoding.the-variants.Evt3}
+use Rattle.evt_types.specs.{Event.Event, Layout.wordSize2, Layout.wordSize21, Layout.wordSize3}
+use Rattle.evt_types.specs.declared.{Encoding.Encoding, Encoding.the-variants.Evt2, Encoding.the-variants.Evt21, Encoding.the-variants.Evt3}
 use Rattle.write_buffer.specs.{declared.EncoderState.EncoderState, Columns.event, Sent.due, Emits.events-single, Emits.emits-fit, Emits.emits-notes}
 use Rattle.write_buffer.specs.{Emits.emits-few, Storing.bytesFrom}
 use Rattle.evt2_encoder.specs.{Evt2.writer2, Evt2.encode-notes2, Evt2.encode-fits2, Pass2.few2}
+use Rattle.evt21_encoder.specs.Evt21.{Valid21, runs21, runs-are21, writer21, encode-notes21, encode-fits21, stream-few21}
 use Rattle.evt3_run_rules.specs.Runs.{Run, runs, runs-are, given, spread, Rising, Valid, firstX, lastX}
 use Rattle.evt3_lead_words.specs.Evt3.{highWord3, lowWord3, rowWord3, highSent3, lowSent3, rowSent3, leads3, nearby}
 use Rattle.evt3_lead_words.specs.Evt3.{beyond, maskCount, vectored, singles, masks, vectors, body3, encode3, writer3}
-use Rattle.write_words.specs.Encode.{encodeNotes, encodeSize, encodeBytes}
+use Rattle.write_words.specs.Encode.{encodeNotes, encodeSize, encodeBytes, mostBytes}
 use Rattle.evt3_run_words.specs.{Parts.bytes3, Parts.few3, Masks.near-inc, Masks.inc-to}
 
 -- ---- the masks of a run hold all of it
@@ -85,6 +86,8 @@ encode-notes3 v r va =
 -- THE NOTES of some events' words are the events, in order
 pub encode-notes : (e : Encoding) (v : EncoderState) (es : List Event) → notes (encodeNotes e v es) ≡ es
 encode-notes Evt2 v es = emits-notes writer2 (λ e. Unit) (λ e. e ∷ []) (λ v e u. encode-notes2 v e) v es (all-of _ (λ e. tt) es) ∙ events-single es
+encode-notes Evt21 v es =
+    let r = runs-are21 es in emits-notes writer21 Valid21 given (λ v r va. encode-notes21 v r) v (runs21 es) (r .0) ∙ r .1
 encode-notes Evt3 v es = let r = runs-are es in emits-notes writer3 Valid given encode-notes3 v (runs es) (r .0) ∙ r .1
 
 -- ---- widths
@@ -136,6 +139,7 @@ encode-fits3 v r =
 -- EVERY WORD fits its width
 pub encode-fits : (e : Encoding) (v : EncoderState) (es : List Event) → All (Fits (encodeSize e)) (words (encodeNotes e v es))
 encode-fits Evt2 v es = emits-fit writer2 wordSize2 encode-fits2 v es
+encode-fits Evt21 v es = emits-fit writer21 wordSize21 encode-fits21 v (runs21 es)
 encode-fits Evt3 v es = emits-fit writer3 wordSize3 encode-fits3 v (runs es)
 
 -- ---- how many bytes
@@ -143,9 +147,15 @@ encode-fits Evt3 v es = emits-fit writer3 wordSize3 encode-fits3 v (runs es)
 few-run : (v : EncoderState) (r : Run) → Valid r → length (bytes3 v r) ≤ 8 * length (given r)
 few-run v r va = let n : length (given r) ≡ length (r .xs) = length-map (r .xs) (λ x. event x (r .y) (r .t) (r .p)) in omega (arith, few3 v r (va .some))
 
-pub encode-few : (e : Encoding) (v : EncoderState) (es : List Event) → length (encodeBytes e v es) ≤ 8 * length es
+pub most-le : (e : Encoding) (n : ℕ) → mostBytes e n ≤ 16 * n
+most-le Evt2 n = omega arith
+most-le Evt21 n = omega arith
+most-le Evt3 n = omega arith
+
+pub encode-few : (e : Encoding) (v : EncoderState) (es : List Event) → length (encodeBytes e v es) ≤ mostBytes e (length es)
 unfolding encodeBytes bytesFrom
 encode-few Evt2 v es =
     let few = emits-few writer2 (λ e. Unit) (λ e. e ∷ []) 8 wordSize2 (λ v e u. few2 v e) v es (all-of _ (λ e. tt) es) in
     omega (arith, few, ap length (events-single es))
+encode-few Evt21 v es = stream-few21 v es
 encode-few Evt3 v es = let r = runs-are es in omega (arith, emits-few writer3 Valid given 8 wordSize3 few-run v (runs es) (r .0), ap length (r .1))

@@ -1,7 +1,7 @@
 // The words of events, stored in a buffer that the caller lends: a pass into no bytes is a dry
 // run, and a pass into enough writes. Which words a writer sends, each with a note of the events that
-// it carries, is defined in crates/evt2_encoder/specs/Evt2.antt and
-// crates/evt3_lead_words/specs/Evt3.antt; specs/Encode.antt says which bytes they have, for either
+// it carries, is defined in crates/evt2_encoder/specs/Evt2.antt, crates/evt21_encoder/specs/Evt21.antt
+// and crates/evt3_lead_words/specs/Evt3.antt; specs/Encode.antt says which bytes they have, for each
 // encoding.
 ghost use mathlib.Core.Path.{_≡_};
 ghost use Prim.Native.Nat.{_^_, _≤_};
@@ -9,12 +9,24 @@ ghost use lib.ListN.{length};
 ghost use lib.Seq.{sets};
 ghost use Rattle.write_buffer.specs.Columns.{Sized, Whole, eventsIn};
 ghost use Rattle.write_buffer.specs.Storing.{Roomy};
-ghost use Rattle.write_words.specs.Encode.{encodeBytes, passed, Fitting};
+ghost use Rattle.write_words.specs.Encode.{encodeBytes, mostBytes, passed, Fitting};
 use evt_types::Encoding;
 use write_buffer::EncoderState;
 use write_buffer::Put;
 
 pub mod evt3;
+
+// The most bytes that n events need.
+pub fn most_bytes(version: Encoding, n: usize) -> usize
+    requires { ⌜ n ≤ 2 ^ 28 ⌝ }
+    ensures { λ r. ⌜ r ≡ mostBytes version n ⌝ }
+{
+    match version {
+        Encoding::Evt2 => 8 * n,
+        Encoding::Evt21 => 16 * n,
+        Encoding::Evt3 => 8 * n,
+    }
+}
 
 // The words of all events, from `start` on, where they have room or there is no byte. The bounds
 // keep the place from wrapping.
@@ -37,6 +49,7 @@ pub fn pass(
 {
     match version {
         Encoding::Evt2 => evt2_encoder::pass(state, xs, ys, ts, ps, &mut *out, start),
+        Encoding::Evt21 => evt21_encoder::pass(state, xs, ys, ts, ps, &mut *out, start),
         Encoding::Evt3 => evt3::pass(state, xs, ys, ts, ps, &mut *out, start),
     }
 }

@@ -10,10 +10,16 @@ pass2-requires c κs =
     let room = rw (c .before .enum-told .given .1) at (s .pre .3) in
     (s .pre .0, s .pre .1, s .pre .2, unfold encodeBytes bytesFrom in room, rw (c .before .enum-told .given .1) at (s .pre .4))
 
-pass3-requires : tie.Need-pass-requires-2
-pass3-requires c κs =
+pass21-requires : tie.Need-pass-requires-2
+pass21-requires c κs =
     let s = c .before .before .before .before .before .before .before in
     let room = rw (c .before .enum-told2 .given .1) at (s .pre .3) in
+    (s .pre .0, s .pre .1, s .pre .2, unfold encodeBytes bytesFrom in room, rw (c .before .enum-told2 .given .1) at (s .pre .4))
+
+pass3-requires : tie.Need-pass-requires-3
+pass3-requires c κs =
+    let s = c .before .before .before .before .before .before .before in
+    let room = rw (c .before .enum-told3 .given .1) at (s .pre .3) in
     (s .pre .0, s .pre .1, s .pre .2, unfold encodeBytes bytesFrom in room)
 
 returns : tie.Need-returns
@@ -22,6 +28,9 @@ returns c = rw (c .before .before .before .before .enum-told .given .1) (unfold 
 returns-2 : tie.Need-returns-2
 returns-2 c = rw (c .before .before .before .before .enum-told2 .given .1) (unfold encodeBytes bytesFrom in c .before .before .pass2 .ensures)
 
+returns-3 : tie.Need-returns-3
+returns-3 c = rw (c .before .before .before .before .enum-told3 .given .1) (unfold encodeBytes bytesFrom in c .before .before .pass3 .ensures)
+
 pub pass-spec : {M : Type 1} → statement M
 pass-spec =
     tie.close
@@ -29,8 +38,12 @@ pass-spec =
     (λ c. search needs)
     pass2-requires
     (λ c. search needs)
+    pass21-requires
+    (λ c. search needs)
     pass3-requires
     (λ c. search needs)
     returns
     (λ c. search needs)
-    returns-2)
+    returns-2
+    (λ c. search needs)
+    returns-3)

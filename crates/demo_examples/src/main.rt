@@ -17,10 +17,12 @@ fn main() {
     reading::read_past_end_line();
     reading::read_limited();
     reading::read_words();
+    reading::read_evt21();
     triggers::read_pulses();
     slicing::slice_recording();
     writing::write_words();
     writing::write_recording();
+    writing::write_evt21();
     resuming::cut_and_resume();
     resuming::cut_recording();
     decoding::decode_singly();

@@ -81,3 +81,14 @@ pub fn read_words() {
         Encoding::Evt2,
     );
 }
+
+// EVT2.1: the lower half of an event word is a mask, and each bit of it that is set is an event. The words
+// are 8000004000000000 0040000700002C00 1100000900000000 1141000900100000: the second has three events,
+// the third none, the last one.
+pub fn read_evt21() {
+    read(
+        b"read_evt21: ",
+        b"% format EVT21\n% geometry 64x48\n\0\0\0\0\x40\0\0\x80\0\x2c\0\0\x07\0\x40\0\0\0\0\0\x09\0\0\x11\0\0\x10\0\x09\0\x41\x11",
+        whole(),
+    );
+}

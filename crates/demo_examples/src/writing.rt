@@ -42,3 +42,16 @@ pub fn write_recording() {
         reading::read(b"write_recording: ", recording, reading::whole());
     }
 }
+
+// EVT2.1: events of one time, row and polarity in one block of 32 columns share a word, and column 32
+// opens another block. The words are 8000004000000000 0040000780002400 0041000700000001.
+pub fn write_evt21() {
+    let xs = [10, 13, 31, 32];
+    let ys = [7, 7, 7, 7];
+    let ts = [4097, 4097, 4097, 4097];
+    let ps = [0, 0, 0, 0];
+    let mut output = [0; 32];
+    let writer = RawEventSink::to_writer(Encoding::Evt21, false);
+    let appended = prophesee_raw::append(writer, 64, 48, &xs, &ys, &ts, &ps, &mut output);
+    print::append(b"write_evt21: ", appended, &output);
+}

@@ -7,10 +7,10 @@ use lib.ListN.{length}
 use lib.Signed.{ltZ}
 use Rattle.laws_stream.specs.Slice.{sift}
 use Rattle.demo_handover.specs.declared.{given.When.When, given.When.the-variants.Early, given.When.the-variants.Later2, given.When.the-variants.Later3}
-use Rattle.evt_types.specs.declared.{Encoding.Encoding, Encoding.the-variants.Evt2, Encoding.the-variants.Evt3}
+use Rattle.evt_types.specs.declared.{Encoding.Encoding, Encoding.the-variants.Evt2, Encoding.the-variants.Evt21, Encoding.the-variants.Evt3}
 
 unfoldable pub givenXs : List ℕ
-givenXs = 10 ∷ 10 ∷ 20 ∷ 21 ∷ 23 ∷ 31 ∷ 31 ∷ 3 ∷ 100 ∷ 103 ∷ 111 ∷ 112 ∷ 119 ∷ 119 ∷ 5 ∷ 2047 ∷ []
+givenXs = 10 ∷ 10 ∷ 20 ∷ 21 ∷ 23 ∷ 31 ∷ 31 ∷ 3 ∷ 120 ∷ 123 ∷ 131 ∷ 132 ∷ 139 ∷ 139 ∷ 5 ∷ 2047 ∷ []
 
 unfoldable pub givenYs : List ℕ
 givenYs = 7 ∷ 7 ∷ 7 ∷ 7 ∷ 7 ∷ 7 ∷ 6 ∷ 6 ∷ 9 ∷ 9 ∷ 9 ∷ 9 ∷ 9 ∷ 9 ∷ 9 ∷ 2047 ∷ []
@@ -31,6 +31,7 @@ givenPs = 1 ∷ 1 ∷ 0 ∷ 0 ∷ 0 ∷ 0 ∷ 0 ∷ 1 ∷ 1 ∷ 1 ∷ 1 ∷ 1 �
 
 unfoldable pub wordEnds : Encoding → List ℕ
 wordEnds Evt2 = 8 ∷ 12 ∷ 20 ∷ 24 ∷ 28 ∷ 32 ∷ 36 ∷ 44 ∷ 48 ∷ 52 ∷ 56 ∷ 60 ∷ 64 ∷ 68 ∷ 72 ∷ 80 ∷ []
+wordEnds Evt21 = 16 ∷ 24 ∷ 40 ∷ 40 ∷ 40 ∷ 40 ∷ 48 ∷ 64 ∷ 72 ∷ 72 ∷ 80 ∷ 80 ∷ 80 ∷ 88 ∷ 96 ∷ 112 ∷ []
 wordEnds Evt3 = 8 ∷ 10 ∷ 16 ∷ 16 ∷ 16 ∷ 16 ∷ 20 ∷ 24 ∷ 32 ∷ 32 ∷ 32 ∷ 34 ∷ 34 ∷ 36 ∷ 40 ∷ 48 ∷ []
 
 -- how many of some ends are at most `cut`, and of some times before t

@@ -104,7 +104,9 @@ pub fn reads(case: Case, bytes: &[u8], count: usize, name: &[u8]) -> bool
 {
     let all = reading::decode(case, bytes, count);
     let decoded = told(all, name, b" decoded");
-    let narrow = indexed(case, bytes, 4, count, name);
-    let wide = indexed(case, bytes, 8, count, name);
+    let encoding = case.encoding;
+    let spacing = given::spacing(encoding);
+    let narrow = indexed(case, bytes, spacing, count, name);
+    let wide = indexed(case, bytes, spacing * 2, count, name);
     both(decoded, both(narrow, wide))
 }

@@ -1,7 +1,7 @@
 // What is appended: events 0 to 6 by the first append, 7 to 15 by the third; the second is refused,
-// since its times fall. They have a repeat, runs that become vectors of one and of two words,
-// several rows, and times on both sides of a multiple of 4,096. Of the later events the third append
-// brings number 7 alone.
+// since its times fall. They have a repeat, runs that become vectors of one and of two words in EVT3
+// and in EVT2.1, several rows, and times on both sides of a multiple of 4,096. Of the later events the
+// third append brings number 7 alone.
 ghost use mathlib.Core.Path.{_≡_};
 ghost use Prim.Native.Nat.{_≤_};
 ghost use lib.ListN.{length, take};
@@ -56,12 +56,12 @@ pub fn columns() -> [u16; 16]
         31,
         31,
         3,
-        100,
-        103,
-        111,
-        112,
-        119,
-        119,
+        120,
+        123,
+        131,
+        132,
+        139,
+        139,
         5,
         2047,
     ]
@@ -146,6 +146,17 @@ pub fn polarities() -> [u8; 16]
     [1, 1, 0, 0, 0, 0, 0, 1, 1, 1, 1, 1, 1, 1, 0, 1]
 }
 
+// The least spacing of an index.
+pub fn spacing(encoding: Encoding) -> usize
+    ensures { λ r. ⌜ r ≤ 8 ⌝ }
+{
+    match encoding {
+        Encoding::Evt2 => 4,
+        Encoding::Evt21 => 8,
+        Encoding::Evt3 => 4,
+    }
+}
+
 // Where the event word of each event ends in the stream, counted from the body's start.
 fn word_ends(encoding: Encoding) -> [usize; 16]
     ensures { λ r. ⌜ (r ≡ wordEnds encoding) × (16 ≡ length r) ⌝ }
@@ -168,6 +179,24 @@ fn word_ends(encoding: Encoding) -> [usize; 16]
             68,
             72,
             80,
+        ],
+        Encoding::Evt21 => [
+            16,
+            24,
+            40,
+            40,
+            40,
+            40,
+            48,
+            64,
+            72,
+            72,
+            80,
+            80,
+            80,
+            88,
+            96,
+            112,
         ],
         Encoding::Evt3 => [
             8,

@@ -4,8 +4,9 @@
 // each cut says how many events were whole before it, how long the joined stream is, and `exact`, or
 // what differs. First that is done without a header. Then the first writer sends one: the cuts are
 // those at and behind its end, the second writer sends none, and reading is told no size and finds it
-// in the header. Then come later events behind a header, whose body begins with `%`. The last line
-// reads a recording that lost its opening before. src/given.rt has the appends, and what each cut owes.
+// in the header. Then come later events behind a header, whose body begins with `%`, but not of
+// EVT2.1: its time words, and so its streams, begin with a byte 0. The last line reads a recording
+// that lost its opening before. src/given.rt has the appends, and what each cut owes.
 ghost use Prim.Native.Nat.{_≤_, _<_};
 ghost use lib.ListN.{length};
 use crate::given::Case;
@@ -76,7 +77,7 @@ fn show(case: Case) {
     print::all(case, exact);
 }
 
-fn show_encoding(encoding: Encoding, later: When) {
+fn show_encoding(encoding: Encoding) {
     show(Case {
         encoding,
         headed: false,
@@ -87,15 +88,21 @@ fn show_encoding(encoding: Encoding, later: When) {
         headed: true,
         when: When::Early,
     });
+}
+
+fn show_later(encoding: Encoding, when: When) {
     show(Case {
         encoding,
         headed: true,
-        when: later,
+        when,
     });
 }
 
 fn main() {
-    show_encoding(Encoding::Evt2, When::Later2);
-    show_encoding(Encoding::Evt3, When::Later3);
+    show_encoding(Encoding::Evt2);
+    show_later(Encoding::Evt2, When::Later2);
+    show_encoding(Encoding::Evt21);
+    show_encoding(Encoding::Evt3);
+    show_later(Encoding::Evt3, When::Later3);
     opening::tell();
 }

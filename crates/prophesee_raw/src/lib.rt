@@ -1,7 +1,7 @@
-// Prophesee RAW recordings: all that a user calls. The code, the definitions and the proofs stand in
-// the crates below; this one names what is for use from outside. No call has a `requires`: each takes
-// any arguments, and answers what was asked for or a refusal. The examples named here are functions
-// of the program crates/demo_examples, which runs them.
+// Prophesee RAW recordings of EVT2, EVT2.1 and EVT3: all that a user calls. The code, the definitions
+// and the proofs stand in the crates below; this one names what is for use from outside. No call has a
+// `requires`: each takes any arguments, and answers what was asked for or a refusal. The examples named
+// here are functions of the program crates/demo_examples, which runs them.
 //
 // Reading. `read_raw` reads a recording, header and words, into four columns that the caller lends:
 // column, row, time in microseconds, polarity. `LoadOptions` has the sensor's size, which comes before
@@ -10,7 +10,7 @@
 // are kept, and the size told is the least that holds them. The shortest column counts. The header's
 // lines begin with `%`, and a line `% end` is the last: what follows it is the body, whatever it begins
 // with. `parse_header` reads the header alone. Examples: `read_recording`, `read_past_end_line`,
-// `read_limited`, `read_words`.
+// `read_limited`, `read_words`, `read_evt21`.
 //
 // Triggers. `read_raw_triggers` and `decode_words_triggers` read the same, and beside the events the
 // pulses on the camera's trigger input, into three further columns: time in microseconds, channel,
@@ -19,8 +19,8 @@
 // its last event. Slices and an index have none. Examples: `read_pulses`, `trigger_of_word`.
 //
 // Index and slices. `open` makes a `Checkpoint` for every `spacing` bytes of the body (a multiple of 4
-// from 4 to 4,194,304), at least one, into records that the caller lends, and answers a
-// `RawSliceSource` and how many records it made. `open_words` does so for words without a header.
+// from 4 to 4,194,304, for EVT2.1 of 8), at least one, into records that the caller lends, and answers
+// a `RawSliceSource` and how many records it made. `open_words` does so for words without a header.
 // `slice_index` hands over the events from number i0 to before i1, `slice_time` those with
 // t0 <= t < t1, by the source and the records that were made, `&records[..n]`; both decode from a
 // checkpoint on. A slice by time ends at the first word that brings the time to t1 or more: of a
@@ -31,7 +31,7 @@
 // Writing. `RawEventSink::to_writer` is a fresh writer, which sends a header before its first words or
 // none. `append` writes events in four columns into an output that the caller lends, and answers how
 // many bytes it wrote and the next writer. The size given is for the header. Appending no
-// events writes nothing. Examples: `write_words`, `write_recording`.
+// events writes nothing. Examples: `write_words`, `write_recording`, `write_evt21`.
 //
 // Cutting and resuming. A stream without a header may break off at any byte. Read what has arrived as
 // it is: a broken last word is ignored, and exactly the events whose word is whole are there, with the

@@ -1,4 +1,4 @@
-// What a case gives besides its bytes: `-` or `WxH`, `-` or a limit, `2` or `3`.
+// What a case gives besides its bytes: `-` or `WxH`, `-` or a limit, `2`, `21` or `3`.
 use crate::text;
 use evt_types::Encoding;
 use evt_types::Limit;
@@ -20,10 +20,11 @@ pub fn read_limit(s: &[u8]) -> Limit {
     Limit::AtMost(text::number(s) as usize)
 }
 
-// By the first byte.
+// By the number that a text begins with.
 pub fn read_encoding(s: &[u8]) -> Encoding {
-    if text::at(s, 0) == b'2' {
-        return Encoding::Evt2;
+    match text::number(s) {
+        2 => Encoding::Evt2,
+        21 => Encoding::Evt21,
+        _ => Encoding::Evt3,
     }
-    Encoding::Evt3
 }

@@ -1,5 +1,6 @@
 // A writer as text: `3:sent,count,last,high,low,row`, with 1 for a header that was sent and `-` for
-// nothing; or `3n`, a fresh one, or `3h`, a fresh one that sends a header. EVT2 has 2 for 3.
+// nothing; or `3n`, a fresh one, or `3h`, a fresh one that sends a header. EVT2 has 2 for 3, EVT2.1
+// has 21.
 use evt_types::Sent;
 use test_text::options;
 use test_text::show;
@@ -28,9 +29,9 @@ fn read_last(s: &[u8]) -> LastTime {
 
 pub fn read(s: &[u8]) -> RawEventSink {
     let version = options::read_encoding(s);
-    let kind = text::at(s, 1);
-    if kind != b':' {
-        return RawEventSink::to_writer(version, kind == b'h');
+    let state = text::from_field(s, b':', 1);
+    if state.len() == 0 {
+        return RawEventSink::to_writer(version, text::seek(s, 0, b'h') < s.len());
     }
     let last_t = read_last(text::field(s, b',', 2));
     let time_high = read_half(s, 3);
@@ -38,7 +39,7 @@ pub fn read(s: &[u8]) -> RawEventSink {
     let y = read_half(s, 5);
     RawEventSink {
         version,
-        header_written: text::at(s, 2) == b'1',
+        header_written: text::at(state, 0) == b'1',
         n_events: text::number(text::field(s, b',', 1)) as usize,
         last_t,
         state: EncoderState {

@@ -2,7 +2,7 @@
 use mathlib.Core.Path.{_≡_, refl, sym, ap, _∙_}
 use mathlib.Core.Bool.{true}
 use Prim.Native.Nat.{ℕ}
-use Rattle.evt_types.specs.declared.{Encoding.Encoding, Encoding.the-variants.Evt2, Encoding.the-variants.Evt3}
+use Rattle.evt_types.specs.declared.{Encoding.Encoding, Encoding.the-variants.Evt2, Encoding.the-variants.Evt21, Encoding.the-variants.Evt3}
 use Rattle.evt_types.specs.{Num.encodingNumber}
 use Rattle.evt_codec.specs.{declared.codec.Codec.Codec, Codec.freshC, Codec.encodingOf as codecEncoding}
 use Rattle.c_values.specs.{Codec.numbersOf, Codec.codecOf, Codec.Narrow, Codec.codec-back, Codec.codec-fits, Codec.numbers-back, Encoding.isKnown}
@@ -29,6 +29,7 @@ decoder-numbers d h =
   where
     encoding-in : (e : Encoding) → codecEncoding (codecOf e (numbersIn d)) ≡ e
     encoding-in Evt2 = refl
+    encoding-in Evt21 = refl
     encoding-in Evt3 = refl
 
 -- of a known encoding, a fresh decoder is the library's
@@ -37,4 +38,5 @@ decoder-fresh n h = ap newDecoder (sym (number-back n h)) ∙ go (encodingOf n)
   where
     go : (e : Encoding) → newDecoder (encodingNumber e) ≡ decoderOf (freshC e)
     go Evt2 = refl
+    go Evt21 = refl
     go Evt3 = refl

@@ -18,6 +18,7 @@ use evt_types::Refusal;
 use evt_types::refusal_number;
 use evt_types::vector::NextEvent;
 use evt2_decoder::Evt2Decoder;
+use evt21_decoder::Evt21Decoder;
 use evt3_decoder::Decoder;
 use read_after::AfterAnswer;
 
@@ -123,6 +124,21 @@ fn evt2_decoder_of(d: Evt2Decoder) -> PropheseeDecoder
     }
 }
 
+fn evt21_decoder_of(d: Evt21Decoder) -> PropheseeDecoder
+    ensures { λ r. ⌜ r ≡ decoderOf (Codec.Evt21 d) ⌝ }
+{
+    PropheseeDecoder {
+        time_base: d.time_high,
+        time: d.time,
+        high_loops: d.high_loops,
+        encoding: 21,
+        y: 0,
+        base_x: 0,
+        initialised: bit_of(d.initialised),
+        polarity: 0,
+    }
+}
+
 fn evt3_decoder_of(d: Decoder) -> PropheseeDecoder
     ensures { λ r. ⌜ r ≡ decoderOf (Codec.Evt3 d) ⌝ }
 {
@@ -143,6 +159,7 @@ fn decoder_of(codec: Codec) -> PropheseeDecoder
 {
     match codec {
         Codec::Evt2(d) => evt2_decoder_of(d),
+        Codec::Evt21(d) => evt21_decoder_of(d),
         Codec::Evt3(d) => evt3_decoder_of(d),
     }
 }

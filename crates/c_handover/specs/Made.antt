@@ -4,10 +4,10 @@ use mathlib.Core.Bool.{Bool, true, false}
 use mathlib.Core.List.{List, [], _∷_, _++_, map, map-append}
 use Prim.Native.Nat.{ℕ, zero, suc, _≤_, _<_}
 use native.Mathlib.Omega.{arith}
-use Rattle.evt_types.specs.{declared.Encoding.Encoding, declared.Encoding.the-variants.Evt2, declared.Encoding.the-variants.Evt3}
+use Rattle.evt_types.specs.declared.Encoding.{Encoding}
 use Rattle.evt_types.specs.Outcome.{Outcome, refuse, give}
-use Rattle.evt_codec.specs.declared.{codec.Codec.Codec, codec.Codec.the-variants.Evt2 as OfEvt2, codec.Codec.the-variants.Evt3 as OfEvt3}
-use Rattle.evt_codec.specs.Codec.{encodingOf, freshC, codecAfter}
+use Rattle.evt_codec.specs.declared.{codec.Codec.Codec, codec.Codec.the-variants.Evt2 as OfEvt2, codec.Codec.the-variants.Evt21 as OfEvt21, codec.Codec.the-variants.Evt3 as OfEvt3}
+use Rattle.evt_codec.specs.Codec.{encodingOf, freshC, codecAfter, encoding-after, encoding-fresh}
 use Rattle.evt3_decoder.specs.{declared.Decoder.Decoder, Range.Regular3}
 use Rattle.read_fill.specs.Decode.{Bounded}
 use Rattle.index_build.specs.declared.{Builder.Builder}
@@ -27,11 +27,11 @@ row-fits d r = go (d .initialised) refl
 
 bounded-narrow : (n : ℕ) (k : Codec) → Bounded n k → Narrow k
 bounded-narrow n (OfEvt2 d) b = tt
+bounded-narrow n (OfEvt21 d) b = tt
 bounded-narrow n (OfEvt3 d) b = (row-fits d (b .regular), omega (arith, b .column))
 
-encoding-after : (e : Encoding) (l : List ℕ) → encodingOf (codecAfter (freshC e) l) ≡ e
-encoding-after Evt2 l = refl
-encoding-after Evt3 l = refl
+encoding-read : (e : Encoding) (l : List ℕ) → encodingOf (codecAfter (freshC e) l) ≡ e
+encoding-read e l = encoding-after (freshC e) l ∙ encoding-fresh e
 
 module _ (l : List ℕ) (room : ℕ) (t : Builder) (begun : Begun l room t) (e : Encoding) (fresh : t .codec ≡ freshC e) where
   -- record j
@@ -39,7 +39,7 @@ module _ (l : List ℕ) (room : ℕ) (t : Builder) (begun : Begun l room t) (e :
   one-back j h =
       let fit = builder-fit l t begun j h in
       let k = codecAfter (t .codec) (frontOf l t j) in
-      let is : encodingOf k ≡ e = ap (λ (c : Codec). encodingOf (codecAfter c (frontOf l t j))) fresh ∙ encoding-after e (frontOf l t j) in
+      let is : encodingOf k ≡ e = ap (λ (c : Codec). encodingOf (codecAfter c (frontOf l t j))) fresh ∙ encoding-read e (frontOf l t j) in
       checkpoint-back e (madeAt l t j)
       (record { is-encoding = is; narrow = bounded-narrow _ k (fit .takes); greatest = _; is-time = refl; early = fit .early })
 

@@ -2,7 +2,7 @@
 ghost use mathlib.Core.Path.{_≡_};
 ghost use Prim.Native.Nat.{_≤_};
 ghost use lib.ListN.{length};
-ghost use Rattle.evt_types.specs.declared.Encoding.the-variants.{Evt2, Evt3};
+ghost use Rattle.evt_types.specs.declared.Encoding.the-variants.{Evt2, Evt21, Evt3};
 ghost use Rattle.index_records.specs.BinarySearch.{chosenOf};
 ghost use Rattle.index_records.specs.Judge.{judgedAll};
 ghost use Rattle.slice_rules.specs.Slice.{toldSlice};
@@ -65,6 +65,7 @@ pub fn judge_records(encoding: Encoding, records: &[[u64; 10]], n: usize, s: Jud
 {
     match encoding {
         Encoding::Evt2 => judge_evt2(records, n, s),
+        Encoding::Evt21 => judge_evt21(records, n, s),
         Encoding::Evt3 => judge_evt3(records, n, s),
     }
 }
@@ -78,6 +79,27 @@ fn judge_evt2(records: &[[u64; 10]], n: usize, s: Judging) -> bool
     while i < n {
         let a = records[i];
         let c = checkpoint_in(Encoding::Evt2, a);
+        let placed = index_records::places(t, c);
+        let codec = c.codec;
+        let ok = index_records::in_range_if(placed, codec);
+        t = index_records::onward(t, c, ok);
+        if t.ok {} else {
+            return false;
+        }
+        i += 1;
+    }
+    t.ok
+}
+
+fn judge_evt21(records: &[[u64; 10]], n: usize, s: Judging) -> bool
+    requires { ⌜ n ≤ length (now records) ⌝ }
+    ensures { λ r. ⌜ r ≡ judgedAll s (checkpointsIn Evt21 n (now (records .entry))) .ok ⌝ }
+{
+    let mut t = s;
+    let mut i: usize = 0;
+    while i < n {
+        let a = records[i];
+        let c = checkpoint_in(Encoding::Evt21, a);
         let placed = index_records::places(t, c);
         let codec = c.codec;
         let ok = index_records::in_range_if(placed, codec);

@@ -1,5 +1,5 @@
--- A decoder of either encoding as seven numbers, and back.
-use mathlib.Core.Path.{_≡_, sym}
+-- A decoder of any encoding as seven numbers, and back.
+use mathlib.Core.Path.{_≡_, sym, ap}
 use mathlib.Core.Bool.{Bool, true, _&&_}
 use Prim.Native.Nat.{ℕ, _≤_, min}
 use native.Mathlib.Omega.{arith}
@@ -7,14 +7,16 @@ use lib.Dec.{eqb, leb}
 use borrow.Author.Tests.{eqb-true, leb-true, le-leb}
 use Rattle.evt_types.specs.declared.Encoding.{Encoding}
 use Rattle.evt_types.specs.declared.Encoding.the-variants as E
-use Rattle.evt_codec.specs.declared.{codec.Codec.Codec, codec.Codec.the-variants.Evt2, codec.Codec.the-variants.Evt3}
+use Rattle.evt_codec.specs.declared.{codec.Codec.Codec, codec.Codec.the-variants.Evt2, codec.Codec.the-variants.Evt21, codec.Codec.the-variants.Evt3}
+use Rattle.evt2_decoder.specs.declared.Evt2Decoder.{Evt2Decoder}
+use Rattle.evt21_decoder.specs.Evt21.{as2, of2}
 use Rattle.evt_codec.specs.Codec.{encodingOf}
 use Rattle.c_values.specs.{declared.codec.DecoderNumbers.DecoderNumbers, Flags.flag, Flags.bit, Flags.isFlag, Flags.bit-flag, Flags.bit-back}
 use Rattle.c_values.specs.{Flags.flag-back, Flags.both}
 
--- of EVT2 the last three are 0
-abbrev pub numbersOf : Codec → DecoderNumbers
-numbersOf (Evt2 d) = record {
+-- of EVT2 and EVT2.1 the last three are 0
+abbrev numbers2 : Evt2Decoder → DecoderNumbers
+numbers2 d = record {
   initialised = bit (d .initialised);
   «time_base» = d .«time_high»;
   time = d .time;
@@ -23,6 +25,10 @@ numbersOf (Evt2 d) = record {
   «base_x» = 0;
   polarity = 0;
 }
+
+abbrev pub numbersOf : Codec → DecoderNumbers
+numbersOf (Evt2 d) = numbers2 d
+numbersOf (Evt21 d) = numbers2 (as2 d)
 numbersOf (Evt3 d) = record {
   initialised = bit (d .initialised);
   «time_base» = d .«time_base»;
@@ -37,6 +43,7 @@ numbersOf (Evt3 d) = record {
 
 abbrev pub placeFits : Encoding → (y x polarity : ℕ) → Bool
 placeFits E.Evt2 y x polarity = eqb y 0 && (eqb x 0 && eqb polarity 0)
+placeFits E.Evt21 y x polarity = placeFits E.Evt2 y x polarity
 placeFits E.Evt3 y x polarity = leb y 65535 && (leb x 65535 && isFlag polarity)
 
 abbrev pub isCodec : Encoding → DecoderNumbers → Bool
@@ -44,9 +51,12 @@ isCodec e n = isFlag (n .initialised) && placeFits e (n .y) (n .«base_x») (n .
 
 -- ---- and back: numbers that are no decoder's are read as some decoder
 
+abbrev decoder2 : DecoderNumbers → Evt2Decoder
+decoder2 n = record { initialised = flag (n .initialised); «time_high» = n .«time_base»; time = n .time; «high_loops» = n .«high_loops» }
+
 abbrev pub codecOf : Encoding → DecoderNumbers → Codec
-codecOf E.Evt2 n =
-    Evt2 (record { initialised = flag (n .initialised); «time_high» = n .«time_base»; time = n .time; «high_loops» = n .«high_loops» })
+codecOf E.Evt2 n = Evt2 (decoder2 n)
+codecOf E.Evt21 n = Evt21 (of2 (decoder2 n))
 codecOf E.Evt3 n = Evt3 (record {
   initialised = flag (n .initialised);
   «time_base» = n .«time_base»;
@@ -62,16 +72,16 @@ codecOf E.Evt3 n = Evt3 (record {
 -- a row and a column of 16 bits, as the decoder's fields have
 abbrev pub Narrow : Codec → Type 0
 Narrow (Evt2 d) = Unit
+Narrow (Evt21 d) = Unit
 Narrow (Evt3 d) = (d .y ≤ 65535) × (d .«base_x» ≤ 65535)
+
+back2 : (d : Evt2Decoder) → decoder2 (numbers2 d) ≡ d
+back2 d = λ i. record { initialised = bit-back (d .initialised) i; «time_high» = d .«time_high»; time = d .time; «high_loops» = d .«high_loops» }
 
 -- a decoder as numbers loses nothing
 pub codec-back : (c : Codec) → Narrow c → codecOf (encodingOf c) (numbersOf c) ≡ c
-codec-back (Evt2 d) u = λ i. Evt2 (record {
-  initialised = bit-back (d .initialised) i;
-  «time_high» = d .«time_high»;
-  time = d .time;
-  «high_loops» = d .«high_loops»;
-})
+codec-back (Evt2 d) u = ap Evt2 (back2 d)
+codec-back (Evt21 d) u = ap (λ (d : Evt2Decoder). Evt21 (of2 d)) (back2 (as2 d))
 codec-back (Evt3 d) u =
     let row : min (d .y) 65535 ≡ d .y = omega (arith, u .0) in
     let column : min (d .«base_x») 65535 ≡ d .«base_x» = omega (arith, u .1) in
@@ -88,11 +98,12 @@ codec-back (Evt3 d) u =
 -- and they are a decoder's
 pub codec-fits : (c : Codec) → Narrow c → isCodec (encodingOf c) (numbersOf c) ≡ true
 codec-fits (Evt2 d) u = rw (bit-flag (d .initialised))
+codec-fits (Evt21 d) u = rw (bit-flag (d .initialised))
 codec-fits (Evt3 d) u = rw (bit-flag (d .initialised), le-leb (d .y) 65535 (u .0), le-leb (d .«base_x») 65535 (u .1), bit-flag (d .polarity))
 
 -- nothing else is read as that decoder
-pub numbers-back : (e : Encoding) (n : DecoderNumbers) → isCodec e n ≡ true → numbersOf (codecOf e n) ≡ n
-numbers-back E.Evt2 n h =
+numbers-back2 : (n : DecoderNumbers) → isCodec E.Evt2 n ≡ true → numbers2 (decoder2 n) ≡ n
+numbers-back2 n h =
     let started = both (isFlag (n .initialised)) _ h in
     let row = both (eqb (n .y) 0) _ (started .1) in
     let rest = both (eqb (n .«base_x») 0) _ (row .1) in
@@ -105,6 +116,10 @@ numbers-back E.Evt2 n h =
       «base_x» = sym (eqb-true (n .«base_x») 0 (rest .0)) i;
       polarity = sym (eqb-true (n .polarity) 0 (rest .1)) i;
     }
+
+pub numbers-back : (e : Encoding) (n : DecoderNumbers) → isCodec e n ≡ true → numbersOf (codecOf e n) ≡ n
+numbers-back E.Evt2 n h = numbers-back2 n h
+numbers-back E.Evt21 n h = numbers-back2 n h
 numbers-back E.Evt3 n h =
     let started = both (isFlag (n .initialised)) _ h in
     let row = both (leb (n .y) 65535) _ (started .1) in

@@ -1,4 +1,4 @@
-// A decoder of either encoding as numbers.
+// A decoder of any encoding as numbers.
 ghost use mathlib.Core.Path.{_≡_};
 ghost use Rattle.c_values.specs.{Codec.numbersOf, Codec.placeFits, Codec.isCodec, Codec.codecOf};
 use crate::flags::and3;
@@ -9,6 +9,7 @@ use evt_codec::Codec;
 use evt_types::Encoding;
 use evt_types::num::saturate;
 use evt2_decoder::Evt2Decoder;
+use evt21_decoder::Evt21Decoder;
 use evt3_decoder::Decoder;
 
 // `initialised` and `polarity` are 0 or 1. `y`, `base_x` and `polarity` are EVT3's.
@@ -55,6 +56,7 @@ pub fn numbers_of(codec: Codec) -> DecoderNumbers
 {
     match codec {
         Codec::Evt2(d) => evt2_numbers(d),
+        Codec::Evt21(d) => evt2_numbers(d.evt2()),
         Codec::Evt3(d) => evt3_numbers(d),
     }
 }
@@ -64,6 +66,7 @@ fn place_fits(encoding: Encoding, y: u64, x: u64, polarity: u64) -> bool
 {
     match encoding {
         Encoding::Evt2 => and3(y == 0, x == 0, polarity == 0),
+        Encoding::Evt21 => and3(y == 0, x == 0, polarity == 0),
         Encoding::Evt3 => and3(y <= 65535, x <= 65535, is_flag_wide(polarity)),
     }
 }
@@ -82,6 +85,17 @@ fn evt2_of(n: DecoderNumbers) -> Codec
     ensures { λ c. ⌜ c ≡ codecOf Encoding.Evt2 n ⌝ }
 {
     Codec::Evt2(Evt2Decoder {
+        initialised: is_set_wide(n.initialised),
+        time_high: n.time_base,
+        time: n.time,
+        high_loops: n.high_loops,
+    })
+}
+
+fn evt21_of(n: DecoderNumbers) -> Codec
+    ensures { λ c. ⌜ c ≡ codecOf Encoding.Evt21 n ⌝ }
+{
+    Codec::Evt21(Evt21Decoder {
         initialised: is_set_wide(n.initialised),
         time_high: n.time_base,
         time: n.time,
@@ -108,6 +122,7 @@ pub fn codec_of(encoding: Encoding, n: DecoderNumbers) -> Codec
 {
     match encoding {
         Encoding::Evt2 => evt2_of(n),
+        Encoding::Evt21 => evt21_of(n),
         Encoding::Evt3 => evt3_of(n),
     }
 }

@@ -1,4 +1,4 @@
-// An encoding as a number: 2 or 3.
+// An encoding as a number: 2, 21 or 3.
 ghost use mathlib.Core.Path.{_≡_};
 ghost use Rattle.c_values.specs.{Encoding.isKnown, Encoding.encodingOf, Encoding.behindTooLong};
 use evt_types::Encoding;
@@ -11,6 +11,9 @@ pub fn is_known(n: u32) -> bool
     if n == 2 {
         return true;
     }
+    if n == 21 {
+        return true;
+    }
     n == 3
 }
 
@@ -20,6 +23,9 @@ pub fn encoding_of(n: u32) -> Encoding
 {
     if n == 3 {
         return Encoding::Evt3;
+    }
+    if n == 21 {
+        return Encoding::Evt21;
     }
     Encoding::Evt2
 }

@@ -7,7 +7,7 @@ use lib.Dec.{ltb, eqb}
 use lib.IntN.{pos}
 use lib.ListN.{length, take, drop}
 use Rattle.laws_stream.specs.Order.{greatest}
-use Rattle.evt_types.specs.declared.{Encoding.Encoding, Encoding.the-variants.Evt2, Encoding.the-variants.Evt3}
+use Rattle.evt_types.specs.declared.{Encoding.Encoding, Encoding.the-variants.Evt2, Encoding.the-variants.Evt21, Encoding.the-variants.Evt3}
 use Rattle.evt_types.specs.declared.{Refusal.the-variants.InvalidSensorSize, Refusal.the-variants.TooLong, Refusal.the-variants.InvalidSpacing}
 use Rattle.evt_types.specs.{declared.Refusal.the-variants.TooFewRecords, declared.SensorSize.SensorSize, Event.Event, Num.encodingNumber}
 use Rattle.evt_types.specs.{Num.mostBytes, Outcome.Outcome, Outcome.refuse, Outcome.give, Outcome.onOutcome, Outcome.verdict, Outcome.handedBy}
@@ -51,6 +51,7 @@ recordsOf size e start spacing body = firsts (recordAt size e start spacing body
 -- a spacing is a multiple of the encoding's alignment
 abbrev pub alignment : Encoding → ℕ
 alignment Evt2 = 4
+alignment Evt21 = 8
 alignment Evt3 = 4
 
 -- and lies in 4..4,194,304

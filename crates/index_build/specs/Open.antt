@@ -11,7 +11,7 @@ use lib.ListN.{length, take, drop, length-take, length-drop}
 use lib.Seq.{take-all}
 use borrow.Author.Tests.{lt-ltb, le-ltb, ltb-false, eqb-true}
 use Rattle.laws_stream.specs.{Part.rest-of, Order.greatest}
-use Rattle.evt_types.specs.declared.{Encoding.Encoding, Encoding.the-variants.Evt2, Encoding.the-variants.Evt3, Refusal.Refusal}
+use Rattle.evt_types.specs.declared.{Encoding.Encoding, Encoding.the-variants.Evt2, Encoding.the-variants.Evt21, Encoding.the-variants.Evt3, Refusal.Refusal}
 use Rattle.evt_types.specs.declared.{Refusal.the-variants.InvalidSensorSize, Refusal.the-variants.TooLong, Refusal.the-variants.InvalidSpacing}
 use Rattle.evt_types.specs.declared.{Refusal.the-variants.TooFewRecords, SensorSize.SensorSize, SensorSize.the-variants.Unknown}
 use Rattle.evt_types.specs.{declared.SensorSize.the-variants.Known, Event.Event, Num.mostBytes, Outcome.Outcome, Outcome.refuse, Outcome.give}
@@ -43,6 +43,7 @@ pub record Spaced (spacing : ℕ) : Type 0 where
 -- what is a multiple of the alignment is a whole number of words
 whole-words : (e : Encoding) (spacing : ℕ) → spacing % alignment e ≡ 0 → spacing ≡ spacing / wordSize (freshC e) * wordSize (freshC e)
 whole-words Evt2 spacing h = omega arith
+whole-words Evt21 spacing h = omega arith
 whole-words Evt3 spacing h = omega arith
 
 module _ (e : Encoding) (spacing : ℕ) (h : spacingOk e spacing ≡ true) where
@@ -282,11 +283,7 @@ grown f a (b ∷ es) = omega (arith, grown f b es)
 
 module _ (e : Encoding) (body : List ℕ) (long : length body ≤ mostBytes) where
   numbered-all : numberedOver wholeWindow (freshC e) body ≡ eventsFrom (freshC e) body
-  numbered-all = same e ∙ kept-inside Unknown e body long
-    where
-      same : (e : Encoding) → numberedOver wholeWindow (freshC e) body ≡ insideEvents 65536 65536 (freshC e) body
-      same Evt2 = refl
-      same Evt3 = refl
+  numbered-all = kept-inside Unknown e body long
 
   pub handed-all : handedOver wholeWindow 0 (freshC e) body ≡ eventsFrom (freshC e) body
   handed-all =

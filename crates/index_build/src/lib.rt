@@ -131,6 +131,8 @@ pub fn advance(recording: &[u8], builder: Builder) -> BuildStep
 // What a spacing is a multiple of (rule 8), for each encoding.
 const EVT2_ALIGNMENT: usize = 4;
 
+const EVT21_ALIGNMENT: usize = 8;
+
 const EVT3_ALIGNMENT: usize = 4;
 
 // A spacing that rule 8 allows.
@@ -145,6 +147,7 @@ pub fn spacing_ok(encoding: Encoding, spacing: usize) -> bool
     }
     match encoding {
         Encoding::Evt2 => spacing % EVT2_ALIGNMENT == 0,
+        Encoding::Evt21 => spacing % EVT21_ALIGNMENT == 0,
         Encoding::Evt3 => spacing % EVT3_ALIGNMENT == 0,
     }
 }

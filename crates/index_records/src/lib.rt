@@ -139,6 +139,7 @@ fn encoding_of(codec: Codec) -> Encoding
 {
     match codec {
         Codec::Evt2(_) => Encoding::Evt2,
+        Codec::Evt21(_) => Encoding::Evt21,
         Codec::Evt3(_) => Encoding::Evt3,
     }
 }

@@ -10,7 +10,7 @@ use borrow.Author.Tests.{lt-ltb, le-ltb}
 use lib.Dec.{ltb}
 use lib.IntN.{ℤ}
 use lib.ListN.{length, drop, length-append, length-drop}
-use Rattle.evt_types.specs.declared.{Encoding.Encoding, Encoding.the-variants.Evt2, Encoding.the-variants.Evt3, Limit.the-variants.Unlimited}
+use Rattle.evt_types.specs.declared.{Encoding.Encoding, Encoding.the-variants.Evt2, Encoding.the-variants.Evt21, Encoding.the-variants.Evt3, Limit.the-variants.Unlimited}
 use Rattle.evt_types.specs.declared.{Refusal.Refusal, Refusal.the-variants.InvalidSensorSize}
 use Rattle.evt_types.specs.declared.{SensorSize.SensorSize, SensorSize.the-variants.Unknown}
 use Rattle.evt_types.specs.{Event.Event, Columns.colX, Columns.colY, Columns.colT, Columns.colP, Outcome.Outcome, Outcome.refuse, Outcome.give}
@@ -90,12 +90,13 @@ countOf (Refused r) = 0
 unfoldable pub headOf : List ℕ → List ℕ
 headOf recording = cond (ltb mostListed (length recording)) tooLong (headLine (readAnswer (rawOutcome recording listOptions listRoom)))
 
--- at most 12 events for each word
+-- at most 12 events for each word of EVT3, 32 for each of EVT2.1
 body-few : (size : SensorSize) (e : Encoding) (body : List ℕ) → length body ≤ mostListed → length (bodyEvents e size Unlimited body) ≤ listRoom
 body-few size e body h = rw (body-all size e body (omega arith)) (go e (few-inside (sensorOf size .width) (sensorOf size .height) (freshC e) body))
   where
     go : (e : Encoding) {n : ℕ} → n ≤ mostFrom (freshC e) (length body) → n ≤ listRoom
     go Evt2 k = omega arith
+    go Evt21 k = omega arith
     go Evt3 k = omega arith
 
 -- an outcome in such room

@@ -46,7 +46,7 @@
 // body starts, and resume with a writer that sends no header (crates/laws_handover/specs/Headed.antt).
 // Examples: `cut_and_resume`, `cut_recording`.
 //
-// Single words. `Evt2Decoder`, `Decoder` (EVT3) and `Codec` (either) step over one word, by value
+// Single words. `Evt2Decoder`, `Evt21Decoder`, `Decoder` (EVT3) and `Codec` (any) step over one word, by value
 // (`step`) or lent (`decode`), and `EventVector::next` takes out the word's events one by one.
 // `decoder_after` has the decoder after all whole words of some bytes. Examples: `decode_singly`,
 // `decode_after`.
@@ -74,6 +74,8 @@ pub use evt_types::refusal_number;
 pub use evt_types::vector::NextEvent;
 pub use evt2_decoder::Evt2Decoded;
 pub use evt2_decoder::Evt2Decoder;
+pub use evt21_decoder::Evt21Decoded;
+pub use evt21_decoder::Evt21Decoder;
 pub use evt3_decoder::Decoded;
 pub use evt3_decoder::Decoder;
 pub use header::Header;

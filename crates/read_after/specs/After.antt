@@ -10,7 +10,7 @@ use Rattle.evt_types.specs.declared.Refusal.the-variants.{TooLong, StateOutOfRa
 use Rattle.evt_types.specs.{Num.mostBytes, Outcome.Outcome, Outcome.refuse, Outcome.give, Outcome.onOutcome, Outcome.verdict}
 use Rattle.evt_types.specs.Told.{Told, told, accepted}
 use Rattle.evt3_decoder.specs.Evt3.{number}
-use Rattle.evt_codec.specs.declared.{codec.Codec.Codec, codec.Codec.the-variants.Evt2, codec.Codec.the-variants.Evt3}
+use Rattle.evt_codec.specs.declared.{codec.Codec.Codec, codec.Codec.the-variants.Evt2, codec.Codec.the-variants.Evt21, codec.Codec.the-variants.Evt3}
 use Rattle.evt_codec.specs.Codec.{inRangeC, codecAfter}
 use Rattle.read_after.specs.declared.{AfterAnswer.AfterAnswer, AfterAnswer.the-variants.After, AfterAnswer.the-variants.Refused}
 
@@ -28,6 +28,7 @@ afterAnswer = onOutcome Refused After
 -- encoding, started or not, coarse time, time and loops; of EVT3 row, base column and polarity too
 abbrev pub codecValues : Codec → List ℕ
 codecValues (Evt2 d) = 2 ∷ number (d .initialised) ∷ d .«time_high» ∷ d .time ∷ d .«high_loops» ∷ []
+codecValues (Evt21 d) = 21 ∷ number (d .initialised) ∷ d .«time_high» ∷ d .time ∷ d .«high_loops» ∷ []
 codecValues (Evt3 d) =
     3 ∷ number (d .initialised) ∷ d .«time_base» ∷ d .time ∷ d .«high_loops» ∷ d .y ∷ d .«base_x» ∷ number (d .polarity) ∷ []
 

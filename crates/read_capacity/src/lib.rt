@@ -10,6 +10,7 @@ ghost use Rattle.read_capacity.specs.Deliver.{mostFrom, mostOver, Enough
 use evt_codec::Codec;
 use evt_types::num::min_usize;
 use evt2_decoder::Evt2Decoder;
+use evt21_decoder::Evt21Decoder;
 use evt3_decoder::Decoder;
 use read_select::Window;
 
@@ -33,6 +34,7 @@ pub fn most_from(codec: Codec, n: usize) -> usize
 {
     match codec {
         Codec::Evt2(_) => n / Evt2Decoder::WORD_SIZE,
+        Codec::Evt21(_) => n / Evt21Decoder::WORD_SIZE * 32,
         Codec::Evt3(_) => n / Decoder::WORD_SIZE * 12,
     }
 }

@@ -1,4 +1,4 @@
--- How many of a mask's events lie inside the sensor: the bits below its edge, counted by a table.
+-- How many of a mask's events lie inside the sensor: the bits below its edge; in EVT3 counted by a table.
 use mathlib.Core.Path.{_≡_, refl, sym, ap, _∙_}
 use mathlib.Core.Logic.{⊎-elim}
 use mathlib.Core.Bool.{Bool, true, false, cond, and-true}
@@ -23,7 +23,7 @@ bitCounts = tableOf ones 64
 
 -- no column passes 65,535: a wider sensor has all
 abbrev pub columnBound : ℕ → ℕ
-columnBound width = cond (ltb width 65536) width 65548
+columnBound width = cond (ltb width 65536) width 65568
 
 -- the bits of columns below the bound, where the row is inside
 abbrev pub insideCount : (x y mask bound height : ℕ) → ℕ
@@ -103,10 +103,10 @@ sift-each [] = refl
 sift-each (a ∷ l) = ap (λ (l : List _). a ∷ l) (sift-each l)
 
 -- fewer bits than are left
-pub all-bits : (m j : ℕ) → m < 2 ^ 12 → 12 ≤ j → m % 2 ^ j ≡ m
-all-bits m j h l = mod-eq-of-lt (lt-of-lt-of-le h (pow-mono l))
+pub all-bits : (k m j : ℕ) → m < 2 ^ k → k ≤ j → m % 2 ^ j ≡ m
+all-bits k m j h l = mod-eq-of-lt (lt-of-lt-of-le h (pow-mono l))
 
-module _ (width height : ℕ) (v : Vector) (column : v .x < 65536) (small : v .mask < 2 ^ 12) where
+module _ (width height : ℕ) (v : Vector) (column : v .x < 65536) (small : v .mask < 2 ^ 32) where
   saturated : (c : ℕ) → width < 65536 → ltb (min c 65535) width ≡ ltb c width
   saturated c h = go (ltb c width) refl
     where
@@ -118,7 +118,7 @@ module _ (width height : ℕ) (v : Vector) (column : v .x < 65536) (small : v .m
   row-counted : v .y < height → length (insideOf width height v) ≡ ones (v .mask % 2 ^ (columnBound width - v .x))
   row-counted y = go (ltb width 65536) refl
     where
-      go : (b : Bool) → ltb width 65536 ≡ b → length (insideOf width height v) ≡ ones (v .mask % 2 ^ (cond b width 65548 - v .x))
+      go : (b : Bool) → ltb width 65536 ≡ b → length (insideOf width height v) ≡ ones (v .mask % 2 ^ (cond b width 65568 - v .x))
       go true e =
           let l = ltb-true width 65536 e in
           sift-mapped (inside width height) (eventAt v) (λ c. ltb c width)
@@ -129,7 +129,7 @@ module _ (width height : ℕ) (v : Vector) (column : v .x < 65536) (small : v .m
           sift-mapped (inside width height) (eventAt v) (λ c. true)
           (λ c. rw (lt-ltb (v .y) height y, lt-ltb (min c 65535) width (omega arith))) (bits 32 (v .x) (v .mask))
           ∙ ap length (sift-each (bits 32 (v .x) (v .mask)))
-          ∙ bits-count 32 (v .x) (v .mask) (omega arith) ∙ sym (ap ones (all-bits (v .mask) (65548 - v .x) small (omega arith)))
+          ∙ bits-count 32 (v .x) (v .mask) (omega arith) ∙ sym (ap ones (all-bits 32 (v .mask) (65568 - v .x) small (omega arith)))
 
   pub inside-counted : length (insideOf width height v) ≡ insideCount (v .x) (v .y) (v .mask) (columnBound width) height
   inside-counted = go (ltb (v .y) height) refl

@@ -8,12 +8,15 @@ use native.Mathlib.Nat.{add-zero}
 use lib.ListN.{length}
 use Rattle.laws_stream.specs.{Words.wordsOf, Order.greatest, Stream.after}
 use Rattle.evt_types.specs.{Ahead.ahead, Ahead.ahead-some, declared.vector.Vector.Vector, Layout.timeLow2, Layout.wordSize3, Layout.wordSize2}
+use Rattle.evt_types.specs.Layout.{wordSize21, upper, mask21}
 use Rattle.evt2_decoder.specs.{declared.Evt2Decoder.Evt2Decoder, Evt2.step2, Evt2.vector2, Evt2.reader2, Range.Bounded2, Range.bounded-step2}
+use Rattle.evt2_decoder.specs.declared.Evt2Step.{Evt2Step}
+use Rattle.evt21_decoder.specs.{Evt21.of2, Evt21.wide, Evt21.reader21, Range.Bounded21}
 use Rattle.evt3_decoder.specs.{declared.Decoder.Decoder, Evt3.vector3, Evt3.reader3, Evt3.slimmed, Range.Bounded3, Range.bounded-step3}
 use Rattle.read_columns.specs.Inside.{insideOf, clock, latestOf}
 use Rattle.read_fill.specs.{Iteration.Iteration, Iteration.insideAll}
 use Rattle.read_fill.specs.Loops as Loops
-use Rattle.evt_codec.specs.{declared.codec.Codec.the-variants.Evt3, Sound.sound2, Sound.bounded-words}
+use Rattle.evt_codec.specs.{declared.codec.Codec.the-variants.Evt3, Sound.sound2, Sound.sound21, Sound.bounded-words}
 use Rattle.read_count.specs.{declared.evt3_step.CountingStep.CountingStep, Counting.Counting, Counting.counting-few, Counting.counting-next}
 use Rattle.read_count.specs.{Counting.counting-end, Passing.Passing, Passing.Reached, Passing.passing-stop, Passing.passing-next}
 use Rattle.read_count.specs.{Evt2Inside.keyBound, Evt2Inside.isEventInside, Evt2Inside.oneIf, Evt2Inside.event-count, Evt2Inside.event-step}
@@ -74,6 +77,28 @@ module _ {width height : ℕ} {bytes : List ℕ} {s : Evt2Decoder} {bound i w : 
         → Passing wordSize2 reader2 Bounded2 width height most s₀ bytes s′ n (i + wordSize2)
     other-pass e {s′} is = rw add-zero at (passing-next (omega arith) bounded-step2 u (iteration s′ is) (found e) (omega arith))
 
+-- ---- EVT2.1, over the decoder of EVT2 that the loops keep
+
+-- at a word w: its step, and how many of its events are inside
+pub record Word21 (width height bound : ℕ) (bytes : List ℕ) (s : Evt2Decoder) (i w : ℕ) (r : Evt2Step) (m : ℕ) : Type 0 where
+  pub more : i + (wordSize21 - 1) < length bytes
+  pub is-word : w ≡ ahead wordSize21 bytes i
+  pub is-step : (r .next ≡ step2 s (upper w)) × (r .events ≡ wide (vector2 s (upper w)) (mask21 w))
+  pub is-bound : bound ≡ columnBound width
+  pub is-count : m ≡ insideCount (r .events .x) (r .events .y) (r .events .mask) bound height
+
+module _ {width height bound : ℕ} {bytes : List ℕ} {s : Evt2Decoder} {i w : ℕ} {r : Evt2Step} {m n : ℕ}
+    (a : Word21 width height bound bytes s i w r m) (b : Bounded21 n (of2 s)) where
+  pub iteration21 : Iteration wordSize21 reader21 bytes (of2 s) i (of2 (r .next)) (r .events)
+  iteration21 = Loops.iteration sound21 (omega (arith, a .more)) (a .is-word) (ap of2 (a .is-step .0)) (a .is-step .1)
+
+  pub counted21 : m ≡ length (insideOf width height (r .events))
+  counted21 =
+      let v = r .events in
+      let small = Loops.word-narrow sound21 b (a .is-step .1) in
+      a .is-count ∙ ap (λ (k : ℕ). insideCount (v .x) (v .y) (v .mask) k height) (a .is-bound)
+      ∙ sym (inside-counted width height v (small .x<) (small .mask<))
+
 -- ---- EVT3
 
 -- the loop's own form e of the decoder d
@@ -115,7 +140,7 @@ module _ {width height bound : ℕ} {bytes : List ℕ} {s : Decoder} {i w : ℕ}
 
   counted : m ≡ length (insideOf width height seen)
   counted = a .is-count ∙ ap (λ (k : ℕ). insideCount (r .x) (r .next .y) (r .mask) k height) (a .is-bound)
-      ∙ sym (inside-counted width height seen (a .agrees .column) (a .agrees .mask))
+      ∙ sym (inside-counted width height seen (a .agrees .column) (omega (arith, a .agrees .mask)))
 
   module _ {s₀ : Decoder} {n top : ℕ} (u : Counting wordSize3 reader3 Bounded3 width height s₀ bytes s n top i) where
     pub word3-few : n + m ≤ length (insideAll wordSize3 reader3 width height s₀ bytes)

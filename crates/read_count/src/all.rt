@@ -2,24 +2,30 @@
 ghost use mathlib.Core.Path.{_≡_};
 ghost use Prim.Native.Nat.{_/_};
 ghost use lib.ListN.{length};
-ghost use Rattle.evt_types.specs.Layout.{wordSize2, wordSize3};
+ghost use Rattle.evt_types.specs.Layout.{wordSize2, wordSize21, wordSize3};
 ghost use Rattle.laws_stream.specs.Order.{greatest};
 ghost use Rattle.laws_stream.specs.Stream.{after};
 ghost use Rattle.evt2_decoder.specs.Evt2.{reader2};
+ghost use Rattle.evt21_decoder.specs.Evt21.{reader21};
 ghost use Rattle.evt3_decoder.specs.Evt3.{reader3};
 ghost use Rattle.evt2_decoder.specs.Range.{Bounded2};
+ghost use Rattle.evt21_decoder.specs.Range.{Bounded21};
 ghost use Rattle.evt3_decoder.specs.Range.{Bounded3};
 ghost use Rattle.read_columns.specs.Inside.{clock};
 ghost use Rattle.read_fill.specs.Iteration.{insideAll};
 use crate::LAST_BYTE2;
+use crate::LAST_BYTE21;
 use crate::LAST_BYTE3;
 use crate::evt2_inside;
+use crate::evt21_inside;
 use crate::evt3_inside;
 use crate::evt3_step;
 use evt_types::fields::bits;
 use evt_types::words;
 use evt2_decoder::Evt2Decoder;
 use evt2_decoder::advance;
+use evt21_decoder::Evt21Decoder;
+use evt21_decoder::of_evt2;
 use evt3_decoder::Decoder;
 use evt3_decoder::widen;
 
@@ -27,6 +33,12 @@ pub struct Evt2CountedAll {
     pub count: usize,
     pub latest: u64,
     pub decoder: Evt2Decoder,
+}
+
+pub struct Evt21CountedAll {
+    pub count: usize,
+    pub latest: u64,
+    pub decoder: Evt21Decoder,
 }
 
 pub struct Evt3CountedAll {
@@ -65,6 +77,35 @@ pub fn evt2(bytes: &[u8], d: Evt2Decoder, width: u64, height: u64) -> Evt2Counte
         count: n,
         latest: top,
         decoder: s,
+    }
+}
+
+pub fn evt21(bytes: &[u8], d: Evt21Decoder, width: u64, height: u64) -> Evt21CountedAll
+    requires { ⌜ Bounded21 (length (now bytes) / wordSize21) d ⌝ }
+    ensures { λ r. ⌜ (r .count ≡ length (insideAll wordSize21 reader21 width height d (now (bytes .entry))))
+        × (r .latest ≡ greatest clock (insideAll wordSize21 reader21 width height d (now (bytes .entry))))
+        × (r .decoder ≡ after wordSize21 reader21 d (now (bytes .entry))) ⌝ }
+{
+    let bound = evt3_inside::column_bound(width);
+    let mut s = d.evt2();
+    let mut n: usize = 0;
+    let mut top: u64 = 0;
+    let mut i: usize = 0;
+    while i + LAST_BYTE21 < bytes.len() {
+        let w = words::eight_at(bytes, i);
+        let step = evt21_decoder::advance(s, w);
+        let v = step.events;
+        s = step.next;
+        let m = evt21_inside::count_inside(v.x, v.y, v.mask, bound, height);
+        n += m;
+        top = read_columns::later(top, m, v.t);
+        i += Evt21Decoder::WORD_SIZE;
+    }
+    let decoder = of_evt2(s);
+    Evt21CountedAll {
+        count: n,
+        latest: top,
+        decoder,
     }
 }
 

@@ -85,7 +85,7 @@ pub fn bit_counts() -> [usize; 64]
 pub fn column_bound(width: u64) -> u64
     ensures { λ r. ⌜ r ≡ columnBound width ⌝ }
 {
-    if width < 65536 { width } else { 65548 }
+    if width < 65536 { width } else { 65568 }
 }
 
 // How many of a mask's events, from column x on in row y, lie inside.

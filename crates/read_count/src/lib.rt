@@ -11,10 +11,12 @@ ghost use Rattle.read_fill.specs.Decode.{Bounded, Able};
 ghost use Rattle.read_count.specs.Count.{countedAllOf, countedToOf};
 use evt_codec::Codec;
 use evt2_decoder::Evt2Decoder;
+use evt21_decoder::Evt21Decoder;
 use evt3_decoder::Decoder;
 
 mod all;
 mod evt2_inside;
+mod evt21_inside;
 mod evt3_inside;
 mod evt3_step;
 mod to;
@@ -22,6 +24,8 @@ mod to;
 // Where a word's last byte is, counted from its first. The loops here test for it: by the size of a word
 // they measured slower.
 const LAST_BYTE2: usize = Evt2Decoder::WORD_SIZE - 1;
+
+const LAST_BYTE21: usize = Evt21Decoder::WORD_SIZE - 1;
 
 const LAST_BYTE3: usize = Decoder::WORD_SIZE - 1;
 
@@ -54,6 +58,15 @@ pub fn count_all(bytes: &[u8], codec: Codec, width: u64, height: u64) -> Counted
                 codec: Codec::Evt2(decoder),
             }
         }
+        Codec::Evt21(d) => {
+            let s = all::evt21(bytes, d, width, height);
+            let decoder = s.decoder;
+            CountedAll {
+                count: s.count,
+                latest: s.latest,
+                codec: Codec::Evt21(decoder),
+            }
+        }
         Codec::Evt3(d) => {
             let s = all::evt3(bytes, d, width, height);
             let decoder = s.decoder;
@@ -80,6 +93,15 @@ pub fn count_to(bytes: &[u8], codec: Codec, width: u64, height: u64, most: usize
                 at: s.at,
                 count: s.count,
                 codec: Codec::Evt2(decoder),
+            }
+        }
+        Codec::Evt21(d) => {
+            let s = to::evt21(bytes, d, width, height, most);
+            let decoder = s.decoder;
+            CountedTo {
+                at: s.at,
+                count: s.count,
+                codec: Codec::Evt21(decoder),
             }
         }
         Codec::Evt3(d) => {

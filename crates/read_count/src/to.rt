@@ -1,21 +1,27 @@
 // Passing over words up to a number of events: a loop for each encoding.
 ghost use Prim.Native.Nat.{_/_};
 ghost use lib.ListN.{length};
-ghost use Rattle.evt_types.specs.Layout.{wordSize2, wordSize3};
+ghost use Rattle.evt_types.specs.Layout.{wordSize2, wordSize21, wordSize3};
 ghost use Rattle.evt2_decoder.specs.Evt2.{reader2};
+ghost use Rattle.evt21_decoder.specs.Evt21.{reader21};
 ghost use Rattle.evt3_decoder.specs.Evt3.{reader3};
 ghost use Rattle.evt2_decoder.specs.Range.{Bounded2};
+ghost use Rattle.evt21_decoder.specs.Range.{Bounded21};
 ghost use Rattle.evt3_decoder.specs.Range.{Bounded3, Paced3};
 ghost use Rattle.read_count.specs.Passing.{Reached};
 use crate::LAST_BYTE2;
+use crate::LAST_BYTE21;
 use crate::LAST_BYTE3;
 use crate::evt2_inside;
+use crate::evt21_inside;
 use crate::evt3_inside;
 use crate::evt3_step;
 use evt_types::fields::bits;
 use evt_types::words;
 use evt2_decoder::Evt2Decoder;
 use evt2_decoder::advance;
+use evt21_decoder::Evt21Decoder;
+use evt21_decoder::of_evt2;
 use evt3_decoder::Decoder;
 use evt3_decoder::widen;
 
@@ -23,6 +29,12 @@ pub struct Evt2CountedTo {
     pub at: usize,
     pub count: usize,
     pub decoder: Evt2Decoder,
+}
+
+pub struct Evt21CountedTo {
+    pub at: usize,
+    pub count: usize,
+    pub decoder: Evt21Decoder,
 }
 
 pub struct Evt3CountedTo {
@@ -60,6 +72,41 @@ pub fn evt2(bytes: &[u8], d: Evt2Decoder, width: u64, height: u64, most: usize) 
         at: i,
         count: n,
         decoder: s,
+    }
+}
+
+pub fn evt21(
+    bytes: &[u8],
+    d: Evt21Decoder,
+    width: u64,
+    height: u64,
+    most: usize,
+) -> Evt21CountedTo
+    requires { ⌜ Bounded21 (length (now bytes) / wordSize21) d ⌝ }
+    ensures { λ r. ⌜ Reached wordSize21 reader21 Bounded21 width height most d (now (bytes .entry)) (r .at) (r .count) (r .decoder) ⌝ }
+{
+    let bound = evt3_inside::column_bound(width);
+    let mut s = d.evt2();
+    let mut n: usize = 0;
+    let mut i: usize = 0;
+    while i + LAST_BYTE21 < bytes.len() {
+        let w = words::eight_at(bytes, i);
+        let step = evt21_decoder::advance(s, w);
+        let v = step.events;
+        let next = step.next;
+        let m = evt21_inside::count_inside(v.x, v.y, v.mask, bound, height);
+        if most - n < m {
+            break;
+        }
+        n += m;
+        s = next;
+        i += Evt21Decoder::WORD_SIZE;
+    }
+    let decoder = of_evt2(s);
+    Evt21CountedTo {
+        at: i,
+        count: n,
+        decoder,
     }
 }
 

@@ -10,6 +10,7 @@ ghost use Rattle.trigger_count.specs.Table.{Block};
 use evt_codec::Codec;
 use evt2_decoder::Evt2Decoder;
 use evt3_decoder::Decoder;
+use evt21_decoder::Evt21Decoder;
 
 mod blocks;
 mod start;
@@ -20,6 +21,7 @@ pub fn count(bytes: &[u8], codec: Codec) -> usize
 {
     match codec {
         Codec::Evt2(d) => of_size(bytes, d.initialised, Evt2Decoder::WORD_SIZE),
+        Codec::Evt21(d) => of_size(bytes, d.initialised, Evt21Decoder::WORD_SIZE),
         Codec::Evt3(d) => of_size(bytes, d.initialised, Decoder::WORD_SIZE),
     }
 }

@@ -20,12 +20,17 @@ returns-4 : tie.Need-returns-4
 unfolding spacingOk
 returns-4 c = rw (le-ltb _ _ (c .before .before .before .if1 .left), le-ltb _ _ (c .before .before .if2 .left), c .enum-told2 .given .1)
 
+returns-5 : tie.Need-returns-5
+unfolding spacingOk
+returns-5 c = rw (le-ltb _ _ (c .before .before .before .if1 .left), le-ltb _ _ (c .before .before .if2 .left), c .enum-told3 .given .1)
+
 pub spacing-ok-spec : {M : Type 1} → statement M
 spacing-ok-spec =
     tie.close
     (tie.spec
     returns
     returns-2
-    (λ c. search needs) (λ c. search needs)
+    (λ c. search needs) (λ c. search needs) (λ c. search needs)
     returns-3
-    returns-4)
+    returns-4
+    returns-5)

@@ -6,7 +6,16 @@ returns : tie.Need-returns
 returns c = rw (c .before .before .codec .given .1) (c .evt2-decoder-of .ensures)
 
 returns-2 : tie.Need-returns-2
-returns-2 c = rw (c .before .before .codec2 .given .1) (c .evt3-decoder-of .ensures)
+returns-2 c = rw (c .before .before .codec2 .given .1) (c .evt21-decoder-of .ensures)
+
+returns-3 : tie.Need-returns-3
+returns-3 c = rw (c .before .before .codec3 .given .1) (c .evt3-decoder-of .ensures)
 
 pub decoder-of-spec : {M : Type 1} → statement M
-decoder-of-spec = tie.close (tie.spec (λ c. search needs) (λ c κs. search needs) (λ c. search needs) (λ c κs. search needs) returns returns-2)
+decoder-of-spec =
+    tie.close
+    (tie.spec
+    (λ c. search needs) (λ c κs. search needs) (λ c. search needs) (λ c κs. search needs) (λ c. search needs) (λ c κs. search needs)
+    returns
+    returns-2
+    returns-3)

@@ -6,12 +6,16 @@ returns : tie.Need-returns
 returns c = rw (c .before .enum-told .given .1) (c .evt2-of .ensures)
 
 returns-2 : tie.Need-returns-2
-returns-2 c = rw (c .before .enum-told2 .given .1) (c .evt3-of .ensures)
+returns-2 c = rw (c .before .enum-told2 .given .1) (c .evt21-of .ensures)
+
+returns-3 : tie.Need-returns-3
+returns-3 c = rw (c .before .enum-told3 .given .1) (c .evt3-of .ensures)
 
 pub codec-of-spec : {M : Type 1} → statement M
 codec-of-spec =
     tie.close
     (tie.spec
-    (λ c. search needs) (λ c κs. search needs) (λ c. search needs) (λ c κs. search needs)
+    (λ c. search needs) (λ c κs. search needs) (λ c. search needs) (λ c κs. search needs) (λ c. search needs) (λ c κs. search needs)
     returns
-    returns-2)
+    returns-2
+    returns-3)

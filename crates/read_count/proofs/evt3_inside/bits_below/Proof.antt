@@ -8,7 +8,7 @@ use Rattle.read_count.proofs.evt3_inside.bits_below.Statement.{statemen
 use Rattle.read_count.proofs.evt3_inside.bits_below.Tie as tie
 
 returns : tie.Need-returns
-returns c = sym (all-bits (c .before .args .mask) (c .before .args .bound - c .before .args .x) (c .before .pre .1) (omega arith))
+returns c = sym (all-bits 12 (c .before .args .mask) (c .before .args .bound - c .before .args .x) (c .before .pre .1) (omega arith))
 
 returns-2 : tie.Need-returns-2
 returns-2 c =

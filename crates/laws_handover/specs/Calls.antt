@@ -11,7 +11,7 @@ use lib.Dec.{ltb}
 use borrow.Author.Tests.{ltb-false, le-ltb}
 use Rattle.laws_stream.specs.{Machine.and-both, Machine.Note, Machine.All, Machine.notes, Order.Rise, Order.lastOf, Order.rise-append}
 use Rattle.evt_types.specs.{Event.Event, Num.natural}
-use Rattle.evt_types.specs.declared.{Encoding.Encoding, Encoding.the-variants.Evt2, Encoding.the-variants.Evt3}
+use Rattle.evt_types.specs.declared.{Encoding.Encoding, Encoding.the-variants.Evt2, Encoding.the-variants.Evt21, Encoding.the-variants.Evt3}
 use Rattle.read_columns.specs.Inside.{clock}
 use Rattle.write_buffer.specs.{declared.EncoderState.EncoderState, Columns.eventsIn}
 use Rattle.write_words.specs.Encode.{encodeNotes}
@@ -167,6 +167,7 @@ accepted-rise s (c ∷ cs) = rw (by-call s c .0) (rise-go (isAccepted s c) s c c
 
 pub bound-is : (e : Encoding) → timeBound e ≡ limit e
 bound-is Evt2 = refl
+bound-is Evt21 = refl
 bound-is Evt3 = refl
 
 module _ (e : Encoding) (header : Bool) (cs : List Call) where

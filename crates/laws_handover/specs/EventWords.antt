@@ -1,16 +1,18 @@
 -- The words that carry events are event words, and each of a writer's other words carries none.
-use mathlib.Core.Path.{_≡_}
+use mathlib.Core.Path.{_≡_, sym, ap, _∙_}
 use mathlib.Core.Bool.{Bool, true, false, cond}
 use mathlib.Core.List.{List, [], _∷_, _++_}
-use Prim.Native.Nat.{ℕ, zero, suc, _+_, _%_}
+use Prim.Native.Nat.{ℕ, zero, suc, _+_, _%_, _^_}
 use native.Mathlib.Omega.{arith}
 use borrow.Author.Tests.{le-leb}
 use Rattle.laws_stream.specs.{Machine.All, Machine.all-append, Machine.emits, Mask.mask}
-use Rattle.evt_types.specs.{Event.Event, Layout.event-type2, Layout.word-type3, Layout.column-type3}
-use Rattle.evt_types.specs.declared.{Encoding.Encoding, Encoding.the-variants.Evt2, Encoding.the-variants.Evt3}
-use Rattle.write_buffer.specs.{declared.EncoderState.EncoderState, Sent.carries, Sent.due}
+use Rattle.evt_types.specs.{Event.Event, Layout.upper-type, Layout.built-upper, Layout.event-type2, Layout.word-type3}
+use Rattle.evt_types.specs.Layout.{type2, type21, column-type3}
+use Rattle.evt_types.specs.declared.{Encoding.Encoding, Encoding.the-variants.Evt2, Encoding.the-variants.Evt21, Encoding.the-variants.Evt3}
+use Rattle.write_buffer.specs.{declared.EncoderState.EncoderState, Columns.event, Sent.carries, Sent.due}
 use Rattle.evt2_encoder.specs.Evt2.{wordOf2, highWord2, highSent2, encode2, encoded2, writer2}
-use Rattle.evt3_run_rules.specs.Runs.{Run, runs, firstX}
+use Rattle.evt3_run_rules.specs.Runs.{Run, runs, firstX, firstOf, given}
+use Rattle.evt21_encoder.specs.Evt21.{runs21, blockOf, maskOf, highWord21, wordOf21, encode21, encoded21, writer21}
 use Rattle.evt3_lead_words.specs.Evt3.{nearby, beyond, maskCount, vectored, singles, masks, vectors, body3, leads3, highWord3, lowWord3, rowWord3, highSent3}
 use Rattle.evt3_lead_words.specs.Evt3.{lowSent3, rowSent3, encode3, encoded3, writer3}
 use Rattle.write_words.specs.Encode.{encodeNotes, encodeState}
@@ -36,6 +38,25 @@ typed2 v (a ∷ es) =
     (all-append (Typed Evt2) (due (highSent2 v a) (highWord2 (a .t))) (carries (wordOf2 a) a ∷ [])
     (due-typed Evt2 (highSent2 v a) (highWord2 (a .t))) ((λ h. event-typed a), tt))
     (typed2 (encoded2 v a) es)
+
+-- ---- EVT 2.1: the type is that of the upper half, a word of EVT2
+
+run-typed : (r : Run) → isEventWord Evt21 (wordOf21 r) ≡ true
+run-typed r =
+    let first : Event = event (blockOf (firstX (r .xs))) (r .y) (r .t) (r .p) in
+    let is : type21 (wordOf21 r) ≡ type2 (wordOf2 first) =
+    sym (upper-type (wordOf21 r)) ∙ ap type2 (built-upper (wordOf2 first) (maskOf (r .xs) % 2 ^ 32) (omega arith)) in
+    rw is (event-typed first)
+
+typed21 : (v : EncoderState) (rs : List Run) → All (Typed Evt21) (emits writer21 v rs)
+unfolding encode21
+typed21 v [] = tt
+typed21 v (r ∷ rs) =
+    let b = highSent2 v (firstOf r) in
+    all-append (Typed Evt21) (encode21 v r) (emits writer21 (encoded21 v r) rs)
+    (all-append (Typed Evt21) (due b (highWord21 (r .t))) (record { word = wordOf21 r; events = given r } ∷ [])
+    (due-typed Evt21 b (highWord21 (r .t))) ((λ h. run-typed r), tt))
+    (typed21 (encoded21 v r) rs)
 
 -- ---- EVT3
 
@@ -74,10 +95,11 @@ typed3 v (r ∷ rs) =
     (body-typed (r .t) (r .y) (r .p) (r .xs)))
     (typed3 (encoded3 v r) rs)
 
--- ---- either
+-- ---- each
 
 encode-typed : (e : Encoding) (v : EncoderState) (es : List Event) → All (Typed e) (encodeNotes e v es)
 encode-typed Evt2 v es = typed2 v es
+encode-typed Evt21 v es = typed21 v (runs21 es)
 encode-typed Evt3 v es = typed3 v (runs es)
 
 pub append-typed : (e : Encoding) (v : EncoderState) (gs : List (List Event)) → All (Typed e) (appendNotes e v gs)

@@ -6,7 +6,8 @@ use mathlib.Core.List.{List, [], _∷_, _++_, append-assoc}
 use Prim.Native.Nat.{ℕ}
 use native.Mathlib.Omega.{arith}
 use lib.ListN.{length, length-append}
-use Rattle.evt_types.specs.{Event.Event, declared.Encoding.Encoding, declared.Encoding.the-variants.Evt2, declared.Encoding.the-variants.Evt3}
+use Rattle.evt_types.specs.Event.{Event}
+use Rattle.evt_types.specs.declared.{Encoding.Encoding, Encoding.the-variants.Evt2, Encoding.the-variants.Evt21, Encoding.the-variants.Evt3}
 use Rattle.laws_stream.specs.Machine.{and-both}
 use Rattle.write_header.specs.Header.{headerText}
 use Rattle.write_buffer.specs.{declared.EncoderState.EncoderState, Columns.events-length}
@@ -38,6 +39,7 @@ front-bare s (c ∷ cs) h = rw (by-call s c .0) (bare-go (isAccepted s c) s c cs
 none-bytes : (e : Encoding) (v : EncoderState) → encodeBytes e v [] ≡ []
 unfolding encodeBytes
 none-bytes Evt2 v = refl
+none-bytes Evt21 v = refl
 none-bytes Evt3 v = refl
 
 -- where no header is due: it was sent, or there is no event

@@ -29,12 +29,12 @@ use lib.Dec.{leb, eqb}
 use lib.IntN.{ℤ, pos}
 use lib.ListN.{length, take, drop, replicate, length-replicate}
 use Rattle.laws_stream.specs.{Machine.Machine, Machine.Note, Machine.All, Machine.words, Machine.notes, Slice.sift, Words.stream}
-use Rattle.evt_types.specs.{Event.Event, Outcome.Outcome, Layout.type2, Layout.type3, declared.SensorSize.SensorSize}
-use Rattle.evt_types.specs.{declared.SensorSize.the-variants.Known, declared.SensorSize.the-variants.Unknown}
+use Rattle.evt_types.specs.{Event.Event, Outcome.Outcome, Layout.type2, Layout.type21, Layout.type3, declared.SensorSize.SensorSize}
+use Rattle.evt_types.specs.declared.{SensorSize.the-variants.Known, SensorSize.the-variants.Unknown, Limit.the-variants.Unlimited}
 use Rattle.evt_codec.specs.Reader.{readerOf}
-use Rattle.evt_types.specs.declared.{Encoding.Encoding, Encoding.the-variants.Evt2, Encoding.the-variants.Evt3, Limit.the-variants.Unlimited}
+use Rattle.evt_types.specs.declared.{Encoding.Encoding, Encoding.the-variants.Evt2, Encoding.the-variants.Evt21, Encoding.the-variants.Evt3}
 use Rattle.write_buffer.specs.Columns.{eventsIn}
-use Rattle.write_words.specs.Encode.{encodeNotes, encodeSize}
+use Rattle.write_words.specs.Encode.{encodeNotes, encodeSize, encodeMost}
 use Rattle.write_rules.specs.{declared.RawEventSink.RawEventSink, Rules.freshSink}
 use Rattle.write_append.specs.declared.{AppendAnswer.AppendAnswer, AppendAnswer.the-variants.Written}
 use Rattle.write_append.specs.declared.{AppendAnswer.the-variants.Refused as AppendRefused, Appended.Appended}
@@ -120,16 +120,18 @@ startOf e f = length (frontBytes e f)
 
 -- ---- the words
 
--- an event word is of type 0 or 1 in EVT2, of type 2 or 4 in EVT3
+-- an event word is of type 0 or 1 in EVT2 and in EVT 2.1, of type 2 or 4 in EVT3
 abbrev pub isEventWord : Encoding → ℕ → Bool
 isEventWord Evt2 w = leb (type2 w) 1
+isEventWord Evt21 w = leb (type21 w) 1
 isEventWord Evt3 w = eqb (type3 w) 2 || eqb (type3 w) 4
 
 -- and no other word carries events
 abbrev pub Typed : Encoding → Note ℕ Event → Type 0
 Typed e w = 0 < length (w .events) → isEventWord e (w .word) ≡ true
 
--- each word's events are those that a decoder gives at it, having read the words before: of a type 4 word (VECT_12) the events of its set bits
+-- each word's events are those that a decoder gives at it, having read the words before: of a type 4 word of EVT3 (VECT_12), and of an event word of EVT 2.1,
+-- the events of its set bits
 abbrev pub givenAlong : {S : Type 0} → Machine S ℕ Event → S → List (Note ℕ Event) → Type 0
 givenAlong M d [] = Unit
 givenAlong M d (w ∷ ws) = (M .emit d (w .word) ≡ w .events) × givenAlong M (M .step d (w .word)) ws
@@ -305,18 +307,18 @@ pub record Claim (e : Encoding) (f : Front) (bytes : List ℕ) (ws : List (Note 
   -- and the joined stream as all events, where the second list's accepted events are the others
   pub of-joined : (second : List Call) → acceptedEvents (fresh e) second ≡ others e f cut ws → Exact e f (joined e f cut bytes second) es
 
--- for both encodings, every list and every cut
+-- for each encoding, every list and every cut
 abbrev pub DemandThree : Type 0
 DemandThree = (e : Encoding) (calls : List Call) (cut : ℕ) → cut ≤ length (streamOf (fresh e) calls)
     → Claim e bare (streamOf (fresh e) calls) (streamWords (fresh e) calls) (acceptedEvents (fresh e) calls) cut
 
--- ---- a second list always exists: the others one by one, each with an output of 8 bytes
+-- ---- a second list always exists: the others one by one, each with an output of the most bytes of an event
 
-abbrev pub single : Event → Call
-single a = record { width = 2048; height = 2048; xs = a .x ∷ []; ys = a .y ∷ []; ts = pos (a .t) ∷ []; ps = a .p ∷ []; room = 8 }
+abbrev pub single : Encoding → Event → Call
+single e a = record { width = 2048; height = 2048; xs = a .x ∷ []; ys = a .y ∷ []; ts = pos (a .t) ∷ []; ps = a .p ∷ []; room = encodeMost e 1 }
 
-abbrev pub singles : List Event → List Call
-singles es = map single es
+abbrev pub singles : Encoding → List Event → List Call
+singles e es = map (single e) es
 
 module _ (e : Encoding) (f : Front) (s : RawEventSink) (calls : List Call) (cut : ℕ) where
   abbrev pub othersOf : List Event
@@ -324,9 +326,9 @@ module _ (e : Encoding) (f : Front) (s : RawEventSink) (calls : List Call) (cut 
 
   pub record Resumable : Type 0 where
     -- all are accepted, up to the count that rule 10 allows a writer: more are never left where demand 3 speaks, of streams of at most 2 ^ 30 bytes
-    pub accepted : length othersOf ≤ 2 ^ 62 → acceptedEvents (fresh e) (singles othersOf) ≡ othersOf
+    pub accepted : length othersOf ≤ 2 ^ 62 → acceptedEvents (fresh e) (singles e othersOf) ≡ othersOf
     -- so what is joined is read as all events; here no count is asked, since each append writes a byte at least, and `Exact` is of at most 2 ^ 30
-    pub exact : Exact e f (joined e f cut (streamOf s calls) (singles othersOf)) (acceptedEvents s calls)
+    pub exact : Exact e f (joined e f cut (streamOf s calls) (singles e othersOf)) (acceptedEvents s calls)
 
 abbrev pub SecondListExists : Type 0
 SecondListExists = (e : Encoding) (calls : List Call) (cut : ℕ) → Resumable e bare (fresh e) calls cut

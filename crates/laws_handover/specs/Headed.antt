@@ -45,7 +45,7 @@ frontOf s (c ∷ cs) = cond (isAccepted s c && headerDue s (c .xs)) (headed (c .
 abbrev pub Covers : (w h : ℕ) → List Event → Type 0
 Covers w h es = All (λ a. inside w h a ≡ true) es
 
--- for both encodings, every list and every cut that isn't before the header's end; `Exact` of a `headed` stream asks for sides below 2 ^ 64, and a size that
+-- for each encoding, every list and every cut that isn't before the header's end; `Exact` of a `headed` stream asks for sides below 2 ^ 64, and a size that
 -- keeps what is read
 abbrev pub DemandThreeHeaded : Type 0
 DemandThreeHeaded = (e : Encoding) (calls : List Call) (w h : ℕ) → frontOf (due e) calls ≡ headed w h

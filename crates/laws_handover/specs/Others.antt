@@ -42,21 +42,24 @@ abbrev sent : RawEventSink → Event → List ℕ
 sent s a = encodeBytes (s .version) (s .state) (a ∷ [])
 
 abbrev later : RawEventSink → Event → RawEventSink
-later s a = let c = single a in nextSink s (c .xs) (c .ys) (c .ts) (c .ps)
+later s a = let c = single (s .version) a in nextSink s (c .xs) (c .ys) (c .ts) (c .ps)
 
 module _ (s : RawEventSink) (a : Event) (written : s .«header_written» ≡ true) (in-range : sinkInRange s ≡ true)
     (fine : Fine clock (sayable (timeBound (s .version))) (lastTime (s .«last_t»)) a) where
-  one-accepted : isAccepted s (single a) ≡ true
+  abbrev c : Call
+  c = single (s .version) a
+
+  one-accepted : isAccepted s c ≡ true
   unfolding appendOutcome every
   one-accepted =
       let x = and-both (leb (a .x) 2047) _ (fine .fine) in
       let y = and-both (leb (a .y) 2047) _ (x .1) in
       let p = and-both (leb (a .p) 1) _ (y .1) in
-      let few : length (sent s a) ≤ single a .room = omega (arith, encode-few (s .version) (s .state) (a ∷ [])) in
-      rw (in-range, not-fallen (s .«last_t») (a .t) (fine .rises), x .0, y .0, p .0, p .1, written, le-leb (length (sent s a)) (single a .room) few)
+      let few : length (sent s a) ≤ c .room = encode-few (s .version) (s .state) (a ∷ []) in
+      rw (in-range, not-fallen (s .«last_t») (a .t) (fine .rises), x .0, y .0, p .0, p .1, written, le-leb (length (sent s a)) (c .room) few)
 
-  ends : (next s (single a) ≡ later s a) × (callBytes s (single a) ≡ sent s a)
-  ends = let e = by-call s (single a) in (e .0 ∙ rw one-accepted, e .1 ∙ rw (one-accepted, written))
+  ends : (next s c ≡ later s a) × (callBytes s c ≡ sent s a)
+  ends = let e = by-call s c in (e .0 ∙ rw one-accepted, e .1 ∙ rw (one-accepted, written))
 
   some-sent : 0 < length (sent s a)
   unfolding encodeBytes
@@ -65,16 +68,16 @@ module _ (s : RawEventSink) (a : Event) (written : s .«header_written» ≡ tru
 -- ---- ONE AN APPEND: a bound on the events, or on their bytes, keeps the count in range
 
 singles-all : (s : RawEventSink) (es : List Event) → s .«header_written» ≡ true → sinkInRange s ≡ true → Rises (s .version) (lastTime (s .«last_t»)) es
-    → s .«n_events» + min (length es) (length (streamOf s (singles es))) ≤ 2 ^ 62 → acceptedEvents s (singles es) ≡ es
+    → s .«n_events» + min (length es) (length (streamOf s (singles (s .version) es))) ≤ 2 ^ 62 → acceptedEvents s (singles (s .version) es) ≡ es
 unfolding lastAfter
 singles-all s [] written in-range rise few = refl
 singles-all s (a ∷ es) written in-range rise few =
-    let c = single a in
+    let c = single (s .version) a in
     let ok = one-accepted s a written in-range (rise .0) in
     let end = ends s a written in-range (rise .0) in
     let some = some-sent s a written in-range (rise .0) in
-    let all : length (streamOf s (singles (a ∷ es))) ≡ length (sent s a) + length (streamOf (later s a) (singles es)) =
-    (λ i. length (end .1 i ++ streamOf (end .0 i) (singles es))) ∙ length-append (sent s a) (streamOf (later s a) (singles es)) in
+    let all : length (streamOf s (singles (s .version) (a ∷ es))) ≡ length (sent s a) + length (streamOf (later s a) (singles (s .version) es)) =
+    (λ i. length (end .1 i ++ streamOf (end .0 i) (singles (s .version) es))) ∙ length-append (sent s a) (streamOf (later s a) (singles (s .version) es)) in
     let kept = rw (end .0) at (range-kept s (c .width) (c .height) (c .xs) (c .ys) (c .ts) (c .ps) (c .room) ok (omega arith)) in
     rw (ok, end .0, singles-all (later s a) es (rw written) kept (rise .1) (omega arith))
 
@@ -92,7 +95,7 @@ resumable e f header calls is cut behind =
     let all = singles-all (fresh e) rest refl refl rise in
     record {
       accepted = λ few. all (omega arith);
-      exact = λ few. c .of-joined (singles rest) (all (omega (arith, rw length-append at few))) few;
+      exact = λ few. c .of-joined (singles e rest) (all (omega (arith, rw length-append at few))) few;
     }
 
 pub second-list : SecondListExists

@@ -10,8 +10,8 @@ use borrow.Author.Tests.{eq-eqb, ne-eqb, eqb-true, eqb-false, leb-true, leb-fals
 use Rattle.laws_stream.specs.{Machine.All, Machine.emits, Loop.tracks-same}
 use Rattle.evt_types.specs.Layout.{triggerType}
 use Rattle.trigger_fill.specs.declared.{form.Form.Form, times.Times.Times}
-use Rattle.trigger_fill.specs.Form.{form2, form3, Known, known2, known3, kindIn, lowIn, setTo, fineWord, ticked, pulses, Paced}
-use Rattle.trigger_fill.specs.Form.{paced-fine, by-kind, tick-time, tick-fine, tick-other, no-trigger}
+use Rattle.trigger_fill.specs.Form.{form2, form21, form3, Known, known2, known21, known3, kindIn, lowIn, setTo, fineWord, ticked, pulses, Paced}
+use Rattle.trigger_fill.specs.Form.{raw-in, paced-fine, by-kind, tick-time, tick-fine, tick-other, no-trigger}
 
 -- a word's highest byte
 abbrev pub topIn : Form → ℕ → ℕ
@@ -105,23 +105,28 @@ stays late t h e = go late (eqb t 143) (rw (ne-eqb (t / 16) triggerType (omega a
 
 plain : {f : Form} → Known f → (late : Bool) (w : ℕ) → notable late f w ≡ false → kindIn f w ≡ triggerType → ⊥
 plain known2 late w calm e = no-pulse late (topIn form2 w) calm (omega arith)
+plain known21 late w calm e = no-pulse late (topIn form21 w) calm (omega arith)
 plain known3 late w calm e = no-pulse late (topIn form3 w) calm (omega arith)
 
-top-parts : {f : Form} → Known f → (w : ℕ) → topIn f w ≡ kindIn f w * 16 + lowIn f w / 2 ^ (f .shift - 4)
+top-parts : {f : Form} → Known f → (w : ℕ) → topIn f w ≡ kindIn f w * 16 + lowIn f w / 2 ^ (f .width - 4)
 top-parts known2 w = omega arith
+top-parts known21 w = omega arith
 top-parts known3 w = omega arith
 
-low-small : {f : Form} → Known f → (w : ℕ) → lowIn f w / 2 ^ (f .shift - 4) < 16
+low-small : {f : Form} → Known f → (w : ℕ) → lowIn f w / 2 ^ (f .width - 4) < 16
 low-small known2 w = omega arith
+low-small known21 w = omega arith
 low-small known3 w = omega arith
 
 -- where its time lies
 late-raw : {f : Form} → Known f → (w : ℕ) → kindIn f w ≡ 8 → topIn f w ≡ 143 → f .late ≤ lowIn f w * f .grain
 late-raw known2 w e h = omega (arith, top-parts known2 w)
+late-raw known21 w e h = omega (arith, top-parts known21 w)
 late-raw known3 w e h = omega (arith, top-parts known3 w)
 
 early-raw : {f : Form} → Known f → (w : ℕ) → kindIn f w ≡ 8 → (topIn f w ≡ 143 → ⊥) → lowIn f w * f .grain < f .late
 early-raw known2 w e h = omega (arith, top-parts known2 w)
+early-raw known21 w e h = omega (arith, top-parts known21 w)
 early-raw known3 w e h = omega (arith, top-parts known3 w)
 
 raw-side : {f : Form} → Known f → (late : Bool) (w : ℕ) → notable late f w ≡ false → kindIn f w ≡ 8 → (c : Times) → Side late f (sameLoop f c w)
@@ -133,6 +138,7 @@ raw-side {f} known late w calm e c = go late (stays late (topIn f w) calm (omega
 
 late-le : {f : Form} → Known f → (f .late ≤ f .threshold) × (f .period ≤ f .late + f .threshold)
 late-le known2 = (omega arith, omega arith)
+late-le known21 = (omega arith, omega arith)
 late-le known3 = (omega arith, omega arith)
 
 -- no loop: two times on the same side differ by less than the threshold
@@ -164,8 +170,7 @@ module _ {f : Form} (known : Known f) (late : Bool) {n : ℕ} {c : Times} (p : P
 -- ---- no sum wraps
 
 paced-same : {f : Form} → Known f → {n : ℕ} {c : Times} (w : ℕ) → Paced f n c → Paced f n (sameLoop f c w)
-paced-same known2 w p = record { loops = p .loops; base = omega arith; near = omega arith }
-paced-same known3 w p = record { loops = p .loops; base = omega arith; near = omega arith }
+paced-same known w p = let raw = raw-in known w in record { loops = p .loops; base = omega (arith, raw); near = omega (arith, raw) }
 
 pub paced-eased : {f : Form} → Known f → {n : ℕ} {c : Times} (w : ℕ) → Paced f n c → Paced f n (eased f c w)
 paced-eased {f} known {n} {c} w p = by-kind f c w (Paced f n (eased f c w))

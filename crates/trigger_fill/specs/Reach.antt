@@ -50,7 +50,7 @@ module _ {f : Form} (known : Known f) {l : List ℕ} {c : Times} {i : ℕ} (p : 
         on = omega arith;
         place = record {
           within = omega (arith, reach-within, length-drop i l, p .within);
-          paced = paced-settled known a (paced-fewer known (omega (arith, length-append a b, ap length all)) (p .paced));
+          paced = paced-settled known a (paced-fewer (omega (arith, length-append a b, ap length all)) (p .paced));
         };
         same = sym (calm-over known late (p .paced) side a b (rw front (lead-none (notable late f) ws))) ∙ ap (emits (pulses f) c) all;
       })

@@ -9,20 +9,22 @@ use lib.IntN.{ℤ}
 use lib.ListN.{length}
 use borrow.Author.Tests.{eqb-true}
 use Rattle.laws_stream.specs.{Machine.Machine, Machine.emits, Words.wordsOf, Words.length-words, Words.words-dropped, Stream.decode, Loop.tracks-same}
-use Rattle.evt_types.specs.{Clock.either, Layout.type2, Layout.type3, Layout.time3}
+use Rattle.evt_types.specs.{Clock.either, Layout.type2, Layout.type3, Layout.time3, Layout.upper, Layout.upper-type, Layout.upper-time, Layout.upper-low}
+use Rattle.evt_types.specs.Layout.{upper-id, upper-value}
 use Rattle.evt_types.specs.{Layout.grain3, Layout.triggerType, Layout.triggerId3, Layout.triggerValue3, Trigger.Trigger, Trigger.HandedTriggers}
 use Rattle.evt2_decoder.specs.{declared.Evt2Decoder.Evt2Decoder, Evt2.fresh2, Evt2.step2, Triggers.trigger2, Triggers.triggers2}
+use Rattle.evt21_decoder.specs.{declared.Evt21Decoder.Evt21Decoder, Evt21.as2, Evt21.of2, Evt21.fresh21, Triggers.triggers21}
 use Rattle.evt2_decoder.specs.Range.{below2}
 use Rattle.evt3_decoder.specs.{declared.Decoder.Decoder, Evt3.fresh3, Evt3.step3, Evt3.period3, Evt3.threshold3, Triggers.trigger3, Triggers.triggers3}
 use Rattle.evt3_decoder.specs.Range.{below3, near3}
 use Rattle.evt2_decoder.specs.Evt2 as Evt2
 use Rattle.evt3_decoder.specs.Evt3 as Evt3
-use Rattle.evt_codec.specs.declared.{codec.Codec.Codec, codec.Codec.the-variants.Evt2, codec.Codec.the-variants.Evt3}
+use Rattle.evt_codec.specs.declared.{codec.Codec.Codec, codec.Codec.the-variants.Evt2, codec.Codec.the-variants.Evt21, codec.Codec.the-variants.Evt3}
 use Rattle.evt_codec.specs.Triggers.{triggersFrom}
 use Rattle.read_fill.specs.Decode.{Bounded}
 use Rattle.trigger_fill.specs.declared.{form.Form.Form, outset.Outset.Outset, times.Times.Times}
-use Rattle.trigger_fill.specs.Form.{form2, form3, Known, known2, known3, kindIn, setTo, timeWord, fineWord, ticked, triggered, pulses, pulsesFrom}
-use Rattle.trigger_fill.specs.Form.{Paced, size-pos, paced-fewer, words-within, words-left, tick-time, no-trigger}
+use Rattle.trigger_fill.specs.Form.{form2, form21, form3, Known, known2, known21, known3, kindIn, setTo, timeWord, fineWord, ticked}
+use Rattle.trigger_fill.specs.Form.{triggered, pulses, pulsesFrom, Paced, size-pos, paced-fewer, words-within, words-left, tick-time, no-trigger}
 use Rattle.trigger_fill.specs.Pulse.{Place}
 use Rattle.trigger_fill.specs.Follow.{skipped, skipped-most, Follows, follows}
 
@@ -48,7 +50,7 @@ starts {f} known {S} {M} {part} {live} {fresh} like s l off paced =
     let h = words-within known k l (omega (arith, skipped-most (live s) (isTime f) ws, length-words (f .size) l)) in
     record {
       known = known;
-      place = record { within = h; paced = paced-fewer known (words-left known (k * f .size) l) paced };
+      place = record { within = h; paced = paced-fewer (words-left known (k * f .size) l) paced };
       same = ap (emits (pulses f) (part s)) (words-dropped (f .size) (size-pos known) k l h) ∙ sym (follows like s ws off);
     }
 
@@ -92,6 +94,35 @@ follows2 = record {
   mute = λ w. refl;
   idle = λ w h. rw h;
   begins = λ w h. (rw h, steps2 fresh2 w, no-trigger form2 (times2 fresh2) w (λ e. omega (arith, eqb-true (type2 w) 8 h)));
+}
+
+-- ---- EVT2.1: a word does what its upper half does in EVT2
+
+abbrev times21 : Evt21Decoder → Times
+times21 d = times2 (as2 d)
+
+module _ (c : Times) (w : ℕ) where
+  tick-upper : ticked form2 c (upper w) ≡ ticked form21 c w
+  unfolding ticked
+  tick-upper = rw (upper-type w, upper-time w)
+
+  trigger-upper : triggered form2 c (upper w) ≡ triggered form21 c w
+  unfolding triggered
+  trigger-upper = rw (upper-type w, upper-low w, upper-id w, upper-value w)
+
+time-upper : (w : ℕ) → isTime form2 (upper w) ≡ isTime form21 w
+time-upper w = ap (λ (k : ℕ). eqb k 8) (upper-type w)
+
+follows21 : Follows triggers21 (pulses form21) times21 (λ d. d .initialised) (isTime form21) fresh21
+follows21 = record {
+  stays = λ d w. keeps2 (as2 d) (upper w);
+  steps = λ d w on. steps2 (as2 d) (upper w) ∙ tick-upper (times21 d) w;
+  same = λ d w on. same2 (as2 d) (upper w) on ∙ trigger-upper (times21 d) w;
+  mute = λ w. follows2 .mute (upper w);
+  idle = λ w h. ap of2 (follows2 .idle (upper w) (time-upper w ∙ h));
+  begins = λ w h.
+      let b = follows2 .begins (upper w) (time-upper w ∙ h) in
+      (b .0, b .1 ∙ tick-upper (times21 fresh21) w, sym (trigger-upper (times21 fresh21) w) ∙ b .2);
 }
 
 -- ---- EVT3
@@ -144,14 +175,16 @@ follows3 = record {
       (rw h, first ∙ sym (tick-time form3 (times3 fresh3) w is ∙ set), no-trigger form3 (times3 fresh3) w (λ e. omega arith));
 }
 
--- ---- either
+-- ---- any
 
 abbrev pub outsetOf : Codec → Outset
 outsetOf (Evt2 d) = record { form = form2; started = d .initialised; times = times2 d }
+outsetOf (Evt21 d) = record { form = form21; started = d .initialised; times = times21 d }
 outsetOf (Evt3 d) = record { form = form3; started = d .initialised; times = times3 d }
 
 pub known-of : (c : Codec) → Known (outsetOf c .form)
 known-of (Evt2 d) = known2
+known-of (Evt21 d) = known21
 known-of (Evt3 d) = known3
 
 pub start : (c : Codec) (l : List ℕ) → Bounded (length l) c → {o : Outset} → o ≡ outsetOf c → {i : ℕ} → i ≡ startOf (o .form) (o .started) l
@@ -161,6 +194,9 @@ start c l b is-o is-i = rw (is-i, is-o) (go c b)
     go : (c : Codec) → Bounded (length l) c → let o = outsetOf c in Started (o .form) (o .times) (startOf (o .form) (o .started) l) l (triggersFrom c l)
     go (Evt2 d) b =
         starts known2 follows2 d l (b .regular .unstarted) (record { loops = omega (arith, b .loops); base = below2 d (b .regular); near = omega arith })
+    go (Evt21 d) b =
+        starts known21 follows21 d l (λ off. ap of2 (b .regular .unstarted off))
+        (record { loops = omega (arith, b .loops); base = below2 (as2 d) (b .regular); near = omega arith })
     go (Evt3 d) b =
         starts known3 follows3 d l (b .regular .unstarted)
         (record { loops = omega (arith, b .loops); base = below3 d (b .regular); near = near3 d (b .regular) })

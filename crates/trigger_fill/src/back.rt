@@ -50,7 +50,7 @@ pub fn across(f: Form, front: &[u8], c: Times) -> Times
         }
         if kind == f.fine {
             let b = base(f, &front[..k], c);
-            let low = bits(w, 0, f.shift);
+            let low = bits(w, f.from, f.width);
             return Times {
                 base: b,
                 time: b + low,

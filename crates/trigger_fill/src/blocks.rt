@@ -5,25 +5,32 @@ ghost use mathlib.Core.Bool.{cond};
 ghost use Prim.Native.Nat.{_+_, _<_, _^_};
 ghost use lib.ListN.{length};
 ghost use Rattle.laws_stream.specs.Words.{wordsOf};
-ghost use Rattle.evt_types.specs.Layout.{wordSize2, wordSize3};
-ghost use Rattle.trigger_fill.specs.Form.{form2, form3, Known};
+ghost use Rattle.evt_types.specs.Layout.{wordSize2, wordSize21, wordSize3};
+ghost use Rattle.trigger_fill.specs.Form.{form2, form21, form3, Known};
 ghost use Rattle.trigger_fill.specs.Follow.{Leading};
 ghost use Rattle.trigger_fill.specs.Calm.{notableTop, notable};
 ghost use Rattle.trigger_fill.specs.Find.{tally};
 use crate::form::Form;
 use crate::times;
 use evt_types::fields::bits;
+use evt_types::fields::word32;
+use evt_types::fields::word64;
 use evt_types::trigger;
 use evt_types::words;
 use evt2_decoder::Evt2Decoder;
 use evt3_decoder::Decoder;
+use evt21_decoder::Evt21Decoder;
 
 // 64 words.
 const BLOCK2: usize = 256;
 
+const BLOCK21: usize = 512;
+
 const BLOCK3: usize = 128;
 
 const LAST_BYTE2: usize = Evt2Decoder::WORD_SIZE - 1;
+
+const LAST_BYTE21: usize = Evt21Decoder::WORD_SIZE - 1;
 
 const LAST_BYTE3: usize = Decoder::WORD_SIZE - 1;
 
@@ -67,6 +74,22 @@ fn block2(late: bool, b: &[u8]) -> u32
     count
 }
 
+fn block21(late: bool, b: &[u8]) -> u32
+    requires { ⌜ length (now b) ≡ 512 ⌝ }
+    ensures { λ r. ⌜ r ≡ tally (notable late form21) (wordsOf wordSize21 (now (b .entry))) ⌝ }
+{
+    let mut count: u32 = 0;
+    let mut i: usize = 0;
+    while i + LAST_BYTE21 < BLOCK21 {
+        let low = word32(b[i], b[i + 1], b[i + 2], b[i + 3]);
+        let high = word32(b[i + 4], b[i + 5], b[i + 6], b[i + 7]);
+        let top = bits(word64(low, high), 56, 8);
+        count = add(count, is_notable(late, top));
+        i += Evt21Decoder::WORD_SIZE;
+    }
+    count
+}
+
 fn block3(late: bool, b: &[u8]) -> u32
     requires { ⌜ length (now b) ≡ 128 ⌝ }
     ensures { λ r. ⌜ r ≡ tally (notable late form3) (wordsOf wordSize3 (now (b .entry))) ⌝ }
@@ -97,6 +120,21 @@ fn blocks2(late: bool, s: &[u8]) -> usize
     i
 }
 
+fn blocks21(late: bool, s: &[u8]) -> usize
+    ensures { λ r. ⌜ Leading (notable late form21) wordSize21 (now (s .entry)) r ⌝ }
+{
+    let mut i: usize = 0;
+    while BLOCK21 <= s.len() - i {
+        let to = i + BLOCK21;
+        let count = block21(late, &s[i..to]);
+        if count != 0 {
+            return i;
+        }
+        i = to;
+    }
+    i
+}
+
 fn blocks3(late: bool, s: &[u8]) -> usize
     ensures { λ r. ⌜ Leading (notable late form3) wordSize3 (now (s .entry)) r ⌝ }
 {
@@ -119,8 +157,10 @@ pub fn over(f: Form, late: bool, s: &[u8]) -> usize
     ensures { λ r. ⌜ Leading (notable late f) (f .size) (now (s .entry)) r ⌝ }
 {
     if f.size == Evt2Decoder::WORD_SIZE {
-        blocks2(late, s)
-    } else {
-        blocks3(late, s)
+        return blocks2(late, s);
     }
+    if f.size == Decoder::WORD_SIZE {
+        return blocks3(late, s);
+    }
+    blocks21(late, s)
 }

@@ -1,5 +1,5 @@
 // The triggers of all whole words of a part of a recording, written to three columns. Only a decoder's
-// times matter to them (specs/Form.antt), so one loop serves both encodings, over their numbers.
+// times matter to them (specs/Form.antt), so one loop serves all encodings, over their numbers.
 //
 // The loop stops at notable words alone: triggers, and time words with which the time becomes late in
 // its period or no longer is. Between them no loop is counted (specs/Calm.antt), so blocks of other

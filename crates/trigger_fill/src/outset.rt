@@ -25,6 +25,15 @@ pub fn outset_of(codec: Codec) -> Outset
                 loops: d.high_loops,
             },
         },
+        Codec::Evt21(d) => Outset {
+            form: form::evt21(),
+            started: d.initialised,
+            times: Times {
+                base: d.time_high,
+                time: d.time_high,
+                loops: d.high_loops,
+            },
+        },
         Codec::Evt3(d) => Outset {
             form: form::evt3(),
             started: d.initialised,

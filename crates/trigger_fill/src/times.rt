@@ -10,10 +10,10 @@ use evt_types::clock;
 use evt_types::fields::bits;
 use evt_types::trigger;
 
-// A time word's type, in both encodings.
+// A time word's type, in every encoding.
 pub const TYPE: u64 = 8;
 
-// In EVT2 the time is the base.
+// In EVT2 and EVT2.1 the time is the base.
 pub struct Times {
     pub base: u64,
     pub time: u64,
@@ -26,7 +26,7 @@ pub fn tick(f: Form, c: Times, word: u64) -> Times
     ensures { λ r. ⌜ r ≡ ticked f c word ⌝ }
 {
     let kind = bits(word, f.shift, 4);
-    let low = bits(word, 0, f.shift);
+    let low = bits(word, f.from, f.width);
     if kind == TYPE {
         let raw = low * f.grain;
         let n = clock::after(f.period, f.threshold, c.base, c.loops, raw);
@@ -51,7 +51,7 @@ pub fn coarse(f: Form, c: Times, word: u64) -> u64
     requires { ⌜ Known f ⌝ ∗ ⌜ Paced f 0 c ⌝ }
     ensures { λ r. ⌜ r ≡ lowIn f word * f .grain + c .loops * f .period ⌝ }
 {
-    let raw = bits(word, 0, f.shift) * f.grain;
+    let raw = bits(word, f.from, f.width) * f.grain;
     raw + c.loops * f.period
 }
 
@@ -72,9 +72,9 @@ pub fn put(
 {
     let kind = bits(word, f.shift, 4);
     if kind == trigger::TYPE {
-        let t = c.time + bits(word, 22, f.low);
-        let id = bits(word, 8, f.channel);
-        let value = bits(word, 0, 1);
+        let t = c.time + bits(word, f.from + 22, f.low);
+        let id = bits(word, f.from + 8, f.channel);
+        let value = bits(word, f.from, 1);
         let stamp = t as i64;
         ts[at] = stamp;
         ids[at] = id as u8;

@@ -6,7 +6,7 @@ use lib.ListN.{take}
 use lib.Seq.{length-take-le}
 use denote.Ref.{now}
 use Rattle.laws_stream.specs.Words.{wordsOf}
-use Rattle.trigger_fill.specs.Form.{size-pos, shift-few, fine-fits}
+use Rattle.trigger_fill.specs.Form.{size-pos, shift-few, low-few, fine-fits}
 use Rattle.trigger_fill.specs.Calm.{ease-other, paced-settled}
 use Rattle.trigger_fill.specs.Back.{Still, whole-times, still-start, still-next, still-end, whole-front, time-found, fine-found}
 use Rattle.trigger_fill.proofs.back.across.Statement.{statement}
@@ -102,7 +102,7 @@ across-spec =
     returns
     (λ c. sym (length-take-le _ _ (omega (arith, c .before .before .before .before .before .before .before .loop .inv .within))))
     base-requires
-    (λ c κs. (omega arith, shift-few (c .before .before .before .before .before .before .before .before .before .before .pre .0)))
+    (λ c κs. low-few (c .before .before .before .before .before .before .before .before .before .before .pre .0))
     add-time
     returns-2
     loop-less

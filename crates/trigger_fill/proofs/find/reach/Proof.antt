@@ -34,7 +34,7 @@ across-requires : tie.Need-across-requires
 across-requires c κs =
     let s = c .before .before .before .before .before .before .before .before in
     let whole = reach-whole (s .pre .0) (s .pre .1) (c .before .find .result) (lateOf (s .args .f) (s .args .c)) (found (c .before)) in
-    (s .pre .0, (paced-none (s .pre .0) (s .pre .1 .paced), rw (rest-of (now (s .args .bytes)) (s .args .i)) whole))
+    (s .pre .0, (paced-none (s .pre .1 .paced), rw (rest-of (now (s .args .bytes)) (s .args .i)) whole))
 
 add-at : tie.Need-add-t12
 add-at c =

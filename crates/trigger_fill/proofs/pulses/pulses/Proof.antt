@@ -38,7 +38,7 @@ put-requires c κs =
     let known = k .before .before .before .before .before .pre .0 in (
       known,
       (
-        paced-none known (k .loop .inv .place .paced),
+        paced-none (k .loop .inv .place .paced),
         pulse-room known (room (k .before)) (k .loop .inv) (b .before .before .if1 .taken) (b .word .result) (b .word .ensures),
       ),
     )
@@ -47,7 +47,7 @@ tick-requires : tie.Need-tick-requires Inv-loop μ-loop
 tick-requires c κs =
     let k = c .before .before .before .before .before .before .before .before .before .before .before .before .before in
     let known = k .before .before .before .before .before .pre .0 in
-    (known, paced-none known (k .loop .inv .place .paced))
+    (known, paced-none (k .loop .inv .place .paced))
 
 add-reach : tie.Need-add-reach Inv-loop μ-loop
 add-reach c = add-test (c .before .before .before .before .before .before .before .before .before .before .before .before .before)

@@ -1,5 +1,5 @@
 use native.Mathlib.Omega.{arith}
-use Rattle.trigger_fill.specs.Form.{shift-few, raw-fits, after-fits}
+use Rattle.trigger_fill.specs.Form.{low-few, raw-fits, after-fits}
 use borrow.Author.Needs.{needs}
 use Rattle.trigger_fill.proofs.times.coarse.Statement.{statement}
 use Rattle.trigger_fill.proofs.times.coarse.Tie as tie
@@ -16,7 +16,7 @@ pub coarse-spec : {M : Type 1} → statement M
 coarse-spec =
     tie.close
     (tie.spec
-    (λ c κs. (omega arith, shift-few (c .pre .0)))
+    (λ c κs. low-few (c .pre .0))
     mul-raw
     (λ c. search needs)
     add-result

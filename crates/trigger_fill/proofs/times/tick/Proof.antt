@@ -1,6 +1,6 @@
 use mathlib.Core.Path.{sym, _∙_}
 use native.Mathlib.Omega.{arith}
-use Rattle.trigger_fill.specs.Form.{shift-few, raw-fits, after-fits, fine-fits, tick-time, tick-fine, tick-other}
+use Rattle.trigger_fill.specs.Form.{shift-few, low-few, raw-fits, after-fits, fine-fits, tick-time, tick-fine, tick-other}
 use Rattle.trigger_fill.proofs.times.tick.Statement.{statement}
 use Rattle.trigger_fill.proofs.times.tick.Tie as tie
 
@@ -42,7 +42,7 @@ pub tick-spec : {M : Type 1} → statement M
 tick-spec =
     tie.close
     (tie.spec
-    (λ c κs. (shift-few (c .pre .0), omega arith)) (λ c κs. (omega arith, shift-few (c .before .pre .0)))
+    (λ c κs. (shift-few (c .pre .0), omega arith)) (λ c κs. low-few (c .before .pre .0))
     mul-raw
     after-requires
     returns

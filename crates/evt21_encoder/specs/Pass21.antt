@@ -62,9 +62,9 @@ glue-run : (b : Bool) (v : EncoderState) (e : Event) (r : Run) (rs : List Run) �
 glue-run true v e r rs q = let g = goesBy-true next21 (e .t) (e .y) (e .p) (e .x) (firstOf r) q in rw (g .is-t)
 glue-run false v e r rs q = refl
 
-pub run-events : (v : EncoderState) (es : List Event) → run writer21 v (runs21 es) ≡ run writer2 v es
-run-events v [] = refl
-run-events v (e ∷ es) = go (runs21 es) (run-events (encoded2 v e) es)
+pub run-events21 : (v : EncoderState) (es : List Event) → run writer21 v (runs21 es) ≡ run writer2 v es
+run-events21 v [] = refl
+run-events21 v (e ∷ es) = go (runs21 es) (run-events21 (encoded2 v e) es)
   where
     go : (rs : List Run) → run writer21 (encoded2 v e) rs ≡ run writer2 (encoded2 v e) es → run writer21 v (glueBy next21 e rs) ≡ run writer2 (encoded2 v e) es
     go [] ih = ih
@@ -336,4 +336,4 @@ module _ {xs ys : List ℕ} {ts : List ℤ} {ps : List ℕ} (sized : Sized xs ys
           let n : i ≡ length xs = omega (arith, u .within) in
           let s = storing-end (under-last21 h) in
           let state : stateAt2 v₀ i high ≡ run writer2 v₀ (eventsIn xs ys ts ps) = rw (events-end xs ys ts ps sized i h) at (u .state) in
-          (rw (e ∙ ap (λ (k : ℕ). stateAt2 v₀ k high) (sym n) ∙ state ∙ sym (run-events v₀ (eventsIn xs ys ts ps)), s .0), s .1)
+          (rw (e ∙ ap (λ (k : ℕ). stateAt2 v₀ k high) (sym n) ∙ state ∙ sym (run-events21 v₀ (eventsIn xs ys ts ps)), s .0), s .1)

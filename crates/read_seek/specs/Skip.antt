@@ -5,24 +5,26 @@ use mathlib.Core.List.{List}
 use Prim.Native.Nat.{ℕ, _+_, _/_, _≤_, _<_, _^_}
 use native.Mathlib.Omega.{arith}
 use lib.Dec.{ltb}
-use lib.ListN.{length, take, drop}
+use lib.ListN.{length, take}
 use borrow.Author.Tests.{ne-eqb, le-ltb}
-use Rattle.laws_stream.specs.{Machine.run, Words.wordsOf, Words.length-words, Words.words-taken}
-use Rattle.evt_types.specs.{Ahead.ahead, Layout.type2, Layout.type3, Layout.wordSize2, Layout.wordSize3, Layout.grain2, Layout.grain3}
-use Rattle.evt2_decoder.specs.{declared.Evt2Decoder.Evt2Decoder, Evt2.step2, Range.Bounded2, Range.Regular2, Range.bounded-step2, Range.bounded-sane2}
-use Rattle.evt2_decoder.specs.{Range.regular-step2}
-use Rattle.evt3_decoder.specs.{declared.Decoder.Decoder, Evt3.step3, Evt3.reader3, Range.Bounded3, Range.bounded-step3, Range.regular-step3}
-use Rattle.evt_codec.specs.declared.codec.Codec.the-variants.{Evt2, Evt3}
+use Rattle.laws_stream.specs.{Machine.run, Words.wordsOf, Words.words-taken}
+use Rattle.evt_types.specs.{Ahead.ahead, Layout.type2, Layout.type3, Layout.wordSize3, Layout.grain2, Layout.grain3, Layout.upper}
+use Rattle.evt2_decoder.specs.{declared.Evt2Decoder.Evt2Decoder, Evt2.step2, Range.Bounded2, Range.Regular2, Range.bounded-sane2, Range.regular-step2}
 use Rattle.evt2_decoder.specs.Evt2 as Evt2
-use Rattle.read_seek.specs.{declared.times.Times.Times, Times.carriesAs, Seek.Midway, Iteration.seeking-start, Iteration.seeking-same}
+use Rattle.evt21_decoder.specs.Evt21.{of2}
+use Rattle.evt3_decoder.specs.{declared.Decoder.Decoder, Evt3.step3, Evt3.reader3, Range.Bounded3, Range.regular-step3}
+use Rattle.evt_codec.specs.{declared.codec.Codec.the-variants.Evt3, Reader.Reader, Reader.evt2, Reader.evt21, Sound.Sound, Sound.sound2, Sound.sound21}
+use Rattle.evt_codec.specs.Sound.{sound3}
+use Rattle.read_seek.specs.{declared.times.Times.Times, Times.carriesAs, Seek.Midway, Iteration.Seeking, Iteration.seeking-start}
+use Rattle.read_seek.specs.{Iteration.seeking-next, Iteration.midway}
 use Rattle.read_seek.specs.{Times.timesOf, Times.ticked, Times.tickedAs, Times.step-on, Times.step-times, Back.putBehind, Back.put-is}
-use Rattle.read_seek.specs.Loops.{Seeking2, start2, iteration2, Seeking3, Passing, passing-start, passing-next, passing-slow}
+use Rattle.read_seek.specs.Loops.{Passing, passing-start, passing-next, passing-slow}
 
 -- no time is before 0
 none-early : (t : ℕ) (b : Bool) → (false || (ltb t 0 && b)) ≡ false
 none-early t b = ap (λ (c : Bool). c && b) (le-ltb t 0 (omega arith))
 
--- ---- EVT2
+-- ---- EVT2, and EVT 2.1
 
 near2 : (d : Evt2Decoder) → Regular2 d → d .time < d .«time_high» + grain2
 near2 d r = go (d .initialised) refl
@@ -52,56 +54,104 @@ kept2 d w h = rw (ne-eqb (type2 w) 8 h) (go (d .initialised) (ltb (type2 w) 2))
     go true false = record { high = refl; loops = refl }
     go false b = record { high = refl; loops = refl }
 
-module _ (t : ℕ) (d : Evt2Decoder) (bytes : List ℕ) where
+-- an encoding whose decoder has the numbers of EVT2's, and whose words do to them what the word of EVT2 in each does
+pub record Over2 : Type 1 where
+  pub reader : Reader
+  pub sound : Sound reader
+  pub of : Evt2Decoder → reader .State
+  pub half : ℕ → ℕ
+  pub step-is : (d : Evt2Decoder) (w : ℕ) → reader .machine .step (of d) w ≡ of (step2 d (half w))
+  pub time-is : (d : Evt2Decoder) → reader .time (of d) ≡ d .time
+  pub bounded : (n : ℕ) (d : Evt2Decoder) → reader .Bounded n (of d) → Bounded2 n d
+
+abbrev pub over2 : Over2
+over2 = record {
+  reader = evt2;
+  sound = sound2;
+  of = λ d. d;
+  half = λ w. w;
+  step-is = λ d w. refl;
+  time-is = λ d. refl;
+  bounded = λ n d b. b;
+}
+
+abbrev pub over21 : Over2
+over21 = record {
+  reader = evt21;
+  sound = sound21;
+  of = of2;
+  half = upper;
+  step-is = λ d w. refl;
+  time-is = λ d. refl;
+  bounded = λ n d b. b;
+}
+
+module _ (O : Over2) (t : ℕ) (d : Evt2Decoder) (bytes : List ℕ) where
+  abbrev R : Reader
+  R = O .reader
+
+  abbrev At : Evt2Decoder → ℕ → Type 0
+  At s i = Seeking R 0 t (O .of d) bytes (O .of s) false i
+
   -- s is the decoder at the mark; u is the one at index i
   pub record Skipping2 (s : Evt2Decoder) (at i : ℕ) : Type 0 where
-    pub marked : Seeking2 0 t d bytes s false at
+    pub marked : At s at
     pub u : Evt2Decoder
-    pub here : Seeking2 0 t d bytes u false i
+    pub here : At u i
     pub like : Like2 s u
     pub room : s .«time_high» + grain2 ≤ t
 
-  pub midway2 : {s : Evt2Decoder} {at : ℕ} → Seeking2 0 t d bytes s false at → Midway t (Evt2 d) bytes at (Evt2 s)
-  midway2 {s} {at} u =
-      record { within = u .within; able = rw (length-words wordSize2 (drop at bytes)) at (u .inv); same = seeking-same (omega arith) bounded-step2 u refl Evt2 }
+  pub skip-start2 : R .Bounded (length bytes / R .size) (O .of d) → d .«time_high» + grain2 ≤ t → Skipping2 d 0 0
+  skip-start2 b room =
+      let p = seeking-start (O .sound) b in
+      record { marked = p; u = d; here = p; like = record { high = refl; loops = refl }; room = room }
 
-  pub skip-start2 : Bounded2 (length bytes / wordSize2) d → d .«time_high» + grain2 ≤ t → Skipping2 d 0 0
-  skip-start2 b room = record { marked = start2 0 t d bytes b; u = d; here = start2 0 t d bytes b; like = record { high = refl; loops = refl }; room = room }
+  -- the word W at index i, and the word w of EVT2 in it
+  module _ {s : Evt2Decoder} {at i : ℕ} (p : Skipping2 s at i) (h : i + R .size ≤ length bytes) (W : ℕ) (is-word : W ≡ ahead (R .size) bytes i)
+      (k : ℕ) (is-type : k ≡ type2 (O .half W)) where
+    abbrev w : ℕ
+    w = O .half W
 
-  module _ {s : Evt2Decoder} {at i : ℕ} (p : Skipping2 s at i) (h : i + wordSize2 ≤ length bytes) (w : ℕ)
-      (is-word : w ≡ ahead wordSize2 bytes i) (k : ℕ) (is-type : k ≡ type2 w) where
-    on2 : step2 (p .u) w .time < t → Seeking2 0 t d bytes (step2 (p .u) w) false (i + wordSize2)
-    on2 l = iteration2 0 t d bytes (p .here) h w is-word (step2 (p .u) w) refl l k is-type false (sym (none-early (step2 (p .u) w .time) (ltb k 2)))
+    abbrev v : Evt2Decoder
+    v = step2 (p .u) w
 
-    pub skip-other2 : (k ≡ 8 → ⊥) → Skipping2 s at (i + wordSize2)
+    on2 : v .time < t → At v (i + R .size)
+    on2 l =
+        seeking-next (O .sound) (p .here) h W is-word (O .of v) (sym (O .step-is (p .u) W)) (rw (O .time-is v) l) (R .carries W) refl
+        false (sym (none-early (R .time (O .of v)) (R .carries W)))
+
+    pub skip-other2 : (k ≡ 8 → ⊥) → Skipping2 s at (i + R .size)
     skip-other2 other =
-        let v = step2 (p .u) w in
         let e = kept2 (p .u) w (λ e. other (is-type ∙ e)) in
-        let n = near2 v (regular-step2 (p .u) w (p .here .inv .regular)) in
+        let n = near2 v (regular-step2 (p .u) w (O .bounded _ (p .u) (p .here .inv) .regular)) in
         record {
           marked = p .marked;
           u = v;
-          here = on2 (omega (arith, p .like .high, e .high, p .room));
+          here = on2 (omega (arith, n, p .like .high, e .high, p .room));
           like = record { high = p .like .high ∙ e .high; loops = p .like .loops ∙ e .loops };
           room = p .room;
         }
 
     module _ (is-time : k ≡ 8) (s′ : Evt2Decoder) (is-next : s′ ≡ step2 s w) where
-      same-next : s′ ≡ step2 (p .u) w
+      same-next : s′ ≡ v
       same-next = is-next ∙ set2 s (p .u) w (p .like) (sym is-type ∙ is-time)
 
-      pub skip-time2 : s′ .time < t → Seeking2 0 t d bytes s′ false (i + wordSize2)
+      pub skip-time2 : s′ .time < t → At s′ (i + R .size)
       skip-time2 l = rw same-next (on2 (rw same-next at l))
 
       pub skip-small2 : s′ .time < t → s′ .time < 2 ^ 63 + 64
-      skip-small2 l = let u = skip-time2 l in omega (arith, near2 s′ (u .inv .regular), bounded-sane2 (u .inv) .high)
+      skip-small2 l =
+          let b = O .bounded _ s′ (skip-time2 l .inv) in
+          omega (arith, near2 s′ (b .regular), bounded-sane2 b .high)
 
       -- its time is its coarse time
       coarse2 : s′ .«time_high» ≡ s′ .time
       coarse2 = rw (is-next, Evt2.time-word s w (type2 w) refl (sym is-type ∙ is-time) .0)
 
-      pub skip-on2 : s′ .time < t → s′ .time + grain2 ≤ t → Skipping2 s′ (i + wordSize2) (i + wordSize2)
-      skip-on2 l room = record { marked = skip-time2 l; u = s′; here = skip-time2 l; like = record { high = refl; loops = refl }; room = rw coarse2 room }
+      pub skip-on2 : s′ .time < t → s′ .time + grain2 ≤ t → Skipping2 s′ (i + R .size) (i + R .size)
+      skip-on2 l room =
+          let u = skip-time2 l in
+          record { marked = u; u = s′; here = u; like = record { high = refl; loops = refl }; room = rw coarse2 room }
 
 -- ---- EVT3: by the times alone
 
@@ -182,11 +232,8 @@ module _ (t : ℕ) (d : Decoder) (bytes : List ℕ) where
       (sym (words-taken wordSize3 (omega arith) (q .words) bytes (omega (arith, q .is-at, q .within)))
       ∙ ap (λ (k : ℕ). wordsOf wordSize3 (take k bytes)) (sym (q .is-at))) in
       let is : e ≡ u .state = is-put ∙ put-is d (take at bytes) (u .state) on column came c (u .is) in
-      rw is (record
-      { within = q .within; able = rw (length-words wordSize3 (drop at bytes)) at (q .inv); same = seeking-same (omega arith) bounded-step3 q refl Evt3 })
+      rw is (midway t (Evt3 d) bytes q)
 
   -- none
   pub midway-none3 : Bounded3 (length bytes / wordSize3) d → Midway t (Evt3 d) bytes 0 (Evt3 d)
-  midway-none3 b =
-      let q : Seeking3 0 t d bytes d false 0 = seeking-start (omega arith) bounded-step3 (rw (length-words wordSize3 bytes) b) in
-      record { within = omega arith; able = b; same = seeking-same (omega arith) bounded-step3 q refl Evt3 }
+  midway-none3 b = midway t (Evt3 d) bytes (seeking-start sound3 b)

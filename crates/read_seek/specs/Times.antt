@@ -1,6 +1,6 @@
 -- What of an EVT3 decoder tells the time: what a word does to it, in the code's form, is what the step does.
 use mathlib.Core.Path.{_≡_, refl, ap}
-use mathlib.Core.Bool.{Bool, true, false, cond}
+use mathlib.Core.Bool.{Bool, true, cond}
 use Prim.Native.Nat.{ℕ, _+_, _*_, _<_, _^_}
 use lib.Dec.{eqb}
 use Rattle.laws_stream.specs.{Loop.loopsAfter, Loop.timeAfter, Seek.Reach}

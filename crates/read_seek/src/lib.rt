@@ -13,6 +13,7 @@ use evt_codec::Codec;
 
 mod back;
 mod evt2;
+mod evt21;
 mod evt3;
 mod times;
 
@@ -56,6 +57,7 @@ pub fn span(bytes: &[u8], codec: Codec, t0: u64, t1: u64) -> Sought
 {
     match codec {
         Codec::Evt2(d) => evt2::span2(bytes, d, t0, t1),
+        Codec::Evt21(d) => evt21::span21(bytes, d, t0, t1),
         Codec::Evt3(d) => evt3::span3(bytes, d, t0, t1),
     }
 }
@@ -68,6 +70,7 @@ fn skip(bytes: &[u8], codec: Codec, t: u64) -> Marked
 {
     match codec {
         Codec::Evt2(d) => evt2::skip2(bytes, d, t),
+        Codec::Evt21(d) => evt21::skip21(bytes, d, t),
         Codec::Evt3(d) => evt3::skip3(bytes, d, t),
     }
 }

@@ -1,8 +1,8 @@
 -- The ways in which an append ends.
-use mathlib.Core.Path.{_≡_, refl, sym, _∙_}
+use mathlib.Core.Path.{_≡_, refl, sym, ap, _∙_}
 use mathlib.Core.Bool.{Bool, true, false, cond, _||_, true≢false}
 use mathlib.Core.List.{List, [], _∷_, _++_}
-use Prim.Native.Nat.{ℕ, suc, _+_, _-_, _*_, _^_, _≤_, _<_}
+use Prim.Native.Nat.{ℕ, suc, _+_, _-_, _^_, _≤_, _<_}
 use native.Mathlib.Omega.{arith}
 use native.Mathlib.Nat.{zero-add}
 use lib.Dec.{ltb, leb}
@@ -11,11 +11,12 @@ use lib.ListN.{length, getD, length-append}
 use lib.Seq.{sets, sets-eq}
 use lib.IntN.{ℤ, pos}
 use Rattle.evt_types.specs.Outcome.{Outcome, refuse, give, onOutcome, given-if, given-then}
-use Rattle.evt_types.specs.declared.{Encoding.Encoding, Encoding.the-variants.Evt2, Encoding.the-variants.Evt3, Refusal.Refusal}
+use Rattle.evt_types.specs.declared.{Encoding.Encoding, Encoding.the-variants.Evt2, Encoding.the-variants.Evt21, Encoding.the-variants.Evt3, Refusal.Refusal}
 use Rattle.evt_types.specs.declared.{Refusal.the-variants.OutputTooShort}
 use Rattle.write_buffer.specs.{declared.EncoderState.EncoderState, declared.Put.Put, Columns.eventsIn, Columns.Sized, Columns.events-length}
 use Rattle.write_buffer.specs.{Storing.Roomy, Storing.roomy-rest, Storing.stored-both}
-use Rattle.write_words.specs.{Laws.encode-few, Encode.encodeState, Encode.passed, Encode.Fitting}
+use Rattle.evt2_encoder.specs.Pass2.{Fitting2}
+use Rattle.write_words.specs.{Laws.encode-few, Encode.encodeState, Encode.encodeMost, Encode.passed, Encode.Fitting}
 use Rattle.write_header.specs.Header.{headerText, header-few}
 use Rattle.write_rules.specs.declared.{Check.the-variants.Passed, Check.the-variants.Failed, LastTime.LastTime, LastTime.the-variants.At}
 use Rattle.write_rules.specs.{declared.RawEventSink.RawEventSink, Range.eventsInRange, Rules.checkOutcome, Rules.checkOf, Checks.event-fine}
@@ -128,10 +129,14 @@ pub some-is : {A : Type 0} (l : List A) → ltb 0 (length l) ≡ some l
 some-is [] = refl
 some-is (a ∷ l) = lt-ltb 0 (suc (length l)) (omega arith)
 
+fitting2 : (xs ys : List ℕ) (ts : List ℤ) (ps : List ℕ) → eventsInRange Evt2 xs ys ts ps ≡ true → Fitting2 xs ys ts ps
+fitting2 xs ys ts ps h i =
+    let f = event-fine Evt2 xs ys ts ps h i in record { fit-x = f .fine-x; fit-y = f .fine-y; fit-t = f .fine-t; fit-p = f .fine-p }
+
 -- events that rule 7 lets pass can be written
 pub fitting-of : (e : Encoding) (xs ys : List ℕ) (ts : List ℤ) (ps : List ℕ) → eventsInRange e xs ys ts ps ≡ true → Fitting e xs ys ts ps
-fitting-of Evt2 xs ys ts ps h =
-    λ i. let f = event-fine Evt2 xs ys ts ps h i in record { fit-x = f .fine-x; fit-y = f .fine-y; fit-t = f .fine-t; fit-p = f .fine-p }
+fitting-of Evt2 xs ys ts ps h = fitting2 xs ys ts ps h
+fitting-of Evt21 xs ys ts ps h = fitting2 xs ys ts ps h
 fitting-of Evt3 xs ys ts ps h = tt
 
 pub due-few : (b : Bool) (e : Encoding) (w h : ℕ) → w < 2 ^ 64 → h < 2 ^ 64 → length (cond b (headerText e w h) []) ≤ 96
@@ -162,7 +167,8 @@ module _ (s : RawEventSink) (width height : ℕ) (xs ys : List ℕ) (ts : List �
       let h = cond due (headerText (s .version) width height) [] in
       roomy-rest out o 0 h (wordBytes s xs ys ts ps) (a ∙ sym (zero-add (length h))) n (rw (← d) at r)
 
-  pub sends-few : Sized xs ys ts ps → width < 2 ^ 64 → height < 2 ^ 64 → length (sends s width height xs ys ts ps) ≤ 96 + 8 * length xs
+  pub sends-few : Sized xs ys ts ps → width < 2 ^ 64 → height < 2 ^ 64
+      → length (sends s width height xs ys ts ps) ≤ 96 + encodeMost (s .version) (length xs)
   sends-few z lw lh =
       let h = dueHeader s width height xs ys ts ps in
       let w = wordBytes s xs ys ts ps in
@@ -171,7 +177,7 @@ module _ (s : RawEventSink) (width height : ℕ) (xs ys : List ℕ) (ts : List �
         length-append h w,
         due-few (headerDue s xs) (s .version) width height lw lh,
         encode-few (s .version) (s .state) (eventsIn xs ys ts ps),
-        events-length xs ys ts ps z 0,
+        ap (encodeMost (s .version)) (events-length xs ys ts ps z 0),
       )
 
 -- what is missing, or 0

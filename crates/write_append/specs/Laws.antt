@@ -10,11 +10,12 @@ use lib.ListN.{length, drop}
 use lib.IntN.{ℤ}
 use borrow.Author.Tests.{eq-eqb, le-leb}
 use Rattle.laws_stream.specs.Machine.{run, and-both}
-use Rattle.evt_types.specs.{Event.Event, Outcome.give, Num.natural}
-use Rattle.evt_types.specs.declared.{Encoding.Encoding, Encoding.the-variants.Evt2, Encoding.the-variants.Evt3, Sent.the-variants.Value}
+use Rattle.evt_types.specs.{Event.Event, Outcome.give, Num.natural, declared.Sent.the-variants.Value}
+use Rattle.evt_types.specs.declared.{Encoding.Encoding, Encoding.the-variants.Evt2, Encoding.the-variants.Evt21, Encoding.the-variants.Evt3}
 use Rattle.write_buffer.specs.{declared.EncoderState.EncoderState, Columns.event, Columns.eventsIn}
 use Rattle.write_words.specs.Encode.{encodeState, encodeBytes}
 use Rattle.evt2_encoder.specs.Evt2.{writer2}
+use Rattle.evt21_encoder.specs.Pass21.{run-events21}
 use Rattle.evt3_run_rules.specs.Runs.{Run, goes, goes-true, firstOf, single, prepend, glue, runs, runAt, runs-at, follow}
 use Rattle.evt3_lead_words.specs.Evt3.{writer3}
 use Rattle.write_rules.specs.declared.{LastTime.LastTime, LastTime.the-variants.Never, LastTime.the-variants.At, RawEventSink.RawEventSink}
@@ -40,11 +41,13 @@ falls-none (At t) = refl
 
 state-none : (e : Encoding) (v : EncoderState) → encodeState e v [] ≡ v
 state-none Evt2 v = refl
+state-none Evt21 v = refl
 state-none Evt3 v = refl
 
 words-none : (e : Encoding) (v : EncoderState) → encodeBytes e v [] ≡ []
 unfolding encodeBytes
 words-none Evt2 v = refl
+words-none Evt21 v = refl
 words-none Evt3 v = refl
 
 module _ (s : RawEventSink) (in-range : sinkInRange s ≡ true) (width height room : ℕ) where
@@ -128,12 +131,25 @@ only-high v n (At t) h =
     let c = and-both (belongs (v .«time_high») (natural t / 64)) _ (b .1) in
     and-both (isNothing (v .«time_low»)) (isNothing (v .y)) (c .1)
 
+-- EVT 2.1 has EVT2's ranges
+same-range : (v : EncoderState) (n : ℕ) (l : LastTime) → lastInRange Evt21 v n l ≡ lastInRange Evt2 v n l
+same-range v n Never = refl
+same-range v n (At t) = refl
+
+after-high : (v : EncoderState) (n m : ℕ) (k : LastTime) (f : Event) (es : List Event) (l : LastTime) → m ≤ 2 ^ 62
+    → lastInRange Evt2 v n k ≡ true → (t : ℤ) → l ≡ At t → timeInRange Evt2 t ≡ true → natural t ≡ lastEvent f es .t
+    → lastInRange Evt2 (run writer2 v (f ∷ es)) m l ≡ true
+after-high v n m k f es l h q t is fine same =
+    let o = only-high v n k q in
+    rw (is, run-last2 v f es, ← same, fine, le-leb m (2 ^ 62) h, eq-eqb (natural t / 64) (natural t / 64) refl, o .0, o .1)
+
 after-some : (e : Encoding) (v : EncoderState) (n m : ℕ) (k : LastTime) (f : Event) (es : List Event) (l : LastTime) → m ≤ 2 ^ 62
     → lastInRange e v n k ≡ true → LastFine e (lastEvent f es) l
     → lastInRange e (encodeState e v (f ∷ es)) m l ≡ true
-after-some Evt2 v n m k f es l h q r =
-    let o = only-high v n k q in
-    rw (r .is-last, run-last2 v f es, ← r .same, r .fine, le-leb m (2 ^ 62) h, eq-eqb (natural (r .time) / 64) (natural (r .time) / 64) refl, o .0, o .1)
+after-some Evt2 v n m k f es l h q r = after-high v n m k f es l h q (r .time) (r .is-last) (r .fine) (r .same)
+after-some Evt21 v n m k f es l h q r =
+    rw (same-range (encodeState Evt21 v (f ∷ es)) m l, run-events21 v (f ∷ es))
+    (after-high v n m k f es l h (sym (same-range v n k) ∙ q) (r .time) (r .is-last) (r .fine) (r .same))
 after-some Evt3 v n m k f es l h q r =
     rw (
       r .is-last,

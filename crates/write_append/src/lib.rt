@@ -103,8 +103,8 @@ fn write(
     write_words::pass(version, state, xs, ys, ts, ps, &mut *out, at)
 }
 
-// The bytes that are needed where there are fewer, and else 0. An event needs at most 8, and a
-// header at most 96: where these have room nothing is measured.
+// The bytes that are needed where there are fewer, and else 0. A header needs at most 96: where that
+// and the most bytes of the events have room nothing is measured.
 fn shortfall(
     sink: RawEventSink,
     width: usize,
@@ -120,7 +120,8 @@ fn shortfall(
         (now (xs .entry)) (now (ys .entry)) (now (ts .entry)) (now (ps .entry)))) room) 0
         (length (sends sink width height (now (xs .entry)) (now (ys .entry)) (now (ts .entry)) (now (ps .entry)))) ⌝ }
 {
-    if 96 + 8 * xs.len() <= room {
+    let version = sink.version;
+    if 96 + write_words::most_bytes(version, xs.len()) <= room {
         return 0;
     }
     let mut none = [0u8; 0];

@@ -34,10 +34,10 @@ unfoldable pub encodeBytes : Encoding → EncoderState → List Event → List �
 encodeBytes e v es = stream (encodeSize e) (words (encodeNotes e v es))
 
 -- the most bytes of n events: two words of EVT2 or of EVT 2.1 for each, or four of EVT3
-abbrev pub mostBytes : Encoding → (n : ℕ) → ℕ
-mostBytes Evt2 n = 8 * n
-mostBytes Evt21 n = 16 * n
-mostBytes Evt3 n = 8 * n
+abbrev pub encodeMost : Encoding → (n : ℕ) → ℕ
+encodeMost Evt2 n = 8 * n
+encodeMost Evt21 n = 16 * n
+encodeMost Evt3 n = 8 * n
 
 -- after a pass whose words go from `at` on
 abbrev pub passed : Encoding → EncoderState → List Event → (at : ℕ) → Put

@@ -17,7 +17,7 @@ use Rattle.evt21_encoder.specs.Evt21.{Valid21, runs21, runs-are21, writer21, en
 use Rattle.evt3_run_rules.specs.Runs.{Run, runs, runs-are, given, spread, Rising, Valid, firstX, lastX}
 use Rattle.evt3_lead_words.specs.Evt3.{highWord3, lowWord3, rowWord3, highSent3, lowSent3, rowSent3, leads3, nearby}
 use Rattle.evt3_lead_words.specs.Evt3.{beyond, maskCount, vectored, singles, masks, vectors, body3, encode3, writer3}
-use Rattle.write_words.specs.Encode.{encodeNotes, encodeSize, encodeBytes, mostBytes}
+use Rattle.write_words.specs.Encode.{encodeNotes, encodeSize, encodeBytes, encodeMost}
 use Rattle.evt3_run_words.specs.{Parts.bytes3, Parts.few3, Masks.near-inc, Masks.inc-to}
 
 -- ---- the masks of a run hold all of it
@@ -147,12 +147,12 @@ encode-fits Evt3 v es = emits-fit writer3 wordSize3 encode-fits3 v (runs es)
 few-run : (v : EncoderState) (r : Run) → Valid r → length (bytes3 v r) ≤ 8 * length (given r)
 few-run v r va = let n : length (given r) ≡ length (r .xs) = length-map (r .xs) (λ x. event x (r .y) (r .t) (r .p)) in omega (arith, few3 v r (va .some))
 
-pub most-le : (e : Encoding) (n : ℕ) → mostBytes e n ≤ 16 * n
+pub most-le : (e : Encoding) (n : ℕ) → encodeMost e n ≤ 16 * n
 most-le Evt2 n = omega arith
 most-le Evt21 n = omega arith
 most-le Evt3 n = omega arith
 
-pub encode-few : (e : Encoding) (v : EncoderState) (es : List Event) → length (encodeBytes e v es) ≤ mostBytes e (length es)
+pub encode-few : (e : Encoding) (v : EncoderState) (es : List Event) → length (encodeBytes e v es) ≤ encodeMost e (length es)
 unfolding encodeBytes bytesFrom
 encode-few Evt2 v es =
     let few = emits-few writer2 (λ e. Unit) (λ e. e ∷ []) 8 wordSize2 (λ v e u. few2 v e) v es (all-of _ (λ e. tt) es) in

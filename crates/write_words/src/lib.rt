@@ -9,7 +9,7 @@ ghost use lib.ListN.{length};
 ghost use lib.Seq.{sets};
 ghost use Rattle.write_buffer.specs.Columns.{Sized, Whole, eventsIn};
 ghost use Rattle.write_buffer.specs.Storing.{Roomy};
-ghost use Rattle.write_words.specs.Encode.{encodeBytes, mostBytes, passed, Fitting};
+ghost use Rattle.write_words.specs.Encode.{encodeBytes, encodeMost, passed, Fitting};
 use evt_types::Encoding;
 use write_buffer::EncoderState;
 use write_buffer::Put;
@@ -19,7 +19,7 @@ pub mod evt3;
 // The most bytes that n events need.
 pub fn most_bytes(version: Encoding, n: usize) -> usize
     requires { ⌜ n ≤ 2 ^ 28 ⌝ }
-    ensures { λ r. ⌜ r ≡ mostBytes version n ⌝ }
+    ensures { λ r. ⌜ r ≡ encodeMost version n ⌝ }
 {
     match version {
         Encoding::Evt2 => 8 * n,

@@ -3,22 +3,29 @@ use native.Mathlib.Omega.{arith}
 use denote.Ref.{now}
 use lib.ListN.{length}
 use Rattle.write_buffer.specs.declared.Put.{Put}
+use Rattle.write_words.specs.Laws.{most-le}
 use Rattle.write_append.specs.Append.{sends}
 use Rattle.write_append.specs.Ends.{sends-few, short-fits, short-lacks}
 use borrow.Author.Needs.{needs}
 use Rattle.write_append.proofs.shortfall.Statement.{statement}
 use Rattle.write_append.proofs.shortfall.Tie as tie
 
+add-if1 : tie.Need-add-if1
+add-if1 c =
+    let s = c .before .before .before .before in
+    omega (arith, c .most-bytes .ensures, s .pre .0 .few, most-le (s .args .sink .version) (length (now (s .args .xs))))
+
 returns : tie.Need-returns
 returns c =
-    let a = c .before .before .before .before .args in
+    let a = c .before .before .before .before .before .args in
     let few = sends-few (a .sink) (a .width) (a .height) (now (a .xs)) (now (a .ys)) (now (a .ts)) (now (a .ps))
-    (c .before .before .before .before .pre .0) (omega arith) (omega arith) in
-    short-fits (length (sends (a .sink) (a .width) (a .height) (now (a .xs)) (now (a .ys)) (now (a .ts)) (now (a .ps)))) (a .room) (omega arith)
+    (c .before .before .before .before .before .pre .0) (omega arith) (omega arith) in
+    short-fits (length (sends (a .sink) (a .width) (a .height) (now (a .xs)) (now (a .ys)) (now (a .ts)) (now (a .ps)))) (a .room)
+    (omega (arith, few, c .before .most-bytes .ensures))
 
 returns-2 : tie.Need-returns-2
 returns-2 c =
-    let a = c .before .before .before .before .before .before .before .before .args in
+    let a = c .before .before .before .before .before .before .before .before .before .args in
     let n : c .before .before .write .result .at
     ≡ length (sends (a .sink) (a .width) (a .height) (now (a .xs)) (now (a .ys)) (now (a .ts)) (now (a .ps))) =
     ap (λ (p : Put). p .at) (c .before .before .write .ensures .0) in
@@ -26,7 +33,7 @@ returns-2 c =
 
 returns-3 : tie.Need-returns-3
 returns-3 c =
-    let a = c .before .before .before .before .before .before .before .before .args in
+    let a = c .before .before .before .before .before .before .before .before .before .args in
     let n : c .before .before .write .result .at
     ≡ length (sends (a .sink) (a .width) (a .height) (now (a .xs)) (now (a .ys)) (now (a .ts)) (now (a .ps))) =
     ap (λ (p : Put). p .at) (c .before .before .write .ensures .0) in
@@ -36,7 +43,8 @@ pub shortfall-spec : {M : Type 1} → statement M
 shortfall-spec =
     tie.close
     (tie.spec
-    (λ c. search needs) (λ c. search needs)
+    (λ c κs. search needs)
+    add-if1
     returns
     (λ c. search needs) (λ c κs. search needs)
     returns-2

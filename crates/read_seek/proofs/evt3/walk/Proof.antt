@@ -7,42 +7,38 @@ use mathlib.Core.Path.{ap, _∙_}
 use mathlib.Core.Logic.{⊎-elim}
 use Rattle.evt3_decoder.specs.Evt3.{slimmed}
 use Rattle.evt3_decoder.specs.Range.{bounded-sane3, bounded-slim3}
-use Rattle.read_seek.specs.Loops.{Seeking3, Ends3, start3, end3, stop3, iteration3}
+use Rattle.evt_codec.specs.{Reader.evt3, Reader.carriesAs, Sound.sound3}
+use Rattle.read_seek.specs.Iteration.{Seeking, Ends, seeking-start, seeking-end, seeking-stop, seeking-next}
 use Rattle.read_seek.proofs.evt3.walk.Statement.{statement}
 use Rattle.read_seek.proofs.evt3.walk.Tie as tie
 
 abbrev Inv-loop : tie.InvT-loop
-Inv-loop bytes t0 t1 s₀ stray₀ i₀ s stray i = Seeking3 t0 t1 (slimmed s₀) bytes (slimmed s) stray i
+Inv-loop bytes t0 t1 s₀ stray₀ i₀ s stray i = Seeking evt3 t0 t1 (slimmed s₀) bytes (slimmed s) stray i
 
 abbrev μ-loop : tie.MeasureT-loop
 μ-loop bytes t0 t1 s₀ stray₀ i₀ s stray i = length bytes - i
 
 loop-holds : tie.Need-loop-holds Inv-loop μ-loop
-loop-holds c =
-    rw (c .widen .ensures .0) (start3 (c .before .before .args .t0) (c .before .before .args .t1) (c .before .before .args .d)
-    (now (c .before .before .args .bytes)) (c .before .before .pre .0))
+loop-holds c = rw (c .widen .ensures .0) (seeking-start sound3 (c .before .before .pre .0))
 
 loop-again : tie.Need-loop-again Inv-loop μ-loop
 loop-again c =
     let b = c .before .before .before .before .before .before in
-    let a = b .before .before .before .before .before .before .args in
-    iteration3 (a .t0) (a .t1) (slimmed (b .before .before .before .before .widen .result)) (now (a .bytes))
-    (omega (arith, b .before .before .loop-test .taken)) (b .before .two-at .result) (b .before .two-at .ensures)
-    (b .before .before .before .loop .inv) (slimmed (b .advance .result .next)) (ap slimmed (b .advance .ensures .0))
-    (c .before .before .before .if1 .left) (c .before .before .bits .result) (c .before .before .bits .ensures) (c .strays .result)
-    (c .strays .ensures ∙ rw (c .before .carries .ensures))
+    let kind = c .before .before .bits in
+    seeking-next sound3 (b .before .before .before .loop .inv) (omega (arith, b .before .before .loop-test .taken)) (b .before .two-at .result)
+    (b .before .two-at .ensures) (slimmed (b .advance .result .next)) (ap slimmed (b .advance .ensures .0)) (c .before .before .before .if1 .left)
+    (c .before .carries .result) (c .before .carries .ensures ∙ ap carriesAs (kind .ensures)) (c .strays .result) (c .strays .ensures)
 
 -- where the loop is left
 done : (c : tie.Left-loop Inv-loop μ-loop) →
     let a = c .before .before .before .before .args in
-    Ends3 (a .t0) (a .t1) (slimmed (c .before .before .widen .result)) (now (a .bytes)) (slimmed (c .before .loop .s))
+    Ends evt3 (a .t0) (a .t1) (slimmed (c .before .before .widen .result)) (now (a .bytes)) (slimmed (c .before .loop .s))
     (c .before .loop .stray) (c .before .loop .i)
 done c =
-    let a = c .before .before .before .before .args in
     ⊎-elim
-    (λ w. end3 (a .t0) (a .t1) (slimmed (c .before .before .widen .result)) (now (a .bytes)) (c .before .loop .inv) (omega (arith, w .left)))
-    (λ w. stop3 (a .t0) (a .t1) (slimmed (c .before .before .widen .result)) (now (a .bytes)) (omega (arith, w .0 .taken)) (w .1 .result) (w .1 .ensures)
-    (c .before .loop .inv) (slimmed (w .2 .result .next)) (ap slimmed (w .2 .ensures .0)) (w .5 .taken))
+    (λ w. seeking-end sound3 (c .before .loop .inv) (omega (arith, w .left)))
+    (λ w. seeking-stop sound3 (c .before .loop .inv) (omega (arith, w .0 .taken)) (w .1 .result) (w .1 .ensures) (slimmed (w .2 .result .next))
+    (ap slimmed (w .2 .ensures .0)) (w .5 .taken))
     (c .loop-test .came)
 
 returns : tie.Need-returns Inv-loop μ-loop

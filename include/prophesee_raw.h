@@ -1,4 +1,4 @@
-/* Prophesee RAW recordings (EVT2 and EVT3): reading, triggers, indexes, slices, writing, single words.
+/* Prophesee RAW recordings (EVT2, EVT2.1 and EVT3): reading, triggers, indexes, slices, writing, single words.
  *
  * `rt staticlib prophesee_raw_c` proves the library and writes target/staticlib/libprophesee_raw_c.a
  * (x86-64 Linux). Every function is proved to return and to write exactly what its contract says
@@ -46,6 +46,7 @@ uint32_t prophesee_version(void);
 /* ---- encodings and refusals */
 
 #define PROPHESEE_EVT2 2u
+#define PROPHESEE_EVT21 21u
 #define PROPHESEE_EVT3 3u
 
 #define PROPHESEE_ACCEPTED 0u
@@ -74,7 +75,7 @@ static inline const char *prophesee_refusal_text(uint32_t refusal)
     case PROPHESEE_COLUMNS_TOO_SHORT: return "more events than the shortest column holds";
     case PROPHESEE_TIME_ORDER: return "a time below the one before";
     case PROPHESEE_EVENT_OUT_OF_RANGE: return "an event that its encoding cannot say";
-    case PROPHESEE_INVALID_SPACING: return "a spacing that is no multiple of 4 from 4 to 4194304";
+    case PROPHESEE_INVALID_SPACING: return "a spacing that is no multiple of 4 (EVT2.1: of 8) from 4 to 4194304";
     case PROPHESEE_TOO_FEW_RECORDS: return "more checkpoints than lent records";
     case PROPHESEE_STATE_OUT_OF_RANGE: return "an index, a writer or a decoder out of range";
     case PROPHESEE_OUTPUT_TOO_SHORT: return "an output shorter than the bytes to write";
@@ -86,16 +87,31 @@ static inline const char *prophesee_refusal_text(uint32_t refusal)
 
 /* ---- how long buffers must be, so that 5, 9, 11 and 13 never come */
 
-/* The most events of `bytes` bytes of words: a word of EVT2 holds one, a word of EVT3 up to 12. */
+/* The bytes of a word. */
+static inline size_t prophesee_word_size(uint32_t encoding)
+{
+    switch (encoding) {
+    case PROPHESEE_EVT2: return 4;
+    case PROPHESEE_EVT21: return 8;
+    default: return 2;
+    }
+}
+
+/* The most events of `bytes` bytes of words: a word of EVT2 holds one, one of EVT2.1 up to 32, one of
+ * EVT3 up to 12. */
 static inline size_t prophesee_most_events(uint32_t encoding, size_t bytes)
 {
-    return encoding == PROPHESEE_EVT2 ? bytes / 4 : bytes / 2 * 12;
+    switch (encoding) {
+    case PROPHESEE_EVT2: return bytes / 4;
+    case PROPHESEE_EVT21: return bytes / 8 * 32;
+    default: return bytes / 2 * 12;
+    }
 }
 
 /* The most triggers of `bytes` bytes of words: a word holds at most one. */
 static inline size_t prophesee_most_triggers(uint32_t encoding, size_t bytes)
 {
-    return encoding == PROPHESEE_EVT2 ? bytes / 4 : bytes / 2;
+    return bytes / prophesee_word_size(encoding);
 }
 
 /* The records of an index over `bytes` bytes at a spacing (not 0). For a body shorter than `bytes`: at
@@ -106,15 +122,15 @@ static inline size_t prophesee_most_records(size_t bytes, size_t spacing)
 }
 
 /* The most bytes of an append of `events` events by a writer whose header isn't due, and of one whose
- * header is. */
+ * header is, in any encoding: 16 for an event of EVT2.1, and no more than 8 for one of EVT2 and EVT3. */
 static inline size_t prophesee_most_bytes(size_t events)
 {
-    return events * 8;
+    return events * 16;
 }
 
 static inline size_t prophesee_most_bytes_with_header(size_t events)
 {
-    return events * 8 + 96;
+    return events * 16 + 96;
 }
 
 /* ---- reading */
@@ -209,7 +225,8 @@ prophesee_trigger_reading prophesee_decode_words_triggers(
 
 /* ---- indexes */
 
-/* `sized` as above; a checkpoint at every `spacing` bytes of the body. */
+/* `sized` as above; a checkpoint at every `spacing` bytes of the body: a multiple of 4 (EVT2.1: of 8) from
+ * 4 to 4,194,304. */
 typedef struct {
     size_t width;
     size_t height;
@@ -236,7 +253,7 @@ typedef struct {
 } prophesee_opening;
 
 /* A record: where it stands, the events counted before it, their greatest time, and the decoder there.
- * `initialised` and `polarity` are 0 or 1. In EVT2 `y`, `base_x` and `polarity` are 0. */
+ * `initialised` and `polarity` are 0 or 1. In EVT2 and EVT2.1 `y`, `base_x` and `polarity` are 0. */
 typedef struct {
     uint64_t byte_offset;
     uint64_t event_index;
@@ -328,7 +345,7 @@ prophesee_appended prophesee_append(
 
 /* ---- single words */
 
-/* A decoder. `initialised` and `polarity` are 0 or 1. In EVT2 `y`, `base_x` and `polarity` are 0. */
+/* A decoder. `initialised` and `polarity` are 0 or 1. In EVT2 and EVT2.1 `y`, `base_x` and `polarity` are 0. */
 typedef struct {
     uint64_t time_base;
     uint64_t time;
@@ -392,7 +409,7 @@ prophesee_stepped prophesee_decoder_after(prophesee_decoder decoder, const uint8
 typedef struct {
     int64_t t;
     uint32_t refusal;
-    uint8_t id;    /* up to 31 in EVT2, up to 15 in EVT3 */
+    uint8_t id;    /* up to 31 in EVT2 and EVT2.1, up to 15 in EVT3 */
     uint8_t value; /* 0 or 1 */
     uint8_t some;
 } prophesee_trigger;

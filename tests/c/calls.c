@@ -424,8 +424,8 @@ static void end_lines(void)
     read_behind("The end line last", "% evt 3\n% geometry 64x48\n%end", percent3, 0);
 }
 
-/* A written header is read back before a body that begins with `%`, cut at any byte behind it and resumed by a writer without a header. */
-static void written_and_cut(void)
+/* A written header is read back before a body that begins with `%` in EVT3, cut at any byte behind it and resumed by a writer without a header. */
+static void written_and_cut(uint32_t encoding)
 {
     const uint16_t x[] = {5, 10, 11, 13}, y[] = {7, 7, 7, 7};
     const int64_t t[] = {151552, 155648, 155648, 155648};
@@ -433,15 +433,15 @@ static void written_and_cut(void)
     const prophesee_options none = {0};
     uint8_t bytes[256], joined[256];
 
-    prophesee_appended a = prophesee_append(prophesee_writer(PROPHESEE_EVT3, 1), 64, 48, x, 4, y, 4, t, 4, p, 4, bytes, sizeof bytes);
+    prophesee_appended a = prophesee_append(prophesee_writer(encoding, 1), 64, 48, x, 4, y, 4, t, 4, p, 4, bytes, sizeof bytes);
     size_t start = prophesee_parse_header(bytes, a.written, 0, 0, 0).data_offset;
     printf("append, 151552: refusal %u written %zu, the body from %zu, its first byte %02x\n", a.refusal, a.written, start, bytes[start]);
     read_all("What was written", bytes, a.written);
     for (size_t cut = start; cut <= a.written; cut++) {
         prophesee_reading r = prophesee_read_raw(bytes, cut, none, COLUMNS);
-        size_t left = 4 - r.count, whole = start + (cut - start) / 2 * 2;
+        size_t left = 4 - r.count, whole = cut - (cut - start) % prophesee_word_size(encoding);
         memcpy(joined, bytes, whole);
-        prophesee_appended b = prophesee_append(prophesee_writer(PROPHESEE_EVT3, 0), 64, 48, x + r.count, left, y + r.count, left, t + r.count, left,
+        prophesee_appended b = prophesee_append(prophesee_writer(encoding, 0), 64, 48, x + r.count, left, y + r.count, left, t + r.count, left,
                                                 p + r.count, left, joined + whole, sizeof joined - whole);
         prophesee_reading all = prophesee_read_raw(joined, whole + b.written, none, COLUMNS);
         int same = !memcmp(xs, x, sizeof x) && !memcmp(ys, y, sizeof y) && !memcmp(ts, t, sizeof t) && !memcmp(ps, p, sizeof p);
@@ -559,6 +559,158 @@ static void word_triggers(void)
     print_trigger("word_trigger, a decoder of 7, nothing", prophesee_word_trigger(prophesee_new_decoder(7), NULL, 0));
 }
 
+/* ---- EVT2.1: words of 8 bytes, the upper half as in EVT2, the lower half a mask */
+
+/* 4097: columns 10, 11 and 13 of row 7; 4100: a mask of no column; 4101: column 52 of row 9, polarity 1. */
+static const uint8_t evt21[] = {0x00, 0x00, 0x00, 0x00, 0x40, 0x00, 0x00, 0x80, 0x00, 0x2c, 0x00, 0x00, 0x07, 0x00, 0x40, 0x00,
+                                0x00, 0x00, 0x00, 0x00, 0x09, 0x00, 0x00, 0x11, 0x00, 0x00, 0x10, 0x00, 0x09, 0x00, 0x41, 0x11};
+/* 4097: columns 2047 and 2078 of row 2047. */
+static const uint8_t widest21[] = {0xff, 0xff, 0xff, 0xff, 0x40, 0x00, 0x00, 0x80, 0x01, 0x00, 0x00, 0x80, 0xff, 0xff, 0x7f, 0x10};
+/* 4096: columns 0 to 31 of row 0. */
+static const uint8_t full21[] = {0x00, 0x00, 0x00, 0x00, 0x40, 0x00, 0x00, 0x80, 0xff, 0xff, 0xff, 0xff, 0x00, 0x00, 0x00, 0x00};
+static const char header21[] = "% format EVT21\n% geometry 64x48\n";
+
+static void print_named(const char *what, const char *text)
+{
+    print_header(what, prophesee_parse_header((const uint8_t *)text, strlen(text), 0, 0, 0));
+}
+
+static void headers21(void)
+{
+    print_named("parse_header, format EVT21", header21);
+    print_named("parse_header, format EVT21 and more", "% format EVT21;height=48;width=64\n");
+    print_named("parse_header, evt 2.1", "% evt 2.1\n");
+    print_named("parse_header, format EVT2 and evt 2.1", "% format EVT2\n% evt 2.1\n");
+    print_named("parse_header, format EVT21 and evt 3", "% format EVT21\n% evt 3\n");
+    print_named("parse_header, format EVT22", "% format EVT22\n");
+}
+
+#define WORDS21(words, options, ...) prophesee_decode_words(words, sizeof words, PROPHESEE_EVT21, options, __VA_ARGS__)
+
+static void reading21(void)
+{
+    const prophesee_options none = {0}, zero = {.sized = 1, .width = 0, .height = 5}, first = {.limited = 1, .max_events = 8};
+    const prophesee_options two = {.sized = 1, .limited = 1, .width = 12, .height = 48, .max_events = 2};
+
+    read_behind("A recording of EVT2.1", header21, evt21, sizeof evt21);
+    print_reading("decode_words, 21", WORDS21(evt21, none, COLUMNS));
+    print_reading("decode_words, 21, 12x48, at most 2", WORDS21(evt21, two, COLUMNS));
+    print_reading("decode_words, 21, cut at byte 31", prophesee_decode_words(evt21, 31, PROPHESEE_EVT21, none, COLUMNS));
+    print_reading("decode_words, 21, cut at byte 15", prophesee_decode_words(evt21, 15, PROPHESEE_EVT21, none, COLUMNS));
+    print_reading("decode_words, 21, a column of 3", WORDS21(evt21, none, xs, ROOM, ys, ROOM, ts, ROOM, ps, 3));
+    print_reading("decode_words, 21, 0x5", WORDS21(evt21, zero, COLUMNS));
+    print_reading("decode_words, 22", prophesee_decode_words(evt21, sizeof evt21, 22, none, COLUMNS));
+    print_reading("decode_words, 21, the last columns", WORDS21(widest21, none, COLUMNS));
+    print_reading("decode_words, 21, a full mask", WORDS21(full21, none, COLUMNS));
+    print_reading("decode_words, 21, a full mask, at most 8", WORDS21(full21, first, COLUMNS));
+}
+
+/* A trigger before the first time word. 100: input 31 rises; columns 5 and 6 of row 7. 64, by the trigger's own low bits: it falls; a trigger has
+ * no mask. */
+static const uint8_t pulses21[] = {0x00, 0x00, 0x00, 0x00, 0x01, 0x00, 0x00, 0xa9, 0x00, 0x00, 0x00, 0x00, 0x01, 0x00, 0x00, 0x80,
+                                   0x00, 0x00, 0x00, 0x00, 0x01, 0x1f, 0x00, 0xa9, 0x60, 0x00, 0x00, 0x00, 0x07, 0x00, 0x00, 0x19,
+                                   0xff, 0xff, 0xff, 0xff, 0x00, 0x1f, 0x00, 0xa0};
+
+static void triggers21(void)
+{
+    const prophesee_options none = {0}, first = {.limited = 1, .max_events = 1};
+    print_trigger_reading("decode_words_triggers, 21", WORDS_TRIGGERS(pulses21, PROPHESEE_EVT21, none, COLUMNS, TRIGGERS));
+    print_trigger_reading("decode_words_triggers, 21, at most 1", WORDS_TRIGGERS(pulses21, PROPHESEE_EVT21, first, COLUMNS, TRIGGERS));
+    print_trigger_reading("decode_words_triggers, 21, cut at byte 39",
+                          prophesee_decode_words_triggers(pulses21, 39, PROPHESEE_EVT21, none, COLUMNS, TRIGGERS));
+    print_trigger_reading("decode_words_triggers, 21, 1 trigger id",
+                          WORDS_TRIGGERS(pulses21, PROPHESEE_EVT21, none, COLUMNS, times, ROOM, ids, 1, values, ROOM));
+    print_trigger_reading("decode_words_triggers, 21, no places", WORDS_TRIGGERS(pulses21, PROPHESEE_EVT21, none, NO_COLUMNS, NO_TRIGGERS));
+    print_trigger_reading("decode_words_triggers, 22", WORDS_TRIGGERS(pulses21, 22, none, COLUMNS, TRIGGERS));
+}
+
+#define OPEN21(n, options) prophesee_open_words(evt21, sizeof evt21, PROPHESEE_EVT21, indexed, n, options)
+#define BY_NUMBER21(s, i0, i1) prophesee_slice_index(evt21, sizeof evt21, s, indexed, ROOM, i0, i1, COLUMNS)
+#define BY_TIME21(s, t0, t1) prophesee_slice_time(evt21, sizeof evt21, s, indexed, ROOM, t0, t1, COLUMNS)
+
+static void slices21(void)
+{
+    const prophesee_open_options four = {.spacing = 4}, eight = {.spacing = 8}, twelve = {.spacing = 12};
+    memset(indexed, 0xee, sizeof indexed);
+    print_opening("open_words, 21, spacing 4", OPEN21(3, four), indexed, ROOM);
+    print_opening("open_words, 21, spacing 12", OPEN21(ROOM, twelve), indexed, ROOM);
+    print_opening("open_words, 21, 3 records", OPEN21(3, eight), indexed, ROOM);
+    print_opening("open_words, 22", prophesee_open_words(evt21, sizeof evt21, 22, indexed, ROOM, four), indexed, ROOM);
+    prophesee_source s = print_opening("open_words, 21", OPEN21(ROOM, eight), indexed, ROOM).source, other = s;
+    print_slice("slice_index, EVT2.1, 2..9", BY_NUMBER21(s, 2, 9));
+    print_slice("slice_time, EVT2.1, 4097..4098", BY_TIME21(s, 4097, 4098));
+    print_slice("slice_time, EVT2.1, 4098..4102", BY_TIME21(s, 4098, 4102));
+    other.spacing = 4;
+    print_slice("slice_index, EVT2.1, spacing 4", BY_NUMBER21(other, 0, 9));
+    other = s;
+    other.encoding = 22;
+    print_slice("slice_index, encoding 22", BY_NUMBER21(other, 0, 9));
+    indexed[1].y = 7;
+    print_slice("slice_index, EVT2.1 with a row", BY_NUMBER21(s, 0, 9));
+    indexed[1].y = 0;
+    indexed[1].base_x = 1;
+    print_slice("slice_index, EVT2.1 with a base column", BY_NUMBER21(s, 0, 9));
+    indexed[1].base_x = 0;
+    indexed[1].time_base = 4097;
+    print_slice("slice_time, EVT2.1, a coarse time of 4097", BY_TIME21(s, 0, 5000));
+}
+
+static void writing21(void)
+{
+    const uint16_t bx[] = {31, 32, 63, 63, 64}, by[] = {7, 7, 7, 7, 7};
+    const int64_t bt[] = {4098, 4098, 4098, 4098, 4098}, last[] = {17179869183}, past[] = {17179869184};
+    const uint8_t bp[] = {1, 1, 1, 1, 1};
+
+    prophesee_sink s = prophesee_writer(PROPHESEE_EVT21, 1), w;
+    print_sink(s);
+    print_appended("append, EVT2.1, 3 bytes", prophesee_append(s, 64, 48, cx, 3, cy, 3, ct, 3, cp, 3, output, 3));
+    s = print_appended("append, EVT2.1", prophesee_append(s, 64, 48, cx, 3, cy, 3, ct, 3, cp, 3, output, sizeof output));
+    print_appended("append, EVT2.1, a time that falls", prophesee_append(s, 64, 48, cx, 1, cy, 1, early, 1, cp, 1, output, sizeof output));
+    print_appended("append, EVT2.1, x 2048", prophesee_append(s, 64, 48, far, 1, cy, 1, late, 1, cp, 1, output, sizeof output));
+    print_appended("append, EVT2.1, 2^34", prophesee_append(s, 64, 48, cx, 1, cy, 1, past, 1, cp, 1, output, sizeof output));
+    print_appended("append, EVT2.1, 31 bytes for 4 words", prophesee_append(s, 64, 48, bx, 5, by, 5, bt, 5, bp, 5, output, 31));
+    s = print_appended("append, EVT2.1, 4 words", prophesee_append(s, 64, 48, bx, 5, by, 5, bt, 5, bp, 5, output, 32));
+    s = print_appended("append, EVT2.1, 2^34 - 1", prophesee_append(s, 64, 48, cx, 1, cy, 1, last, 1, one, 1, output, sizeof output));
+    w = s;
+    w.has_y = 1;
+    print_appended("append, EVT2.1 with a row", prophesee_append(w, 64, 48, cx, 1, cy, 1, last, 1, one, 1, output, sizeof output));
+    w = s;
+    w.has_time_low = 1;
+    print_appended("append, EVT2.1 with a low half", prophesee_append(w, 64, 48, cx, 1, cy, 1, last, 1, one, 1, output, sizeof output));
+    w = prophesee_writer(22, 0);
+    print_appended("append, a writer of 22", append(w));
+}
+
+static void words21(void)
+{
+    prophesee_decoder fresh = prophesee_new_decoder(PROPHESEE_EVT21), d = fresh, x;
+    print_decoder(fresh);
+    for (size_t i = 0; i < sizeof evt21; i += 8) {
+        prophesee_decoded r = prophesee_decode(d, evt21 + i, sizeof evt21 - i);
+        print_all(print_decoded("decode, EVT2.1", r));
+        d = r.decoder;
+    }
+    print_decoded("decode, EVT2.1, 7 bytes", prophesee_decode(d, evt21, 7));
+    print_decoded("decode, EVT2.1, before the first time", prophesee_decode(fresh, evt21 + 8, 8));
+    print_stepped("decoder_after, EVT2.1", prophesee_decoder_after(fresh, evt21, sizeof evt21));
+    print_stepped("decoder_after, EVT2.1, cut at byte 31", prophesee_decoder_after(fresh, evt21, 31));
+    x = d;
+    x.polarity = 1;
+    print_decoded("decode, EVT2.1 with a polarity", prophesee_decode(x, evt21, 8));
+    x = d;
+    x.time = 4160;
+    print_stepped("decoder_after, EVT2.1, time 4160", prophesee_decoder_after(x, evt21, 8));
+    print_decoded("decode, a decoder of 22", prophesee_decode(prophesee_new_decoder(22), evt21, 8));
+
+    d = prophesee_decoder_after(fresh, pulses21, 16).decoder;
+    print_trigger("word_trigger, EVT2.1", prophesee_word_trigger(d, pulses21 + 16, sizeof pulses21 - 16));
+    print_trigger("word_trigger, EVT2.1, 7 bytes", prophesee_word_trigger(d, pulses21 + 16, 7));
+    print_trigger("word_trigger, EVT2.1, an event's word", prophesee_word_trigger(d, pulses21 + 24, 8));
+    print_trigger("word_trigger, EVT2.1, a lower half", prophesee_word_trigger(d, pulses21 + 32, 8));
+    print_trigger("word_trigger, EVT2.1, before the first time", prophesee_word_trigger(fresh, pulses21, 8));
+    print_decoded("decode, EVT2.1, a trigger's word", prophesee_decode(d, pulses21 + 32, 8));
+}
+
 /* ---- refusal 4 comes before each other one: what is answered at 2^30 bytes, and at one more */
 
 static void told(size_t n, const char *what, uint32_t refusal)
@@ -625,6 +777,7 @@ static void longest(void)
         memset(bytes, 0, sizeof evt2);
         print_reading("decode_words, 2, zeros", prophesee_decode_words(bytes, n, 2, sized, COLUMNS));
         print_reading("decode_words, 3, zeros", prophesee_decode_words(bytes, n, 3, sized, COLUMNS));
+        print_reading("decode_words, 21, zeros", prophesee_decode_words(bytes, n, 21, sized, COLUMNS));
         told(n, "decode_words, no size, no event", prophesee_decode_words(bytes, n, 2, plain, COLUMNS).refusal);
         told(n, "open_words, no size, no event", prophesee_open_words(bytes, n, 2, records, 256, open).refusal);
         memcpy(bytes, evt2, sizeof evt2);
@@ -658,10 +811,12 @@ static void longest_append(void)
         perror("mmap");
         return;
     }
-    for (size_t n = most; n <= most + 1; n++) {
-        prophesee_appended a = prophesee_append(prophesee_writer(3, 0), 64, 48, zeros, n, zeros, n, zeros, n, zeros, n, output, 8);
-        printf("append, %zu events: refusal %u told %zu written %zu\n", n, a.refusal, a.told, a.written);
-    }
+    const uint32_t encodings[] = {3, 21};
+    for (size_t i = 0; i < 2; i++)
+        for (size_t n = most; n <= most + 1; n++) {
+            prophesee_appended a = prophesee_append(prophesee_writer(encodings[i], 0), 64, 48, zeros, n, zeros, n, zeros, n, zeros, n, output, 8);
+            printf("append, %u, %zu events: refusal %u told %zu written %zu\n", encodings[i], n, a.refusal, a.told, a.written);
+        }
     munmap(zeros, bytes);
 }
 
@@ -669,8 +824,11 @@ static void bounds(void)
 {
     for (uint32_t n = 0; n <= 14; n++)
         printf("refusal %u: %s\n", n, prophesee_refusal_text(n));
-    printf("most events: %zu of EVT2, %zu of EVT3\n", prophesee_most_events(2, 11), prophesee_most_events(3, 11));
-    printf("most triggers: %zu of EVT2, %zu of EVT3\n", prophesee_most_triggers(2, 11), prophesee_most_triggers(3, 11));
+    printf("word sizes: %zu of EVT2, %zu of EVT2.1, %zu of EVT3\n", prophesee_word_size(2), prophesee_word_size(21), prophesee_word_size(3));
+    printf("most events: %zu of EVT2, %zu of EVT2.1, %zu of EVT3\n", prophesee_most_events(2, 23), prophesee_most_events(21, 23),
+           prophesee_most_events(3, 23));
+    printf("most triggers: %zu of EVT2, %zu of EVT2.1, %zu of EVT3\n", prophesee_most_triggers(2, 23), prophesee_most_triggers(21, 23),
+           prophesee_most_triggers(3, 23));
     printf("most records: %zu, %zu, %zu, %zu\n", prophesee_most_records(0, 4), prophesee_most_records(1, 4),
            prophesee_most_records(4, 4), prophesee_most_records(5, 4));
     printf("most bytes: %zu, with a header %zu\n", prophesee_most_bytes(3), prophesee_most_bytes_with_header(3));
@@ -692,9 +850,16 @@ int main(void)
     slices();
     writing();
     end_lines();
-    written_and_cut();
+    written_and_cut(PROPHESEE_EVT3);
     words();
     word_triggers();
+    headers21();
+    reading21();
+    triggers21();
+    slices21();
+    writing21();
+    written_and_cut(PROPHESEE_EVT21);
+    words21();
     longest();
     longest_append();
     return 0;

@@ -43,7 +43,7 @@ numbersOf (Evt3 d) = record {
 
 abbrev pub placeFits : Encoding → (y x polarity : ℕ) → Bool
 placeFits E.Evt2 y x polarity = eqb y 0 && (eqb x 0 && eqb polarity 0)
-placeFits E.Evt21 y x polarity = placeFits E.Evt2 y x polarity
+placeFits E.Evt21 y x polarity = eqb y 0 && (eqb x 0 && eqb polarity 0)
 placeFits E.Evt3 y x polarity = leb y 65535 && (leb x 65535 && isFlag polarity)
 
 abbrev pub isCodec : Encoding → DecoderNumbers → Bool

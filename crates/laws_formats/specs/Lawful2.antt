@@ -130,8 +130,7 @@ group-as : (b : Bool) (d : Evt2Decoder) (e : Event) (more : List Event) â†’ (b â
 group-as true d e more h rd = said-event d e (sayable-true (limit Evt2) e (rd .rises .0 .fine)) (h refl .0) (h refl .1) more rd
 group-as false d e more h rd =
     let up = high-steps d e more rd in
-    let r = said-event (risen d (e .t)) e (sayable-true (limit Evt2) e (rd .rises .0 .fine)) refl refl more (high-ready d e more rd) in
-    (
+    let r = said-event (risen d (e .t)) e (sayable-true (limit Evt2) e (rd .rises .0 .fine)) refl refl more (high-ready d e more rd) in (
       record {
         ready = rd;
         fits = time-fits2 (e .t / grain2 % 2 ^ 28) (omega arith);

@@ -105,8 +105,7 @@ group-as false t y p x xs block d more h rd =
     (λ i. eventsOf (wide (vector2 (as2 d) (bare-upper (highWord2 t) i)) (bare-mask (highWord2 t) i)))
     ∙ ap (λ (v : Vector). eventsOf (wide v 0)) (high-vector (as2 d) e es rd) ∙ no-event in
     let s = said-run t y p x xs block (of2 (risen (as2 d) t)) more (high-ready (as2 d) e es rd) refl refl in
-    let noted = append-nil (spread t y p (x ∷ xs)) in
-    (
+    let noted = append-nil (spread t y p (x ∷ xs)) in (
       record { ready = subst⁻¹ (λ (l : List Event). Ready21 d (l ++ more)) noted rd; fits = omega arith; says = none; rest = rw up (s .0) },
       rw up (s .1),
     )

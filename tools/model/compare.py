@@ -168,7 +168,7 @@ class Tally:
             self.with_triggers[name] += expected[4]
 
     def show(self):
-        print('| calls of | calls | accepted (with a trigger) | of EVT2, EVT3, EVT2.1 | refused, by number | events | triggers |\n|---|---|---|---|---|---|---|')
+        print('| calls of | calls | accepted (with a trigger) | of EVT2, EVT3, EVT2.1 | refused, by number | events | triggers |\n|' + '---|' * 7)
         for name in calls.NAMES:
             if self.calls[name]:
                 numbers = sorted((number, n) for (of, number), n in self.refused.items() if of == name)

@@ -1,9 +1,9 @@
 #!/usr/bin/env python3
 """laws.py [LISTS [SEED]]: holds the model to what the rules say of writing, reading and slices together (docs/RULES.md, D-1 to D-6), without the library.
 
-Random lists of events of each encoding, written by a few appends, with a header and without. Read back: the same events. Cut at every byte (long ones at some): those whose
-word is whole. Resumed by a fresh writer with the others: all of them. Slices: what a plain filter gives. And a recording of EVT2 is, word for word, one
-of EVT 2.1 with masks of one bit. Exit status 1 at the first that doesn't hold.
+Random lists of events of each encoding, written by a few appends, with a header and without. Read back: the same events. Cut at every byte (long ones
+at some): those whose word is whole. Resumed by a fresh writer with the others: all of them. Slices: what a plain filter gives. And a recording of EVT2
+is, word for word, one of EVT 2.1 with masks of one bit. Exit status 1 at the first that doesn't hold.
 """
 import random
 import sys

@@ -10,7 +10,10 @@
 #                                          the same in so many processes, one after another; then the least, median and
 #                                          greatest ratio of each line, as Markdown (tools/bench_ratios.py)
 # Operations: read read_exact read_words read_file open slice_index slice_time slice_time_exact append append_exact triggers memory.
-# Recordings: evt2 evt3 evt3dense evt3long (1 GiB); evt3dense and evt3long whole want 10 GiB of memory.
+# Recordings: evt2 evt3 evt3dense evt3long (1 GiB) evt21 (sparse) evt21dense; evt3dense and evt3long whole want 10 GiB of memory.
+# Of the two of EVT 2.1, which the original doesn't know, ours is timed against a plain loop (tools/rust/bench/plain.rs), but for
+# read_words and read_file, which they don't have:
+#   tools/bench.sh CHECKOUT --only read,append,triggers --files evt21,evt21dense
 # CHECKOUT is of the original, as tools/original.sh says. The archive is built (and proved) first, unless ARCHIVE names one:
 #   ARCHIVE=target/staticlib/libprophesee_raw_c.a tools/bench.sh CHECKOUT --only append --files evt3
 # Recordings are made once, in BENCH_DIR (default /dev/shm/prophesee-bench).

@@ -3,7 +3,8 @@ import re
 import sys
 
 LINE = re.compile(r'(.+?): (\d+) cases, (\d+) calls: (\d+) accepted \((\d+) not empty\)(.*?); (\d+) (\w+)(.*); 0 mismatches')
-COUNTED = [r'(\d+) by the rules', r'(\d+) cases without a call, opening', r'(\d+) cases with an end', r'(\d+) cases without a call, a %']
+COUNTED = [r'(\d+) by the rules', r'(\d+) cases without a call, opening', r'(\d+) cases with an end', r'(\d+) cases without a call, a %',
+           r'(\d+) cases without a call, the header']
 
 
 def row(name, cases, calls, accepted, filled, refused, count, what, rest):
@@ -13,7 +14,8 @@ def row(name, cases, calls, accepted, filled, refused, count, what, rest):
     return cells + [f'{int(m[1]):,}' if m else '0' for m in found]
 
 
-HEAD = ['calls of', 'cases', 'calls', 'accepted (not empty)', 'refused, by number', 'handed over', 'by rule', 'no call', 'with an end line', 'not compared']
+HEAD = ['calls of', 'cases', 'calls', 'accepted (not empty)', 'refused, by number', 'handed over', 'by rule', 'no call', 'with an end line',
+        'not compared: a % behind it', 'EVT2.1']
 print(f'| {" | ".join(HEAD)} |')
 print('|---' * len(HEAD) + '|')
 for line in sys.stdin:

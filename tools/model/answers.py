@@ -1,8 +1,9 @@
-"""The model's answers to the cases of docs/VECTORS.md, as text: decoders, headers, reading, index and slices, not the writer."""
+"""The model's answers to the cases of docs/VECTORS.md, as text."""
 import header
 import index
 import reading
 import words
+import writer
 from refusal import Refused
 
 
@@ -29,9 +30,16 @@ def rooms_of(text):
     return rooms * 4 if len(rooms) == 1 else rooms
 
 
+def encoded(text):
+    """The encoding and the rest of `ENCODING:REST`."""
+    encoding, rest = text.split(':')
+    return int(encoding), rest
+
+
 def fields_of(state):
     """The numbers of a decoder, in the order of `words.Decoder.fields`."""
-    encoding, numbers = int(state[0]), list(map(int, state[2:].split(',')))
+    encoding, rest = encoded(state)
+    numbers = list(map(int, rest.split(',')))
     started, coarse, time = numbers[:3]
     row, base, polarity = numbers[3:6] if encoding == 3 else (0, 0, 0)
     return coarse, time, numbers[-1], encoding, row, base, started, polarity
@@ -58,9 +66,12 @@ def steps(state, text, only_first):
     return f'{state_text(fields)} {len(events)} :{events_text(events)}'
 
 
-def header_text(size, data):
-    h = header.parse_header(bytes_of(data), size_of(size))
+def header_of(h):
     return f'EVT{h.encoding} {h.body} ' + ('-' if h.size is None else '%dx%d' % h.size)
+
+
+def header_text(size, data):
+    return header_of(header.parse_header(bytes_of(data), size_of(size)))
 
 
 def reading_text(r):
@@ -73,7 +84,8 @@ def source_text(source, records):
 
 
 def source_of(text):
-    return index.Source(int(text[0]), *map(int, text[2:].split(',')))
+    encoding, rest = encoded(text)
+    return index.Source(encoding, *map(int, rest.split(',')))
 
 
 def records_of(text):
@@ -97,11 +109,52 @@ def slices(source, records, room, queries, data):
     return 'ok | ' + ' | '.join(slice_text(source, records, room, query, data) for query in queries.split(';'))
 
 
+# ---- the writer
+
+def sink_of(text):
+    """`21:sent,count,last,high,low,row`, or a fresh writer: `21n` without a header, `21h` with one."""
+    if ':' not in text:
+        return writer.fresh(int(text[:-1]), text[-1] == 'h')
+    encoding, rest = encoded(text)
+    sent, count, *held = [None if n == '-' else int(n) for n in rest.split(',')]
+    return writer.Sink(encoding, sent, count, *held)
+
+
+def sink_text(sink):
+    return f'{sink.encoding}:' + ','.join('-' if n is None else str(n) for n in sink[1:])
+
+
+def column_of(text):
+    return tuple(map(int, text.split(','))) if text else ()
+
+
+def appends(sink, *texts):
+    """Each append gets the writer that the last one returned; a refused one returns it as it was."""
+    sink, parts = sink_of(sink), ['ok']
+    for text in texts:
+        size, room, *columns = text.split(':')
+        try:
+            out, sink = writer.append(sink, size_of(size), tuple(map(column_of, columns)), int(room))
+            parts.append(f'{out.hex() or "-"} {sink_text(sink)}')
+        except Refused as refused:
+            parts.append(f'{refusal_text(refused)} {sink_text(sink)}')
+    return ' | '.join(parts)
+
+
+def lengths(text):
+    writer.check_lengths(list(map(int, text.split(','))))
+    return 'ok'
+
+
+def refusal_text(refused):
+    return f'refused {refused.number}' + (f' {refused.told}' if refused.number in (5, 9, 11, 13) else '')
+
+
 def told(answered):
     try:
         return answered()
     except Refused as refused:
-        return f'refused {refused.number}' + (f' {refused.told}' if refused.number in (5, 9) else '')
+        return refusal_text(refused)
 
 
 COMMANDS = {
@@ -116,6 +169,8 @@ COMMANDS = {
     'openw': lambda encoding, size, spacing, room, data: 'ok ' + source_text(
         *index.open_words(bytes_of(data), int(encoding), size_of(size), int(spacing), int(room))),
     'slice': slices,
+    'write': appends,
+    'lengths': lengths,
 }
 WITH_HEADER = 'hdr', 'read', 'open'
 

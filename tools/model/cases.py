@@ -4,16 +4,21 @@
 The answers were written by hand from the rules and not by the model. `ok ENCODING WIDTH HEIGHT COUNT : events | COUNT : triggers` with an
 event as t,x,y,p and a trigger as t,id,value, or `refused NUMBER`, and behind a 5 or a 13 the count that it tells. Readings stand in three
 lists: LISTED, one by one, and asked as words and behind a header; MEETINGS, what is refused, alone and two at a time; LENGTHS, columns of
-each length.
+each length. cases21.py has those of EVT 2.1 alone, with header names, indexes and writers; and every case of EVT2 is asked of EVT 2.1 too, where
+its words are the high halves.
 """
 from collections import Counter, namedtuple
 
+import answers
 import calls
+import cases21
+import header
 import words
 from refusal import Refused
 
 NONE = None
-EVT3, EVT2 = '% format EVT3\n', '% format EVT2\n'
+HEADS = {encoding: f'% format EVT{encoding}\n' for encoding in (2, 3, 21)}
+EVT3, EVT2 = HEADS[3], HEADS[2]
 SIZED3, SIZED2 = EVT3 + '% geometry 64x48\n', EVT2 + '% geometry 64x48\n'
 ONE3, ONE2 = '8001 6001 0007 2805 A301', '80000001 19002807 A9001F01'
 TWO3 = '8001 0007 2805 A301 6002 A200'
@@ -221,13 +226,17 @@ MEETINGS = [
     ('zero none', 'refused 1'), ('zero 5', 'refused 1'), ('zero 13', 'refused 1'), ('none 13', 'refused 1'), ('5 13', 'refused 5 1'),
     ('4 3 2 zero 5 13', 'refused 4'), ('3 2 zero 5 13', 'refused 3'), ('2 zero 5 13', 'refused 2'), ('zero 5 13', 'refused 1'),
 ]
-TRIGGER, BEFORE, EVENT = {3: 'A301', 2: 'A9001F01'}, {3: '8001 6001 0007', 2: '80000001'}, {3: '2805', 2: '19002807'}
-RIGHT = {3: 'ok EVT3 64 48 1 : 4097,5,7,1 | 1 : 4097,3,1', 2: 'ok EVT2 64 48 1 : 100,5,7,1 | 1 : 100,31,1'}
+TRIGGER, BEFORE = {3: 'A301', 2: 'A9001F01', 21: 'A9001F0100000000'}, {3: '8001 6001 0007', 2: '80000001', 21: '8000000100000000'}
+EVENT = {3: '2805', 2: '19002807', 21: '1900000700000020'}
+RIGHT = {3: 'ok EVT3 64 48 1 : 4097,5,7,1 | 1 : 4097,3,1', 2: 'ok EVT2 64 48 1 : 100,5,7,1 | 1 : 100,31,1',
+         21: 'ok EVT21 64 48 1 : 100,5,7,1 | 1 : 100,31,1'}
 
 # Two events and two triggers; one column is of this length and the others have four places. The first four are the events'.
 LENGTHS = [(0, 'refused 5 2', 'refused 13 2'), (1, 'refused 5 2', 'refused 13 2'), (2, NONE, NONE), (3, NONE, NONE)]
-PAIRS = {3: '8001 0007 2805 A301 6002 2006 A200', 2: '80000001 19002807 A9001F01 80000002 00003001 A0000100'}
-ALL = {3: 'ok EVT3 7 8 2 : 4096,5,7,1 4098,6,7,0 | 2 : 4096,3,1 4098,2,0', 2: 'ok EVT2 7 8 2 : 100,5,7,1 128,6,1,0 | 2 : 100,31,1 128,1,0'}
+PAIRS = {3: '8001 0007 2805 A301 6002 2006 A200', 2: '80000001 19002807 A9001F01 80000002 00003001 A0000100',
+         21: '8000000100000000 A9001F0100000000 1900000700000060 80000002FFFFFFFF A000010000000000'}
+ALL = {3: 'ok EVT3 7 8 2 : 4096,5,7,1 4098,6,7,0 | 2 : 4096,3,1 4098,2,0', 2: 'ok EVT2 7 8 2 : 100,5,7,1 128,6,1,0 | 2 : 100,31,1 128,1,0',
+       21: 'ok EVT21 7 8 2 : 100,5,7,1 100,6,7,1 | 2 : 100,31,1 128,1,0'}
 
 # The first word of some, from a decoder given by its numbers: coarse time, time, loops, encoding, row, base column, started, polarity. `trigger`
 # as above, `-` for none. `after` is the decoder that the word leaves; None: the one that it found.
@@ -348,21 +357,61 @@ def lengths(head, encoding):
 
 def behind_header(case):
     """The same words behind a header that names their encoding: the same answer. Not if their first byte is `%`."""
-    return case._replace(name='raw ' + case.name, head={2: EVT2, 3: EVT3}[case.head])
+    return case._replace(name='raw ' + case.name, head=HEADS[case.head])
+
+
+# ---- EVT2 as EVT 2.1: a word is the high half, a mask of the first bit alone the low half; low halves of other words mean nothing
+
+def is_evt2(case):
+    return case.head == 2 or isinstance(case.head, str) and ('EVT2' in case.head or '% evt 2\n' in case.head)
+
+
+def widened(body, unused):
+    return ' '.join(w if len(w) < 8 else w + ('00000001' if w[0] in '01' else unused) for w in body.split())
+
+
+def widened_head(head):
+    return 21 if head == 2 else head.replace('EVT2', 'EVT21').replace('% evt 2\n', '% evt 2.1\n')
+
+
+def widened_decoder(decoder):
+    return decoder and decoder[:3] + (21 if decoder[3] == 2 else decoder[3],) + decoder[4:]
+
+
+def as_evt21(case, unused):
+    return case._replace(name=case.name.replace('2', '21'), head=widened_head(case.head), body=widened(case.body, unused),
+                         answer=case.answer.replace('EVT2', 'EVT21'))
+
+
+def word_as_evt21(entry, unused):
+    return entry._replace(name=entry.name.replace('2', '21'), decoder=widened_decoder(entry.decoder), body=widened(entry.body, unused),
+                          after=widened_decoder(entry.after))
+
+
+UNUSED = '00000000', 'FFFFFFFF'
+
+
+def all_listed():
+    yield from LISTED
+    yield from (as_evt21(case, unused) for case in LISTED if is_evt2(case) for unused in UNUSED)
+    yield from (Case(*entry) for entry in cases21.READINGS)
 
 
 def all_cases():
-    yield from LISTED
-    yield from (behind_header(case) for case in LISTED if case.head in (2, 3) and case.name != 'percent')
-    for encoding in 2, 3:
+    listed = list(all_listed())
+    yield from listed
+    yield from (behind_header(case) for case in listed if case.head in HEADS and case.name != 'percent')
+    for encoding in HEADS:
         for raw in True, False:
             yield meeting(raw, encoding, '', RIGHT[encoding])
             yield from (meeting(raw, encoding, *entry) for entry in MEETINGS if raw or '3' not in entry[0].split())
         yield from lengths(encoding, encoding)
-        yield from lengths({2: EVT2, 3: EVT3}[encoding], encoding)
+        yield from lengths(HEADS[encoding], encoding)
 
 
 CASES = list(all_cases())
+WORDS += [word_as_evt21(word, unused) for word in WORDS if word.decoder[3] == 2 for unused in UNUSED] + [Word(*entry) for entry in cases21.WORDS]
+AFTERS += [word_as_evt21(after, unused) for after in AFTERS if after.decoder[3] == 2 for unused in UNUSED] + [After(*entry) for entry in cases21.AFTERS]
 
 
 def call_of(case):
@@ -375,8 +424,87 @@ def call_of(case):
 
 
 def word_call(word, call=calls.WORD_TRIGGER):
-    size = {2: 4}.get(word.decoder[3], 2)
+    size = {2: 4, 3: 2}.get(word.decoder[3], 8)
     return calls.Call(call, body_bytes(word.body, size), decoder=word.decoder)
+
+
+# ---- header names, indexes and writers: a call and its answer, as docs/VECTORS.md writes such
+
+# what the body behind a header of NAMES is, by encoding: two words of EVT2.1 are four of EVT2 and eight of EVT3
+NAMED_BODY = body_bytes('8000000100000000 1900280700000001', 8)
+NAMED_ANSWERS = {21: 'ok EVT21 6 8 1 : 100,5,7,1 | 0 :', 2: 'ok EVT2 6 8 2 : 64,0,1,0 100,5,7,1 | 0 :', 3: 'ok EVT3 8 1 1 : 0,7,0,1 | 0 :'}
+
+
+def names():
+    for text, encoding in cases21.NAMES:
+        yield calls.Call(calls.PARSE_HEADER, text.encode()), f'ok EVT{encoding} {len(text)} -' if encoding else 'refused 2'
+        yield calls.Call(calls.PARSE_HEADER, text.encode(), sized=1, width=7, height=0), 'refused 1' if encoding else 'refused 2'
+        yield calls.Call(calls.READ_RAW_TRIGGERS, text.encode() + NAMED_BODY, rooms=(2,) * 7), NAMED_ANSWERS.get(encoding, 'refused 2')
+
+
+def ends_of(query):
+    """Whether by time, and the ends as a call has them."""
+    kind, start, end = query.split(':')
+    return kind == 't', (int(start) % 2**64, int(end) % 2**64, 0, 0, 0, 0, 0, 0)
+
+
+def openings():
+    for head, body, size, spacing, records, query, rooms, answer in cases21.OPENINGS:
+        raw, (by_time, ends) = isinstance(head, str), ends_of(query)
+        kinds = (calls.OPEN_SLICE_INDEX, calls.OPEN_SLICE_TIME) if raw else (calls.OPEN_WORDS_SLICE_INDEX, calls.OPEN_WORDS_SLICE_TIME)
+        data, (width, height) = (head.encode('latin-1') if raw else b'') + body_bytes(body, 8), size or (0, 0)
+        yield calls.Call(kinds[by_time], data, 0 if raw else head, int(size is not None), width, height, max_events=spacing, decoder=ends,
+                         rooms=(rooms,) * 4 + (10 * records, 0, 0), fill=0xEE), answer
+
+
+def given_slices():
+    """Records of another encoding are given by their numbers, which is all that the C interface has."""
+    for source, records, body, query, rooms, answer in cases21.GIVEN:
+        by_time, ends = ends_of(query)
+        records = answers.records_of(records)
+        yield calls.Call(calls.SLICE_TIME if by_time else calls.SLICE_INDEX, body_bytes(body, 8), decoder=ends, rooms=(rooms,) * 4 + (0, 0, 0),
+                         source=calls.source_numbers(answers.source_of(source), len(records)), records=tuple(map(calls.record_numbers, records)),
+                         fill=0xEE), answer
+
+
+def appends():
+    for sink, events, room, answer in cases21.APPENDS:
+        events = [tuple(map(int, event.split(','))) for event in events.split()]
+        columns = calls.columns_of([(x, y, t, p) for t, x, y, p in events], 4)
+        yield calls.Call(calls.APPEND, width=64, height=48, sink=calls.sink_numbers(answers.sink_of(sink)), columns=tuple(columns),
+                         rooms=(0,) * 5 + (room, 0), fill=0xEE), answer
+
+
+def further():
+    """The name, the call and the answer of each."""
+    for name, entries in ('name21', names()), ('open21', openings()), ('slice21', given_slices()), ('append21', appends()):
+        for number, (call, answer) in enumerate(entries, 1):
+            yield f'{name}.{number}', call, answer
+
+
+def header_text(call):
+    return 'ok ' + answers.header_of(header.parse_header(call.data, calls.size_of(call)))
+
+
+def opening_text(call):
+    source, records = calls.model_opening(call)
+    return f'ok {answers.source_text(source, records)} | ' + answers.told(lambda: answers.slice_events(calls.model_slice(call, source, records)))
+
+
+def append_text(call):
+    """The header's lines as they are, the words as numbers, the writer."""
+    sink = calls.sink_of(call.sink)
+    try:
+        out, after = calls.model_append(call)
+    except Refused as refused:
+        return f'{answers.refusal_text(refused)} {answers.sink_text(sink)}'
+    start = header.header_lines(out)[1]
+    parts = [out[at:at + 8][::-1].hex().upper() for at in range(start, len(out), 8)]
+    return out[:start].decode() + ' '.join(parts + [answers.sink_text(after)])
+
+
+FURTHER_TEXT = {calls.PARSE_HEADER: header_text, calls.APPEND: append_text, **dict.fromkeys(calls.OPENINGS, opening_text),
+                **dict.fromkeys(calls.SLICES, lambda call: answers.slice_events(calls.given_slice(call)))}
 
 
 def numbered(entries):
@@ -400,6 +528,12 @@ def all_calls():
         yield name, call._replace(call=calls.DECODE)
     for name, after in numbered(AFTERS):
         yield name, word_call(after, calls.DECODER_AFTER)
+    for name, call, _ in further():
+        yield name, call
+    for encoding in 2, 3, 21, 0, 1, 20, 22, 2**32 - 1:
+        yield f'fresh {encoding}', calls.Call(calls.NEW_DECODER, encoding=encoding)
+        for flag in 0, 1, 255:
+            yield f'fresh {encoding}', calls.Call(calls.WRITER, encoding=encoding, sized=flag)
 
 
 def commas(values):
@@ -418,9 +552,11 @@ def model_answer(call):
             return f'{commas(trigger) if trigger else "-"} {commas(decoder.fields())}'
         if call.call == calls.DECODER_AFTER:
             return commas(words.decoder_after(call.decoder, call.data).fields())
+        if call.call in FURTHER_TEXT:
+            return FURTHER_TEXT[call.call](call)
         r = calls.model_reading(call)
     except Refused as refused:
-        return f'refused {refused.number}' + (f' {refused.told}' if refused.number in (5, 13) else '')
+        return answers.refusal_text(refused)
     parts = [f'ok EVT{r.encoding} {r.width} {r.height} {len(r.events)} :'] + [commas((t, x, y, p)) for x, y, t, p in r.events]
     return ' '.join(parts + [f'| {len(r.triggers)} :'] + [commas(trigger) for trigger in r.triggers])
 
@@ -429,11 +565,12 @@ def check():
     """Every case for which the model's answer isn't the written one."""
     listed = [(case, call_of(case), case.answer) for case in CASES] + [(word, word_call(word), word_answer(word)) for word in WORDS]
     listed += [(after, word_call(after, calls.DECODER_AFTER), commas(after.after)) for after in AFTERS]
+    listed += [(f'{name}\n{calls.call_text(call)}\n  written: {answer}', call, answer) for name, call, answer in further()]
     return [(entry, model_answer(call)) for entry, call, answer in listed if model_answer(call) != answer]
 
 
 def told():
-    return f'{len(CASES)} listed readings, {len(WORDS)} words and {len(AFTERS)} lists of words'
+    return f'{len(CASES)} listed readings, {len(WORDS)} words, {len(AFTERS)} lists of words and {len(list(further()))} headers, indexes and appends'
 
 
 if __name__ == '__main__':

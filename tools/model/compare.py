@@ -67,19 +67,33 @@ def lower(value):
     return [v for v in (0, value // 2, value - 1) if 0 <= v < value]
 
 
+def lowered(values):
+    """The numbers with one of them lower."""
+    for at, value in enumerate(values):
+        for v in lower(value):
+            yield values[:at] + (v,) + values[at + 1:]
+
+
 def smaller(call):
     for data in shorter(call.data):
         if call.zeros == 0:
             yield call._replace(data=data)
+    for at in range(max(map(len, call.columns), default=0)):
+        yield call._replace(columns=tuple(column[:at] + column[at + 1:] for column in call.columns))
+    if call.records:
+        yield call._replace(records=call.records[:-1])
     for name in 'sized', 'limited', 'width', 'height', 'max_events', 'fill', 'zeros':
         for value in lower(getattr(call, name)):
             if name != 'zeros' or value == 0:   # a recording that is read is held whole
                 yield call._replace(**{name: value})
-    for name in 'rooms', 'decoder':
-        values = getattr(call, name)
-        for at, value in enumerate(values):
-            for v in lower(value):
-                yield call._replace(**{name: values[:at] + (v,) + values[at + 1:]})
+    for name in 'rooms', 'decoder', 'source', 'sink':
+        for values in lowered(getattr(call, name)):
+            yield call._replace(**{name: values})
+    for name in 'records', 'columns':
+        of = getattr(call, name)
+        for at, values in enumerate(of):
+            for some in lowered(values):
+                yield call._replace(**{name: of[:at] + (some,) + of[at + 1:]})
 
 
 def smallest(driver, call):
@@ -120,27 +134,33 @@ def meets_13(call, number):
 
 class Tally:
     def __init__(self):
-        self.calls, self.refused, self.events, self.triggers, self.with_triggers, self.meetings, self.ends = (Counter() for _ in range(7))
+        self.calls, self.refused, self.events, self.triggers, self.with_triggers, self.meetings, self.headers, self.encodings = (
+            Counter() for _ in range(8))
 
     def add(self, call, expected):
-        name, number = calls.NAMES[call.call], expected[0]
-        if call.call in calls.SLICES:
-            number = number or expected[calls.OPENING.size]
+        name, number = calls.NAMES[call.call], calls.refusal_of(call, expected)
         self.calls[name] += 1
-        if call.call in calls.WITH_HEADER and header.has_end_line(call.data):
-            self.ends['all'] += 1
-            self.ends['percent'] += header.percent_behind_end(call.data)
+        if call.call in calls.WITH_HEADER:
+            self.headers['end'] += header.has_end_line(call.data)
+            self.headers['percent'] += header.percent_behind_end(call.data)
+            self.headers['evt21'] += header.names_evt21(call.data)
         if number:
             self.refused[name, number] += 1
             if number in (1, 5) and call.call in (calls.READ_RAW_TRIGGERS, calls.DECODE_WORDS_TRIGGERS) and meets_13(call, number):
                 self.meetings[number] += 1
-        elif call.call in calls.READINGS:
+            return
+        self.encodings[name, calls.encoding_of(call, expected)] += 1
+        if call.call in calls.READINGS:
             count, triggers = calls.READING.unpack_from(expected)[5:]
             self.events[name] += count
             self.triggers[name] += triggers
             self.with_triggers[name] += triggers > 0
-        elif call.call in calls.SLICES:
+        elif call.call in calls.OPENINGS:
             self.events[name] += calls.SLICE.unpack_from(expected, calls.OPENING.size)[2]
+        elif call.call in calls.SLICES:
+            self.events[name] += calls.SLICE.unpack_from(expected)[2]
+        elif call.call == calls.APPEND:
+            self.events[name] += len(call.columns[0])
         elif call.call == calls.DECODE:
             self.events[name] += (len(expected) - calls.NO_EVENT) // calls.EVENT.size
         elif call.call == calls.WORD_TRIGGER:
@@ -148,16 +168,18 @@ class Tally:
             self.with_triggers[name] += expected[4]
 
     def show(self):
-        print('| calls of | calls | accepted (with a trigger) | refused, by number | events | triggers |\n|---|---|---|---|---|---|')
+        print('| calls of | calls | accepted (with a trigger) | of EVT2, EVT3, EVT2.1 | refused, by number | events | triggers |\n|' + '---|' * 7)
         for name in calls.NAMES:
             if self.calls[name]:
                 numbers = sorted((number, n) for (of, number), n in self.refused.items() if of == name)
                 accepted = self.calls[name] - sum(n for _, n in numbers)
                 told = ', '.join(f'{number}: {n:,}' for number, n in numbers)
-                print(f'| {name} | {self.calls[name]:,} | {accepted:,} ({self.with_triggers[name]:,}) | {told} |'
+                each = ', '.join(f'{self.encodings[name, encoding]:,}' for encoding in (2, 3, 21))
+                print(f'| {name} | {self.calls[name]:,} | {accepted:,} ({self.with_triggers[name]:,}) | {each} | {told} |'
                       f' {self.events[name]:,} | {self.triggers[name]:,} |')
         print(f'refusal 5 where 13 applies as well: {self.meetings[5]:,}; refusal 1 where it does: {self.meetings[1]:,}')
-        print(f'calls with an end line in the header: {self.ends["all"]:,}, with a % behind it: {self.ends["percent"]:,}')
+        print(f'calls with an end line in the header: {self.headers["end"]:,}, with a % behind it: {self.headers["percent"]:,};'
+              f' with a header that names EVT2.1: {self.headers["evt21"]:,}')
 
 
 def framed(answers):

@@ -1,8 +1,9 @@
 /* Makes the calls that it is told on standard input and tells what they gave on standard output, for
  * tools/model/compare.py. Both are in batches: the number of bytes that follow, in 32 bits, then these bytes. A batch
- * in is requests, each a `struct request` and the bytes of the recording; a batch out is an answer for each, its length
- * in 32 bits and then its numbers without padding, in the order of the `put` below. A column is told in full, as long
- * as it was lent. tools/model/calls.py has the same layouts. */
+ * in is requests, each a `struct request`, the bytes of the recording, and what else the call is given: of a slice its
+ * source and records, of an append its writer and columns. A batch out is an answer for each, its length in 32 bits and
+ * then its numbers without padding, in the order of the `put` below. A column is told in full, as long as it was lent.
+ * tools/model/calls.py has the same layouts. The encodings are numbers here like any others. */
 #define _DEFAULT_SOURCE
 #include "prophesee_raw.h"
 
@@ -22,7 +23,14 @@ enum {
     DECODER_AFTER,
     WORD_TRIGGER,
     OPEN_SLICE_INDEX,
-    OPEN_SLICE_TIME
+    OPEN_SLICE_TIME,
+    OPEN_WORDS_SLICE_INDEX,
+    OPEN_WORDS_SLICE_TIME,
+    SLICE_INDEX,
+    SLICE_TIME,
+    APPEND,
+    WRITER,
+    NEW_DECODER
 };
 
 #define COLUMNS 7
@@ -37,13 +45,16 @@ struct request {
     uint64_t width, height, max_events; /* of an opening: the spacing in place of max_events */
     uint64_t zeros; /* bytes 0 behind those given */
     prophesee_decoder decoder; /* of a slice: its ends in place of the first two numbers */
-    uint32_t rooms[COLUMNS]; /* places lent: x, y, t, p, trigger time, id, value; of an opening the fifth is records, 10 places each */
+    /* places lent: x, y, t, p, trigger time, id, value; of an index the fifth is records, 10 places each; of an append the
+     * first four are what it appends, and the sixth is its output */
+    uint32_t rooms[COLUMNS];
     uint32_t encoding;
     uint32_t given; /* bytes of the recording that follow */
-    uint8_t call, sized, limited;
+    uint32_t more; /* bytes behind these */
+    uint8_t call, sized, limited; /* of a fresh writer: whether it sends a header in place of `sized` */
     uint8_t fill; /* every byte of a column beforehand; an odd one lends NULL for what is empty */
 };
-_Static_assert(sizeof(struct request) == 112, "as calls.py packs it");
+_Static_assert(sizeof(struct request) == 120, "as calls.py packs it");
 
 static const size_t sizes[COLUMNS] = {2, 2, 8, 1, 8, 1, 1};
 
@@ -159,6 +170,13 @@ static int canaries_altered(const struct request *r)
     return altered;
 }
 
+/* What a column holds before the call, in place of the fill. */
+static const uint8_t *given_column(const struct request *r, int i, const uint8_t *from)
+{
+    memcpy(columns[i], from, column_bytes(r, i));
+    return from + column_bytes(r, i);
+}
+
 /* ---- the calls */
 
 #define LENT(i) lent_columns[i], r->rooms[i]
@@ -214,24 +232,61 @@ static void put_decoder_after(const struct request *r)
     PUT(a.refusal), put_decoder(a.decoder);
 }
 
-/* The index of a recording, and a slice of it if there is one. */
-static void put_slice(const struct request *r)
+static prophesee_slice slice(const struct request *r, prophesee_source source, int by_time)
+{
+    const prophesee_record *records = lent_columns[4];
+    size_t lent = r->rooms[4] / 10;
+    uint64_t from = r->decoder.time_base, to = r->decoder.time;
+    return by_time ? prophesee_slice_time(recording, recording_len, source, records, lent, from, to, EVENT_COLUMNS)
+                   : prophesee_slice_index(recording, recording_len, source, records, lent, from, to, EVENT_COLUMNS);
+}
+
+static void put_slice(prophesee_slice a)
+{
+    PUT(a.refusal), PUT(a.told), PUT(a.count);
+}
+
+/* The index of a recording or of words, and a slice of it if there is one. */
+static void put_opening(const struct request *r, int words, int by_time)
 {
     prophesee_open_options options = {r->width, r->height, r->max_events, r->sized};
     prophesee_record *records = lent_columns[4];
     size_t lent = r->rooms[4] / 10;
-    prophesee_opening o = prophesee_open(recording, recording_len, records, lent, options);
-    prophesee_slice a = {0};
-    if (o.refusal == 0 && r->call == OPEN_SLICE_INDEX)
-        a = prophesee_slice_index(recording, recording_len, o.source, records, lent, r->decoder.time_base, r->decoder.time, EVENT_COLUMNS);
-    else if (o.refusal == 0)
-        a = prophesee_slice_time(recording, recording_len, o.source, records, lent, r->decoder.time_base, r->decoder.time, EVENT_COLUMNS);
+    prophesee_opening o = words ? prophesee_open_words(recording, recording_len, r->encoding, records, lent, options)
+                                : prophesee_open(recording, recording_len, records, lent, options);
+    prophesee_slice none = {0};
     PUT(o.refusal), PUT(o.told), PUT(o.source.records), PUT(o.source.spacing), PUT(o.source.data_offset), PUT(o.source.len);
     PUT(o.source.width), PUT(o.source.height), PUT(o.source.n_events), PUT(o.source.encoding);
-    PUT(a.refusal), PUT(a.told), PUT(a.count);
+    put_slice(o.refusal == 0 ? slice(r, o.source, by_time) : none);
 }
 
-static void call(const struct request *r)
+/* A slice of an index that is given, its numbers any. */
+static void put_given_slice(const struct request *r, const uint8_t *more, int by_time)
+{
+    prophesee_source source;
+    memcpy(&source, more, sizeof source);
+    given_column(r, 4, more + sizeof source);
+    put_slice(slice(r, source, by_time));
+}
+
+static void put_sink(prophesee_sink s)
+{
+    PUT(s.n_events), PUT(s.last_t), PUT(s.time_high), PUT(s.time_low), PUT(s.y), PUT(s.encoding);
+    PUT(s.header_written), PUT(s.has_last_t), PUT(s.has_time_high), PUT(s.has_time_low), PUT(s.has_y);
+}
+
+static void put_appended(const struct request *r, const uint8_t *more)
+{
+    prophesee_sink sink;
+    memcpy(&sink, more, sizeof sink);
+    more += sizeof sink;
+    for (int i = 0; i < 4; i++)
+        more = given_column(r, i, more);
+    prophesee_appended a = prophesee_append(sink, r->width, r->height, EVENT_COLUMNS, LENT(5));
+    PUT(a.refusal), PUT(a.told), PUT(a.written), put_sink(a.sink);
+}
+
+static void call(const struct request *r, const uint8_t *more)
 {
     prophesee_options options = {r->width, r->height, r->max_events, r->sized, r->limited};
     switch (r->call) {
@@ -244,7 +299,14 @@ static void call(const struct request *r)
     case DECODE: put_decoded(r); break;
     case DECODER_AFTER: put_decoder_after(r); break;
     case OPEN_SLICE_INDEX:
-    case OPEN_SLICE_TIME: put_slice(r); break;
+    case OPEN_SLICE_TIME: put_opening(r, 0, r->call == OPEN_SLICE_TIME); break;
+    case OPEN_WORDS_SLICE_INDEX:
+    case OPEN_WORDS_SLICE_TIME: put_opening(r, 1, r->call == OPEN_WORDS_SLICE_TIME); break;
+    case SLICE_INDEX:
+    case SLICE_TIME: put_given_slice(r, more, r->call == SLICE_TIME); break;
+    case APPEND: put_appended(r, more); break;
+    case WRITER: put_sink(prophesee_writer(r->encoding, r->sized)); break;
+    case NEW_DECODER: put_decoder(prophesee_new_decoder(r->encoding)); break;
     default: stop("no such call");
     }
 }
@@ -256,7 +318,7 @@ static void answer(const struct request *r, const uint8_t *given)
     PUT(length);
     lend_recording(r, given);
     lend_columns(r);
-    call(r);
+    call(r, given + r->given);
     uint8_t altered = recording_altered(r, given) | canaries_altered(r);
     PUT(altered);
     for (int i = 0; i < COLUMNS; i++)
@@ -286,7 +348,7 @@ int main(void)
             struct request r;
             memcpy(&r, batch + at, sizeof r);
             answer(&r, batch + at + sizeof r);
-            at += sizeof r + r.given;
+            at += sizeof r + r.given + r.more;
         }
         uint32_t told = out_len;
         if (fwrite(&told, sizeof told, 1, stdout) != 1 || fwrite(out, 1, out_len, stdout) != out_len || fflush(stdout))

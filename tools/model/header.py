@@ -72,11 +72,10 @@ def geometry(value, size):
 
 
 def encoding_of(form, evt):
-    """EVT3 if format begins `evt3` or evt begins `3`; else EVT2 for `evt2` or `2`; None if neither names one."""
-    if form.startswith(b'evt3') or evt.startswith(b'3'):
-        return 3
-    if form.startswith(b'evt2') or evt.startswith(b'2'):
-        return 2
+    """EVT3 if format begins `evt3` or evt begins `3`; else EVT2.1 for `evt21` or `2.1`; else EVT2 for `evt2` or `2`; None if neither names one."""
+    for number, of_format, of_evt in (3, b'evt3', b'3'), (21, b'evt21', b'2.1'), (2, b'evt2', b'2'):
+        if form.startswith(of_format) or evt.startswith(of_evt):
+            return number
     return None
 
 
@@ -92,6 +91,11 @@ def header_values(lines):
         elif key == b'geometry':
             size = geometry(value, size)
     return encoding_of(form, evt), size
+
+
+def names_evt21(data):
+    """The Rust original takes EVT 2.1 for EVT2: of recordings whose header names it, it is no reference."""
+    return header_values(header_lines(data)[0])[0] == 21
 
 
 def check_size(size):

@@ -12,8 +12,9 @@ Source = namedtuple('Source', 'encoding spacing start length width height events
 Record = namedtuple('Record', 'offset events time decoder')
 
 
-def check_spacing(spacing):
-    if spacing % 4 or not 4 <= spacing <= 4194304:
+def check_spacing(spacing, encoding):
+    """8: no multiple of 4, in EVT2.1 none of 8, or outside 4..4,194,304. The encoding may be none that is known, which comes later (10)."""
+    if spacing % (8 if encoding == 21 else 4) or not 4 <= spacing <= 4194304:
         raise Refused(8)
 
 
@@ -23,7 +24,7 @@ def inside(event, size):
 
 def index_body(encoding, data, start, size, spacing, room):
     """8, 9, 1 for no event. Record j stands at body start + j * spacing; there are max(1, body / spacing rounded up)."""
-    check_spacing(spacing)
+    check_spacing(spacing, encoding)
     body = data[start:]
     need = max(1, -(-len(body) // spacing))
     if need > room:
@@ -48,9 +49,9 @@ def open_raw(data, size, spacing, room, zeros=0):
     return index_body(header.encoding, data, header.body, header.size, spacing, room)
 
 
-def open_words(data, encoding, size, spacing, room):
+def open_words(data, encoding, size, spacing, room, zeros=0):
     """Words without a header: 4, 2 for an unknown encoding, 1 for a zero size, 8, 9, 1 for no event."""
-    check_length(data, 0)
+    check_length(data, zeros)
     if encoding not in DECODERS:
         raise Refused(2)
     check_size(size)
@@ -72,11 +73,11 @@ def check_records(source, records):
         count, time = record.events, record.time
 
 
-def check_index(data, source, records):
+def check_index(data, source, records, zeros):
     """4, 1, 8, 10."""
-    check_length(data, 0)
+    check_length(data, zeros)
     check_size((source.width, source.height))
-    check_spacing(source.spacing)
+    check_spacing(source.spacing, source.encoding)
     check_records(source, records)
 
 
@@ -98,9 +99,9 @@ def handed(events, rooms):
     return events
 
 
-def slice_index(data, source, records, i0, i1, rooms):
+def slice_index(data, source, records, i0, i1, rooms, zeros=0):
     """From the last record whose count is at most the clamped start, or else from the first; numbers go on from its count."""
-    check_index(data, source, records)
+    check_index(data, source, records, zeros)
     i0 = min(i0, source.events)
     i1 = max(i0, min(i1, source.events))
     record = last_or_first(records, lambda r: r.events <= i0)
@@ -116,9 +117,9 @@ def slice_index(data, source, records, i0, i1, rooms):
     return handed(found, rooms)
 
 
-def slice_time(data, source, records, t0, t1, rooms):
+def slice_time(data, source, records, t0, t1, rooms, zeros=0):
     """From the last record whose time is below t0, or else from the first, through the first word with the decoder started and its time >= t1."""
-    check_index(data, source, records)
+    check_index(data, source, records, zeros)
     record = last_or_first(records, lambda r: r.time < t0)
     found = []
     for decoder, events in words_from(data, record):

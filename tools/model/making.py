@@ -1,10 +1,11 @@
-"""Random cases: recordings with headers and without, good and damaged ones, and single words; the calls that each case makes."""
+"""Random cases: recordings with headers and without, good and damaged ones, indexes, writers, and single words; the calls that each case makes."""
 import random
 
 import calls
 import header
 import index
 import reading
+import writer
 from refusal import Refused
 from words import DECODERS
 
@@ -12,9 +13,20 @@ HUGE = 2**64 - 1
 KINDS = {
     2: ['0118', '01018A', '0000111188A', '8A', 'AAA018', '01A', '0123456789ABCDEF'],
     3: ['0226688', '0226A68', '345458A', '34444A55', '0268A', 'AAA268', '68A', '0123456789ABCDEF'],
+    21: ['0118', '01018A', '0000111188AE', '8A', 'AAA018', '01A', '0123456789ABCDEF'],
 }
-FORMATS = ['EVT3', 'EVT2', 'evt3', 'evt2', 'Evt3;height=720;width=1280', 'EVT21', 'EVT2.1', 'EVT', 'evt4', '', '3', '2', 'EVT 3', '%evt3', 'xevt3']
-VERSIONS = ['3', '2', '3.0', '2.0', '2.1', '30', '23', '4', '', '+3', 'evt3', '03', '3 2']
+# fields of an event's word that a small sensor divides, and all of them
+SMALL = {2: 63 << 22 | 15 << 11 | 15, 3: 0x80F, 21: 63 << 54 | 79 << 43 | 15 << 32 | 2**32 - 1}
+NAMED = {   # lines that name the encoding
+    2: ['% format EVT2\n', '% evt 2.0\n', '%evt 2\n', '% FORMAT evt2\r\n', '% format EVT2.1\n', '% evt 21\n', '% format evt2;x=21\n'],
+    3: ['% format EVT3\n', '% evt 3.0\n', '%evt 3\n', '% FORMAT evt3\r\n', '% format EVT21\n% evt 3\n', '% evt 2.1\n% format EVT3\n'],
+    21: ['% format EVT21\n', '% evt 2.1\n', '%evt 2.1\n', '% FORMAT evt21\r\n', '% evt 2.10\n', '% format Evt21;height=720;width=1280\n',
+         '% format EVT2\n% evt 2.1\n', '% evt 2.0\n% format EVT21\n', '% format EVT4\n%EVT 2.1 beta\n', '% evt 3\n% evt 2.1\n'],
+}
+FORMATS = ['EVT3', 'EVT2', 'evt3', 'evt2', 'Evt3;height=720;width=1280', 'EVT21', 'EVT21', 'evt21;x', 'eVt210', 'EVT2.1', 'EVT 21', 'EVT', 'evt4', '',
+           '3', '2', '21', '2.1', 'EVT 3', '%evt3', 'xevt3']
+VERSIONS = ['3', '2', '3.0', '2.0', '2.1', '2.1', '2.10', '2.1.0', '2.', '2,1', '2 .1', '21', '30', '23', '4', '', '+3', '+2.1', 'evt3', 'evt2.1', '03',
+            '02.1', '3 2']
 NUMBERS = ['64', '48', '16', '8', '1280', '720', '2048', '1', '10', '65536',
            '0', '00', '+7', '+0', '+', '-1', '', '++1', '0012', str(HUGE), str(HUGE + 1), '9' * 30, '1 2', '12a', '0x10', '0' * 30 + '9']
 BETWEEN = ['x', 'x', 'x', 'x', 'X', ' x ', ' X', 'x\t', '', 'xx', 'Xx', 'xX', '*']
@@ -62,7 +74,7 @@ def header_bytes(rng, encoding):
     """Most name the encoding, many have an end line, some are odd or damaged."""
     lines = [header_line(rng) for _ in range(rng.choice([0, 0, 0, 1, 1, 2, 3]))] if chance(rng, 50) else []
     if chance(rng, 92):
-        lines.insert(rng.randrange(len(lines) + 1), rng.choice(['% format EVT{}\n', '% evt {}.0\n', '%evt {}\n', '% FORMAT evt{}\r\n']).format(encoding))
+        lines.insert(rng.randrange(len(lines) + 1), rng.choice(NAMED[encoding]))
     if chance(rng, 25):
         lines.append(f'% geometry {rng.choice(NUMBERS[:11])}x{rng.choice(NUMBERS[:10])}\n')
     if chance(rng, 50):
@@ -90,18 +102,31 @@ def next_coarse(rng, former, units, threshold):
     return rng.choice([0, 1, 10, units - 1, units - 2, rng.randrange(units)])
 
 
+def mask_bits(rng):
+    """Of EVT 2.1: often no bit at all, one, the first or the last, few, or all."""
+    draw = rng.randrange(10)
+    if draw < 2:
+        return 0
+    if draw < 5:
+        return 1 << rng.choice([0, 31, rng.randrange(32)])
+    return 2**32 - 1 if draw == 5 else rng.getrandbits(32) & rng.getrandbits(32) & (rng.getrandbits(32) if draw < 9 else 2**32 - 1)
+
+
 def word_bytes(rng, encoding, count, starts=85):
     """`starts`: how many of 100 begin with a type 8 word. `small`: coordinates that a small sensor divides."""
     decoder, kinds = DECODERS[encoding], [int(letter, 16) for letter in rng.choice(KINDS[encoding])]
-    bits = decoder.SIZE * 8 - 4
-    units, threshold = 1 << bits, -(-decoder.THRESHOLD // decoder.UNIT)
-    small = (1 << bits) - 1 if chance(rng, 40) else 0xFC0780F if encoding == 2 else 0x80F
+    bits, below = decoder.SIZE * 8 - 4, 32 if encoding == 21 else 0     # bits below the coarse time, which mean nothing
+    units, threshold = decoder.PERIOD // decoder.UNIT, -(-decoder.THRESHOLD // decoder.UNIT)
+    small = (1 << bits) - 1 if chance(rng, 40) else SMALL[encoding]
     coarse, first, out = rng.choice([0, 1, units - 1, rng.randrange(units)]), chance(rng, starts), []
     for number in range(count):
         kind = 8 if number == 0 and first else rng.choice(kinds)
         low = rng.getrandbits(bits)
         if kind == 8:
-            coarse = low = next_coarse(rng, coarse, units, threshold)
+            coarse = next_coarse(rng, coarse, units, threshold)
+            low = coarse << below | rng.choice([0, low % (1 << below)])
+        elif encoding == 21 and kind in (0, 1):
+            low = (low & small) >> 32 << 32 | mask_bits(rng)
         elif kind in (0, 1, 2, 3) and (encoding == 2 or kind != 1):
             low &= small
         elif encoding == 3 and kind in (4, 5) and chance(rng, 50):
@@ -137,7 +162,7 @@ def body_bytes(rng, encoding):
     if chance(rng, 12):
         data = damaged(rng, data)
     if chance(rng, 8):
-        data += bytes(rng.getrandbits(8) for _ in range(rng.randrange(1, 4)))   # a broken last word
+        data += bytes(rng.getrandbits(8) for _ in range(rng.randrange(1, DECODERS[encoding].SIZE)))   # a broken last word
     return data
 
 
@@ -148,7 +173,7 @@ def size_fields(rng, events):
     if chance(rng, 40):
         return (0, 0, 0) if chance(rng, 70) else (0, rng.choice([0, 5, HUGE]), rng.choice([0, 5, HUGE]))
     x, y = rng.choice(events)[1][:2] if events else (3, 4)
-    width = rng.choice([x, x + 1, 8, 16, 1024, 2048, 65536, HUGE])
+    width = rng.choice([x, x + 1, 8, 16, 40, 1024, 2048, 2060, 2079, 65536, HUGE])
     height = rng.choice([y + 1, y + 1, y, 8, 16, 1024, 2048, HUGE])
     if chance(rng, 4):
         width, height = rng.choice([(0, height), (width, 0), (0, 0)])
@@ -192,7 +217,7 @@ def setting(rng, encoding, body, header_size):
     limited, most = limit_fields(rng, len(events))
     events, triggers = reading.limited(events, triggers, most if limited else None)
     count = len(body) // DECODERS[encoding].SIZE
-    rooms = lengths(rng, len(events), count * (12 if encoding == 3 else 1), 4) + lengths(rng, len(triggers), count, 3)
+    rooms = lengths(rng, len(events), count * DECODERS[encoding].MOST_EVENTS, 4) + lengths(rng, len(triggers), count, 3)
     return dict(sized=sized, width=width, height=height, limited=limited, max_events=most, rooms=tuple(rooms))
 
 
@@ -208,30 +233,41 @@ def readings(rng, data, encoding, body, header_size, kinds, named):
         yield calls.Call(kinds[1], data, named, rooms=rooms, fill=fill, **fields)
 
 
+def any_encoding(rng):
+    return rng.choice([2, 3, 21, 21])
+
+
 def recording_bytes(rng):
-    encoding = rng.choice([2, 3])
-    front, body = header_bytes(rng, encoding), body_bytes(rng, encoding)
+    """Seldom with the words of another encoding than the header names."""
+    encoding = any_encoding(rng)
+    front, body = header_bytes(rng, encoding), body_bytes(rng, encoding if chance(rng, 95) else any_encoding(rng))
     if header.has_end_line(front) and chance(rng, 40):
         body = b'%' + body[1:]  # the low byte of the first word
     data = front + body
     return damaged(rng, data) if chance(rng, 3) else data
 
 
-def raw_case(rng):
-    data = recording_bytes(rng)
+def headed(rng, data):
+    """The header and readings of a recording."""
     try:
         h = header.parse_header(data, (1, 1))
         h = h._replace(size=header.header_values(header.header_lines(data)[0])[1])
         encoding, body, size = h.encoding, data[h.body:], h.size
     except Refused:
         encoding, body, size = None, b'', None
-    made = list(readings(rng, data, encoding, body, size, (calls.READ_RAW, calls.READ_RAW_TRIGGERS), rng.choice([0, 2, 3])))
+    made = list(readings(rng, data, encoding, body, size, (calls.READ_RAW, calls.READ_RAW_TRIGGERS), rng.choice([0, 2, 3, 21])))
     return [made[0]._replace(call=calls.PARSE_HEADER, rooms=(0,) * 7)] + made
 
 
+def raw_case(rng):
+    return headed(rng, recording_bytes(rng))
+
+
+# ---- indexes and slices
+
 def ends(rng, source, records, by_time):
     """The ends of a slice: at the records' counts or times and beside them, extreme ones, in both orders."""
-    numbers = [r.time for r in records] + [r.decoder[1] for r in records] if by_time else [r.events for r in records] + [source.events]
+    numbers = [0] + [r.time for r in records] + [r.decoder[1] for r in records] if by_time else [source.events] + [r.events for r in records]
     found = [rng.choice([rng.choice(numbers) + rng.randrange(-1, 2), rng.choice(numbers), 0, 2**63 - 1]) for _ in range(2)]
     if chance(rng, 85):
         found.sort()
@@ -240,44 +276,218 @@ def ends(rng, source, records, by_time):
     return [end % 2**64 for end in found]
 
 
-def index_case(rng):
-    """A recording opened, and slices of its index."""
-    data = recording_bytes(rng)
-    spacing = rng.choice([4, 4, 4, 8, 8, 12, 16, 64, 128, 65536, 4194304]) if chance(rng, 95) else rng.choice([0, 2, 3, 6, 4194308, HUGE])
-    made = []
+def any_spacing(rng):
+    """8 is the least of EVT 2.1, and 4 and 12 are none of its."""
+    return rng.choice([4, 4, 8, 8, 8, 12, 16, 24, 64, 128, 65536, 4194304]) if chance(rng, 95) else rng.choice([0, 2, 3, 6, 10, 4194300, 4194308, HUGE])
+
+
+def found_by(rng, data, source, records, by_time):
+    """The ends of a slice, and columns for it."""
+    start, end = ends(rng, source, records, by_time)
+    cut = index.slice_time if by_time else index.slice_index
+    wanted = [calls.signed(n) for n in (start, end)] if by_time else (start, end)
+    return start, end, lengths(rng, len(cut(data, source, records, *wanted, (HUGE,))), 0, 4)
+
+
+def openings(rng, data, named=None):
+    """A recording opened, or words of the encoding that is named, and slices of its index."""
+    spacing, made = any_spacing(rng), []
     for by_time in False, True, rng.choice([False, True]):
-        sized, width, height = size_fields(rng, [(0, (rng.choice([5, 2047]), rng.choice([5, 2047])))])
+        sized, width, height = size_fields(rng, [(0, (rng.choice([5, 40, 2047]), rng.choice([5, 2047])))])
         fields = dict(sized=sized, width=width, height=height, max_events=spacing, fill=rng.choice([0, 1, 0xEE, 0xEF, 0xFF]))
+        size = (width, height) if sized else None
         try:
-            source, records = index.open_raw(data, (width, height) if sized else None, spacing, HUGE)
-            lent = max(0, len(records) + rng.choice([0, 0, 0, 0, 1, 3, 3, -1]))
-            start, end = ends(rng, source, records, by_time)
-            cut = index.slice_time if by_time else index.slice_index
-            wanted = [calls.signed(n) for n in (start, end)] if by_time else (start, end)
-            rooms = lengths(rng, len(cut(data, source, records, *wanted, (HUGE,))), 0, 4)
+            opened = index.open_raw(data, size, spacing, HUGE) if named is None else index.open_words(data, named, size, spacing, HUGE)
+            lent = max(0, len(opened[1]) + rng.choice([0, 0, 0, 0, 1, 3, 3, -1]))
+            start, end, rooms = found_by(rng, data, *opened, by_time)
         except Refused:
             lent, start, end, rooms = rng.randrange(4), 0, rng.choice([1, HUGE]), [rng.randrange(4) for _ in range(4)]
         if chance(rng, 0.3):
             fields['zeros'] = 2**30 + 1 - len(data)
-        kind = calls.OPEN_SLICE_TIME if by_time else calls.OPEN_SLICE_INDEX
-        made.append(calls.Call(kind, data, rooms=(*rooms, 10 * lent, 0, 0), decoder=(start, end, 0, 0, 0, 0, 0, 0), **fields))
+        kind = (calls.OPEN_SLICE_INDEX, calls.OPEN_SLICE_TIME) if named is None else (calls.OPEN_WORDS_SLICE_INDEX, calls.OPEN_WORDS_SLICE_TIME)
+        made.append(calls.Call(kind[by_time], data, named or 0, rooms=(*rooms, 10 * lent, 0, 0), decoder=(start, end, 0, 0, 0, 0, 0, 0), **fields))
     return made
 
+
+def index_case(rng):
+    if chance(rng, 60):
+        return openings(rng, recording_bytes(rng))
+    encoding = any_encoding(rng)
+    return openings(rng, body_bytes(rng, encoding), encoding if chance(rng, 95) else rng.choice([0, 1, 2, 3, 4, 21, 2**32 - 1]))
+
+
+def spoiled_index(rng, source, records):
+    """An index with a few things altered: the encoding, which is that of all records, a record's decoder, also one of another encoding, counts,
+    times, places, how many records there are, the total, the size."""
+    for _ in range(rng.choice([1, 1, 1, 2, 3])):
+        draw, at = rng.randrange(14), rng.randrange(len(records)) if records else 0
+        if draw < 3:
+            source = source._replace(encoding=rng.choice([2, 3, 21, 21, 0, 1, 4, 7, 2**32 - 1]))
+        elif draw < 6 and records:
+            fields = decoder_fields(rng, rng.choice([source.encoding, 2, 3, 21]) if source.encoding in DECODERS else 21)
+            fields = spoiled(rng, fields) if chance(rng, 30) else fields
+            records = records[:at] + [records[at]._replace(decoder=tuple(fields))] + records[at + 1:]
+        elif draw == 6 and records:
+            name = rng.choice(['offset', 'events', 'time'])
+            value = getattr(records[at], name) + rng.choice([1, -1, 4, 8, -8, 64, 2**33, 2**63])
+            records = records[:at] + [records[at]._replace(**{name: value})] + records[at + 1:]
+        elif draw == 7:
+            more = rng.choice([1, 5, 2**33])
+            records = records[:at] + [r._replace(events=r.events + more) for r in records[at:]]
+            source = source._replace(events=(source.events + rng.choice([0, more, more + 2])) % 2**64)
+        elif draw == 8:
+            records = records[:at] + [r._replace(time=r.time + 70) for r in records[at:]]
+        elif draw == 9:
+            records = records[:rng.randrange(len(records) + 1)]
+        elif draw == 10:
+            spacing = any_spacing(rng)
+            source = source._replace(spacing=spacing)
+            records = [r._replace(offset=source.start + j * spacing) for j, r in enumerate(records)]
+        elif draw == 11:
+            source = source._replace(width=rng.choice([0, 1, 33, 2047, HUGE]), height=rng.choice([0, 9, 2047, HUGE]))
+        elif draw == 12:
+            start = rng.choice([0, 1, 8, source.start + 1, 2**64 - 64])
+            source = source._replace(start=start)
+            records = [r._replace(offset=start + j * source.spacing) for j, r in enumerate(records)]
+        else:
+            source = source._replace(events=rng.choice([0, source.events + 1, source.events - 1, HUGE]) % 2**64)
+    return source, [calls.record_of([n % 2**64 for n in calls.record_numbers(r)], source.encoding) for r in records]
+
+
+def altered_case(rng):
+    """Slices of an index that opening didn't make just so, or over another recording."""
+    encoding, spacing = any_encoding(rng), rng.choice([8, 8, 16, 24, 64])
+    data = body_bytes(rng, encoding)
+    source, records = index.open_words(data, encoding, rng.choice([(2048, 2048), (40, 9), (2079, 2048)]), spacing, HUGE)
+    if chance(rng, 85):
+        source, records = spoiled_index(rng, source, records)
+    lent = data if chance(rng, 60) else rng.choice([data[:rng.randrange(len(data) + 1)], damaged(rng, data), body_bytes(rng, any_encoding(rng))])
+    made = []
+    for by_time in False, True:
+        told = len(records) + (rng.choice([-1, 1, 2**63]) if chance(rng, 6) else 0)
+        try:
+            start, end, rooms = found_by(rng, lent, source, records, by_time)
+        except Refused:
+            start, end, rooms = 0, rng.choice([1, HUGE]), [rng.randrange(4) for _ in range(4)]
+        made.append(calls.Call((calls.SLICE_INDEX, calls.SLICE_TIME)[by_time], lent, rooms=(*rooms, 0, 0, 0), decoder=(start, end, 0, 0, 0, 0, 0, 0),
+                               source=calls.source_numbers(source, max(told, 0)), records=tuple(map(calls.record_numbers, records)),
+                               fill=rng.choice([0, 1, 0xEE, 0xEF]), zeros=2**30 + 1 - len(lent) if chance(rng, 0.3) else 0))
+    return made
+
+
+# ---- writers
+
+def some_events(rng, encoding, last):
+    """Runs along a row, across borders of 12 and 32 columns, repeats, times that stand, go on a little or far."""
+    bound, t, out = writer.LAST_TIME[encoding], last, []
+    for _ in range(rng.choice([0, 1, 1, 2, 3, 4, 6])):
+        t = min(bound - 1, t + rng.choice([0, 0, 0, 1, 63, 64, rng.randrange(64), rng.randrange(5000), rng.randrange(bound // 4)]))
+        y, p, x = rng.choice([0, 7, 2047, rng.randrange(2048)]), rng.randrange(2), rng.choice([0, 31, 32, rng.randrange(64), rng.randrange(2048), 2047])
+        out.append((x, y, t, p))
+        for _ in range(rng.choice([0, 0, 1, 3, 6, 14, 40])):
+            x += rng.choice([1, 1, 1, 1, 1, 2, 3, 12, 24, 31, 32, 33, 0, -1])
+            out += [(x, y, t, p)] * (0 <= x <= 2047)
+    return out
+
+
+def spoiled_events(rng, encoding, events):
+    """An event that is out of range, or a time that falls."""
+    x, y, t, p = events[rng.randrange(len(events))]
+    at = rng.randrange(len(events))
+    events[at] = rng.choice([(2048, y, t, p), (65535, y, t, p), (x, 2048, t, p), (x, y, t, 2), (x, y, t, 255), (x, y, writer.LAST_TIME[encoding], p),
+                             (x, y, -1, p), (x, y, max(t - 1, 0), p), (x, y, -2**63, p), (x, y, 2**63 - 1, p)])
+    return events
+
+
+def append_call(rng, sink, last):
+    """An append to a writer, given by its numbers; `last`: its last time, or what is taken for it."""
+    encoding = sink[5] if sink[5] in DECODERS else 21
+    events = some_events(rng, encoding, last)
+    if events and chance(rng, 12):
+        events = spoiled_events(rng, encoding, events)
+    columns = list(map(tuple, calls.columns_of(events, 4)))
+    if chance(rng, 4):
+        at = rng.randrange(4)
+        columns[at] = columns[at][:-1] if chance(rng, 50) else columns[at] + (1,)
+    width, height = rng.choice([(64, 48), (2048, 2048), (0, 0), (HUGE, 1), (1280, 720)])
+    call = calls.Call(calls.APPEND, width=width, height=height, sink=sink, columns=tuple(columns), fill=rng.choice([0, 1, 0xEE, 0xEF]),
+                      rooms=(0,) * 5 + (2**31, 0))
+    try:
+        need = len(calls.model_append(call)[0])
+    except Refused:
+        need = rng.randrange(40)
+    most = 96 + {2: 8, 3: 8, 21: 16}[encoding] * len(events)
+    room = rng.choice([need, need, need, need + 1, need + 9, most, most - 1, max(need - 1, 0), max(need - 8, 0), 0])
+    return call._replace(rooms=(0,) * 5 + (room, 0))
+
+
+def listed(rng, sink, count):
+    """Appends to one writer: the calls, and the bytes that they hand over."""
+    made, stream = [], b''
+    for _ in range(count):
+        call = append_call(rng, sink, max(sink[1], 0))
+        made.append(call)
+        try:
+            out, after = calls.model_append(call)
+            stream, sink = stream + out, calls.sink_numbers(after)
+        except Refused:
+            pass    # it returns the writer as it was
+    return made, stream
+
+
+def any_sink(rng):
+    """A writer in range, or just outside."""
+    encoding = any_encoding(rng)
+    bound, unit = writer.LAST_TIME[encoding], DECODERS[encoding].UNIT
+    last = rng.choice([0, 1, unit, rng.randrange(20000), rng.randrange(bound), bound - 1])
+    sink = writer.Sink(encoding, rng.choice([0, 1]), rng.choice([0, 1, 17, 2**62 - 1, 2**62]), last, rng.choice([None, last // unit]))
+    if encoding == 3:
+        sink = sink._replace(low=rng.choice([None, last % unit]), row=rng.choice([None, 0, 7, 2047]))
+    numbers = list(calls.sink_numbers(sink if chance(rng, 90) else writer.fresh(encoding, 1)))
+    if chance(rng, 20):
+        at = rng.randrange(len(numbers))
+        limit = [2**64, 2**63, 2**64, 2**64, 2**64, 2**32][at] if at < 6 else 256
+        numbers[at] = rng.choice([numbers[at] + 1, numbers[at] - 1, 0, 1, 2, 3, 21, 2048, rng.getrandbits(64)]) % limit
+    return tuple(numbers)
+
+
+def writer_case(rng):
+    made = listed(rng, any_sink(rng), rng.choice([1, 2, 3]))[0]
+    number = rng.choice([2, 3, 21, 0, 1, 20, 22, 2**32 - 1])
+    return made + [calls.Call(calls.WRITER, encoding=number, sized=rng.choice([0, 1, 255])), calls.Call(calls.NEW_DECODER, encoding=number)]
+
+
+def resumed_case(rng):
+    """A stream cut anywhere behind its header, then the words of a fresh writer that sends none: read, opened and sliced."""
+    encoding, headed_ = any_encoding(rng), chance(rng, 50)
+    made, stream = listed(rng, calls.sink_numbers(writer.fresh(encoding, headed_)), rng.choice([1, 2, 4]))
+    start = header.header_lines(stream)[1] if headed_ and stream else 0
+    left = stream[:rng.randrange(start, len(stream) + 1)]
+    left = left[:len(left) - (len(left) - start) % DECODERS[encoding].SIZE]
+    more, behind = listed(rng, calls.sink_numbers(writer.fresh(encoding, 0)), rng.choice([0, 1, 2]))
+    joined = left + behind
+    if headed_ and stream:
+        return made + more + headed(rng, joined) + openings(rng, joined)
+    kinds = calls.DECODE_WORDS, calls.DECODE_WORDS_TRIGGERS
+    return made + more + list(readings(rng, joined, encoding, joined, None, kinds, encoding)) + openings(rng, joined, encoding)
+
+
+# ---- headers alone, and words without one
 
 def header_case(rng):
     """Headers alone: some lines, any of them odd."""
     made = []
     for _ in range(6):
-        data = header_bytes(rng, rng.choice([2, 3])) + ''.join(header_line(rng) for _ in range(rng.randrange(4))).encode()
+        data = header_bytes(rng, any_encoding(rng)) + ''.join(header_line(rng) for _ in range(rng.randrange(4))).encode()
         sized, width, height = size_fields(rng, []) if chance(rng, 20) else (0, 0, 0)
         made.append(calls.Call(calls.PARSE_HEADER, data[:-1] if chance(rng, 10) else data, sized=sized, width=width, height=height, fill=rng.randrange(2)))
     return made
 
 
 def words_case(rng):
-    encoding = rng.choice([2, 3])
+    encoding = any_encoding(rng)
     data = body_bytes(rng, encoding)
-    named = encoding if chance(rng, 97) else rng.choice([0, 1, 2, 3, 4, 21, 2**32 - 1])
+    named = encoding if chance(rng, 97) else rng.choice([0, 1, 2, 3, 4, 21, 20, 22, 2**32 - 1])
     known = named if named in DECODERS else None
     return list(readings(rng, data, known, data, None, (calls.DECODE_WORDS, calls.DECODE_WORDS_TRIGGERS), named))
 
@@ -307,7 +517,7 @@ def spoiled(rng, fields):
 
 
 def single_case(rng):
-    encoding = rng.choice([2, 3])
+    encoding = any_encoding(rng)
     fields = decoder_fields(rng, encoding)
     if chance(rng, 25):
         fields = spoiled(rng, fields)
@@ -324,9 +534,11 @@ def single_case(rng):
     return made
 
 
+CASES = [raw_case] * 9 + [words_case] * 6 + [single_case] * 3 + [header_case] * 2 + [index_case] * 5 + [altered_case] * 4 + [writer_case] * 3 + [
+    resumed_case] * 3
+
+
 def case(seed, number):
     """The calls of a case; it depends on the seed and its number alone."""
     rng = random.Random(f'{seed} {number}')
-    draw = rng.randrange(25)
-    return (raw_case(rng) if draw < 9 else words_case(rng) if draw < 15 else single_case(rng) if draw < 18 else header_case(rng) if draw < 20
-            else index_case(rng))
+    return rng.choice(CASES)(rng)

@@ -2,7 +2,7 @@
 
 
 class Refused(Exception):
-    """`told` is the count that a 5 or a 13 tells, and 0 for every other number."""
+    """`told` is the count that a 5, a 9, an 11 or a 13 tells, and 0 for every other number."""
 
     def __init__(self, number, told=0):
         super().__init__(number, told)

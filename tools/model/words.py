@@ -1,6 +1,6 @@
 """Words of each encoding, one at a time: a decoder takes a word and gives its events and its trigger.
 
-An event is (x, y, t, p), a trigger is (t, id, value). A further encoding is a class here and an entry of DECODERS.
+An event is (x, y, t, p), a trigger is (t, id, value). An encoding is a class here and an entry of DECODERS, by its number.
 """
 from refusal import Refused, check_length
 
@@ -40,6 +40,7 @@ class Decoder:
 
 class Evt2(Decoder):
     NUMBER, SIZE, UNIT, PERIOD, THRESHOLD, MOST_LOOPS = 2, 4, 64, 2**34, 2**34 - 2**30, 2**27
+    MOST_EVENTS = 1     # of a word
 
     def step(self, word):
         kind = bits(word, 31, 28)
@@ -58,6 +59,7 @@ class Evt2(Decoder):
 
 class Evt3(Decoder):
     NUMBER, SIZE, UNIT, PERIOD, THRESHOLD, MOST_LOOPS = 3, 2, 4096, 2**24, 16732160, 2**28
+    MOST_EVENTS = 12
 
     def step(self, word):
         kind = bits(word, 15, 12)
@@ -88,7 +90,27 @@ class Evt3(Decoder):
         return [(x, self.row, self.time, self.polarity) for x in columns]
 
 
-DECODERS = {2: Evt2, 3: Evt3}
+class Evt21(Decoder):
+    """EVT 2.1. Time, its loops and its range are EVT2's."""
+    NUMBER, SIZE, UNIT, PERIOD, THRESHOLD, MOST_LOOPS = 21, 8, Evt2.UNIT, Evt2.PERIOD, Evt2.THRESHOLD, Evt2.MOST_LOOPS
+    MOST_EVENTS = 32
+
+    def step(self, word):
+        kind = bits(word, 63, 60)
+        if kind == 8:
+            self.coarse_time(bits(word, 59, 32))
+        elif not self.started:
+            pass    # as in EVT2
+        elif kind in (0, 1):
+            self.time = self.coarse + bits(word, 59, 54)    # an empty mask sets it too
+            x, y = bits(word, 53, 43), bits(word, 42, 32)
+            return [(x + i, y, self.time, kind) for i in range(32) if bits(word, i, i)], None
+        elif kind == 0xA:
+            return NO_EVENTS, (self.coarse + bits(word, 59, 54), bits(word, 44, 40), bits(word, 32, 32))
+        return NO_EVENTS, None
+
+
+DECODERS = {2: Evt2, 3: Evt3, 21: Evt21}
 
 
 def whole_words(data, size):
@@ -102,7 +124,7 @@ def whole_words(data, size):
 def decoder_of(fields):
     """10 for a decoder out of range, and for numbers that are no decoder's."""
     coarse, time, loops, encoding, row, base, started, polarity = fields
-    if encoding not in DECODERS or started > 1 or polarity > 1:
+    if encoding not in DECODERS or started > 1 or polarity > 1 or base > 65535:
         raise Refused(10)
     if encoding != 3 and (row, base, polarity) != (0, 0, 0):
         raise Refused(10)

@@ -5,9 +5,34 @@ use std::mem::{offset_of, size_of};
 /// The header file's version.
 pub const VERSION: u32 = 1;
 
-/// The number of an encoding.
+pub const EVT21: u32 = 21;
+
+/// The number of an encoding that the original knows.
 pub fn encoding(evt3: bool) -> u32 {
     2 + evt3 as u32
+}
+
+/// Bytes of a word. Of an unknown encoding: any number.
+pub fn word_size(encoding: u32) -> usize {
+    match encoding {
+        3 => 2,
+        EVT21 => 8,
+        _ => 4,
+    }
+}
+
+/// The most events of a word.
+pub fn most_of_word(encoding: u32) -> usize {
+    match encoding {
+        3 => 12,
+        EVT21 => 32,
+        _ => 1,
+    }
+}
+
+/// Bytes of an append of n events surely need no more, with a header.
+pub fn most_bytes(encoding: u32, n: usize) -> usize {
+    96 + if encoding == EVT21 { 16 } else { 8 } * n
 }
 
 #[repr(C)]

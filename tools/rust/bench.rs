@@ -1,12 +1,17 @@
 //! Times this library's archive and the Rust original in one process, on the same bytes: tools/bench.sh builds
-//! it and says how it is called. bench/operations.rs has what is timed and how.
+//! it and says how it is called. bench/operations.rs has what is timed and how; bench/evt21.rs has it for EVT2.1,
+//! where a plain loop (bench/plain.rs) stands in for the original.
 mod archive;
+#[path = "bench/evt21.rs"]
+mod evt21;
 #[path = "bench/generating.rs"]
 mod generating;
 #[path = "bench/memory.rs"]
 mod memory;
 #[path = "bench/operations.rs"]
 mod operations;
+#[path = "bench/plain.rs"]
+mod plain;
 #[path = "bench/plot.rs"]
 mod plot;
 #[path = "bench/recordings.rs"]
@@ -68,9 +73,9 @@ fn digits(v: f64) -> String {
     format!("{v:.after$}")
 }
 
-fn told(op: &str, unit: &str, t: Times) -> String {
+fn told(op: &str, unit: &str, t: Times, beside: &str) -> String {
     let (ours, theirs) = (digits(scaled(t.ours, unit)), digits(scaled(t.original, unit)));
-    format!("{op:<17} ours {ours:>7} {unit}  original {theirs:>7} {unit}  ratio {:.2}", t.ours / t.original)
+    format!("{op:<17} ours {ours:>7} {unit}  {beside} {theirs:>7} {unit}  ratio {:.2}", t.ours / t.original)
 }
 
 /// Reading with trigger columns: how many words lie between triggers, and whether the columns have just the places needed.
@@ -92,12 +97,11 @@ fn measure(a: &Asked, name: &str) -> Vec<Option<Times>> {
     let r = Recording::new(&recording(&a.dir, name, a.mib));
     let s = Setup { runs: a.runs.unwrap_or(9), spacing: a.spacing.unwrap_or(SPACING) };
     let mut columns = memory::columns(r.most());
+    let plain = r.encoding == archive::EVT21;
     let mut one = |(op, unit, _, f): &(&str, &str, &str, Operation)| {
-        if !wanted(&a.only, op) {
-            return None;
-        }
+        let f = if plain { evt21::operation(op) } else { Some(*f) }.filter(|_| wanted(&a.only, op))?;
         let t = f(&r, &s, &mut columns);
-        println!("{name:<10} {}", told(op, unit, t));
+        println!("{name:<10} {}", told(op, unit, t, if plain { "plain loop" } else { "original" }));
         Some(t)
     };
     let times = OPERATIONS.iter().map(&mut one).collect();
@@ -120,9 +124,10 @@ fn cell(t: &Option<Times>, unit: &str) -> String {
     format!("{} / {} {unit} = {:.2}", digits(scaled(t.ours, unit)), digits(scaled(t.original, unit)), t.ours / t.original)
 }
 
-/// The table as Markdown: ours / the original's time = ratio.
+/// The table as Markdown: ours / the original's time, in EVT2.1 the plain loop's, = ratio.
 fn table(files: &[&str], times: &[Vec<Option<Times>>]) -> String {
-    let mut text = format!("| ours / the original = ratio | {} |\n|---|{}\n", files.join(" | "), "---|".repeat(files.len()));
+    let head = "ours / the original (EVT2.1: a plain loop) = ratio";
+    let mut text = format!("| {head} | {} |\n|---|{}\n", files.join(" | "), "---|".repeat(files.len()));
     for (k, (op, unit, says, _)) in OPERATIONS.iter().enumerate() {
         let cells: Vec<String> = times.iter().map(|t| cell(&t[k], unit)).collect();
         if cells.iter().any(|c| !c.is_empty()) {
@@ -142,7 +147,7 @@ fn point(a: &Asked, k: usize) -> (usize, Times, Times) {
     memory::release(columns);
     std::fs::remove_file(&path).unwrap();
     for (op, t) in [("read", reading), ("open", opening)] {
-        println!("{:>4} MiB   {}", 1 << k, told(op, "ms", t));
+        println!("{:>4} MiB   {}", 1 << k, told(op, "ms", t, "original"));
     }
     (1 << (k + 20), reading, opening)
 }

@@ -2,7 +2,8 @@
 //! on single words.
 //!   compare CASES [SEED]         all cases from 0 on
 //!   compare CASES SEED CASE      this one alone
-//! Recordings with a `%` behind the header's end line are not compared, only counted: the original takes it for one more header line.
+//! Recordings with a `%` behind the header's end line, which the original takes for one more header line, and recordings whose header names
+//! EVT2.1, which it takes for EVT2, are not compared, only counted.
 //! A line for each kind of call; exit status 1 at the first difference, with the smallest case found that shows one.
 #[path = "compare/appending.rs"]
 mod appending;
@@ -119,8 +120,11 @@ fn line(name: &str, c: &Count) -> String {
     if c.ended > 0 {
         out.push_str(&format!("; {} cases with an end line", c.ended));
     }
-    if c.outside > 0 {
-        out.push_str(&format!("; {} cases without a call, a % standing behind the end line", c.outside));
+    if c.percent > 0 {
+        out.push_str(&format!("; {} cases without a call, a % standing behind the end line", c.percent));
+    }
+    if c.evt21 > 0 {
+        out.push_str(&format!("; {} cases without a call, the header naming EVT2.1", c.evt21));
     }
     format!("{out}; 0 mismatches")
 }
@@ -130,8 +134,9 @@ fn report(counts: &[Count], seed: u64, cases: u64) {
         println!("{}", line(name, c));
     }
     let sum = |f: fn(&Count) -> u64| counts.iter().map(f).sum::<u64>();
-    let (calls, outside) = (sum(|c| c.calls), sum(|c| c.outside));
-    println!("seed {seed}: {cases} cases, {outside} of them not compared (a % behind the end line), {calls} calls, 0 mismatches");
+    let [calls, percent, evt21] = [sum(|c| c.calls), sum(|c| c.percent), sum(|c| c.evt21)];
+    let left = format!("{} of them not compared ({percent} with a % behind the end line, {evt21} others that name EVT2.1)", percent + evt21);
+    println!("seed {seed}: {cases} cases, {left}, {calls} calls, 0 mismatches");
 }
 
 fn differs(seed: u64, number: u64, case: Case, how: String, env: &mut Env) -> ! {

@@ -1,16 +1,21 @@
-//! Random recordings: headers, words of both encodings, events for the writer, and damage.
+//! Random recordings: headers, words of the three encodings, events for the writer, and damage.
 #![allow(dead_code)]
-use crate::archive::{self, Columns};
+use crate::archive::{self, most_bytes, word_size, Columns, EVT21};
 use crate::lent::Rng;
+use crate::table;
+
+/// The encodings that the original knows.
+pub const COMPARED: [u32; 2] = [2, 3];
+pub const KNOWN: [u32; 3] = [2, 3, EVT21];
 
 /// How many words: mostly few, seldom up to 1 MiB of them.
-pub fn length(rng: &mut Rng, evt3: bool) -> usize {
+pub fn length(rng: &mut Rng, encoding: u32) -> usize {
     match rng.below(1000) {
         0..=349 => rng.below(17),
         350..=799 => rng.below(201),
         800..=974 => rng.below(3001),
         975..=996 => rng.below(20001),
-        _ => rng.below((1 << 20) / if evt3 { 2 } else { 4 } + 1),
+        _ => rng.below((1 << 20) / word_size(encoding) + 1),
     }
 }
 
@@ -18,7 +23,7 @@ fn blanks(rng: &mut Rng) -> &'static str {
     rng.pick(&[" ", " ", " ", "  ", "\t", "\x0b", "\x0c", "\r", " \t ", "", "\x1c", "_"])
 }
 
-const FORMATS: [&str; 16] = [
+const FORMATS: [&str; 18] = [
     "EVT3",
     "EVT2",
     "evt3",
@@ -26,6 +31,8 @@ const FORMATS: [&str; 16] = [
     "Evt3;height=720;width=1280",
     "EVT21",
     "EVT2.1",
+    "evt210",
+    "EVT 21",
     "EVT",
     "evt4",
     "",
@@ -36,7 +43,20 @@ const FORMATS: [&str; 16] = [
     "%evt3",
     "xevt3",
 ];
-const VERSIONS: [&str; 14] = ["3", "2", "3.0", "2.0", "2.1", "30", "23", "4", "", "+3", "evt3", "03", " 3", "3 2"];
+const VERSIONS: [&str; 18] =
+    ["3", "2", "3.0", "2.0", "2.1", "2.10", "21", "2,1", "2.", "30", "23", "4", "", "+3", "evt3", "03", " 3", "3 2"];
+/// Lines that name an encoding.
+const NAMES: [(u32, &str); 9] = [
+    (3, "% format EVT3\n"),
+    (2, "% format EVT2\n"),
+    (3, "% evt 3.0\n"),
+    (2, "% evt 2.0\n"),
+    (3, "%evt 3\n"),
+    (2, "% FORMAT evt2\r\n"),
+    (EVT21, "% format EVT21\n"),
+    (EVT21, "% evt 2.1\n"),
+    (EVT21, "% FORMAT evt21\r\n"),
+];
 const NUMBERS: [&str; 26] = [
     "64",
     "48",
@@ -145,11 +165,12 @@ fn end_part(rng: &mut Rng) -> Vec<u8> {
     bytes
 }
 
-/// Header lines, most of them with a known encoding.
-pub fn header(rng: &mut Rng) -> Vec<u8> {
+/// Header lines, most of them with one of these encodings.
+pub fn header(rng: &mut Rng, of: &[u32]) -> Vec<u8> {
     let mut lines: Vec<Vec<u8>> = (0..rng.below(5)).map(|_| header_line(rng)).collect();
     if rng.chance(90) {
-        let line = rng.pick(&["% format EVT3\n", "% format EVT2\n", "% evt 3.0\n", "% evt 2.0\n", "%evt 3\n", "% FORMAT evt2\r\n"]);
+        let names: Vec<&str> = NAMES.iter().filter(|n| of.contains(&n.0)).map(|n| n.1).collect();
+        let line = rng.pick(&names);
         lines.insert(rng.below(lines.len() + 1), line.as_bytes().to_vec());
     }
     if rng.chance(1) {
@@ -273,14 +294,27 @@ fn words2(rng: &mut Rng, n: usize) -> Vec<u8> {
     bytes
 }
 
-pub fn time_bound(evt3: bool) -> i64 {
-    1 << if evt3 { 24 } else { 34 }
+/// EVT2's words, each the high half of one, and masks.
+fn words21(rng: &mut Rng, n: usize) -> Vec<u8> {
+    let high = words2(rng, n);
+    let mask = |rng: &mut Rng| match rng.below(6) {
+        0 => 0,
+        1 => u32::MAX,
+        2 | 3 => 1 << rng.below(32),
+        4 => (rng.next() & rng.next() & rng.next()) as u32,
+        _ => rng.next() as u32,
+    };
+    high.chunks_exact(4).flat_map(|h| [mask(rng).to_le_bytes(), [h[0], h[1], h[2], h[3]]].concat()).collect()
+}
+
+pub fn time_bound(encoding: u32) -> i64 {
+    1 << if encoding == 3 { 24 } else { 34 }
 }
 
 /// n events that a writer takes after time `from`: runs along a row, gaps, times that stand or go on.
-pub fn events(rng: &mut Rng, evt3: bool, from: i64, n: usize) -> Columns {
+pub fn events(rng: &mut Rng, encoding: u32, from: i64, n: usize) -> Columns {
     let mut c = Columns::default();
-    let bound = time_bound(evt3);
+    let bound = time_bound(encoding);
     let mut t = from.clamp(0, bound - 1);
     let (mut y, busy) = (rng.below(2048), rng.pick(&[2, 20, 60]));
     while c.xs.len() < n {
@@ -310,11 +344,11 @@ pub fn events(rng: &mut Rng, evt3: bool, from: i64, n: usize) -> Columns {
 }
 
 /// About n words that the library's writer made.
-fn written(rng: &mut Rng, evt3: bool, n: usize) -> Vec<u8> {
-    let from = if rng.chance(50) { 0 } else { rng.below(time_bound(evt3) as usize) as i64 };
-    let c = events(rng, evt3, from, n);
-    let mut bytes = vec![0; 96 + 8 * c.xs.len()];
-    let a = archive::append(archive::writer(archive::encoding(evt3), 0), 0, 0, &c, &mut bytes);
+fn written(rng: &mut Rng, encoding: u32, n: usize) -> Vec<u8> {
+    let from = if rng.chance(50) { 0 } else { rng.below(time_bound(encoding) as usize) as i64 };
+    let c = events(rng, encoding, from, n);
+    let mut bytes = vec![0; most_bytes(encoding, c.xs.len())];
+    let a = archive::append(archive::writer(encoding, 0), 0, 0, &c, &mut bytes);
     bytes.truncate(a.written);
     bytes
 }
@@ -322,21 +356,32 @@ fn written(rng: &mut Rng, evt3: bool, n: usize) -> Vec<u8> {
 /// An encoding's number, mostly a known one.
 pub fn encoding(rng: &mut Rng) -> u32 {
     if rng.chance(90) {
-        rng.pick(&[2, 3])
+        rng.pick(&KNOWN)
     } else {
         let wild = rng.wild() as u32;
-        rng.pick(&[0, 1, 4, 5, 7, 21, 30, 258, 65538, u32::MAX, wild])
+        rng.pick(&[0, 1, 4, 5, 7, 20, 22, 30, 258, 65538, u32::MAX, wild])
+    }
+}
+
+/// The same without EVT2.1, of which the original is no reference.
+pub fn compared_encoding(rng: &mut Rng) -> u32 {
+    match encoding(rng) {
+        EVT21 => rng.pick(&COMPARED),
+        n => n,
     }
 }
 
 /// Words of one of the encodings.
-pub fn words(rng: &mut Rng, evt3: bool) -> Vec<u8> {
-    let n = length(rng, evt3);
+pub fn words(rng: &mut Rng, encoding: u32) -> Vec<u8> {
+    let n = length(rng, encoding);
     let mut bytes = match rng.below(10) {
-        0 => (0..n * if evt3 { 2 } else { 4 }).map(|_| rng.next() as u8).collect(),
-        1..=3 => written(rng, evt3, n / 2),
-        _ if evt3 => words3(rng, n),
-        _ => words2(rng, n),
+        0 => (0..n * word_size(encoding)).map(|_| rng.next() as u8).collect(),
+        1..=3 => written(rng, encoding, n / 2),
+        _ => match encoding {
+            3 => words3(rng, n),
+            EVT21 => words21(rng, n),
+            _ => words2(rng, n),
+        },
     };
     if rng.chance(25) {
         damage(rng, &mut bytes);
@@ -347,21 +392,26 @@ pub fn words(rng: &mut Rng, evt3: bool) -> Vec<u8> {
     bytes
 }
 
-/// A recording that can be opened, most likely.
-pub fn good_recording(rng: &mut Rng) -> Vec<u8> {
-    let evt3 = rng.chance(60);
+/// A recording of one of these encodings that can be opened, most likely.
+pub fn good_recording(rng: &mut Rng, of: &[u32]) -> Vec<u8> {
+    let encoding = rng.pick(of);
     let size = rng.pick(&["", "", "% geometry 64x48\n", "% geometry 1280x720\n", "% geometry 2048x2048\n"]);
-    let mut bytes = format!("% {}\n{size}% end\n", if evt3 { "format EVT3" } else { "evt 2.0" }).into_bytes();
-    bytes.extend(words(rng, evt3));
+    let name = match encoding {
+        3 => "format EVT3",
+        EVT21 => "format EVT21",
+        _ => "evt 2.0",
+    };
+    let mut bytes = format!("% {name}\n{size}% end\n").into_bytes();
+    bytes.extend(words(rng, encoding));
     bytes
 }
 
-/// A recording with its header.
-pub fn recording(rng: &mut Rng) -> Vec<u8> {
-    let mut bytes = header(rng);
-    let names3 = bytes.contains(&b'3');
-    let evt3 = if rng.chance(90) { names3 } else { !names3 };
-    let mut body = words(rng, evt3);
+/// A recording with its header, which names one of these encodings, most likely.
+pub fn recording(rng: &mut Rng, of: &[u32]) -> Vec<u8> {
+    let mut bytes = header(rng, of);
+    let named = table::head(&bytes).encoding;
+    let encoding = if rng.chance(90) && table::is_known(named) { named } else { rng.pick(of) };
+    let mut body = words(rng, encoding);
     if rng.chance(50) {
         bytes.extend(end_part(rng));
         if !body.is_empty() && rng.chance(15) {

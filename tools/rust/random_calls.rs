@@ -131,14 +131,16 @@ impl Bytes {
 }
 
 fn any_bytes(rng: &mut Rng) -> Vec<u8> {
-    let mut bytes = match rng.below(8) {
+    let mut bytes = match rng.below(9) {
         0 => Vec::new(),
         1 => (0..rng.below(40)).map(|_| rng.next() as u8).collect(),
         2 => (0..rng.below(200)).map(|_| rng.pick(b"%% \n\t efmtvgory32xX0918\rnd")).collect(),
-        3 | 4 => making::good_recording(rng),
-        5 => making::recording(rng),
-        6 => making::words(rng, true),
-        _ => making::words(rng, false),
+        3 | 4 => making::good_recording(rng, &making::KNOWN),
+        5 => making::recording(rng, &making::KNOWN),
+        _ => {
+            let encoding = rng.pick(&making::KNOWN);
+            making::words(rng, encoding)
+        }
     };
     bytes.truncate(1 << 16);
     bytes

@@ -1,6 +1,6 @@
 //! The table of refusals of docs/RULES.md, as far as the arguments alone tell it: written from its text, apart from the library.
 #![allow(dead_code)]
-use crate::archive::{Decoder, Record, Sink, Source};
+use crate::archive::{Decoder, Record, Sink, Source, EVT21};
 
 pub const LONGEST: usize = 1 << 30;
 pub const MOST_EVENTS: usize = 1 << 28;
@@ -24,9 +24,22 @@ pub fn has_end_line(bytes: &[u8]) -> bool {
     header_lines(bytes).1
 }
 
-/// Whether the byte behind the end line is `%`, which the original takes for one more header line. Without an end line no header has a `%` behind it.
-pub fn percent_behind_end(bytes: &[u8]) -> bool {
-    bytes.get(header_end(bytes)) == Some(&b'%')
+/// Why the original is no reference for a recording.
+#[derive(Clone, Copy, Debug, PartialEq, Eq)]
+pub enum Outside {
+    /// The byte behind the end line is `%`, which it takes for one more header line.
+    Percent,
+    /// The header names EVT2.1, which it takes for EVT2.
+    Evt21,
+}
+
+/// Without an end line no header has a `%` behind it.
+pub fn outside(bytes: &[u8]) -> Option<Outside> {
+    if bytes.get(header_end(bytes)) == Some(&b'%') {
+        Some(Outside::Percent)
+    } else {
+        (head(bytes).encoding == EVT21).then_some(Outside::Evt21)
+    }
 }
 
 /// What a header tells; `encoding` 0: none.
@@ -89,10 +102,12 @@ pub fn head(bytes: &[u8]) -> Head {
             _ => {}
         }
     }
-    let says = |n: u8| format.starts_with(&[b'e', b'v', b't', n]) || evt.starts_with(&[n]);
-    let encoding = if says(b'3') {
+    let says = |name: &[u8], number: &[u8]| format.starts_with(name) || evt.starts_with(number);
+    let encoding = if says(b"evt3", b"3") {
         3
-    } else if says(b'2') {
+    } else if says(b"evt21", b"2.1") {
+        EVT21
+    } else if says(b"evt2", b"2") {
         2
     } else {
         0
@@ -119,7 +134,7 @@ pub fn header_refusal(bytes: &[u8], given: Option<(usize, usize)>) -> u32 {
 }
 
 pub fn is_known(encoding: u32) -> bool {
-    encoding == 2 || encoding == 3
+    matches!(encoding, 2 | 3 | EVT21)
 }
 
 /// The same without a header: 4, 2, 1.
@@ -135,15 +150,17 @@ pub fn words_refusal(bytes: &[u8], encoding: u32, given: Option<(usize, usize)>)
     }
 }
 
-pub fn spacing_ok(spacing: usize) -> bool {
-    spacing % 4 == 0 && (4..=4194304).contains(&spacing)
+/// Rule 8; an encoding that isn't known comes later.
+pub fn spacing_ok(spacing: usize, encoding: u32) -> bool {
+    let unit = if encoding == EVT21 { 8 } else { 4 };
+    spacing % unit == 0 && (4..=4194304).contains(&spacing)
 }
 
 pub fn records_needed(body: usize, spacing: usize) -> usize {
     body.div_ceil(spacing).max(1)
 }
 
-/// Rule 10 for a decoder, given as a record has it, but for the bound of its loops.
+/// Rule 10 for a decoder, given as a record has it, but for the bound of its loops. EVT2.1 has EVT2's ranges.
 fn decoder_fits(encoding: u32, [started, coarse, time, loops, row, base, polarity]: [u64; 7]) -> bool {
     let evt3 = encoding == 3;
     let place = if evt3 { row <= 2047 && base <= 65535 && polarity <= 1 } else { (row, base, polarity) == (0, 0, 0) };
@@ -203,7 +220,7 @@ pub fn slice_refusal(lent: usize, source: &Source, records: &[Record]) -> u32 {
         4
     } else if source.width == 0 || source.height == 0 {
         1
-    } else if !spacing_ok(source.spacing) {
+    } else if !spacing_ok(source.spacing, source.encoding) {
         8
     } else if !index_ok(source, records) {
         10

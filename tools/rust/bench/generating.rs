@@ -128,8 +128,71 @@ fn evt3dense(r: &mut Rng) -> Vec<u8> {
     w.done()
 }
 
+/// Words of EVT 2.1, and the time that they have come to.
+struct Wide {
+    words: Vec<u64>,
+    high: u64,
+}
+
+impl Wide {
+    fn new() -> Wide {
+        Wide { words: Vec::with_capacity(LEN / 8 + 256), high: 0 }
+    }
+
+    fn later(&mut self, r: &mut Rng) {
+        self.high += 1 + r.below(2);
+        self.words.push(8 << 60 | self.high << 32);
+    }
+
+    fn put(&mut self, p: u64, low: u64, block: u64, y: u64, mask: u64) {
+        self.words.push(p << 60 | low << 54 | (32 * block) << 43 | y << 32 | mask);
+    }
+
+    fn done(self) -> Vec<u8> {
+        recording("EVT21", self.words.into_iter().map(u64::to_le_bytes))
+    }
+}
+
+/// EVT 2.1 sparse: a time word for about ten others, anywhere on the sensor; masks of one bit or two, 1.5 in the mean.
+fn evt21(r: &mut Rng) -> Vec<u8> {
+    let mut w = Wide::new();
+    while w.words.len() < LEN / 8 {
+        w.later(r);
+        let n = 5 + r.below(11);
+        let mut low = 0;
+        for _ in 0..n {
+            low = (low + r.below(64 / n + 1)).min(63);
+            let bit = r.below(32);
+            let other = if r.chance(2) { 1 << ((bit + 1 + r.below(31)) % 32) } else { 0 };
+            w.put(r.below(2), low, r.below(40), r.below(720), 1 << bit | other);
+        }
+    }
+    w.done()
+}
+
+/// EVT 2.1 dense: whole rows, 12 bits of 32 set in the mean.
+fn evt21dense(r: &mut Rng) -> Vec<u8> {
+    let mut w = Wide::new();
+    while w.words.len() < LEN / 8 {
+        w.later(r);
+        for row in 0..4 {
+            let (p, low, y) = (r.below(2), 16 * row + r.below(16), r.below(720));
+            for block in 0..40 {
+                w.put(p, low, block, y, r.next() & (r.next() | r.next() >> 20) & 0xFFFF_FFFF);
+            }
+        }
+    }
+    w.done()
+}
+
 /// Names and bytes. The three draw on one sequence of numbers, so that none is made alone.
 pub fn all() -> [(&'static str, Vec<u8>); 3] {
     let mut r = Rng(0x9E37_79B9_7F4A_7C15);
     [("evt2", evt2(&mut r)), ("evt3", evt3(&mut r)), ("evt3dense", evt3dense(&mut r))]
+}
+
+/// The two of EVT 2.1, on a sequence of their own.
+pub fn all21() -> [(&'static str, Vec<u8>); 2] {
+    let mut r = Rng(0x9E37_79B9_7F4A_7C15);
+    [("evt21", evt21(&mut r)), ("evt21dense", evt21dense(&mut r))]
 }

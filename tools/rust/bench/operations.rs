@@ -1,6 +1,6 @@
 //! What is timed. Both sides of a pair run in turn, and the best time of each counts. Before that each runs
 //! once, so that its memory is there, and what both hand over is compared: a difference ends the program.
-use crate::archive::{self, Columns, Lend, Lent, OpenOptions, Options, Record, Source, Triggers};
+use crate::archive::{self, most_bytes, word_size, Columns, Lend, Lent, OpenOptions, Options, Record, Source, Triggers, EVT21};
 use crate::memory::{self, Mapped};
 use crate::recordings::Recording;
 use eventcv::io::spaced::{self, probe};
@@ -11,16 +11,16 @@ use std::hint::black_box;
 /// The original's spacing for every length up to 13 GB.
 pub const SPACING: usize = 65_536;
 const SLICES: usize = 200;
-const SLICE_EVENTS: usize = 1_000;
-const SLICE_TIME: i64 = 10_000;
+pub const SLICE_EVENTS: usize = 1_000;
+pub const SLICE_TIME: i64 = 10_000;
 /// Appending: events in all, and in one append.
 const APPENDED: usize = 10_000_000;
-const APPEND: usize = 10_000;
+pub const APPEND: usize = 10_000;
 /// All our calls run in this much stack.
 pub const STACK: usize = 32 << 10;
 
 pub type Operation = fn(&Recording, &Setup, &mut Lent) -> Times;
-/// Name, unit, what the table says, and how it is measured.
+/// Name, unit, what the table says, and how it is measured; evt21.rs has how for EVT2.1.
 pub const OPERATIONS: [(&str, &str, &str, Operation); 10] = [
     ("read", "ms", "reading, columns surely long enough", read),
     ("read_exact", "ms", "reading, columns that hold just the events", read_exact),
@@ -39,6 +39,7 @@ pub struct Setup {
     pub spacing: usize,
 }
 
+/// `original`: what ours is timed against, in EVT2.1 a plain loop.
 #[derive(Clone, Copy)]
 pub struct Times {
     pub ours: f64,
@@ -62,7 +63,7 @@ fn seconds() -> f64 {
 const LONG: f64 = 15.0;
 
 /// Both in turn, and of each the best time; what they answer must be the same.
-fn pair(runs: usize, mut ours: impl FnMut() -> usize, mut theirs: impl FnMut() -> usize) -> Times {
+pub fn pair(runs: usize, mut ours: impl FnMut() -> usize, mut theirs: impl FnMut() -> usize) -> Times {
     let mut best = Times { ours: f64::MAX, original: f64::MAX };
     let begun = seconds();
     for k in 0..runs {
@@ -84,7 +85,7 @@ fn pair(runs: usize, mut ours: impl FnMut() -> usize, mut theirs: impl FnMut() -
 // ---- reading
 
 /// Writes over what an earlier call left, so that a comparison can't be with that.
-fn spoil(c: &mut Lent, n: usize) {
+pub fn spoil(c: &mut Lent, n: usize) {
     let c = c.first(n);
     c.xs.fill(0xAAAA);
     c.ys.fill(0xBBBB);
@@ -123,10 +124,10 @@ fn read_words(r: &Recording, s: &Setup, c: &mut Lent) -> Times {
     let theirs = || original::decode_words(r.body(), r.version(), r.width, r.height).unwrap();
     let stream = theirs();
     spoil(c, stream.len());
-    archive::decode_words(r.body(), r.encoding(), sized, c);
+    archive::decode_words(r.body(), r.encoding, sized, c);
     same(c, &stream);
     drop(stream);
-    pair(s.runs, || archive::decode_words(r.body(), r.encoding(), sized, c).count, || theirs().len())
+    pair(s.runs, || archive::decode_words(r.body(), r.encoding, sized, c).count, || theirs().len())
 }
 
 fn read_file(r: &Recording, s: &Setup, c: &mut Lent) -> Times {
@@ -152,11 +153,11 @@ fn source(r: &Recording, spacing: usize) -> Box<dyn SliceSource> {
     Box::new(spaced::open_raw_slice(&r.path, &o).unwrap())
 }
 
-fn room(r: &Recording, spacing: usize) -> Vec<Record> {
+pub fn room(r: &Recording, spacing: usize) -> Vec<Record> {
     vec![[7; 10]; r.body().len().div_ceil(spacing).max(1)]
 }
 
-fn open_in(bytes: &[u8], records: &mut [Record], spacing: usize) -> Source {
+pub fn open_in(bytes: &[u8], records: &mut [Record], spacing: usize) -> Source {
     let a = archive::open(bytes, records, OpenOptions { spacing, ..OpenOptions::default() });
     assert_eq!(a.refusal, 0);
     a.source
@@ -201,7 +202,7 @@ impl Index {
 }
 
 /// Numbers without any order, the same in every run.
-fn scattered() -> Vec<u64> {
+pub fn scattered() -> Vec<u64> {
     let mut state = 0x9E37_79B9_7F4A_7C15u64;
     let next = |_| {
         state ^= state << 13;
@@ -213,7 +214,7 @@ fn scattered() -> Vec<u64> {
 }
 
 /// The time of one slice.
-fn each(t: Times) -> Times {
+pub fn each(t: Times) -> Times {
     Times { ours: t.ours / SLICES as f64, original: t.original / SLICES as f64 }
 }
 
@@ -264,8 +265,8 @@ fn slice_time_exact(r: &Recording, s: &Setup, c: &mut Lent) -> Times {
 
 // ---- appending
 
-/// The first events that one writer can take, in lists of `APPEND`, for both.
-fn lists(r: &Recording, c: &mut Lent) -> (Vec<Columns>, Vec<EventStream>) {
+/// The first events that one writer can take, in lists of `APPEND`.
+pub fn lists(r: &Recording, c: &mut Lent) -> Vec<Columns> {
     let limited = Options { limited: 1, max_events: APPENDED, ..Options::default() };
     let n = archive::read_raw(r.bytes(), limited, c).count;
     let end = if r.evt3 { 1 << 24 } else { 1 << 34 };
@@ -274,18 +275,17 @@ fn lists(r: &Recording, c: &mut Lent) -> (Vec<Columns>, Vec<EventStream>) {
         let b = n.min(a + APPEND);
         Columns { xs: c.xs[a..b].to_vec(), ys: c.ys[a..b].to_vec(), ts: c.ts[a..b].to_vec(), ps: c.ps[a..b].to_vec() }
     };
-    let ours: Vec<Columns> = (0..n).step_by(APPEND).map(part).collect();
-    let stream = |c: &Columns| {
-        let ps = c.ps.iter().map(|p| *p != 0).collect();
-        eventcv::stream_of(r.width, r.height, c.xs.clone(), c.ys.clone(), c.ts.clone(), ps)
-    };
-    let theirs = ours.iter().map(stream).collect();
-    (ours, theirs)
+    (0..n).step_by(APPEND).map(part).collect()
+}
+
+fn stream(r: &Recording, c: &Columns) -> EventStream {
+    let ps = c.ps.iter().map(|p| *p != 0).collect();
+    eventcv::stream_of(r.width, r.height, c.xs.clone(), c.ys.clone(), c.ts.clone(), ps)
 }
 
 /// Appends all lists to a fresh writer, each into the part of the output that `room` ends; the bytes written.
-fn append_ours(r: &Recording, lists: &[Columns], out: &mut [u8], room: impl Fn(usize) -> usize) -> usize {
-    let mut sink = archive::writer(r.encoding(), 0);
+pub fn append_ours(r: &Recording, lists: &[Columns], out: &mut [u8], room: impl Fn(usize) -> usize) -> usize {
+    let mut sink = archive::writer(r.encoding, 0);
     let mut at = 0;
     for (k, c) in lists.iter().enumerate() {
         let a = archive::append(sink, r.width, r.height, c, &mut out[at..room(k)]);
@@ -307,8 +307,8 @@ fn append_theirs(r: &Recording, lists: &[EventStream], out: &mut Vec<u8>) -> usi
 }
 
 /// Where the bytes of each append end.
-fn ends(r: &Recording, lists: &[Columns], out: &mut [u8]) -> Vec<usize> {
-    let mut sink = archive::writer(r.encoding(), 0);
+pub fn ends(r: &Recording, lists: &[Columns], out: &mut [u8]) -> Vec<usize> {
+    let mut sink = archive::writer(r.encoding, 0);
     let mut at = 0;
     let end = |c: &Columns| {
         let a = archive::append(sink, r.width, r.height, c, &mut out[at..]);
@@ -320,8 +320,9 @@ fn ends(r: &Recording, lists: &[Columns], out: &mut [u8]) -> Vec<usize> {
 }
 
 fn appends(r: &Recording, s: &Setup, c: &mut Lent, exact: bool) -> Times {
-    let (ours, theirs) = lists(r, c);
-    let long = ours.len() * (96 + 8 * APPEND);
+    let ours = lists(r, c);
+    let theirs: Vec<EventStream> = ours.iter().map(|c| stream(r, c)).collect();
+    let long = ours.len() * most_bytes(r.encoding, APPEND);
     let (mut out, mut warm) = (vec![0xEE; long], vec![0xEE; long]);
     let ends = if exact { ends(r, &ours, &mut out) } else { vec![long; ours.len()] };
     out.fill(0xEE);
@@ -344,8 +345,12 @@ fn append_exact(r: &Recording, s: &Setup, c: &mut Lent) -> Times {
 /// The recording without its own triggers, and with one behind every so many words; no longer than it was, so that the columns
 /// are as surely long enough.
 fn with_triggers(r: &Recording, every: Option<usize>) -> Vec<u8> {
-    let size = if r.evt3 { 2 } else { 4 };
-    let trigger: &[u8] = if r.evt3 { &[1, 0xA3] } else { &[1, 3, 0x40, 0xA9] };
+    let size = word_size(r.encoding);
+    let trigger: &[u8] = match r.encoding {
+        3 => &[1, 0xA3],
+        EVT21 => &[0, 0, 0, 0, 1, 3, 0x40, 0xA9],
+        _ => &[1, 3, 0x40, 0xA9],
+    };
     let mut out = r.bytes()[..r.bytes().len() - r.body().len()].to_vec();
     let words = r.body().chunks_exact(size).filter(|w| w[size - 1] >> 4 != 0xA);
     for (k, word) in words.enumerate() {
@@ -362,7 +367,7 @@ fn with_triggers(r: &Recording, every: Option<usize>) -> Vec<u8> {
 /// the places that are needed, else one for every word.
 pub fn triggers(r: &Recording, s: &Setup, c: &mut Lent, every: Option<usize>, exact: bool) -> Times {
     let bytes = with_triggers(r, every);
-    let words = bytes.len() / if r.evt3 { 2 } else { 4 };
+    let words = bytes.len() / word_size(r.encoding);
     let mut g = Triggers::new(words);
     let read = |c: &mut Lent, g: &mut Triggers, n: usize| {
         let t = archive::read_raw_triggers(&bytes, Options::default(), c, g, [n; 3]);
@@ -382,8 +387,8 @@ pub fn triggers(r: &Recording, s: &Setup, c: &mut Lent, every: Option<usize>, ex
 
 /// What is resident after all our calls have run on a small stack, and after they have run again.
 pub fn memory_gained(r: &Recording, c: &mut Lent) -> (usize, usize) {
-    let (lists, _) = lists(r, c);
-    let mut out = vec![0xEE; lists.len() * (96 + 8 * APPEND)];
+    let lists = lists(r, c);
+    let mut out = vec![0xEE; lists.len() * most_bytes(r.encoding, APPEND)];
     let mut records = room(r, SPACING);
     let mut calls = || {
         r.read(c);

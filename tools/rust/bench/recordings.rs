@@ -1,18 +1,25 @@
 //! The recordings that both sides are timed on.
-use crate::archive::{self, Lend, Options};
+use crate::archive::{self, most_of_word, word_size, Lend, Options, EVT21};
 use crate::generating;
 use crate::memory::Mapped;
 use eventcv::io::prophesee_raw as original;
 use eventcv::io::spaced::probe;
 
 /// Name of the file, and what the table calls it.
-pub const RECORDINGS: [(&str, &str); 4] =
-    [("evt2", "EVT2"), ("evt3", "EVT3 typical"), ("evt3dense", "EVT3 dense"), ("evt3long", "EVT3 typical, 1 GiB")];
+pub const RECORDINGS: [(&str, &str); 6] = [
+    ("evt2", "EVT2"),
+    ("evt3", "EVT3 typical"),
+    ("evt3dense", "EVT3 dense"),
+    ("evt3long", "EVT3 typical, 1 GiB"),
+    ("evt21", "EVT2.1 sparse"),
+    ("evt21dense", "EVT2.1 dense"),
+];
 
 pub struct Recording {
     pub path: String,
     mapped: Mapped,
     data_offset: usize,
+    pub encoding: u32,
     pub evt3: bool,
     pub width: usize,
     pub height: usize,
@@ -22,7 +29,10 @@ impl Recording {
     pub fn new(path: &str) -> Self {
         let head = probe::header(path.as_ref(), None).unwrap();
         let (width, height) = head.size.unwrap();
-        Recording { path: path.to_owned(), mapped: Mapped::new(path), data_offset: head.start, evt3: head.evt3, width, height }
+        let mapped = Mapped::new(path);
+        // the original takes EVT2.1 for EVT2
+        let encoding = if mapped.bytes().starts_with(b"% format EVT21\n") { EVT21 } else { archive::encoding(head.evt3) };
+        Recording { path: path.to_owned(), mapped, data_offset: head.start, encoding, evt3: head.evt3, width, height }
     }
 
     pub fn bytes(&self) -> &[u8] {
@@ -35,11 +45,7 @@ impl Recording {
 
     /// Columns of this many places are sure to hold its events.
     pub fn most(&self) -> usize {
-        if self.evt3 { self.bytes().len() / 2 * 12 } else { self.bytes().len() / 4 }
-    }
-
-    pub fn encoding(&self) -> u32 {
-        archive::encoding(self.evt3)
+        self.bytes().len() / word_size(self.encoding) * most_of_word(self.encoding)
     }
 
     pub fn version(&self) -> original::EvtVersion {
@@ -87,8 +93,13 @@ fn exists(path: &str) -> bool {
 /// The path of a recording, or of its first `mib` MiB.
 pub fn recording(dir: &str, name: &str, mib: Option<usize>) -> String {
     let path = format!("{dir}/{name}.raw");
-    if !exists(&format!("{dir}/evt3dense.raw")) {
-        generating::all().iter().for_each(|(name, bytes)| put(&format!("{dir}/{name}.raw"), bytes));
+    let keep = |made: &[(&str, Vec<u8>)]| made.iter().for_each(|(name, bytes)| put(&format!("{dir}/{name}.raw"), bytes));
+    if name.starts_with("evt21") {
+        if !exists(&format!("{dir}/evt21dense.raw")) {
+            keep(&generating::all21());
+        }
+    } else if !exists(&format!("{dir}/evt3dense.raw")) {
+        keep(&generating::all());
     }
     if name == "evt3long" && !exists(&path) {
         make_long(dir, &path);

@@ -42,7 +42,7 @@ pub struct Case {
 /// A writer in range, or just outside.
 fn any_sink(rng: &mut Rng) -> Sink {
     let evt3 = rng.chance(60);
-    let bound = making::time_bound(evt3);
+    let bound = making::time_bound(encoding(evt3));
     let last = match rng.below(4) {
         0 => rng.below(10000) as i64,
         1 => bound - 1 - rng.below(10000) as i64,
@@ -50,7 +50,7 @@ fn any_sink(rng: &mut Rng) -> Sink {
     };
     let step = if evt3 { 4096 } else { 64 };
     let [header, high, low, row] = [60, 80, 80, 80].map(|percent| rng.chance(percent) as u8);
-    let y = making::events(rng, evt3, 0, 1).ys[0] as u64;
+    let y = making::events(rng, encoding(evt3), 0, 1).ys[0] as u64;
     let mut s = Sink { encoding: encoding(evt3), header_written: header, ..Sink::default() };
     if rng.chance(90) {
         (s.has_last_t, s.last_t, s.n_events) = (1, last, rng.pick(&[0, 1, 17, 1 << 40, (1 << 62) - 1, 1 << 62]));
@@ -74,7 +74,7 @@ fn spoil(rng: &mut Rng, s: &mut Sink) {
         2 => s.time_high = rng.pick(&[s.time_high + 1, s.time_high.wrapping_sub(1), wild]),
         3 => s.time_low = rng.pick(&[s.time_low + 1, 4096, wild]),
         4 => s.y = rng.pick(&[2047, 2048, 65535, 65536, wild]),
-        5 => s.encoding = making::encoding(rng),
+        5 => s.encoding = making::compared_encoding(rng),
         6 => s.has_last_t = flag,
         7 => s.has_time_high = flag,
         8 => s.has_time_low = flag,
@@ -93,9 +93,9 @@ fn fault(rng: &mut Rng, c: &mut Columns, evt3: bool) {
         1 if n > 0 => c.xs[at] = rng.pick(&[2048, 4096, 65535]),
         2 if n > 0 => c.ys[at] = rng.pick(&[2048, 4096, 65535]),
         3 if n > 0 => c.ps[at] = rng.pick(&[2, 128, 255]),
-        4 if n > 0 => c.ts[at..].iter_mut().for_each(|t| *t = (*t).max(making::time_bound(evt3))),
+        4 if n > 0 => c.ts[at..].iter_mut().for_each(|t| *t = (*t).max(making::time_bound(encoding(evt3)))),
         5 if n > 0 => c.ts[..=at].iter_mut().for_each(|t| *t = -1),
-        6 if n > 0 => c.ts[at] = rng.pick(&[i64::MIN, i64::MAX, making::time_bound(evt3) - 1]),
+        6 if n > 0 => c.ts[at] = rng.pick(&[i64::MIN, i64::MAX, making::time_bound(encoding(evt3)) - 1]),
         7 => c.xs.truncate(at),
         8 => c.ps.push(0),
         9 => c.ts.extend([1 << 23, 1 << 23]),
@@ -110,7 +110,7 @@ fn any_append(rng: &mut Rng, evt3: bool, from: i64) -> Append {
         28..=38 => rng.below(300),
         _ => rng.below(20000),
     };
-    let mut columns = making::events(rng, evt3, from, n);
+    let mut columns = making::events(rng, encoding(evt3), from, n);
     if rng.chance(15) {
         fault(rng, &mut columns, evt3);
     }

@@ -42,7 +42,7 @@ impl Case {
     pub fn make(rng: &mut Rng) -> Case {
         let evt3 = rng.chance(60);
         let start = rng.chance(60).then(|| decoder(rng, evt3));
-        let words = making::words(rng, evt3);
+        let words = making::words(rng, encoding(evt3));
         let parts = (0..rng.below(5)).map(|_| rng.below(1 + words.len() / 4)).collect();
         Case { evt3, start, words, parts, last: rng.chance(70) }
     }

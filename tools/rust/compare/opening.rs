@@ -57,8 +57,8 @@ impl Case {
     pub fn make(rng: &mut Rng) -> Case {
         let words = if rng.chance(50) { None } else { Some(rng.chance(60)) };
         let bytes = match words {
-            None => making::recording(rng),
-            Some(evt3) => making::words(rng, evt3),
+            None => making::recording(rng, &making::COMPARED),
+            Some(evt3) => making::words(rng, encoding(evt3)),
         };
         let spacing = making::spacing(rng, bytes.len());
         Case {
@@ -96,7 +96,7 @@ impl Case {
             Some(_) if self.size.is_some_and(|(w, h)| w == 0 || h == 0) => return Expected::Early(1),
             Some(evt3) => (evt3, 0, plain_header(evt3).len()),
         };
-        if !table::spacing_ok(self.spacing) {
+        if !table::spacing_ok(self.spacing, encoding(evt3)) {
             return Expected::Early(8);
         }
         let index = if self.is_ruled() {
@@ -134,8 +134,8 @@ impl Case {
     }
 
     /// The original is no reference.
-    pub fn is_outside(&self) -> bool {
-        self.words.is_none() && table::percent_behind_end(&self.bytes)
+    pub fn outside(&self) -> Option<table::Outside> {
+        self.words.map_or_else(|| table::outside(&self.bytes), |_| None)
     }
 
     pub fn has_end_line(&self) -> bool {
@@ -143,8 +143,8 @@ impl Case {
     }
 
     pub fn check(&self, env: &mut Env) -> Result<(), String> {
-        if self.is_outside() {
-            env.counts[self.kind()].outside += 1;
+        if let Some(why) = self.outside() {
+            env.count_outside(self.kind(), why);
             return Ok(());
         }
         let want = self.expected(&env.original);

@@ -31,8 +31,8 @@ impl Case {
     pub fn make(rng: &mut Rng) -> Case {
         let words = if rng.chance(60) { None } else { Some(rng.chance(60)) };
         let bytes = match words {
-            None => making::recording(rng),
-            Some(evt3) => making::words(rng, evt3),
+            None => making::recording(rng, &making::COMPARED),
+            Some(evt3) => making::words(rng, encoding(evt3)),
         };
         let limit = making::limit(rng, bytes.len());
         Case {
@@ -112,8 +112,8 @@ impl Case {
     }
 
     pub fn check(&self, env: &mut Env) -> Result<(), String> {
-        if self.words.is_none() && table::percent_behind_end(&self.bytes) {
-            env.counts[self.kind()].outside += 1;
+        if let Some(why) = self.words.map_or_else(|| table::outside(&self.bytes), |_| None) {
+            env.count_outside(self.kind(), why);
             return Ok(());
         }
         let want = self.expected(&env.original)?;

@@ -2,6 +2,7 @@
 use crate::archive::Lent;
 use crate::lent::{columns_untouched, Board, Region, Rng};
 use crate::original::Original;
+use crate::table::Outside;
 use eventcv::EventStream;
 
 /// Calls of one kind and their answers.
@@ -18,8 +19,10 @@ pub struct Count {
     pub ruled: u64,
     /// Cases that came to no call, since the recording they start from was refused.
     pub without: u64,
-    /// Cases that came to no call, since the byte behind the header's end line is `%`: the original is no reference there.
-    pub outside: u64,
+    /// Cases that came to no call, since the original is no reference: the byte behind the header's end line is `%`.
+    pub percent: u64,
+    /// The others for which it is none: the header names EVT2.1.
+    pub evt21: u64,
     /// Cases of a recording with an end line that were compared.
     pub ended: u64,
 }
@@ -65,6 +68,14 @@ impl Env {
             given: Board::new(1 << 20),
             output: Region::new(16 << 20),
             counts: vec![Count::default(); KINDS.len()],
+        }
+    }
+
+    pub fn count_outside(&mut self, kind: usize, why: Outside) {
+        let c = &mut self.counts[kind];
+        match why {
+            Outside::Percent => c.percent += 1,
+            Outside::Evt21 => c.evt21 += 1,
         }
     }
 

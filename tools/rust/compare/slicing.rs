@@ -1,5 +1,5 @@
 //! Slices by number and by time: over the recording itself, over another one lent, and over altered indexes.
-use crate::archive::{self, Record, Slice, Source};
+use crate::archive::{self, encoding, Record, Slice, Source};
 use crate::lent::{Mark, Rng};
 use crate::making;
 use crate::opening::{self, Expected};
@@ -145,7 +145,7 @@ impl Change {
             18 => Change::Size(rng.pick(&[0, 1, 5, 64, 2048, 65536, usize::MAX]), rng.pick(&[1, 5, 64, 2048, 65536, usize::MAX])),
             19 => Change::Len(rng.wild() as usize),
             20 => Change::Told(if rng.chance(80) { rng.below(8) } else { rng.wild() as usize }),
-            _ => Change::Encoding(making::encoding(rng)),
+            _ => Change::Encoding(making::compared_encoding(rng)),
         }
     }
 
@@ -208,9 +208,9 @@ fn other(rng: &mut Rng, bytes: &[u8], evt3: bool) -> Vec<u8> {
     let mut out = bytes.to_vec();
     match rng.below(5) {
         0 | 1 => out.truncate(rng.below(bytes.len() + 1)),
-        2 => out.extend(making::words(rng, evt3)),
+        2 => out.extend(making::words(rng, encoding(evt3))),
         3 => making::damage(rng, &mut out),
-        _ => out = making::words(rng, evt3),
+        _ => out = making::words(rng, encoding(evt3)),
     }
     out
 }
@@ -218,11 +218,11 @@ fn other(rng: &mut Rng, bytes: &[u8], evt3: bool) -> Vec<u8> {
 impl Case {
     pub fn make(rng: &mut Rng) -> Case {
         let mut open = opening::Case::make(rng);
-        if !table::spacing_ok(open.spacing) {
+        if !table::spacing_ok(open.spacing, 2) {
             open.spacing = 4 * (1 + rng.below(200));
         }
         if open.words.is_none() && rng.chance(80) {
-            open.bytes = making::good_recording(rng);
+            open.bytes = making::good_recording(rng, &making::COMPARED);
         }
         open.size = open.size.filter(|(w, h)| *w > 0 && *h > 0);
         let evt3 = open.words.unwrap_or(table::head(&open.bytes).encoding == 3);
@@ -261,8 +261,8 @@ impl Case {
     }
 
     pub fn check(&self, env: &mut Env) -> Result<(), String> {
-        if self.open.is_outside() {
-            env.counts[self.kind()].outside += 1;
+        if let Some(why) = self.open.outside() {
+            env.count_outside(self.kind(), why);
             return Ok(());
         }
         env.counts[self.kind()].cases += 1;

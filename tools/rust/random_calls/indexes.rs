@@ -28,7 +28,7 @@ impl Early {
                 (head.start, head.encoding, given.or(head.size))
             }
         };
-        let (refusal, told) = match table::spacing_ok(o.spacing) {
+        let (refusal, told) = match table::spacing_ok(o.spacing, encoding) {
             false => (8, 0),
             true => match table::records_needed(bytes.len() - start, o.spacing) {
                 need if need > lent => (9, need),
@@ -182,14 +182,14 @@ impl Env {
 
     /// A source and records: those of words, a few numbers altered, or any numbers at all.
     fn any_index(&mut self) -> Result<(Source, Vec<Record>, Vec<u8>), String> {
-        let evt3 = self.rng.chance(50);
-        let mut given = making::words(&mut self.rng, evt3);
-        let spacing = 4 * (1 + self.rng.below(100)) * (1 + given.len() / 20000);
+        let encoding = self.rng.pick(&making::KNOWN);
+        let mut given = making::words(&mut self.rng, encoding);
+        let spacing = archive::word_size(encoding).max(4) * (1 + self.rng.below(100)) * (1 + given.len() / 20000);
         given.truncate(1 << 16);
         let n = table::records_needed(given.len(), spacing) + self.rng.below(3);
         let o = OpenOptions { width: 1 + self.rng.below(2048), height: 2048, spacing, sized: 1 };
         let words = Bytes { given, long: None, last: true };
-        let (opening, mut records) = self.open(Some(archive::encoding(evt3)), &words, o, n)?;
+        let (opening, mut records) = self.open(Some(encoding), &words, o, n)?;
         let mut source = opening.source;
         let rng = &mut self.rng;
         for _ in 0..rng.pick(&[0, 0, 1, 1, 2, 8]) {

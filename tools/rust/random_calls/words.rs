@@ -1,5 +1,5 @@
 //! Decoders and single words.
-use crate::archive::{self, Decoded, Decoder, Event, Next, Stepped, Trigger, Vector};
+use crate::archive::{self, most_of_word, word_size, Decoded, Decoder, Event, Next, Stepped, Trigger, Vector, EVT21};
 use crate::lent::Rng;
 use crate::*;
 
@@ -21,12 +21,12 @@ fn any_decoder(rng: &mut Rng) -> Decoder {
     if rng.chance(15) {
         return wild_decoder(rng);
     }
-    let evt3 = rng.chance(60);
-    let mut d = archive::new_decoder(archive::encoding(evt3));
+    let encoding = rng.pick(&making::KNOWN);
+    let mut d = archive::new_decoder(encoding);
     if rng.chance(80) {
-        d = archive::decoder_after(d, &making::words(rng, evt3)).decoder;
+        d = archive::decoder_after(d, &making::words(rng, encoding)).decoder;
     }
-    let (wild, step) = (rng.wild(), if evt3 { 1 << 24 } else { 1 << 34 });
+    let (wild, step) = (rng.wild(), if encoding == 3 { 1 << 24 } else { 1 << 34 });
     match rng.below(24) {
         0 => d.time_base = wild,
         1 => d.time = rng.pick(&[wild, d.time.wrapping_add(1)]),
@@ -38,7 +38,7 @@ fn any_decoder(rng: &mut Rng) -> Decoder {
         7 => d.polarity = wild as u8,
         // the last loop but k that is in range, and one more
         8..=11 if d.initialised == 1 => {
-            let more = (if evt3 { 1 << 28 } else { 1 << 27 }) - d.high_loops + 1 - rng.below(3) as u64;
+            let more = (if encoding == 3 { 1 << 28 } else { 1 << 27 }) - d.high_loops + 1 - rng.below(3) as u64;
             d.high_loops += more;
             d.time_base += more * step;
             d.time += more * step;
@@ -46,14 +46,6 @@ fn any_decoder(rng: &mut Rng) -> Decoder {
         _ => {}
     }
     d
-}
-
-fn word_size(encoding: u32) -> usize {
-    if encoding == 3 {
-        2
-    } else {
-        4
-    }
 }
 
 /// The first event and the rest, as the header file says it.
@@ -75,7 +67,8 @@ fn trigger_told(d: &Decoder, word: &[u8]) -> Trigger {
     if word.len() < size || kind != 10 || d.initialised == 0 {
         return Trigger::default();
     }
-    let (t, ids) = if size == 4 { (d.time_base + (w >> 22 & 63), 32) } else { (d.time, 16) };
+    let w = if d.encoding == EVT21 { w >> 32 } else { w }; // the high half, laid out as in EVT2
+    let (t, ids) = if d.encoding == 3 { (d.time, 16) } else { (d.time_base + (w >> 22 & 63), 32) };
     Trigger { t: t as i64, refusal: 0, id: (w >> 8) as u8 % ids, value: w as u8 & 1, some: 1 }
 }
 
@@ -85,7 +78,8 @@ fn decoded_allowed(r: &Decoded, given: &Decoder, bytes: &[u8]) -> Checked {
     }
     let v = &r.events;
     ensure(r.refusal == 0 && r.decoder.encoding == given.encoding && table::decoder_made(&r.decoder), "a decoder that no word makes")?;
-    ensure(v.mask < 1 << 12 && v.p <= 1 && v.t >= 0 && v.y <= 2047, "events out of range")?;
+    ensure((v.mask as u64) < 1 << most_of_word(given.encoding) && v.p <= 1 && v.t >= 0 && v.y <= 2047, "events out of range")?;
+    ensure(given.encoding == 3 || v.x <= 2047, "a column out of range")?;
     ensure(v.mask == 0 || (v.t as u64, given.initialised) == (r.decoder.time, 1), "events of another time")?;
     let broken = bytes.len() < word_size(given.encoding);
     ensure(!broken || (r.decoder == *given && v.mask == 0), "less than a word did something")
@@ -100,8 +94,8 @@ impl Env {
 
     pub fn decoding(&mut self) -> Checked {
         let d = any_decoder(&mut self.rng);
-        let evt3 = if self.rng.chance(90) { d.encoding == 3 } else { d.encoding != 3 };
-        let mut given = making::words(&mut self.rng, evt3);
+        let encoding = if self.rng.chance(90) { d.encoding } else { self.rng.pick(&making::KNOWN) };
+        let mut given = making::words(&mut self.rng, encoding);
         given.truncate(1 << 16);
         let words = Bytes::of(&mut self.rng, given);
         let events = self.decode(d, &words)?;

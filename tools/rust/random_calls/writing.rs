@@ -46,11 +46,11 @@ fn any_sink(rng: &mut Rng) -> Sink {
     if rng.chance(15) {
         return wild_sink(rng);
     }
-    let evt3 = rng.chance(60);
-    let mut s = archive::writer(archive::encoding(evt3), flag(rng));
+    let encoding = rng.pick(&making::KNOWN);
+    let mut s = archive::writer(encoding, flag(rng));
     if rng.chance(70) {
-        let from = rng.below(making::time_bound(evt3) as usize) as i64;
-        let c = making::events(rng, evt3, from, 5);
+        let from = rng.below(making::time_bound(encoding) as usize) as i64;
+        let c = making::events(rng, encoding, from, 5);
         s = archive::append(s, 1, 1, &c, &mut [0; 200]).sink;
     }
     let (wild, flag) = (rng.wild(), flag(rng));
@@ -100,14 +100,14 @@ impl Env {
         let (size, last) = ((number(rng), number(rng)), rng.chance(70));
         let from = if rng.chance(80) { sink.last_t } else { 0 };
         let n = if rng.chance(90) { rng.below(20) } else { rng.below(3000) };
-        let mut c = making::events(rng, sink.encoding == 3, from, n);
+        let mut c = making::events(rng, sink.encoding, from, n);
         if rng.chance(30) {
             spoil_events(rng, &mut c);
         }
         if rng.chance(1) {
             return self.append_many(sink, last);
         }
-        let output = rng.pick(&[0, 3, 60, 200, 96 + 8 * c.xs.len(), 4 * c.xs.len()]);
+        let output = rng.pick(&[0, 3, 60, 200, archive::most_bytes(sink.encoding, c.xs.len()), 4 * c.xs.len()]);
         let output = output + rng.below(8);
         let got = self.append(sink, size, &c, output, last)?;
         if got.refusal == 11 {

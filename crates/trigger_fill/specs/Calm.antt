@@ -6,9 +6,10 @@ use mathlib.Core.List.{List, [], _∷_, _++_}
 use Prim.Native.Nat.{ℕ, _+_, _-_, _*_, _/_, _%_, _^_, _≤_, _<_}
 use native.Mathlib.Omega.{arith}
 use lib.Dec.{eqb, leb}
+use lib.ListN.{length, getD}
 use borrow.Author.Tests.{eq-eqb, ne-eqb, eqb-true, eqb-false, leb-true, leb-false}
 use Rattle.laws_stream.specs.{Machine.All, Machine.emits, Loop.tracks-same}
-use Rattle.evt_types.specs.Layout.{triggerType}
+use Rattle.evt_types.specs.{Ahead.ahead, Ahead.ahead-two, Ahead.ahead-four, Ahead.ahead-eight, Layout.triggerType}
 use Rattle.trigger_fill.specs.declared.{form.Form.Form, times.Times.Times}
 use Rattle.trigger_fill.specs.Form.{form2, form21, form3, Known, known2, known21, known3, kindIn, lowIn, setTo, fineWord, ticked, pulses, Paced}
 use Rattle.trigger_fill.specs.Form.{raw-in, paced-fine, by-kind, tick-time, tick-fine, tick-other, no-trigger}
@@ -16,6 +17,25 @@ use Rattle.trigger_fill.specs.Form.{raw-in, paced-fine, by-kind, tick-ti
 -- a word's highest byte
 abbrev pub topIn : Form → ℕ → ℕ
 topIn f w = w / 2 ^ (f .shift - 4) % 2 ^ 8
+
+-- that of the word at i is its last byte
+pub top-byte : {f : Form} → Known f → (l : List ℕ) (i : ℕ) → i + f .size ≤ length l → ((k : ℕ) → getD l k 0 < 256)
+    → topIn f (ahead (f .size) l i) ≡ getD l (i + (f .size - 1)) 0
+top-byte known2 l i h small = omega (arith, ahead-four l i _ (omega arith) refl, small i, small (i + 1), small (i + 2), small (i + 3))
+top-byte known21 l i h small =
+    omega (
+      arith,
+      ahead-eight l i _ (omega arith) refl,
+      small i,
+      small (i + 1),
+      small (i + 2),
+      small (i + 3),
+      small (i + 4),
+      small (i + 5),
+      small (i + 6),
+      small (i + 7),
+    )
+top-byte known3 l i h small = omega (arith, ahead-two l i _ (omega arith) refl, small i, small (i + 1))
 
 -- a trigger, or a time word that is late in its period where the time isn't, or the other way round
 abbrev pub notableTop : (late : Bool) → ℕ → Bool

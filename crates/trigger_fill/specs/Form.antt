@@ -2,7 +2,7 @@
 use mathlib.Core.Path.{_≡_, refl}
 use mathlib.Core.Bool.{Bool, true, false, cond}
 use mathlib.Core.List.{List, [], _∷_}
-use Prim.Native.Nat.{ℕ, suc, _+_, _-_, _*_, _/_, _%_, _^_, _≤_, _<_}
+use Prim.Native.Nat.{ℕ, suc, _+_, _*_, _/_, _%_, _^_, _≤_, _<_}
 use native.Mathlib.Nat.{mul-le-mul-right}
 use native.Mathlib.Omega.{arith}
 use lib.Dec.{eqb}
@@ -134,11 +134,6 @@ pub shift-few : {f : Form} → Known f → f .shift < 64
 shift-few known2 = omega arith
 shift-few known21 = omega arith
 shift-few known3 = omega arith
-
-pub shift-some : {f : Form} → Known f → 4 ≤ f .shift
-shift-some known2 = omega arith
-shift-some known21 = omega arith
-shift-some known3 = omega arith
 
 pub low-few : {f : Form} → Known f → (f .from < 64) × (f .width < 64)
 low-few known2 = (omega arith, omega arith)

@@ -10,30 +10,27 @@ ghost use Rattle.trigger_fill.specs.Reach.{Reached};
 ghost use Rattle.trigger_fill.specs.Pulse.{Place};
 use crate::back;
 use crate::blocks;
-use crate::form;
 use crate::form::Form;
 use crate::times::Times;
-use evt_types::fields::bits;
 
 pub struct Stop {
     pub at: usize,
     pub times: Times,
 }
 
-// The index of the first notable word, or behind the last word if there is none.
+// The index of the first notable word, or behind the last word if there is none. By a word's highest
+// byte, which is its last in every encoding: to read the whole word measured slower.
 fn find(f: Form, late: bool, s: &[u8]) -> usize
     requires { ⌜ Known f ⌝ }
     ensures { λ r. ⌜ r ≡ lead (notable late f) (wordsOf (f .size) (now (s .entry))) * f .size ⌝ }
 {
-    let size = f.size;
     let mut i = blocks::over(f, late, s);
-    while i + size <= s.len() {
-        let w = form::word(f, s, i);
-        let top = bits(w, f.shift - 4, 8);
+    while i + f.size <= s.len() {
+        let top = s[i + (f.size - 1)] as u64;
         if blocks::is_notable(late, top) {
             return i;
         }
-        i += size;
+        i += f.size;
     }
     i
 }

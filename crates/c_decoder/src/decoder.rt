@@ -18,8 +18,8 @@ use evt_types::Refusal;
 use evt_types::refusal_number;
 use evt_types::vector::NextEvent;
 use evt2_decoder::Evt2Decoder;
-use evt21_decoder::Evt21Decoder;
 use evt3_decoder::Decoder;
+use evt21_decoder::Evt21Decoder;
 use read_after::AfterAnswer;
 
 // `initialised` and `polarity` are 0 or 1. `y`, `base_x` and `polarity` are EVT3's.

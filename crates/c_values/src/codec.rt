@@ -9,8 +9,8 @@ use evt_codec::Codec;
 use evt_types::Encoding;
 use evt_types::num::saturate;
 use evt2_decoder::Evt2Decoder;
-use evt21_decoder::Evt21Decoder;
 use evt3_decoder::Decoder;
+use evt21_decoder::Evt21Decoder;
 
 // `initialised` and `polarity` are 0 or 1. `y`, `base_x` and `polarity` are EVT3's.
 pub struct DecoderNumbers {

@@ -16,8 +16,8 @@ use evt_types::fields::word32;
 use evt_types::vector;
 use evt_types::words;
 use evt2_decoder::Evt2Decoder;
-use evt21_decoder::Evt21Decoder;
 use evt3_decoder::Decoder;
+use evt21_decoder::Evt21Decoder;
 
 pub enum Codec {
     Evt2(Evt2Decoder),

@@ -17,5 +17,5 @@ pub use evt_types::SensorSize;
 pub use evt_types::Sent;
 pub use evt_types::TriggerAnswer;
 pub use evt2_decoder::Evt2Decoder;
-pub use evt21_decoder::Evt21Decoder;
 pub use evt3_decoder::Decoder;
+pub use evt21_decoder::Evt21Decoder;

@@ -10,8 +10,8 @@ ghost use Rattle.read_capacity.specs.Deliver.{mostFrom, mostOver, Enough
 use evt_codec::Codec;
 use evt_types::num::min_usize;
 use evt2_decoder::Evt2Decoder;
-use evt21_decoder::Evt21Decoder;
 use evt3_decoder::Decoder;
+use evt21_decoder::Evt21Decoder;
 use read_select::Window;
 
 // How many events were written, or how many places they need.

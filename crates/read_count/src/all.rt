@@ -14,20 +14,20 @@ ghost use Rattle.evt3_decoder.specs.Range.{Bounded3};
 ghost use Rattle.read_columns.specs.Inside.{clock};
 ghost use Rattle.read_fill.specs.Iteration.{insideAll};
 use crate::LAST_BYTE2;
-use crate::LAST_BYTE21;
 use crate::LAST_BYTE3;
+use crate::LAST_BYTE21;
 use crate::evt2_inside;
-use crate::evt21_inside;
 use crate::evt3_inside;
 use crate::evt3_step;
+use crate::evt21_inside;
 use evt_types::fields::bits;
 use evt_types::words;
 use evt2_decoder::Evt2Decoder;
 use evt2_decoder::advance;
-use evt21_decoder::Evt21Decoder;
-use evt21_decoder::of_evt2;
 use evt3_decoder::Decoder;
 use evt3_decoder::widen;
+use evt21_decoder::Evt21Decoder;
+use evt21_decoder::of_evt2;
 
 pub struct Evt2CountedAll {
     pub count: usize,

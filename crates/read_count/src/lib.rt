@@ -11,12 +11,12 @@ ghost use Rattle.read_fill.specs.Decode.{Bounded, Able};
 ghost use Rattle.read_count.specs.Count.{countedAllOf, countedToOf};
 use evt_codec::Codec;
 use evt2_decoder::Evt2Decoder;
-use evt21_decoder::Evt21Decoder;
 use evt3_decoder::Decoder;
+use evt21_decoder::Evt21Decoder;
 
 mod all;
-mod evt2_inside;
 mod evt21_inside;
+mod evt2_inside;
 mod evt3_inside;
 mod evt3_step;
 mod to;

@@ -10,20 +10,20 @@ ghost use Rattle.evt21_decoder.specs.Range.{Bounded21};
 ghost use Rattle.evt3_decoder.specs.Range.{Bounded3, Paced3};
 ghost use Rattle.read_count.specs.Passing.{Reached};
 use crate::LAST_BYTE2;
-use crate::LAST_BYTE21;
 use crate::LAST_BYTE3;
+use crate::LAST_BYTE21;
 use crate::evt2_inside;
-use crate::evt21_inside;
 use crate::evt3_inside;
 use crate::evt3_step;
+use crate::evt21_inside;
 use evt_types::fields::bits;
 use evt_types::words;
 use evt2_decoder::Evt2Decoder;
 use evt2_decoder::advance;
-use evt21_decoder::Evt21Decoder;
-use evt21_decoder::of_evt2;
 use evt3_decoder::Decoder;
 use evt3_decoder::widen;
+use evt21_decoder::Evt21Decoder;
+use evt21_decoder::of_evt2;
 
 pub struct Evt2CountedTo {
     pub at: usize,
@@ -75,13 +75,7 @@ pub fn evt2(bytes: &[u8], d: Evt2Decoder, width: u64, height: u64, most: usize) 
     }
 }
 
-pub fn evt21(
-    bytes: &[u8],
-    d: Evt21Decoder,
-    width: u64,
-    height: u64,
-    most: usize,
-) -> Evt21CountedTo
+pub fn evt21(bytes: &[u8], d: Evt21Decoder, width: u64, height: u64, most: usize) -> Evt21CountedTo
     requires { ⌜ Bounded21 (length (now bytes) / wordSize21) d ⌝ }
     ensures { λ r. ⌜ Reached wordSize21 reader21 Bounded21 width height most d (now (bytes .entry)) (r .at) (r .count) (r .decoder) ⌝ }
 {

@@ -10,11 +10,11 @@ use evt_codec::Codec;
 use evt_types::words;
 use evt2_decoder::Evt2Decoder;
 use evt2_decoder::advance;
-use evt21_decoder::Evt21Decoder;
-use evt21_decoder::of_evt2;
 use evt3_decoder::Decoder;
 use evt3_decoder::WideDecoder;
 use evt3_decoder::widen;
+use evt21_decoder::Evt21Decoder;
+use evt21_decoder::of_evt2;
 
 // A loop tests for a word's last byte as `words::four_at` and the others do, whose tests then fall away.
 const LAST_BYTE2: usize = Evt2Decoder::WORD_SIZE - 1;

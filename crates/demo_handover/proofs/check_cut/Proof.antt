@@ -30,11 +30,8 @@ pub check-cut-spec : {M : Type 1} → statement M
 check-cut-spec =
     tie.close
     (tie.spec
-    (λ c. search needs) (λ c κs. search needs) (λ c κs. search needs) (λ c. search needs)
-    sub-kept
-    (λ c κs. search needs) (λ c. sym (length-take-le _ _ (omega arith))) (λ c. search needs)
-    copy-requires
-    (λ c. search needs) (λ c κs. search needs) (λ c κs. search needs)
-    slice-aggregate-reads
+    (λ c. search needs) (λ c κs. search needs) (λ c κs. search needs) (λ c. search needs) sub-kept
+    (λ c κs. search needs) (λ c. sym (length-take-le _ _ (omega arith))) (λ c. search needs) copy-requires
+    (λ c. search needs) (λ c κs. search needs) (λ c κs. search needs) slice-aggregate-reads
     (λ c. search needs) (λ c κs. search needs) (λ c. search needs) (λ c. sym (length-take-le _ _ (search needs)))
     (λ c κs. search needs) (λ c. search needs) (λ c κs. search needs) (λ c κs. search needs) (λ c κs. search needs) (λ c. search needs))

@@ -68,18 +68,5 @@ pub pass-spec : {M : Type 1} → statement M
 pass-spec =
     tie.close
     (tie.spec
-    Inv-loop
-    μ-loop
-    (λ c κs. search needs)
-    loop-holds
-    joined-requires
-    time-at-requires
-    (λ c. omega arith) (λ c. omega arith)
-    with-bit-requires
-    place-of-requires
-    put-at-requires
-    (λ c. omega arith) (λ c. omega arith)
-    loop-again
-    (λ c κs. search needs)
-    same-length
-    returns)
+    Inv-loop μ-loop (λ c κs. search needs) loop-holds joined-requires time-at-requires (λ c. omega arith) (λ c. omega arith) with-bit-requires place-of-requires
+    put-at-requires (λ c. omega arith) (λ c. omega arith) loop-again (λ c κs. search needs) same-length returns)

@@ -48,9 +48,4 @@ pub put-event-spec : {M : Type 1} → statement M
 put-event-spec =
     tie.close
     (tie.spec
-    (λ c κs. search needs) (λ c κs. search needs) (λ c κs. search needs)
-    put64-requires
-    put64-requires-2
-    add-result
-    (λ c. search needs)
-    returns)
+    (λ c κs. search needs) (λ c κs. search needs) (λ c κs. search needs) put64-requires put64-requires-2 add-result (λ c. search needs) returns)

@@ -84,21 +84,6 @@ pub pass-spec : {M : Type 1} → statement M
 pass-spec =
     tie.close
     (tie.spec
-    Inv-loop
-    μ-loop
-    (λ c κs. search needs)
-    loop-holds
-    (λ c. omega arith)
-    time-at-requires
-    (λ c. omega arith)
-    time-at-requires-2
-    put-at-requires
-    (λ c. omega arith)
-    put-at-requires-2
-    (λ c. omega arith) (λ c. omega arith)
-    loop-again
-    time-at-requires-3
-    put-at-requires-3
-    (λ c κs. search needs)
-    same-length
-    returns)
+    Inv-loop μ-loop (λ c κs. search needs) loop-holds (λ c. omega arith) time-at-requires (λ c. omega arith) time-at-requires-2 put-at-requires
+    (λ c. omega arith) put-at-requires-2 (λ c. omega arith) (λ c. omega arith) loop-again time-at-requires-3 put-at-requires-3 (λ c κs. search needs)
+    same-length returns)

@@ -49,14 +49,5 @@ pub marks-one-by-one-spec : {M : Type 1} → statement M
 marks-one-by-one-spec =
     tie.close
     (tie.spec
-    Inv-loop
-    μ-loop
-    (λ c. omega arith) (λ c. omega arith) (λ c. omega arith)
-    loop-holds
-    (λ c. omega arith)
-    mul-mask
-    stops-requires
-    add-mask
-    (λ c. omega arith)
-    loop-again
-    returns)
+    Inv-loop μ-loop (λ c. omega arith) (λ c. omega arith) (λ c. omega arith) loop-holds (λ c. omega arith) mul-mask stops-requires add-mask (λ c. omega arith)
+    loop-again returns)

@@ -78,17 +78,6 @@ pub run-at-spec : {M : Type 1} → statement M
 run-at-spec =
     tie.close
     (tie.spec
-    Inv-loop
-    μ-loop
-    loop-holds
-    marks-requires
-    (λ c. omega arith)
-    skip-blocks-requires
-    loop-less
-    loop-again
-    loop-less-2
-    loop-again-2
+    Inv-loop μ-loop loop-holds marks-requires (λ c. omega arith) skip-blocks-requires loop-less loop-again loop-less-2 loop-again-2
     (λ c. omega arith) (λ c. omega (arith, trailing-le 64 (c .before .loop .m)))
-    (λ c. omega (arith, trailing-le 64 (c .before .loop .m))) (λ c. omega (arith, trailing-le 64 (c .before .loop .m)))
-    shr-t16
-    returns)
+    (λ c. omega (arith, trailing-le 64 (c .before .loop .m))) (λ c. omega (arith, trailing-le 64 (c .before .loop .m))) shr-t16 returns)

@@ -28,6 +28,4 @@ stops-spec =
     (tie.spec
     (λ c. search needs) (λ c κs. search needs) (λ c κs. search needs) (λ c. search needs) (λ c. search needs)
     (λ c. search needs) (λ c. search needs) (λ c. search needs) (λ c. search needs) (λ c. search needs) (λ c. search needs)
-    (λ c. search needs) (λ c. search needs) (λ c κs. search needs)
-    returns
-    returns-2)
+    (λ c. search needs) (λ c. search needs) (λ c κs. search needs) returns returns-2)

@@ -11,5 +11,4 @@ column-word-spec =
     tie.close
     (tie.spec
     (λ c. omega (arith, and-mask (c .args .p) 1)) (λ c. omega (arith, and-mask (c .args .p) 1))
-    (λ c. omega (arith, and-mask (c .args .p) 1, and-mask (c .args .x) 11))
-    returns)
+    (λ c. omega (arith, and-mask (c .args .p) 1, and-mask (c .args .x) 11)) returns)

@@ -46,15 +46,5 @@ pub next-masks-spec : {M : Type 1} → statement M
 next-masks-spec =
     tie.close
     (tie.spec
-    Inv-loop
-    μ-loop
-    (λ c. scan-start (c .before .pre .0) (c .before .pre .2)) (λ c. omega arith) (λ c. omega arith)
-    cast-x
-    (λ c. omega arith)
-    sub-bit
-    bit-requires
-    add-mask
-    (λ c. omega arith) (λ c. omega arith)
-    loop-again
-    returns
-    returns-2)
+    Inv-loop μ-loop (λ c. scan-start (c .before .pre .0) (c .before .pre .2)) (λ c. omega arith) (λ c. omega arith) cast-x (λ c. omega arith) sub-bit
+    bit-requires add-mask (λ c. omega arith) (λ c. omega arith) loop-again returns returns-2)

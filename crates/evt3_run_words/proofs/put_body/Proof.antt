@@ -109,22 +109,6 @@ pub put-body-spec : {M : Type 1} → statement M
 put-body-spec =
     tie.close
     (tie.spec
-    (λ c. search needs)
-    put-pair-requires
-    (λ c. search needs)
-    returns
-    (λ c. search needs) (λ c. search needs)
-    cast-first
-    (λ c. search needs) (λ c. search needs) (λ c. search needs)
-    cast-last
-    vector-pays-requires
-    mask-count-requires
-    (λ c κs. search needs)
-    put16-requires
-    (λ c. search needs)
-    put-masks-requires
-    (λ c. search needs)
-    returns-2
-    put-singles-requires
-    (λ c. search needs)
-    returns-3)
+    (λ c. search needs) put-pair-requires (λ c. search needs) returns (λ c. search needs) (λ c. search needs) cast-first
+    (λ c. search needs) (λ c. search needs) (λ c. search needs) cast-last vector-pays-requires mask-count-requires (λ c κs. search needs) put16-requires
+    (λ c. search needs) put-masks-requires (λ c. search needs) returns-2 put-singles-requires (λ c. search needs) returns-3)

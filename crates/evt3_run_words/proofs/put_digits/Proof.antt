@@ -26,10 +26,5 @@ pub put-digits-spec : {M : Type 1} → statement M
 put-digits-spec =
     tie.close
     (tie.spec
-    Inv-loop
-    μ-loop
-    (λ c. digit-start) (λ c κs. search needs)
-    put16-requires
-    (λ c. omega arith) (λ c. omega arith) (λ c. omega arith)
-    loop-again
+    Inv-loop μ-loop (λ c. digit-start) (λ c κs. search needs) put16-requires (λ c. omega arith) (λ c. omega arith) (λ c. omega arith) loop-again
     (λ c. c .before .loop .inv .storing .long) (λ c. digit-end (c .before .loop .inv) (c .loop-test .left)))

@@ -63,14 +63,5 @@ pub put-masks-spec : {M : Type 1} → statement M
 put-masks-spec =
     tie.close
     (tie.spec
-    Inv-loop
-    μ-loop
-    loop-holds
-    next-masks-requires
-    put-digits-requires
-    (λ c. omega arith) (λ c. omega arith) (λ c. omega arith)
-    loop-again
-    next-masks-requires-2
-    put-digits-requires-2
-    (λ c. omega arith)
-    returns)
+    Inv-loop μ-loop loop-holds next-masks-requires put-digits-requires (λ c. omega arith) (λ c. omega arith) (λ c. omega arith) loop-again next-masks-requires-2
+    put-digits-requires-2 (λ c. omega arith) returns)

@@ -33,10 +33,5 @@ pub put-pair-spec : {M : Type 1} → statement M
 put-pair-spec =
     tie.close
     (tie.spec
-    (λ c. search needs) (λ c. search needs) (λ c. search needs) (λ c. search needs) (λ c. search needs) (λ c. search needs)
-    (λ c κs. search needs)
-    put16-requires
-    (λ c. search needs) (λ c. search needs) (λ c κs. search needs)
-    put16-requires-2
-    (λ c. search needs) (λ c. search needs)
-    returns)
+    (λ c. search needs) (λ c. search needs) (λ c. search needs) (λ c. search needs) (λ c. search needs) (λ c. search needs) (λ c κs. search needs)
+    put16-requires (λ c. search needs) (λ c. search needs) (λ c κs. search needs) put16-requires-2 (λ c. search needs) (λ c. search needs) returns)

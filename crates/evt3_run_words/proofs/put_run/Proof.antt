@@ -87,15 +87,6 @@ pub put-run-spec : {M : Type 1} → statement M
 put-run-spec =
     tie.close
     (tie.spec
-    put-leads-requires
-    put-body-requires
-    (λ c. search needs) (λ c. search needs) (λ c. search needs)
-    cast-body-size
-    (λ c. search needs) (λ c. search needs) (λ c. search needs)
-    cast-body-size-2
-    body-size-requires
-    add-result
-    (λ c. search needs)
-    returns
-    (λ c. search needs)
+    put-leads-requires put-body-requires (λ c. search needs) (λ c. search needs) (λ c. search needs) cast-body-size
+    (λ c. search needs) (λ c. search needs) (λ c. search needs) cast-body-size-2 body-size-requires add-result (λ c. search needs) returns (λ c. search needs)
     returns-2)

@@ -31,11 +31,5 @@ pub put-singles-spec : {M : Type 1} → statement M
 put-singles-spec =
     tie.close
     (tie.spec
-    Inv-loop
-    μ-loop
-    (λ c. single-start (c .before .before .pre .0)) (λ c. omega arith) (λ c. omega arith) (λ c κs. search needs)
-    put16-requires
-    (λ c. omega arith) (λ c. omega arith) (λ c. omega arith)
-    loop-again
-    (λ c. c .before .loop .inv .storing .long)
-    returns)
+    Inv-loop μ-loop (λ c. single-start (c .before .before .pre .0)) (λ c. omega arith) (λ c. omega arith) (λ c κs. search needs) put16-requires
+    (λ c. omega arith) (λ c. omega arith) (λ c. omega arith) loop-again (λ c. c .before .loop .inv .storing .long) returns)

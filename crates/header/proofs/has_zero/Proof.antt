@@ -9,6 +9,5 @@ unfolding hasZero
 has-zero-spec =
     tie.close
     (tie.spec
-    (λ c. search needs) (λ c. search needs) (λ c. simp (c .enum-told .given .1))
-    (λ c. simp (c .before .before .size .given .1, eq-eqb _ _ (c .if1 .taken)))
+    (λ c. search needs) (λ c. search needs) (λ c. simp (c .enum-told .given .1)) (λ c. simp (c .before .before .size .given .1, eq-eqb _ _ (c .if1 .taken)))
     (λ c. simp (c .before .before .size .given .1, ne-eqb _ _ (c .if1 .left))))

@@ -10,5 +10,4 @@ unfolding isEnd
 is-end-spec =
     tie.close
     (tie.spec
-    (λ c κs. search needs) (λ c. search needs) (λ c κs. search needs)
-    (λ c. c .is-word .ensures ∙ ap (same endName) (c .before .before .line-body .ensures)))
+    (λ c κs. search needs) (λ c. search needs) (λ c κs. search needs) (λ c. c .is-word .ensures ∙ ap (same endName) (c .before .before .line-body .ensures)))

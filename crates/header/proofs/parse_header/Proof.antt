@@ -47,13 +47,5 @@ pub parse-header-spec : {M : Type 1} → statement M
 parse-header-spec =
     tie.close
     (tie.spec
-    returns
-    (λ c κs. search needs)
-    slice-aggregate-has
-    (λ c κs. search needs)
-    returns-2
-    (λ c κs. search needs) (λ c. search needs) (λ c. search needs)
-    returns-3
-    (λ c κs. search needs) (λ c κs. search needs)
-    returns-4
-    returns-5)
+    returns (λ c κs. search needs) slice-aggregate-has (λ c κs. search needs) returns-2 (λ c κs. search needs) (λ c. search needs) (λ c. search needs) returns-3
+    (λ c κs. search needs) (λ c κs. search needs) returns-4 returns-5)

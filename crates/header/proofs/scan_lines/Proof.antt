@@ -67,16 +67,6 @@ pub scan-lines-spec : {M : Type 1} → statement M
 scan-lines-spec =
     tie.close
     (tie.spec
-    Inv-loop
-    μ-loop
-    (λ c. (omega arith, laws.scan-start _)) (λ c. search needs)
-    returns
-    (λ c. search needs) (λ c. search needs) (λ c. search needs) (λ c κs. search needs)
-    slice-aggregate-line
-    (λ c κs. search needs)
-    add-at
-    (λ c κs. search needs)
-    returns-2
-    loop-less
-    loop-again
-    returns-3)
+    Inv-loop μ-loop (λ c. (omega arith, laws.scan-start _)) (λ c. search needs) returns
+    (λ c. search needs) (λ c. search needs) (λ c. search needs) (λ c κs. search needs) slice-aggregate-line (λ c κs. search needs) add-at (λ c κs. search needs)
+    returns-2 loop-less loop-again returns-3)

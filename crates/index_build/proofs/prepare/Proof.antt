@@ -37,8 +37,4 @@ pub prepare-spec : {M : Type 1} → statement M
 prepare-spec =
     tie.close
     (tie.spec
-    (λ c κs. search needs) (λ c. search needs) (λ c. search needs)
-    refusal-of-requires
-    returns
-    body-builder-requires
-    returns-2)
+    (λ c κs. search needs) (λ c. search needs) (λ c. search needs) refusal-of-requires returns body-builder-requires returns-2)

@@ -68,13 +68,7 @@ pub spaced-builder-spec : {M : Type 1} → statement M
 spaced-builder-spec =
     tie.close
     (tie.spec
-    (λ c. search needs)
-    record-count-requires
-    returns
+    (λ c. search needs) record-count-requires returns
     (λ c. search needs) (λ c κs. search needs) (λ c κs. search needs) (λ c. search needs) (λ c κs. search needs)
-    (λ c. search needs) (λ c. search needs) (λ c. search needs) (λ c κs. search needs)
-    survey-requires
-    returns-2
-    (λ c κs. search needs) (λ c κs. search needs)
-    returns-3
-    returns-4)
+    (λ c. search needs) (λ c. search needs) (λ c. search needs) (λ c κs. search needs) survey-requires returns-2 (λ c κs. search needs) (λ c κs. search needs)
+    returns-3 returns-4)

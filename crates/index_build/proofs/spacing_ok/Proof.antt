@@ -28,9 +28,4 @@ pub spacing-ok-spec : {M : Type 1} → statement M
 spacing-ok-spec =
     tie.close
     (tie.spec
-    returns
-    returns-2
-    (λ c. search needs) (λ c. search needs) (λ c. search needs)
-    returns-3
-    returns-4
-    returns-5)
+    returns returns-2 (λ c. search needs) (λ c. search needs) (λ c. search needs) returns-3 returns-4 returns-5)

@@ -15,5 +15,4 @@ pub open-words-spec : {M : Type 1} → statement M
 open-words-spec =
     tie.close
     (tie.spec
-    (λ c κs. search needs) (λ c κs. search needs) (λ c κs. search needs)
-    returns)
+    (λ c κs. search needs) (λ c κs. search needs) (λ c κs. search needs) returns)

@@ -56,10 +56,4 @@ pub stands-spec : {M : Type 1} → statement M
 stands-spec =
     tie.close
     (tie.spec
-    (λ c. search needs)
-    returns-2
-    returns-3
-    returns-4
-    returns-5
-    returns-6
-    returns-7)
+    (λ c. search needs) returns-2 returns-3 returns-4 returns-5 returns-6 returns-7)

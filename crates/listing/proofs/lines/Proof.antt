@@ -49,15 +49,5 @@ pub lines-spec : {M : Type 1} → statement M
 lines-spec =
     tie.close
     (tie.spec
-    Inv-loop
-    μ-loop
-    (λ c. search needs) (λ c. search needs) (λ c κs. search needs)
-    lines-text-requires
-    slice-reshare-prefix-write-all
-    slice-aggregate-write-all
-    (λ c κs. search needs)
-    same-length
-    (λ c. search needs) (λ c. search needs)
-    loop-less
-    loop-again
-    (λ c. c .before .loop .inv .1) (λ c. search needs))
+    Inv-loop μ-loop (λ c. search needs) (λ c. search needs) (λ c κs. search needs) lines-text-requires slice-reshare-prefix-write-all slice-aggregate-write-all
+    (λ c κs. search needs) same-length (λ c. search needs) (λ c. search needs) loop-less loop-again (λ c. c .before .loop .inv .1) (λ c. search needs))

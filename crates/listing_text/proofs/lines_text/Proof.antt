@@ -32,11 +32,7 @@ pub lines-text-spec : {M : Type 1} → statement M
 lines-text-spec =
     tie.close
     (tie.spec
-    Inv-loop
-    μ-loop
-    (λ c. listing-start) (λ c. record { fits = omega arith }) (λ c. omega arith) (λ c κs. search needs)
+    Inv-loop μ-loop (λ c. listing-start) (λ c. record { fits = omega arith }) (λ c. omega arith) (λ c κs. search needs)
     (λ c. record { fits = omega arith }) (λ c. omega arith) (λ c. record { fits = omega arith }) (λ c. omega arith)
-    (λ c. omega arith) (λ c κs. omega arith) (λ c. record { fits = omega arith }) (λ c. search needs) (λ c. search needs)
-    loop-again
-    (λ c. c .before .loop .inv .long)
-    returns)
+    (λ c. omega arith) (λ c κs. omega arith) (λ c. record { fits = omega arith }) (λ c. search needs) (λ c. search needs) loop-again
+    (λ c. c .before .loop .inv .long) returns)

@@ -27,9 +27,5 @@ pub decode-words-spec : {M : Type 1} → statement M
 decode-words-spec =
     tie.close
     (tie.spec
-    (λ c κs. search needs) (λ c. search needs)
-    returns
-    (λ c. search needs)
-    read-body-requires
-    (λ c. search needs) (λ c. search needs) (λ c. search needs) (λ c. search needs)
-    returns-2)
+    (λ c κs. search needs) (λ c. search needs) returns (λ c. search needs) read-body-requires
+    (λ c. search needs) (λ c. search needs) (λ c. search needs) (λ c. search needs) returns-2)

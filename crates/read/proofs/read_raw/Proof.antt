@@ -44,12 +44,5 @@ pub read-raw-spec : {M : Type 1} → statement M
 read-raw-spec =
     tie.close
     (tie.spec
-    (λ c κs. search needs) (λ c. search needs) (λ c. search needs)
-    refusal-of-requires
-    returns
-    sub-body
-    part-body-start
-    (λ c. search needs)
-    read-body-requires
-    (λ c. search needs) (λ c. search needs) (λ c. search needs) (λ c. search needs)
-    returns-2)
+    (λ c κs. search needs) (λ c. search needs) (λ c. search needs) refusal-of-requires returns sub-body part-body-start (λ c. search needs) read-body-requires
+    (λ c. search needs) (λ c. search needs) (λ c. search needs) (λ c. search needs) returns-2)

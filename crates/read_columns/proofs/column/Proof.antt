@@ -9,6 +9,4 @@ pub column-spec : {M : Type 1} → statement M
 column-spec =
     tie.close
     (tie.spec
-    (λ c. omega (arith, trailing-le 64 (c .args .mask)))
-    (λ c κs. omega (arith, trailing-le 64 (c .args .mask)))
-    (λ c. search needs))
+    (λ c. omega (arith, trailing-le 64 (c .args .mask))) (λ c κs. omega (arith, trailing-le 64 (c .args .mask))) (λ c. search needs))

@@ -48,8 +48,5 @@ put1-spec =
     (tie.spec
     (λ c κs. search needs) (λ c. search needs) (λ c. search needs) (λ c. omega (arith, some (c .before)))
     (λ c. search needs) (λ c. search needs) (λ c. omega (arith, some (c .before .before))) (λ c. search needs)
-    (λ c. search needs) (λ c. omega (arith, some (c .before .before .before))) (λ c. search needs)
-    slice-write-ps
-    (λ c. search needs) (λ c. search needs) (λ c. search needs) (λ c. search needs) (λ c. search needs)
-    returns
-    returns-2)
+    (λ c. search needs) (λ c. omega (arith, some (c .before .before .before))) (λ c. search needs) slice-write-ps
+    (λ c. search needs) (λ c. search needs) (λ c. search needs) (λ c. search needs) (λ c. search needs) returns returns-2)

@@ -58,16 +58,9 @@ pub put-all-spec : {M : Type 1} → statement M
 put-all-spec =
     tie.close
     (tie.spec
-    Inv-loop
-    μ-loop
-    (λ c. omega arith) (λ c. omega arith) (λ c. omega arith)
-    loop-holds
+    Inv-loop μ-loop (λ c. omega arith) (λ c. omega arith) (λ c. omega arith) loop-holds
     (λ c κs. search needs) (λ c. omega arith) (λ c. let g = kept c in omega arith) (λ c. let g = kept c in omega arith)
     (λ c. let g = kept c in omega arith) (λ c. let g = kept c in omega arith) (λ c. let g = kept c in omega arith)
-    (λ c. let g = kept c in omega arith) (λ c. let g = kept c in omega arith) (λ c. let g = kept c in omega arith)
-    (λ c. omega arith)
-    loop-less
-    loop-again
+    (λ c. let g = kept c in omega arith) (λ c. let g = kept c in omega arith) (λ c. let g = kept c in omega arith) (λ c. omega arith) loop-less loop-again
     (λ c. c .before .loop .inv .1 .in-x .long) (λ c. c .before .loop .inv .1 .in-y .long)
-    (λ c. c .before .loop .inv .1 .in-t .long) (λ c. c .before .loop .inv .1 .in-p .long)
-    returns)
+    (λ c. c .before .loop .inv .1 .in-t .long) (λ c. c .before .loop .inv .1 .in-p .long) returns)

@@ -25,12 +25,4 @@ pub count-to-spec : {M : Type 1} → statement M
 count-to-spec =
     tie.close
     (tie.spec
-    (λ c. search needs)
-    evt2-requires
-    (λ c. search needs)
-    evt21-requires
-    (λ c. search needs)
-    evt3-requires
-    returns
-    returns-2
-    returns-3)
+    (λ c. search needs) evt2-requires (λ c. search needs) evt21-requires (λ c. search needs) evt3-requires returns returns-2 returns-3)

@@ -35,8 +35,5 @@ pub deliver-window-spec : {M : Type 1} → statement M
 deliver-window-spec =
     tie.close
     (tie.spec
-    (λ c κs. search needs) (λ c κs. search needs)
-    returns
-    fill-requires
-    (λ c. search needs) (λ c. search needs) (λ c. search needs) (λ c. search needs)
+    (λ c κs. search needs) (λ c κs. search needs) returns fill-requires (λ c. search needs) (λ c. search needs) (λ c. search needs) (λ c. search needs)
     returns-2)

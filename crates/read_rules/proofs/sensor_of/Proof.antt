@@ -8,5 +8,4 @@ pub sensor-of-spec : {M : Type 1} → statement M
 sensor-of-spec =
     tie.close
     (tie.spec
-    (λ c. search needs) (λ c. search needs) (λ c. sym (ap sensorOf (c .enum-told .given .1)))
-    (λ c. sym (ap sensorOf (c .before .size .given .1))))
+    (λ c. search needs) (λ c. search needs) (λ c. sym (ap sensorOf (c .enum-told .given .1))) (λ c. sym (ap sensorOf (c .before .size .given .1))))

@@ -12,8 +12,4 @@ pub settle-spec : {M : Type 1} → statement M
 settle-spec =
     tie.close
     (tie.spec
-    (λ c. search needs)
-    sized-requires
-    (λ c. search needs)
-    returns
-    (λ c. rw (c .before .delivered2 .given .1)))
+    (λ c. search needs) sized-requires (λ c. search needs) returns (λ c. rw (c .before .delivered2 .given .1)))

@@ -28,10 +28,5 @@ pub sized-spec : {M : Type 1} → statement M
 sized-spec =
     tie.close
     (tie.spec
-    (λ c. search needs) (λ c. search needs)
-    returns
-    slice-aggregate-greatest
-    (λ c κs. search needs) (λ c. search needs) (λ c. search needs)
-    slice-aggregate-greatest-2
-    (λ c κs. search needs) (λ c. search needs) (λ c. search needs) (λ c. rw (c .before .size .given .1))
-    returns-3)
+    (λ c. search needs) (λ c. search needs) returns slice-aggregate-greatest (λ c κs. search needs) (λ c. search needs) (λ c. search needs)
+    slice-aggregate-greatest-2 (λ c κs. search needs) (λ c. search needs) (λ c. search needs) (λ c. rw (c .before .size .given .1)) returns-3)

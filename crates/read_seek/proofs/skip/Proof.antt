@@ -24,12 +24,4 @@ pub skip-spec : {M : Type 1} → statement M
 skip-spec =
     tie.close
     (tie.spec
-    (λ c. search needs)
-    skip2-requires
-    (λ c. search needs)
-    skip21-requires
-    (λ c. search needs)
-    skip3-requires
-    returns
-    returns-2
-    returns-3)
+    (λ c. search needs) skip2-requires (λ c. search needs) skip21-requires (λ c. search needs) skip3-requires returns returns-2 returns-3)

@@ -24,12 +24,4 @@ pub span-spec : {M : Type 1} → statement M
 span-spec =
     tie.close
     (tie.spec
-    (λ c. search needs)
-    span2-requires
-    (λ c. search needs)
-    span21-requires
-    (λ c. search needs)
-    span3-requires
-    returns
-    returns-2
-    returns-3)
+    (λ c. search needs) span2-requires (λ c. search needs) span21-requires (λ c. search needs) span3-requires returns returns-2 returns-3)

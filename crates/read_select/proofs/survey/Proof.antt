@@ -26,12 +26,4 @@ pub survey-spec : {M : Type 1} → statement M
 survey-spec =
     tie.close
     (tie.spec
-    (λ c. search needs)
-    survey2-requires
-    (λ c. search needs)
-    survey21-requires
-    (λ c. search needs)
-    survey3-requires
-    returns
-    returns-2
-    returns-3)
+    (λ c. search needs) survey2-requires (λ c. search needs) survey21-requires (λ c. search needs) survey3-requires returns returns-2 returns-3)

@@ -31,9 +31,5 @@ pub decode-words-triggers-spec : {M : Type 1} → statement M
 decode-words-triggers-spec =
     tie.close
     (tie.spec
-    (λ c κs. search needs) (λ c. search needs)
-    returns
-    (λ c. search needs)
-    read-body-triggers-requires
-    (λ c. search needs) (λ c. search needs) (λ c. search needs) (λ c. search needs) (λ c. search needs) (λ c. search needs) (λ c. search needs)
-    returns-2)
+    (λ c κs. search needs) (λ c. search needs) returns (λ c. search needs) read-body-triggers-requires
+    (λ c. search needs) (λ c. search needs) (λ c. search needs) (λ c. search needs) (λ c. search needs) (λ c. search needs) (λ c. search needs) returns-2)

@@ -43,12 +43,6 @@ pub read-raw-triggers-spec : {M : Type 1} → statement M
 read-raw-triggers-spec =
     tie.close
     (tie.spec
-    (λ c κs. search needs) (λ c. search needs) (λ c. search needs)
-    refusal-of-requires
-    returns
-    sub-body
-    part-body-start
-    (λ c. search needs)
+    (λ c κs. search needs) (λ c. search needs) (λ c. search needs) refusal-of-requires returns sub-body part-body-start (λ c. search needs)
     read-body-triggers-requires
-    (λ c. search needs) (λ c. search needs) (λ c. search needs) (λ c. search needs) (λ c. search needs) (λ c. search needs) (λ c. search needs)
-    returns-2)
+    (λ c. search needs) (λ c. search needs) (λ c. search needs) (λ c. search needs) (λ c. search needs) (λ c. search needs) (λ c. search needs) returns-2)

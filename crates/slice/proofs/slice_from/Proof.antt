@@ -60,12 +60,5 @@ pub slice-from-spec : {M : Type 1} → statement M
 slice-from-spec =
     tie.close
     (tie.spec
-    (λ c κs. search needs) (λ c. search needs) (λ c. search needs)
-    sub-deliver
-    part-deliver-start
-    (λ c. search needs)
-    deliver-requires
-    (λ c κs. search needs)
-    returns
-    (λ c. search needs) (λ c. search needs) (λ c. search needs) (λ c. search needs)
-    returns-2)
+    (λ c κs. search needs) (λ c. search needs) (λ c. search needs) sub-deliver part-deliver-start (λ c. search needs) deliver-requires (λ c κs. search needs)
+    returns (λ c. search needs) (λ c. search needs) (λ c. search needs) (λ c. search needs) returns-2)

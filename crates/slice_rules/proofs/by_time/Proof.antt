@@ -19,5 +19,4 @@ pub by-time-spec : {M : Type 1} → statement M
 by-time-spec =
     tie.close
     (tie.spec
-    (λ c κs. search needs) (λ c κs. search needs) (λ c κs. search needs)
-    returns)
+    (λ c κs. search needs) (λ c κs. search needs) (λ c κs. search needs) returns)

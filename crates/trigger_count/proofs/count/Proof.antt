@@ -29,7 +29,4 @@ count-spec =
     (tie.spec
     (λ c. search needs) (λ c κs. record { words = 16; pos = omega arith; whole = refl })
     (λ c. search needs) (λ c κs. record { words = 8; pos = omega arith; whole = refl })
-    (λ c. search needs) (λ c κs. record { words = 32; pos = omega arith; whole = refl })
-    returns
-    returns-2
-    returns-3)
+    (λ c. search needs) (λ c κs. record { words = 32; pos = omega arith; whole = refl }) returns returns-2 returns-3)

@@ -13,5 +13,4 @@ of-size-spec =
     tie.close
     (tie.spec
     (λ c κs. search needs) (λ c. rw (c .before .if1 .taken) (c .count .ensures))
-    (λ c κs. search needs) (λ c. search needs) (λ c. search needs) (λ c. search needs) (λ c κs. search needs)
-    returns-2)
+    (λ c κs. search needs) (λ c. search needs) (λ c. search needs) (λ c. search needs) (λ c κs. search needs) returns-2)

@@ -28,8 +28,5 @@ pub fill-spec : {M : Type 1} → statement M
 fill-spec =
     tie.close
     (tie.spec
-    (λ c κs. search needs)
-    (λ c κs. rw (c .outset-of .ensures) (known-of (c .before .before .before .before .args .codec)))
-    pulses-requires
-    (λ c. search needs) (λ c. search needs) (λ c. search needs)
-    returns)
+    (λ c κs. search needs) (λ c κs. rw (c .outset-of .ensures) (known-of (c .before .before .before .before .args .codec))) pulses-requires
+    (λ c. search needs) (λ c. search needs) (λ c. search needs) returns)

@@ -39,9 +39,4 @@ pub end-before-spec : {M : Type 1} → statement M
 end-before-spec =
     tie.close
     (tie.spec
-    returns
-    (λ c κs. search needs) (λ c κs. search needs)
-    survey-requires
-    (λ c κs. search needs)
-    mul-result
-    returns-2)
+    returns (λ c κs. search needs) (λ c κs. search needs) survey-requires (λ c κs. search needs) mul-result returns-2)

@@ -23,7 +23,4 @@ pub refused-short-spec : {M : Type 1} → statement M
 refused-short-spec =
     tie.close
     (tie.spec
-    (λ c κs. search needs) (λ c κs. search needs)
-    survey-requires
-    (λ c κs. search needs)
-    returns)
+    (λ c κs. search needs) (λ c κs. search needs) survey-requires (λ c κs. search needs) returns)

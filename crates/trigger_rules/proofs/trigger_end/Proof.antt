@@ -12,6 +12,4 @@ pub trigger-end-spec : {M : Type 1} → statement M
 trigger-end-spec =
     tie.close
     (tie.spec
-    (λ c. search needs) (λ c. search needs) (λ c κs. search needs)
-    returns
-    (λ c. rw (c .before .before .limit .given .1) (c .end-before .ensures)))
+    (λ c. search needs) (λ c. search needs) (λ c κs. search needs) returns (λ c. rw (c .before .before .limit .given .1) (c .end-before .ensures)))

@@ -68,11 +68,5 @@ pub append-spec : {M : Type 1} → statement M
 append-spec =
     tie.close
     (tie.spec
-    (λ c κs. search needs) (λ c. search needs) (λ c. search needs)
-    shortfall-requires
-    write-requires
-    next-sink-requires
-    returns
-    (λ c. search needs)
-    returns-2
+    (λ c κs. search needs) (λ c. search needs) (λ c. search needs) shortfall-requires write-requires next-sink-requires returns (λ c. search needs) returns-2
     returns-3)

@@ -43,9 +43,4 @@ pub shortfall-spec : {M : Type 1} → statement M
 shortfall-spec =
     tie.close
     (tie.spec
-    (λ c κs. search needs)
-    add-if1
-    returns
-    (λ c. search needs) (λ c κs. search needs)
-    returns-2
-    returns-3)
+    (λ c κs. search needs) add-if1 returns (λ c. search needs) (λ c κs. search needs) returns-2 returns-3)

@@ -20,17 +20,9 @@ pub put32-spec : {M : Type 1} → statement M
 put32-spec =
     tie.close
     (tie.spec
-    (λ c κs. search needs)
-    (λ c. omega (arith, c .before .before .before .pre .1 (c .before .if1 .taken)))
-    (λ c κs. search needs)
-    (λ c. search needs)
-    (λ c. simp length-set (omega (arith, c .before .before .before .before .pre .1 (c .before .before .if1 .taken))))
-    (λ c κs. search needs)
-    (λ c. search needs)
-    (λ c. simp length-set (omega (arith, c .before .before .before .before .before .pre .1 (c .before .before .before .if1 .taken))))
-    (λ c κs. search needs)
+    (λ c κs. search needs) (λ c. omega (arith, c .before .before .before .pre .1 (c .before .if1 .taken))) (λ c κs. search needs) (λ c. search needs)
+    (λ c. simp length-set (omega (arith, c .before .before .before .before .pre .1 (c .before .before .if1 .taken)))) (λ c κs. search needs) (λ c. search needs)
+    (λ c. simp length-set (omega (arith, c .before .before .before .before .before .pre .1 (c .before .before .before .if1 .taken)))) (λ c κs. search needs)
     (λ c. search needs)
     (λ c. simp length-set (omega (arith, c .before .before .before .before .before .before .pre .1 (c .before .before .before .before .if1 .taken))))
-    (λ c. search needs)
-    returns
-    returns-2)
+    (λ c. search needs) returns returns-2)

@@ -25,9 +25,5 @@ pub put64-spec : {M : Type 1} → statement M
 put64-spec =
     tie.close
     (tie.spec
-    (λ c κs. search needs) (λ c. search needs)
-    put32-requires
-    (λ c. search needs) (λ c κs. search needs) (λ c. search needs)
-    put32-requires-2
-    (λ c. search needs)
-    returns)
+    (λ c κs. search needs) (λ c. search needs) put32-requires (λ c. search needs) (λ c κs. search needs) (λ c. search needs) put32-requires-2
+    (λ c. search needs) returns)

@@ -74,12 +74,5 @@ pub check-append-spec : {M : Type 1} → statement M
 check-append-spec =
     tie.close
     (tie.spec
-    (λ c κs. search needs)
-    returns
-    (λ c κs. search needs) (λ c. search needs) (λ c. search needs)
-    returns-2
-    look-after-requires
-    returns-3
-    events-in-range-requires
-    returns-4
-    returns-5)
+    (λ c κs. search needs) returns (λ c κs. search needs) (λ c. search needs) (λ c. search needs) returns-2 look-after-requires returns-3
+    events-in-range-requires returns-4 returns-5)

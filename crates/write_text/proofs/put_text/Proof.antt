@@ -23,10 +23,5 @@ pub put-text-spec : {M : Type 1} → statement M
 put-text-spec =
     tie.close
     (tie.spec
-    Inv-loop
-    μ-loop
-    (λ c. copying-start) (λ c. search needs) (λ c. search needs) (λ c κs. search needs) (λ c. search needs)
-    (λ c. search needs)
-    loop-again
-    (λ c. search needs) (λ c. c .before .loop .inv .long)
-    returns)
+    Inv-loop μ-loop (λ c. copying-start) (λ c. search needs) (λ c. search needs) (λ c κs. search needs) (λ c. search needs) (λ c. search needs) loop-again
+    (λ c. search needs) (λ c. c .before .loop .inv .long) returns)

@@ -35,15 +35,5 @@ pub pass-spec : {M : Type 1} → statement M
 pass-spec =
     tie.close
     (tie.spec
-    (λ c. search needs)
-    pass2-requires
-    (λ c. search needs)
-    pass21-requires
-    (λ c. search needs)
-    pass3-requires
-    (λ c. search needs)
-    returns
-    (λ c. search needs)
-    returns-2
-    (λ c. search needs)
-    returns-3)
+    (λ c. search needs) pass2-requires (λ c. search needs) pass21-requires (λ c. search needs) pass3-requires (λ c. search needs) returns (λ c. search needs)
+    returns-2 (λ c. search needs) returns-3)

@@ -59,5 +59,4 @@ pub choose-record-spec : {M : Type 1} → statement M
 choose-record-spec =
     tie.close
     (tie.spec
-    Inv-loop μ-loop (λ c κs. search needs) loop-holds mul-a shared-slice-copy-out-a (λ c κs. search needs) (λ c κs. search needs) loop-less
-    loop-again returns)
+    Inv-loop μ-loop (λ c κs. search needs) loop-holds mul-a shared-slice-copy-out-a (λ c κs. search needs) (λ c κs. search needs) loop-less loop-again returns)

@@ -16,6 +16,4 @@ numbers-of-spec =
     tie.close
     (tie.spec
     (λ c. search needs) (λ c κs. search needs) (λ c. search needs) (λ c κs. search needs) (λ c κs. search needs) (λ c. search needs) (λ c κs. search needs)
-    returns
-    returns-2
-    returns-3)
+    returns returns-2 returns-3)

@@ -7,5 +7,4 @@ pub size-of-spec : {M : Type 1} → statement M
 size-of-spec =
     tie.close
     (tie.spec
-    (λ c κs. search needs) (λ c. rw (sym (c .before .is-set .ensures) ∙ c .if1 .taken))
-    (λ c. rw (sym (c .before .is-set .ensures) ∙ c .if1 .left)))
+    (λ c κs. search needs) (λ c. rw (sym (c .before .is-set .ensures) ∙ c .if1 .taken)) (λ c. rw (sym (c .before .is-set .ensures) ∙ c .if1 .left)))

@@ -7,5 +7,4 @@ pub sent-of-spec : {M : Type 1} → statement M
 sent-of-spec =
     tie.close
     (tie.spec
-    (λ c κs. search needs) (λ c. rw (sym (c .before .is-set .ensures) ∙ c .if1 .taken))
-    (λ c. rw (sym (c .before .is-set .ensures) ∙ c .if1 .left)))
+    (λ c κs. search needs) (λ c. rw (sym (c .before .is-set .ensures) ∙ c .if1 .taken)) (λ c. rw (sym (c .before .is-set .ensures) ∙ c .if1 .left)))

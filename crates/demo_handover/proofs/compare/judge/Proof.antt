@@ -80,19 +80,5 @@ pub judge-spec : {M : Type 1} → statement M
 judge-spec =
     tie.close
     (tie.spec
-    returns
-    (λ c. c .before .before .pre .0)
-    returns-2
-    (λ c κs. search needs)
-    same-shorts-requires
-    returns-3
-    (λ c κs. search needs)
-    same-shorts-requires-2
-    returns-4
-    (λ c κs. search needs)
-    same-longs-requires
-    returns-5
-    (λ c κs. search needs)
-    same-bytes-requires
-    returns-6
-    returns-7)
+    returns (λ c. c .before .before .pre .0) returns-2 (λ c κs. search needs) same-shorts-requires returns-3 (λ c κs. search needs) same-shorts-requires-2
+    returns-4 (λ c κs. search needs) same-longs-requires returns-5 (λ c κs. search needs) same-bytes-requires returns-6 returns-7)

@@ -33,11 +33,5 @@ pub same-longs-spec : {M : Type 1} → statement M
 same-longs-spec =
     tie.close
     (tie.spec
-    Inv-loop
-    μ-loop
-    (λ c. agreeing-start (pos 0) _ _ _ _) (λ c. search needs) (λ c. search needs) (λ c. search needs) (λ c. search needs)
-    (λ c. search needs)
-    returns
-    (λ c. search needs) (λ c. search needs)
-    loop-again
-    returns-2)
+    Inv-loop μ-loop (λ c. agreeing-start (pos 0) _ _ _ _) (λ c. search needs) (λ c. search needs) (λ c. search needs) (λ c. search needs) (λ c. search needs)
+    returns (λ c. search needs) (λ c. search needs) loop-again returns-2)

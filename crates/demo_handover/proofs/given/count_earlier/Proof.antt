@@ -45,9 +45,5 @@ pub count-earlier-spec : {M : Type 1} → statement M
 count-earlier-spec =
     tie.close
     (tie.spec
-    Inv-loop
-    μ-loop
-    (λ c. counting-start _ _) (λ c. search needs) (λ c. search needs) (λ c. omega arith) (λ c. omega arith)
-    (λ c. omega arith)
-    loop-again
+    Inv-loop μ-loop (λ c. counting-start _ _) (λ c. search needs) (λ c. search needs) (λ c. omega arith) (λ c. omega arith) (λ c. omega arith) loop-again
     returns)

@@ -32,9 +32,5 @@ pub count-to-spec : {M : Type 1} → statement M
 count-to-spec =
     tie.close
     (tie.spec
-    Inv-loop
-    μ-loop
-    (λ c. counting-start _ _) (λ c. search needs) (λ c. search needs) (λ c. omega arith) (λ c. omega arith)
-    (λ c. omega arith)
-    loop-again
+    Inv-loop μ-loop (λ c. counting-start _ _) (λ c. search needs) (λ c. search needs) (λ c. omega arith) (λ c. omega arith) (λ c. omega arith) loop-again
     returns)

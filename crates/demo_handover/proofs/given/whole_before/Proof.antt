@@ -16,5 +16,4 @@ pub whole-before-spec : {M : Type 1} → statement M
 whole-before-spec =
     tie.close
     (tie.spec
-    (λ c κs. search needs) (λ c. search needs) (λ c κs. search needs)
-    returns)
+    (λ c κs. search needs) (λ c. search needs) (λ c κs. search needs) returns)

@@ -16,7 +16,4 @@ pub in-range-spec : {M : Type 1} → statement M
 in-range-spec =
     tie.close
     (tie.spec
-    (λ c κs. search needs) (λ c. rw (c .before .if1 .taken) (c .in-range .ensures))
-    returns-2
-    returns-3
-    returns-4)
+    (λ c κs. search needs) (λ c. rw (c .before .if1 .taken) (c .in-range .ensures)) returns-2 returns-3 returns-4)

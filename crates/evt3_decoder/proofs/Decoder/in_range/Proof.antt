@@ -12,7 +12,4 @@ pub in-range-spec : {M : Type 1} → statement M
 in-range-spec =
     tie.close
     (tie.spec
-    (λ c κs. search needs)
-    returns
-    returns-2
-    (λ c κs. search needs) (λ c. rw (c .before .if1 .left) (c .is-zero .ensures)))
+    (λ c κs. search needs) returns returns-2 (λ c κs. search needs) (λ c. rw (c .before .if1 .left) (c .is-zero .ensures)))

@@ -41,9 +41,4 @@ pub is-zero-spec : {M : Type 1} → statement M
 is-zero-spec =
     tie.close
     (tie.spec
-    (λ c. rw (ne-eqb _ _ (c .if1 .taken)))
-    returns-2
-    returns-3
-    returns-4
-    returns-5
-    returns-6)
+    (λ c. rw (ne-eqb _ _ (c .if1 .taken))) returns-2 returns-3 returns-4 returns-5 returns-6)

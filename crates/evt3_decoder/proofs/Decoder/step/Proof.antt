@@ -41,9 +41,4 @@ pub step-spec : {M : Type 1} → statement M
 step-spec =
     tie.close
     (tie.spec
-    (λ c κs. search needs) (λ c κs. search needs)
-    advance-requires
-    slim-requires
-    narrow-requires
-    returns
-    returns-2)
+    (λ c κs. search needs) (λ c κs. search needs) advance-requires slim-requires narrow-requires returns returns-2)

@@ -30,7 +30,4 @@ pub trigger-spec : {M : Type 1} → statement M
 trigger-spec =
     tie.close
     (tie.spec
-    (λ c κs. search needs) (λ c κs. search needs) (λ c κs. search needs) (λ c κs. search needs)
-    of-word-requires
-    returns
-    returns-2)
+    (λ c κs. search needs) (λ c κs. search needs) (λ c κs. search needs) (λ c κs. search needs) of-word-requires returns returns-2)

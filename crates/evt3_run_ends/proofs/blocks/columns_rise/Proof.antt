@@ -24,9 +24,6 @@ pub columns-rise-spec : {M : Type 1} → statement M
 columns-rise-spec =
     tie.close
     (tie.spec
-    Inv-loop
-    μ-loop
+    Inv-loop μ-loop
     (λ c. gathered-start 0 refl) (λ c. omega arith) (λ c. omega arith) (λ c. omega arith) (λ c. omega arith) (λ c. omega arith) (λ c. omega arith)
-    (λ c κs. search needs) (λ c. omega arith) (λ c. omega arith)
-    loop-again
-    (λ c. gathered-zero (c .before .loop .inv) (c .loop-test .left)))
+    (λ c κs. search needs) (λ c. omega arith) (λ c. omega arith) loop-again (λ c. gathered-zero (c .before .loop .inv) (c .loop-test .left)))

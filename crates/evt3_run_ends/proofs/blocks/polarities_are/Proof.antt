@@ -23,8 +23,5 @@ pub polarities-are-spec : {M : Type 1} → statement M
 polarities-are-spec =
     tie.close
     (tie.spec
-    Inv-loop
-    μ-loop
-    (λ c. gathered-start 0 refl) (λ c. omega arith) (λ c. omega arith) (λ c. omega arith) (λ c. omega arith)
-    loop-again
+    Inv-loop μ-loop (λ c. gathered-start 0 refl) (λ c. omega arith) (λ c. omega arith) (λ c. omega arith) (λ c. omega arith) loop-again
     (λ c. gathered-zero (c .before .loop .inv) (c .loop-test .left)))

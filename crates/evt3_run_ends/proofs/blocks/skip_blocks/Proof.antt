@@ -34,11 +34,5 @@ pub skip-blocks-spec : {M : Type 1} → statement M
 skip-blocks-spec =
     tie.close
     (tie.spec
-    Inv-loop
-    μ-loop
-    loop-holds
-    (λ c. omega arith)
-    block-goes-on-requires
-    (λ c. omega arith) (λ c. omega arith)
-    loop-again
+    Inv-loop μ-loop loop-holds (λ c. omega arith) block-goes-on-requires (λ c. omega arith) (λ c. omega arith) loop-again
     (λ c. c .before .before .before .loop .inv) (λ c. c .before .loop .inv))

@@ -26,10 +26,5 @@ pub times-are-spec : {M : Type 1} → statement M
 times-are-spec =
     tie.close
     (tie.spec
-    Inv-loop
-    μ-loop
-    (λ c. gathered-start 0 refl) (λ c. omega arith)
-    time-at-requires
-    (λ c. omega arith) (λ c. omega arith)
-    loop-again
+    Inv-loop μ-loop (λ c. gathered-start 0 refl) (λ c. omega arith) time-at-requires (λ c. omega arith) (λ c. omega arith) loop-again
     (λ c. gathered-zero (c .before .loop .inv) (c .loop-test .left)))

@@ -41,14 +41,6 @@ pub flag-times-spec : {M : Type 1} → statement M
 flag-times-spec =
     tie.close
     (tie.spec
-    Inv-loop
-    μ-loop
-    loop-holds
-    (λ c. omega arith)
-    time-at-requires
-    (λ c. omega arith)
-    time-at-requires-2
+    Inv-loop μ-loop loop-holds (λ c. omega arith) time-at-requires (λ c. omega arith) time-at-requires-2
     (λ c. c .before .before .loop-test .taken) (λ c κs. search needs)
-    (λ c. c .before .before .before .before .loop-test .taken) (λ c. omega arith) (λ c. omega arith)
-    loop-again
-    returns)
+    (λ c. c .before .before .before .before .loop-test .taken) (λ c. omega arith) (λ c. omega arith) loop-again returns)

@@ -35,13 +35,5 @@ pub gather-spec : {M : Type 1} → statement M
 gather-spec =
     tie.close
     (tie.spec
-    Inv-loop
-    μ-loop
-    (λ c. pack-start (now (c .args .flags))) (λ c. omega arith)
-    mul-mask
-    (λ c. omega arith)
-    cast-mask
-    add-mask
-    (λ c. omega arith)
-    loop-again
+    Inv-loop μ-loop (λ c. pack-start (now (c .args .flags))) (λ c. omega arith) mul-mask (λ c. omega arith) cast-mask add-mask (λ c. omega arith) loop-again
     returns)

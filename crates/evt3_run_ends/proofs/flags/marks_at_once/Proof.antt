@@ -23,6 +23,4 @@ pub marks-at-once-spec : {M : Type 1} → statement M
 marks-at-once-spec =
     tie.close
     (tie.spec
-    (λ c κs. search needs) (λ c κs. search needs)
-    gather-requires
-    returns)
+    (λ c κs. search needs) (λ c κs. search needs) gather-requires returns)

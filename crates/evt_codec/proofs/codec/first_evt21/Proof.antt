@@ -20,7 +20,4 @@ pub first-evt21-spec : {M : Type 1} → statement M
 first-evt21-spec =
     tie.close
     (tie.spec
-    (λ c κs. search needs)
-    returns
-    (λ c κs. omega arith) (λ c κs. search needs)
-    returns-2)
+    (λ c κs. search needs) returns (λ c κs. omega arith) (λ c κs. search needs) returns-2)

@@ -31,9 +31,4 @@ pub in-range-spec : {M : Type 1} → statement M
 in-range-spec =
     tie.close
     (tie.spec
-    (λ c. rw (lt-leb _ _ (c .if1 .taken))) (λ c. search needs)
-    returns-2
-    (λ c. search needs)
-    returns-3
-    returns-4
-    returns-5)
+    (λ c. rw (lt-leb _ _ (c .if1 .taken))) (λ c. search needs) returns-2 (λ c. search needs) returns-3 returns-4 returns-5)

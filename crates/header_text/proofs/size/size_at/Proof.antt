@@ -36,10 +36,6 @@ pub size-at-spec : {M : Type 1} → statement M
 size-at-spec =
     tie.close
     (tie.spec
-    (λ c. sym (length-take-le _ _ (omega arith))) (λ c κs. search needs) (λ c κs. search needs) (λ c. search needs)
-    (λ c. search needs)
-    returns
+    (λ c. sym (length-take-le _ _ (omega arith))) (λ c κs. search needs) (λ c κs. search needs) (λ c. search needs) (λ c. search needs) returns
     (λ c. search needs) (λ c. search needs) (λ c. search needs) (λ c. search needs) (λ c κs. search needs)
-    (λ c κs. search needs) (λ c. search needs) (λ c. search needs)
-    returns-2
-    returns-3)
+    (λ c κs. search needs) (λ c. search needs) (λ c. search needs) returns-2 returns-3)

@@ -37,12 +37,6 @@ pub trim-end-spec : {M : Type 1} → statement M
 trim-end-spec =
     tie.close
     (tie.spec
-    Inv-loop
-    μ-loop
-    (λ c. (omega arith, ap trimEnd (take-length _))) (λ c. search needs) (λ c. search needs) (λ c κs. search needs)
-    (λ c. sym (length-take-le _ _ (omega arith)))
-    returns
-    (λ c. search needs) (λ c. search needs)
-    loop-again
-    (λ c. sym (length-take-le _ _ (omega arith)))
+    Inv-loop μ-loop (λ c. (omega arith, ap trimEnd (take-length _))) (λ c. search needs) (λ c. search needs) (λ c κs. search needs)
+    (λ c. sym (length-take-le _ _ (omega arith))) returns (λ c. search needs) (λ c. search needs) loop-again (λ c. sym (length-take-le _ _ (omega arith)))
     returns-2)

@@ -73,15 +73,5 @@ pub evt2-spec : {M : Type 1} → statement M
 evt2-spec =
     tie.close
     (tie.spec
-    Inv-loop
-    μ-loop
-    (λ c κs. search needs) (λ c κs. search needs)
-    loop-holds
-    (λ c. omega arith) (λ c κs. search needs) (λ c κs. search needs)
-    add-t
-    add-n
-    (λ c κs. search needs)
-    advance-requires
-    (λ c κs. search needs) (λ c. omega arith) (λ c κs. omega arith) (λ c. omega arith)
-    loop-again
-    returns)
+    Inv-loop μ-loop (λ c κs. search needs) (λ c κs. search needs) loop-holds (λ c. omega arith) (λ c κs. search needs) (λ c κs. search needs) add-t add-n
+    (λ c κs. search needs) advance-requires (λ c κs. search needs) (λ c. omega arith) (λ c κs. omega arith) (λ c. omega arith) loop-again returns)

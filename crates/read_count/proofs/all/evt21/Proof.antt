@@ -73,14 +73,6 @@ pub evt21-spec : {M : Type 1} → statement M
 evt21-spec =
     tie.close
     (tie.spec
-    Inv-loop
-    μ-loop
-    (λ c κs. search needs) (λ c κs. search needs)
-    loop-holds
-    (λ c. omega arith) (λ c κs. omega arith) (λ c κs. bounded-sane2 (c .before .before .loop .inv .stand .inv))
-    count-inside-requires
-    add-n
-    (λ c κs. search needs) (λ c. omega arith) (λ c. omega arith)
-    loop-again
-    (λ c κs. search needs)
-    returns)
+    Inv-loop μ-loop (λ c κs. search needs) (λ c κs. search needs) loop-holds
+    (λ c. omega arith) (λ c κs. omega arith) (λ c κs. bounded-sane2 (c .before .before .loop .inv .stand .inv)) count-inside-requires add-n
+    (λ c κs. search needs) (λ c. omega arith) (λ c. omega arith) loop-again (λ c κs. search needs) returns)

@@ -103,20 +103,6 @@ pub evt3-spec : {M : Type 1} → statement M
 evt3-spec =
     tie.close
     (tie.spec
-    Inv-loop
-    μ-loop
-    (λ c κs. search needs) (λ c κs. search needs) (λ c κs. search needs) (λ c κs. search needs) (λ c κs. search needs)
-    (λ c κs. search needs) (λ c κs. search needs)
-    loop-holds
-    (λ c. omega arith)
-    table-step-requires
-    count-inside-requires
-    add-n
-    (λ c κs. search needs)
-    add-i
-    two-at-requires-2
-    (λ c. omega arith)
-    loop-again
-    (λ c κs. search needs)
-    slim-requires
-    returns)
+    Inv-loop μ-loop (λ c κs. search needs) (λ c κs. search needs) (λ c κs. search needs) (λ c κs. search needs) (λ c κs. search needs)
+    (λ c κs. search needs) (λ c κs. search needs) loop-holds (λ c. omega arith) table-step-requires count-inside-requires add-n (λ c κs. search needs) add-i
+    two-at-requires-2 (λ c. omega arith) loop-again (λ c κs. search needs) slim-requires returns)

@@ -8,5 +8,4 @@ pub key-bound-spec : {M : Type 1} → statement M
 key-bound-spec =
     tie.close
     (tie.spec
-    (λ c. search needs) (λ c. rw (c .before .if1 .taken) (omega arith)) (λ c. rw (c .before .if1 .taken) (omega arith))
-    (λ c. search needs))
+    (λ c. search needs) (λ c. rw (c .before .if1 .taken) (omega arith)) (λ c. rw (c .before .if1 .taken) (omega arith)) (λ c. search needs))

@@ -56,29 +56,22 @@ returns c =
     rw (c .of-evt2 .ensures) (rw (c .before .before .before .evt2 .ensures) at (⊎-elim
     (λ q. passing-end (omega arith) bounded-step21 (l .inv) (omega arith))
     (λ q.
-      let a : Word21 _ _ _ _ (l .s) (l .i) (q .1 .result) (q .2 .result) (q .5 .result) = record {
-        more = q .0 .taken;
-        is-word = q .1 .ensures;
-        is-step = q .2 .ensures;
-        is-bound = c .before .before .before .before .column-bound .ensures;
-        is-count = q .5 .ensures;
-      } in
-      passing-stop (omega arith) bounded-step21 (l .inv) (iteration21 a (l .inv .inv)) (counted21 a (l .inv .inv)) (q .6 .taken))
+    let a : Word21 _ _ _ _ (l .s) (l .i) (q .1 .result) (q .2 .result) (q .5 .result) = record {
+      more = q .0 .taken;
+      is-word = q .1 .ensures;
+      is-step = q .2 .ensures;
+      is-bound = c .before .before .before .before .column-bound .ensures;
+      is-count = q .5 .ensures;
+    } in
+    passing-stop (omega arith) bounded-step21 (l .inv) (iteration21 a (l .inv .inv)) (counted21 a (l .inv .inv)) (q .6 .taken))
     (c .before .loop-test .came)))
 
 pub evt21-spec : {M : Type 1} → statement M
 evt21-spec =
     tie.close
     (tie.spec
-    Inv-loop
-    μ-loop
-    (λ c κs. search needs) (λ c κs. search needs)
-    loop-holds
-    (λ c. omega arith) (λ c κs. omega arith) (λ c κs. bounded-sane2 (c .before .before .loop .inv .inv))
-    count-inside-requires
+    Inv-loop μ-loop (λ c κs. search needs) (λ c κs. search needs) loop-holds
+    (λ c. omega arith) (λ c κs. omega arith) (λ c κs. bounded-sane2 (c .before .before .loop .inv .inv)) count-inside-requires
     (λ c. omega (arith, c .before .before .before .before .before .before .loop .inv .few))
-    (λ c. omega (arith, c .before .before .before .before .before .before .before .loop .inv .few, c .if1 .left))
-    (λ c. omega arith) (λ c. omega arith)
-    loop-again
-    (λ c κs. search needs)
-    returns)
+    (λ c. omega (arith, c .before .before .before .before .before .before .before .loop .inv .few, c .if1 .left)) (λ c. omega arith) (λ c. omega arith)
+    loop-again (λ c κs. search needs) returns)

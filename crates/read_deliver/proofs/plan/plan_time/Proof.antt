@@ -54,11 +54,4 @@ pub plan-time-spec : {M : Type 1} → statement M
 plan-time-spec =
     tie.close
     (tie.spec
-    (λ c κs. search needs)
-    sub-span
-    part-span-start
-    (λ c. search needs)
-    span-requires
-    returns
-    add-t10
-    returns-2)
+    (λ c κs. search needs) sub-span part-span-start (λ c. search needs) span-requires returns add-t10 returns-2)

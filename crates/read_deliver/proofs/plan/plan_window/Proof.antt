@@ -21,9 +21,4 @@ pub plan-window-spec : {M : Type 1} → statement M
 plan-window-spec =
     tie.close
     (tie.spec
-    (λ c κs. search needs)
-    plan-time-requires
-    (λ c. search needs) (λ c κs. search needs)
-    plan-number-requires
-    (λ c. search needs)
-    returns-3)
+    (λ c κs. search needs) plan-time-requires (λ c. search needs) (λ c κs. search needs) plan-number-requires (λ c. search needs) returns-3)

@@ -73,15 +73,6 @@ pub evt2-spec : {M : Type 1} → statement M
 evt2-spec =
     tie.close
     (tie.spec
-    Inv-loop
-    μ-loop
-    loop-holds
-    (λ c. omega arith) (λ c κs. omega arith)
-    advance-requires
-    (λ c. omega arith)
-    put1-requires
-    (λ c. omega arith)
-    loop-again
+    Inv-loop μ-loop loop-holds (λ c. omega arith) (λ c κs. omega arith) advance-requires (λ c. omega arith) put1-requires (λ c. omega arith) loop-again
     (λ c. c .before .loop .inv .going .in-x .long) (λ c. c .before .loop .inv .going .in-y .long)
-    (λ c. c .before .loop .inv .going .in-t .long) (λ c. c .before .loop .inv .going .in-p .long)
-    returns)
+    (λ c. c .before .loop .inv .going .in-t .long) (λ c. c .before .loop .inv .going .in-p .long) returns)

@@ -80,17 +80,7 @@ pub evt21-spec : {M : Type 1} → statement M
 evt21-spec =
     tie.close
     (tie.spec
-    Inv-loop
-    μ-loop
-    (λ c κs. search needs)
-    loop-holds
-    (λ c. omega arith) (λ c κs. omega arith)
-    advance-requires
-    (λ c. omega arith)
-    place-requires
-    (λ c. omega arith)
-    loop-again
-    (λ c κs. search needs) (λ c. c .before .before .loop .inv .going .in-x .long)
+    Inv-loop μ-loop (λ c κs. search needs) loop-holds (λ c. omega arith) (λ c κs. omega arith) advance-requires (λ c. omega arith) place-requires
+    (λ c. omega arith) loop-again (λ c κs. search needs) (λ c. c .before .before .loop .inv .going .in-x .long)
     (λ c. c .before .before .loop .inv .going .in-y .long) (λ c. c .before .before .loop .inv .going .in-t .long)
-    (λ c. c .before .before .loop .inv .going .in-p .long)
-    returns)
+    (λ c. c .before .before .loop .inv .going .in-p .long) returns)

@@ -79,17 +79,8 @@ pub evt3-spec : {M : Type 1} → statement M
 evt3-spec =
     tie.close
     (tie.spec
-    Inv-loop
-    μ-loop
-    (λ c κs. search needs)
-    loop-holds
-    (λ c. omega arith) (λ c κs. omega arith)
-    advance-requires
-    (λ c κs. search needs) (λ c. omega arith)
-    place-requires
-    (λ c. omega arith)
-    loop-again
+    Inv-loop μ-loop (λ c κs. search needs) loop-holds (λ c. omega arith) (λ c κs. omega arith) advance-requires (λ c κs. search needs) (λ c. omega arith)
+    place-requires (λ c. omega arith) loop-again
     (λ c κs. bounded-slim3 (c .before .loop .inv .stand .inv)) (λ c. c .before .before .loop .inv .going .in-x .long)
     (λ c. c .before .before .loop .inv .going .in-y .long) (λ c. c .before .before .loop .inv .going .in-t .long)
-    (λ c. c .before .before .loop .inv .going .in-p .long)
-    returns)
+    (λ c. c .before .before .loop .inv .going .in-p .long) returns)

@@ -44,14 +44,6 @@ pub base-spec : {M : Type 1} → statement M
 base-spec =
     tie.close
     (tie.spec
-    Inv-loop
-    μ-loop
-    (λ c. baseless-start (now (c .before .args .front))) (λ c. omega arith) (λ c. omega arith) (λ c κs. omega arith)
-    (λ c κs. search needs) (λ c κs. search needs) (λ c κs. search needs) (λ c κs. omega arith) (λ c. omega arith)
-    returns
-    (λ c κs. search needs)
-    saturating-add-requires-2
-    (λ c. omega arith)
-    loop-again
-    (λ c κs. omega arith) (λ c. omega arith)
-    returns-2)
+    Inv-loop μ-loop (λ c. baseless-start (now (c .before .args .front))) (λ c. omega arith) (λ c. omega arith) (λ c κs. omega arith)
+    (λ c κs. search needs) (λ c κs. search needs) (λ c κs. search needs) (λ c κs. omega arith) (λ c. omega arith) returns (λ c κs. search needs)
+    saturating-add-requires-2 (λ c. omega arith) loop-again (λ c κs. omega arith) (λ c. omega arith) returns-2)

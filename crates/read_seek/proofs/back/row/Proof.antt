@@ -37,11 +37,5 @@ pub row-spec : {M : Type 1} → statement M
 row-spec =
     tie.close
     (tie.spec
-    Inv-loop
-    μ-loop
-    (λ c. rowless-start (now (c .before .args .front))) (λ c. omega arith) (λ c. omega arith) (λ c κs. omega arith)
-    (λ c κs. search needs) (λ c κs. search needs) (λ c. omega arith)
-    returns
-    (λ c. omega arith)
-    loop-again
-    returns-2)
+    Inv-loop μ-loop (λ c. rowless-start (now (c .before .args .front))) (λ c. omega arith) (λ c. omega arith) (λ c κs. omega arith)
+    (λ c κs. search needs) (λ c κs. search needs) (λ c. omega arith) returns (λ c. omega arith) loop-again returns-2)

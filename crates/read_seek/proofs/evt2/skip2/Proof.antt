@@ -85,18 +85,5 @@ pub skip2-spec : {M : Type 1} → statement M
 skip2-spec =
     tie.close
     (tie.spec
-    Inv-loop
-    μ-loop
-    add-if1
-    returns
-    loop-holds
-    (λ c. omega arith) (λ c κs. omega arith) (λ c. omega arith) (λ c κs. search needs)
-    advance-requires
-    add-if4
-    (λ c. omega arith)
-    loop-again
-    (λ c. omega arith)
-    loop-again-2
-    returns-2
-    returns-3
-    returns-4)
+    Inv-loop μ-loop add-if1 returns loop-holds (λ c. omega arith) (λ c κs. omega arith) (λ c. omega arith) (λ c κs. search needs) advance-requires add-if4
+    (λ c. omega arith) loop-again (λ c. omega arith) loop-again-2 returns-2 returns-3 returns-4)

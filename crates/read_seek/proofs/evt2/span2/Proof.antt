@@ -37,11 +37,6 @@ pub span2-spec : {M : Type 1} → statement M
 span2-spec =
     tie.close
     (tie.spec
-    Inv-loop
-    μ-loop
-    (λ c. seeking-start sound2 (c .before .pre .0)) (λ c. omega arith) (λ c κs. omega arith)
-    (λ c κs. bounded-sane2 (c .before .before .loop .inv .inv))
-    (λ c κs. search needs) (λ c κs. search needs) (λ c. omega arith) (λ c. omega arith)
-    loop-again
-    returns
-    returns-2)
+    Inv-loop μ-loop (λ c. seeking-start sound2 (c .before .pre .0)) (λ c. omega arith) (λ c κs. omega arith)
+    (λ c κs. bounded-sane2 (c .before .before .loop .inv .inv)) (λ c κs. search needs) (λ c κs. search needs) (λ c. omega arith) (λ c. omega arith) loop-again
+    returns returns-2)

@@ -88,18 +88,6 @@ pub skip21-spec : {M : Type 1} → statement M
 skip21-spec =
     tie.close
     (tie.spec
-    Inv-loop
-    μ-loop
-    (λ c κs. search needs)
-    add-if1
-    returns
-    loop-holds
-    (λ c. omega arith) (λ c κs. omega arith) (λ c. omega arith) (λ c κs. search needs)
-    (λ c κs. bounded-sane2 (c .before .before .before .before .loop .inv .marked .inv))
-    add-if4
-    (λ c. omega arith)
-    loop-again
-    (λ c. omega arith)
-    loop-again-2
-    (λ c κs. search needs)
-    returns-2)
+    Inv-loop μ-loop (λ c κs. search needs) add-if1 returns loop-holds (λ c. omega arith) (λ c κs. omega arith) (λ c. omega arith) (λ c κs. search needs)
+    (λ c κs. bounded-sane2 (c .before .before .before .before .loop .inv .marked .inv)) add-if4 (λ c. omega arith) loop-again (λ c. omega arith) loop-again-2
+    (λ c κs. search needs) returns-2)

@@ -49,12 +49,5 @@ pub span21-spec : {M : Type 1} → statement M
 span21-spec =
     tie.close
     (tie.spec
-    Inv-loop
-    μ-loop
-    (λ c κs. search needs)
-    loop-holds
-    (λ c. omega arith) (λ c κs. omega arith) (λ c κs. bounded-sane2 (c .before .before .loop .inv .inv))
-    (λ c κs. search needs) (λ c κs. search needs) (λ c. omega arith) (λ c. omega arith)
-    loop-again
-    (λ c κs. search needs)
-    returns)
+    Inv-loop μ-loop (λ c κs. search needs) loop-holds (λ c. omega arith) (λ c κs. omega arith) (λ c κs. bounded-sane2 (c .before .before .loop .inv .inv))
+    (λ c κs. search needs) (λ c κs. search needs) (λ c. omega arith) (λ c. omega arith) loop-again (λ c κs. search needs) returns)

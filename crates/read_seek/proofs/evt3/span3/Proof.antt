@@ -33,9 +33,4 @@ pub span3-spec : {M : Type 1} → statement M
 span3-spec =
     tie.close
     (tie.spec
-    pass-requires
-    slice-aggregate-put
-    (λ c κs. search needs)
-    returns
-    walk-requires
-    (λ c. search needs))
+    pass-requires slice-aggregate-put (λ c κs. search needs) returns walk-requires (λ c. search needs))

@@ -105,20 +105,5 @@ pub stride-spec : {M : Type 1} → statement M
 stride-spec =
     tie.close
     (tie.spec
-    Inv-loop
-    μ-loop
-    (λ c κs. search needs)
-    add-if1
-    returns
-    loop-holds
-    add-loop
-    (λ c κs. omega arith) (λ c. omega arith) (λ c κs. search needs)
-    tick-requires
-    add-if4
-    (λ c. omega arith)
-    loop-again
-    (λ c. omega arith)
-    loop-again-2
-    returns-2
-    returns-3
-    returns-4)
+    Inv-loop μ-loop (λ c κs. search needs) add-if1 returns loop-holds add-loop (λ c κs. omega arith) (λ c. omega arith) (λ c κs. search needs) tick-requires
+    add-if4 (λ c. omega arith) loop-again (λ c. omega arith) loop-again-2 returns-2 returns-3 returns-4)

@@ -97,18 +97,7 @@ pub fill2-spec : {M : Type 1} → statement M
 fill2-spec =
     tie.close
     (tie.spec
-    Inv-loop
-    μ-loop
-    loop-holds
-    (λ c. omega arith) (λ c κs. omega arith)
-    advance-requires
-    (λ c. omega arith)
-    cut2-requires
-    (λ c κs. search needs)
-    put-all-requires
-    after-requires
-    (λ c κs. search needs) (λ c. omega arith)
-    loop-again
+    Inv-loop μ-loop loop-holds (λ c. omega arith) (λ c κs. omega arith) advance-requires (λ c. omega arith) cut2-requires (λ c κs. search needs)
+    put-all-requires after-requires (λ c κs. search needs) (λ c. omega arith) loop-again
     (λ c. done (c .before) .going .in-x .long) (λ c. done (c .before) .going .in-y .long)
-    (λ c. done (c .before) .going .in-t .long) (λ c. done (c .before) .going .in-p .long)
-    returns)
+    (λ c. done (c .before) .going .in-t .long) (λ c. done (c .before) .going .in-p .long) returns)

@@ -81,14 +81,5 @@ pub survey2-spec : {M : Type 1} → statement M
 survey2-spec =
     tie.close
     (tie.spec
-    Inv-loop
-    μ-loop
-    loop-holds
-    (λ c. omega arith) (λ c κs. omega arith)
-    advance-requires
-    (λ c. omega arith)
-    cut2-requires
-    note-requires
-    (λ c κs. search needs) (λ c. omega arith)
-    loop-again
-    (λ c. counted sound2 (done (c .before))))
+    Inv-loop μ-loop loop-holds (λ c. omega arith) (λ c κs. omega arith) advance-requires (λ c. omega arith) cut2-requires note-requires
+    (λ c κs. search needs) (λ c. omega arith) loop-again (λ c. counted sound2 (done (c .before))))

@@ -105,20 +105,8 @@ pub fill21-spec : {M : Type 1} → statement M
 fill21-spec =
     tie.close
     (tie.spec
-    Inv-loop
-    μ-loop
-    (λ c κs. search needs)
-    loop-holds
-    (λ c. omega arith) (λ c κs. omega arith)
-    advance-requires
-    (λ c. omega arith)
-    cut21-requires
-    (λ c κs. search needs)
-    put-all-requires
-    after-requires
-    (λ c κs. search needs) (λ c. omega arith)
-    loop-again
+    Inv-loop μ-loop (λ c κs. search needs) loop-holds (λ c. omega arith) (λ c κs. omega arith) advance-requires (λ c. omega arith) cut21-requires
+    (λ c κs. search needs) put-all-requires after-requires (λ c κs. search needs) (λ c. omega arith) loop-again
     (λ c κs. search needs) (λ c. done (c .before .before) .going .in-x .long)
-    (λ c. done (c .before .before) .going .in-y .long) (λ c. done (c .before .before) .going .in-t .long)
-    (λ c. done (c .before .before) .going .in-p .long)
+    (λ c. done (c .before .before) .going .in-y .long) (λ c. done (c .before .before) .going .in-t .long) (λ c. done (c .before .before) .going .in-p .long)
     returns)

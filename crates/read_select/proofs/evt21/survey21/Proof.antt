@@ -88,16 +88,5 @@ pub survey21-spec : {M : Type 1} → statement M
 survey21-spec =
     tie.close
     (tie.spec
-    Inv-loop
-    μ-loop
-    (λ c κs. search needs)
-    loop-holds
-    (λ c. omega arith) (λ c κs. omega arith)
-    advance-requires
-    (λ c. omega arith)
-    cut21-requires
-    note-requires
-    (λ c κs. search needs) (λ c. omega arith)
-    loop-again
-    (λ c κs. search needs)
-    returns)
+    Inv-loop μ-loop (λ c κs. search needs) loop-holds (λ c. omega arith) (λ c κs. omega arith) advance-requires (λ c. omega arith) cut21-requires note-requires
+    (λ c κs. search needs) (λ c. omega arith) loop-again (λ c κs. search needs) returns)

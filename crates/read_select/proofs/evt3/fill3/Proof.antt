@@ -106,20 +106,8 @@ pub fill3-spec : {M : Type 1} → statement M
 fill3-spec =
     tie.close
     (tie.spec
-    Inv-loop
-    μ-loop
-    (λ c κs. search needs)
-    loop-holds
-    (λ c. omega arith) (λ c κs. omega arith)
-    advance-requires
-    (λ c. omega arith)
-    keep3-requires
-    (λ c κs. search needs)
-    put-all-requires
-    after-requires
-    (λ c κs. search needs) (λ c. omega arith)
-    loop-again
+    Inv-loop μ-loop (λ c κs. search needs) loop-holds (λ c. omega arith) (λ c κs. omega arith) advance-requires (λ c. omega arith) keep3-requires
+    (λ c κs. search needs) put-all-requires after-requires (λ c κs. search needs) (λ c. omega arith) loop-again
     (λ c κs. bounded-slim3 (done c .at .inv)) (λ c. done (c .before .before) .going .in-x .long)
-    (λ c. done (c .before .before) .going .in-y .long) (λ c. done (c .before .before) .going .in-t .long)
-    (λ c. done (c .before .before) .going .in-p .long)
+    (λ c. done (c .before .before) .going .in-y .long) (λ c. done (c .before .before) .going .in-t .long) (λ c. done (c .before .before) .going .in-p .long)
     returns)

@@ -89,16 +89,5 @@ pub survey3-spec : {M : Type 1} → statement M
 survey3-spec =
     tie.close
     (tie.spec
-    Inv-loop
-    μ-loop
-    (λ c κs. search needs)
-    loop-holds
-    (λ c. omega arith) (λ c κs. omega arith)
-    advance-requires
-    (λ c. omega arith)
-    cut3-requires
-    note-requires
-    (λ c κs. search needs) (λ c. omega arith)
-    loop-again
-    (λ c κs. bounded-slim3 (done c .at .inv))
-    returns)
+    Inv-loop μ-loop (λ c κs. search needs) loop-holds (λ c. omega arith) (λ c κs. omega arith) advance-requires (λ c. omega arith) cut3-requires note-requires
+    (λ c κs. search needs) (λ c. omega arith) loop-again (λ c κs. bounded-slim3 (done c .at .inv)) returns)

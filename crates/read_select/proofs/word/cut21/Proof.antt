@@ -14,7 +14,5 @@ pub cut21-spec : {M : Type 1} → statement M
 cut21-spec =
     tie.close
     (tie.spec
-    (λ c. let a = c .before .before .args in picked-none (a .v) (a .win) (a .k) (c .if1 .taken))
-    (λ c κs. search needs)
-    whole
+    (λ c. let a = c .before .before .args in picked-none (a .v) (a .win) (a .k) (c .if1 .taken)) (λ c κs. search needs) whole
     (λ c κs. search needs) (λ c. search needs))

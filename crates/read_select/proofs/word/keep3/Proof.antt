@@ -15,6 +15,4 @@ keep3-spec =
     tie.close
     (tie.spec
     (λ c. let a = c .before .before .args in picked-none (a .v) (a .win) (a .k) (c .if1 .taken))
-    (λ c κs. search needs) (λ c. search needs) (λ c κs. search needs)
-    whole
-    (λ c κs. search needs) (λ c. search needs))
+    (λ c κs. search needs) (λ c. search needs) (λ c κs. search needs) whole (λ c κs. search needs) (λ c. search needs))

@@ -38,11 +38,4 @@ pub note-spec : {M : Type 1} → statement M
 note-spec =
     tie.close
     (tie.spec
-    (λ c κs. search needs)
-    see-requires
-    (λ c. omega (arith, few (c .before .before .before .pre)))
-    add-t9
-    add-t10
-    cast-t11
-    add-t12
-    returns)
+    (λ c κs. search needs) see-requires (λ c. omega (arith, few (c .before .before .before .pre))) add-t9 add-t10 cast-t11 add-t12 returns)

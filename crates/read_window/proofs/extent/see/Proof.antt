@@ -30,9 +30,5 @@ pub see-spec : {M : Type 1} → statement M
 see-spec =
     tie.close
     (tie.spec
-    returns
-    cast-top
-    sub-top
-    (λ c. search needs) (λ c κs. search needs) (λ c κs. search needs) (λ c. search needs) (λ c κs. search needs)
-    (λ c. search needs) (λ c κs. search needs)
-    returns-2)
+    returns cast-top sub-top (λ c. search needs) (λ c κs. search needs) (λ c κs. search needs) (λ c. search needs) (λ c κs. search needs)
+    (λ c. search needs) (λ c κs. search needs) returns-2)

@@ -15,7 +15,4 @@ pub skips-spec : {M : Type 1} → statement M
 skips-spec =
     tie.close
     (tie.spec
-    (λ c. search needs) (λ c κs. search needs) (λ c. search needs)
-    returns
-    returns-2
-    (λ c. simp (lt-leb _ _ (c .if1 .left))))
+    (λ c. search needs) (λ c κs. search needs) (λ c. search needs) returns returns-2 (λ c. simp (lt-leb _ _ (c .if1 .left))))

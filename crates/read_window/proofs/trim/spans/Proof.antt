@@ -14,7 +14,4 @@ pub spans-spec : {M : Type 1} → statement M
 spans-spec =
     tie.close
     (tie.spec
-    (λ c κs. search needs)
-    returns
-    returns-2
-    (λ c. simp (lt-leb _ _ (c .if1 .left))))
+    (λ c κs. search needs) returns returns-2 (λ c. simp (lt-leb _ _ (c .if1 .left))))

@@ -33,9 +33,4 @@ pub whole-spec : {M : Type 1} → statement M
 whole-spec =
     tie.close
     (tie.spec
-    (λ c. search needs) (λ c. search needs) (λ c κs. search needs)
-    returns
-    returns-2
-    returns-3
-    returns-4
-    (λ c. simp (le-ltb _ _ (c .if1 .left))))
+    (λ c. search needs) (λ c. search needs) (λ c κs. search needs) returns returns-2 returns-3 returns-4 (λ c. simp (le-ltb _ _ (c .if1 .left))))

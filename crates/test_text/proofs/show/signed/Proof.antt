@@ -50,9 +50,4 @@ pub signed-spec : {M : Type 1} → statement M
 signed-spec =
     tie.close
     (tie.spec
-    (λ c κs. search needs)
-    cast-number
-    add-number
-    (λ c κs. search needs) (λ c. search needs)
-    cast-number-2
-    (λ c κs. search needs) (λ c. search needs))
+    (λ c κs. search needs) cast-number add-number (λ c κs. search needs) (λ c. search needs) cast-number-2 (λ c κs. search needs) (λ c. search needs))

@@ -33,22 +33,9 @@ pub lend-spec : {M : Type 1} → statement M
 lend-spec =
     tie.close
     (tie.spec
-    (λ c κs. search needs) (λ c κs. search needs) (λ c κs. search needs) (λ c κs. search needs) (λ c. search needs)
-    (λ c. search needs)
-    slice-aggregate-read-raw
-    (λ c. search needs)
-    slice-aggregate-read-raw-2
-    (λ c. search needs)
-    slice-aggregate-read-raw-3
-    (λ c. search needs)
-    slice-aggregate-read-raw-4
-    (λ c κs. search needs) (λ c. search needs) (λ c. search needs)
-    slice-aggregate-decode-words
-    (λ c. search needs)
-    slice-aggregate-decode-words-2
-    (λ c. search needs)
-    slice-aggregate-decode-words-3
-    (λ c. search needs)
-    slice-aggregate-decode-words-4
+    (λ c κs. search needs) (λ c κs. search needs) (λ c κs. search needs) (λ c κs. search needs) (λ c. search needs) (λ c. search needs) slice-aggregate-read-raw
+    (λ c. search needs) slice-aggregate-read-raw-2 (λ c. search needs) slice-aggregate-read-raw-3 (λ c. search needs) slice-aggregate-read-raw-4
+    (λ c κs. search needs) (λ c. search needs) (λ c. search needs) slice-aggregate-decode-words (λ c. search needs) slice-aggregate-decode-words-2
+    (λ c. search needs) slice-aggregate-decode-words-3 (λ c. search needs) slice-aggregate-decode-words-4
     (λ c κs. search needs) (λ c. search needs) (λ c. search needs) (λ c. search needs) (λ c. search needs)
     (λ c. search needs) (λ c. search needs) (λ c. search needs) (λ c. search needs) (λ c. search needs) (λ c. search needs))

@@ -11,5 +11,4 @@ lend-spec =
     (tie.spec
     (λ c κs. search needs) (λ c. search needs) (λ c κs. search needs) (λ c. search needs) (λ c. search needs)
     (λ c κs. search needs) (λ c κs. search needs) (λ c. search needs)
-    (λ c. sym (length-take-le _ _ (c .before .lent .ensures))) (λ c κs. search needs) (λ c. search needs)
-    (λ c. search needs))
+    (λ c. sym (length-take-le _ _ (c .before .lent .ensures))) (λ c κs. search needs) (λ c. search needs) (λ c. search needs))

@@ -21,13 +21,6 @@ pub lend-spec : {M : Type 1} → statement M
 lend-spec =
     tie.close
     (tie.spec
-    (λ c κs. search needs) (λ c κs. search needs) (λ c κs. search needs) (λ c κs. search needs) (λ c. search needs)
-    slice-aggregate-dispatch
-    (λ c. search needs)
-    slice-aggregate-dispatch-2
-    (λ c. search needs)
-    slice-aggregate-dispatch-3
-    (λ c. search needs)
-    slice-aggregate-dispatch-4
-    (λ c κs. search needs) (λ c. search needs) (λ c. search needs) (λ c. search needs) (λ c. search needs)
-    (λ c. search needs))
+    (λ c κs. search needs) (λ c κs. search needs) (λ c κs. search needs) (λ c κs. search needs) (λ c. search needs) slice-aggregate-dispatch (λ c. search needs)
+    slice-aggregate-dispatch-2 (λ c. search needs) slice-aggregate-dispatch-3 (λ c. search needs) slice-aggregate-dispatch-4
+    (λ c κs. search needs) (λ c. search needs) (λ c. search needs) (λ c. search needs) (λ c. search needs) (λ c. search needs))

@@ -53,16 +53,7 @@ pub count-spec : {M : Type 1} → statement M
 count-spec =
     tie.close
     (tie.spec
-    Inv-loop
-    μ-loop
+    Inv-loop μ-loop
     (λ c κs. c .before .pre .pos) (λ c. counting-start) (λ c. omega arith) (λ c. omega arith) (λ c. omega arith) (λ c. search needs) (λ c. search needs)
-    sum-requires
-    (λ c. search needs)
-    add-n
-    (λ c. omega arith)
-    loop-again
-    (λ c. omega arith) (λ c. search needs) (λ c. search needs)
-    sum-requires-2
-    (λ c. search needs)
-    add-result
-    returns)
+    sum-requires (λ c. search needs) add-n (λ c. omega arith) loop-again (λ c. omega arith) (λ c. search needs) (λ c. search needs) sum-requires-2
+    (λ c. search needs) add-result returns)

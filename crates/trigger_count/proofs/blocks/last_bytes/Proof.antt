@@ -16,8 +16,6 @@ pub last-bytes-spec : {M : Type 1} → statement M
 last-bytes-spec =
     tie.close
     (tie.spec
-    Inv-loop
-    μ-loop
-    (λ c. filling-start refl) (λ c κs. (c .before .before .pre, c .loop-test .taken)) (λ c. omega arith) (λ c. omega arith) (λ c. omega arith)
+    Inv-loop μ-loop (λ c. filling-start refl) (λ c κs. (c .before .before .pre, c .loop-test .taken)) (λ c. omega arith) (λ c. omega arith) (λ c. omega arith)
     (λ c. filling-next (c .before .before .loop .inv) (c .before .loop-test .taken) _ (c .last-flag .ensures))
     (λ c. filling-end (c .before .loop .inv) (c .loop-test .left)))

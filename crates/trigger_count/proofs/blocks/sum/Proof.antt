@@ -25,10 +25,5 @@ pub sum-spec : {M : Type 1} → statement M
 sum-spec =
     tie.close
     (tie.spec
-    Inv-loop
-    μ-loop
-    (λ c. tallying-start) (λ c. omega arith) (λ c. omega arith) (λ c κs. search needs)
-    add-n
-    (λ c. omega arith) (λ c. omega arith)
-    loop-again
+    Inv-loop μ-loop (λ c. tallying-start) (λ c. omega arith) (λ c. omega arith) (λ c κs. search needs) add-n (λ c. omega arith) (λ c. omega arith) loop-again
     (λ c. tallying-end (c .before .loop .inv) (c .loop-test .left)))

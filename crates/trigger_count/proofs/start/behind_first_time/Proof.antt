@@ -26,10 +26,5 @@ pub behind-first-time-spec : {M : Type 1} → statement M
 behind-first-time-spec =
     tie.close
     (tie.spec
-    Inv-loop
-    μ-loop
-    (λ c. seeking-start) (λ c. omega arith) (λ c. omega arith) (λ c. omega arith) (λ c. omega arith) (λ c. omega arith)
-    returns
-    (λ c. omega arith)
-    loop-again
-    (λ c. seeking-end (c .before .loop .inv) (c .before .before .pre) (omega arith)))
+    Inv-loop μ-loop (λ c. seeking-start) (λ c. omega arith) (λ c. omega arith) (λ c. omega arith) (λ c. omega arith) (λ c. omega arith) returns
+    (λ c. omega arith) loop-again (λ c. seeking-end (c .before .loop .inv) (c .before .before .pre) (omega arith)))

@@ -93,18 +93,7 @@ pub across-spec : {M : Type 1} → statement M
 across-spec =
     tie.close
     (tie.spec
-    Inv-loop
-    μ-loop
-    loop-holds
-    word-requires
-    (λ c κs. (shift-few (c .before .before .before .before .pre .0), omega arith))
-    coarse-requires
-    returns
-    (λ c. sym (length-take-le _ _ (omega (arith, c .before .before .before .before .before .before .before .loop .inv .within))))
-    base-requires
-    (λ c κs. low-few (c .before .before .before .before .before .before .before .before .before .before .pre .0))
-    add-time
-    returns-2
-    loop-less
-    loop-again
+    Inv-loop μ-loop loop-holds word-requires (λ c κs. (shift-few (c .before .before .before .before .pre .0), omega arith)) coarse-requires returns
+    (λ c. sym (length-take-le _ _ (omega (arith, c .before .before .before .before .before .before .before .loop .inv .within)))) base-requires
+    (λ c κs. low-few (c .before .before .before .before .before .before .before .before .before .before .pre .0)) add-time returns-2 loop-less loop-again
     returns-3)

@@ -53,13 +53,5 @@ pub base-spec : {M : Type 1} → statement M
 base-spec =
     tie.close
     (tie.spec
-    Inv-loop
-    μ-loop
-    loop-holds
-    word-requires
-    (λ c κs. (shift-few (c .before .before .before .before .pre .0), omega arith))
-    coarse-requires
-    returns
-    loop-less
-    loop-again
-    returns-2)
+    Inv-loop μ-loop loop-holds word-requires (λ c κs. (shift-few (c .before .before .before .before .pre .0), omega arith)) coarse-requires returns loop-less
+    loop-again returns-2)

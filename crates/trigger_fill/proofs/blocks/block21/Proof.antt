@@ -35,14 +35,8 @@ pub block21-spec : {M : Type 1} → statement M
 block21-spec =
     tie.close
     (tie.spec
-    Inv-loop
-    μ-loop
-    (λ c. tallying-start (notable (c .before .args .late) form21) wordSize21 (now (c .before .args .b)))
-    (λ c. omega arith)
-    (λ c. omega arith) (λ c. omega arith) (λ c. omega arith) (λ c. omega arith) (λ c. omega arith) (λ c. omega arith) (λ c. omega arith)
-    (λ c κs. search needs)
+    Inv-loop μ-loop (λ c. tallying-start (notable (c .before .args .late) form21) wordSize21 (now (c .before .args .b))) (λ c. omega arith)
+    (λ c. omega arith) (λ c. omega arith) (λ c. omega arith) (λ c. omega arith) (λ c. omega arith) (λ c. omega arith) (λ c. omega arith) (λ c κs. search needs)
     (λ c. omega arith) (λ c. omega arith) (λ c. omega arith) (λ c. omega arith) (λ c. omega arith) (λ c. omega arith) (λ c. omega arith) (λ c. omega arith)
-    (λ c κs. search needs) (λ c κs. search needs) (λ c κs. search needs) (λ c κs. search needs) (λ c κs. omega arith)
-    (λ c. omega arith) (λ c. omega arith)
-    loop-again
-    (λ c. tallying-end (omega arith) (c .before .loop .inv) (omega arith)))
+    (λ c κs. search needs) (λ c κs. search needs) (λ c κs. search needs) (λ c κs. search needs) (λ c κs. omega arith) (λ c. omega arith) (λ c. omega arith)
+    loop-again (λ c. tallying-end (omega arith) (c .before .loop .inv) (omega arith)))

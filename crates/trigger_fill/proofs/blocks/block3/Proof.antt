@@ -33,12 +33,6 @@ pub block3-spec : {M : Type 1} → statement M
 block3-spec =
     tie.close
     (tie.spec
-    Inv-loop
-    μ-loop
-    (λ c. tallying-start (notable (c .before .args .late) form3) wordSize3 (now (c .before .args .b)))
-    (λ c. omega arith)
-    (λ c. omega arith) (λ c. omega arith) (λ c. omega arith)
-    (λ c κs. search needs) (λ c κs. search needs) (λ c κs. search needs) (λ c κs. omega arith)
-    (λ c. omega arith) (λ c. omega arith)
-    loop-again
-    (λ c. tallying-end (omega arith) (c .before .loop .inv) (omega arith)))
+    Inv-loop μ-loop (λ c. tallying-start (notable (c .before .args .late) form3) wordSize3 (now (c .before .args .b))) (λ c. omega arith)
+    (λ c. omega arith) (λ c. omega arith) (λ c. omega arith) (λ c κs. search needs) (λ c κs. search needs) (λ c κs. search needs) (λ c κs. omega arith)
+    (λ c. omega arith) (λ c. omega arith) loop-again (λ c. tallying-end (omega arith) (c .before .loop .inv) (omega arith)))

@@ -28,13 +28,7 @@ pub blocks21-spec : {M : Type 1} → statement M
 blocks21-spec =
     tie.close
     (tie.spec
-    Inv-loop
-    μ-loop
-    (λ c. leading-start (notable (c .before .args .late) form21) wordSize21 (now (c .before .args .s)))
-    (λ c. c .loop .inv .within)
-    (λ c. omega arith) (λ c. omega arith) (λ c. search needs) (λ c. search needs)
-    (λ c κs. rw (length-take, length-drop) (omega arith))
-    (λ c. c .before .before .before .before .loop .inv)
-    (λ c. omega (arith, c .before .before .before .loop-test .taken))
-    loop-again
+    Inv-loop μ-loop (λ c. leading-start (notable (c .before .args .late) form21) wordSize21 (now (c .before .args .s))) (λ c. c .loop .inv .within)
+    (λ c. omega arith) (λ c. omega arith) (λ c. search needs) (λ c. search needs) (λ c κs. rw (length-take, length-drop) (omega arith))
+    (λ c. c .before .before .before .before .loop .inv) (λ c. omega (arith, c .before .before .before .loop-test .taken)) loop-again
     (λ c. c .before .loop .inv))

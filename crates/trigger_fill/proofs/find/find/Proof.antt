@@ -77,18 +77,7 @@ pub find-spec : {M : Type 1} → statement M
 find-spec =
     tie.close
     (tie.spec
-    Inv-loop
-    μ-loop
-    (λ c κs. c .before .pre)
-    (λ c. c .over .ensures)
-    add-test
-    (λ c. size-pos (c .before .before .before .before .before .before .pre))
+    Inv-loop μ-loop (λ c κs. c .before .pre) (λ c. c .over .ensures) add-test (λ c. size-pos (c .before .before .before .before .before .before .pre))
     (λ c. omega (arith, size-pos (c .before .before .before .before .before .before .pre), c .before .if1 .taken))
-    (λ c. omega (arith, size-pos (c .before .before .before .before .before .before .before .pre), c .before .before .if1 .taken))
-    cast-top
-    (λ c κs. search needs)
-    returns
-    (λ c. omega (arith, c .before .before .before .before .before .if1 .taken))
-    loop-less
-    loop-again
-    returns-2)
+    (λ c. omega (arith, size-pos (c .before .before .before .before .before .before .before .pre), c .before .before .if1 .taken)) cast-top
+    (λ c κs. search needs) returns (λ c. omega (arith, c .before .before .before .before .before .if1 .taken)) loop-less loop-again returns-2)

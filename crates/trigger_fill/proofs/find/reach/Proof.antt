@@ -52,10 +52,5 @@ pub reach-spec : {M : Type 1} → statement M
 reach-spec =
     tie.close
     (tie.spec
-    (λ c. search needs)
-    add-late
-    (λ c. search needs) (λ c. search needs) (λ c. search needs) (λ c κs. search needs)
-    slice-aggregate-across
-    across-requires
-    add-at
-    returns)
+    (λ c. search needs) add-late (λ c. search needs) (λ c. search needs) (λ c. search needs) (λ c κs. search needs) slice-aggregate-across across-requires
+    add-at returns)

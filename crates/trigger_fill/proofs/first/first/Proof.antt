@@ -56,15 +56,6 @@ pub first-spec : {M : Type 1} → statement M
 first-spec =
     tie.close
     (tie.spec
-    Inv-loop
-    μ-loop
-    (λ c. rw (c .if1 .taken) (omega arith))
-    loop-holds
-    add-loop
-    word-requires
-    (λ c κs. (shift-few (c .before .before .before .before .before .pre), omega arith))
-    returns-2
-    (λ c. omega (arith, c .before .before .before .loop-test .taken))
-    loop-less
-    loop-again
-    returns-3)
+    Inv-loop μ-loop (λ c. rw (c .if1 .taken) (omega arith)) loop-holds add-loop word-requires
+    (λ c κs. (shift-few (c .before .before .before .before .before .pre), omega arith)) returns-2
+    (λ c. omega (arith, c .before .before .before .loop-test .taken)) loop-less loop-again returns-3)

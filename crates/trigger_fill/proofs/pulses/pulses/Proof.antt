@@ -82,17 +82,7 @@ pub pulses-spec : {M : Type 1} → statement M
 pulses-spec =
     tie.close
     (tie.spec
-    Inv-loop
-    μ-loop
-    (λ c κs. let s = c .before .before .before in (s .pre .0, s .pre .1 .0)) (λ c. pulse-start (c .reach .ensures .place))
-    add-test
-    word-requires
-    put-requires
-    tick-requires
-    add-reach
-    reach-requires-2
-    loop-less
-    loop-again
+    Inv-loop μ-loop (λ c κs. let s = c .before .before .before in (s .pre .0, s .pre .1 .0)) (λ c. pulse-start (c .reach .ensures .place)) add-test
+    word-requires put-requires tick-requires add-reach reach-requires-2 loop-less loop-again
     (λ c. c .before .before .loop .inv .pulsing .in-t .long) (λ c. c .before .before .loop .inv .pulsing .in-id .long)
-    (λ c. c .before .before .loop .inv .pulsing .in-value .long)
-    returns)
+    (λ c. c .before .before .loop .inv .pulsing .in-value .long) returns)

@@ -16,8 +16,4 @@ pub coarse-spec : {M : Type 1} → statement M
 coarse-spec =
     tie.close
     (tie.spec
-    (λ c κs. low-few (c .pre .0))
-    mul-raw
-    (λ c. search needs)
-    add-result
-    (λ c. rw (c .before .before .before .bits .ensures)))
+    (λ c κs. low-few (c .pre .0)) mul-raw (λ c. search needs) add-result (λ c. rw (c .before .before .before .bits .ensures)))

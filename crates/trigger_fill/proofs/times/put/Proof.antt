@@ -84,21 +84,10 @@ pub put-spec : {M : Type 1} → statement M
 put-spec =
     tie.close
     (tie.spec
-    (λ c κs. (shift-few (c .before .before .pre .0), omega arith))
-    add-bits
-    bits-requires-2
-    add-t
-    add-bits-2
-    bits-requires-3
-    (λ c κs. (low-few (c .before .before .before .before .before .before .before .before .before .pre .0) .0, omega arith))
-    cast-stamp
-    (λ c. record { fits = omega (arith, at-few (c .before .before .before .before .before .before)) })
-    slice-write
-    cast-ids
+    (λ c κs. (shift-few (c .before .before .pre .0), omega arith)) add-bits bits-requires-2 add-t add-bits-2 bits-requires-3
+    (λ c κs. (low-few (c .before .before .before .before .before .before .before .before .before .pre .0) .0, omega arith)) cast-stamp
+    (λ c. record { fits = omega (arith, at-few (c .before .before .before .before .before .before)) }) slice-write cast-ids
+    (λ c. omega (arith, some (c .before .before .before .before .before .before))) cast-values
     (λ c. omega (arith, some (c .before .before .before .before .before .before)))
-    cast-values
-    (λ c. omega (arith, some (c .before .before .before .before .before .before)))
-    (λ c. omega (arith, at-few (c .before .before .before .before .before .before)))
-    (λ c. search needs) (λ c. search needs) (λ c. search needs)
-    returns
+    (λ c. omega (arith, at-few (c .before .before .before .before .before .before))) (λ c. search needs) (λ c. search needs) (λ c. search needs) returns
     returns-2)

@@ -42,10 +42,4 @@ pub tick-spec : {M : Type 1} → statement M
 tick-spec =
     tie.close
     (tie.spec
-    (λ c κs. (shift-few (c .pre .0), omega arith)) (λ c κs. low-few (c .before .pre .0))
-    mul-raw
-    after-requires
-    returns
-    add-t9
-    returns-2
-    returns-3)
+    (λ c κs. (shift-few (c .pre .0), omega arith)) (λ c κs. low-few (c .before .pre .0)) mul-raw after-requires returns add-t9 returns-2 returns-3)

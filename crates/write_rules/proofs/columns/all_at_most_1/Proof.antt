@@ -17,8 +17,6 @@ pub all-at-most-1-spec : {M : Type 1} → statement M
 all-at-most-1-spec =
     tie.close
     (tie.spec
-    Inv-loop
-    μ-loop
-    (λ c. gathered-start 1 refl) (λ c. omega arith) (λ c. omega arith) (λ c. omega arith)
+    Inv-loop μ-loop (λ c. gathered-start 1 refl) (λ c. omega arith) (λ c. omega arith) (λ c. omega arith)
     (λ c. column-iteration 1 (c .before .before .before .args .ps .now) (c .before .before .loop .inv) (c .before .loop-test .taken))
     (λ c. column-end 1 (c .before .before .args .ps .now) (c .before .loop .inv) (c .loop-test .left)))

@@ -17,8 +17,6 @@ pub all-at-most-2047-spec : {M : Type 1} → statement M
 all-at-most-2047-spec =
     tie.close
     (tie.spec
-    Inv-loop
-    μ-loop
-    (λ c. gathered-start 11 refl) (λ c. omega arith) (λ c. omega arith) (λ c. omega arith) (λ c. omega arith)
+    Inv-loop μ-loop (λ c. gathered-start 11 refl) (λ c. omega arith) (λ c. omega arith) (λ c. omega arith) (λ c. omega arith)
     (λ c. column-iteration 2047 (c .before .before .before .args .xs .now) (c .before .before .loop .inv) (c .before .loop-test .taken))
     (λ c. column-end 2047 (c .before .before .args .xs .now) (c .before .loop .inv) (c .loop-test .left)))

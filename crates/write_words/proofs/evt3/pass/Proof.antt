@@ -73,17 +73,6 @@ pub pass-spec : {M : Type 1} → statement M
 pass-spec =
     tie.close
     (tie.spec
-    Inv-loop
-    μ-loop
-    (λ c κs. search needs) (λ c κs. search needs) (λ c κs. search needs)
-    loop-holds
-    time-at-requires
-    (λ c. omega arith) (λ c. omega arith)
-    run-at-requires
-    (λ c. omega arith)
-    put-run-requires
-    cast-row
-    (λ c. omega arith)
-    loop-again
-    (λ c κs. search needs) (λ c. c .before .before .loop .inv .going .storing .long)
-    returns)
+    Inv-loop μ-loop (λ c κs. search needs) (λ c κs. search needs) (λ c κs. search needs) loop-holds time-at-requires (λ c. omega arith) (λ c. omega arith)
+    run-at-requires (λ c. omega arith) put-run-requires cast-row (λ c. omega arith) loop-again
+    (λ c κs. search needs) (λ c. c .before .before .loop .inv .going .storing .long) returns)

@@ -21,7 +21,4 @@ pub idle-spec : {M : Type 1} → statement M
 idle-spec =
     tie.close
     (tie.spec
-    (λ c κs. search needs) (λ c κs. search needs)
-    narrow-requires
-    returns
-    returns-2)
+    (λ c κs. search needs) (λ c κs. search needs) narrow-requires returns returns-2)

@@ -25,8 +25,4 @@ pub next-spec : {M : Type 1} → statement M
 next-spec =
     tie.close
     (tie.spec
-    (λ c. rw (eq-eqb _ _ (c .if1 .taken))) (λ c. search needs)
-    cast-x-2
-    add-x
-    (λ c κs. search needs) (λ c. search needs) (λ c. search needs)
-    returns-2)
+    (λ c. rw (eq-eqb _ _ (c .if1 .taken))) (λ c. search needs) cast-x-2 add-x (λ c κs. search needs) (λ c. search needs) (λ c. search needs) returns-2)

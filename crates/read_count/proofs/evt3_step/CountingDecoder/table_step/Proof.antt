@@ -25,7 +25,5 @@ pub table-step-spec : {M : Type 1} → statement M
 table-step-spec =
     tie.close
     (tie.spec
-    (λ c κs. search needs) (λ c κs. search needs)
-    returns
-    (λ c κs. search needs) (λ c κs. rw (c .wide .ensures) (c .before .before .pre .0)) (λ c κs. search needs)
-    returns-2)
+    (λ c κs. search needs) (λ c κs. search needs) returns
+    (λ c κs. search needs) (λ c κs. rw (c .wide .ensures) (c .before .before .pre .0)) (λ c κs. search needs) returns-2)

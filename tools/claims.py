@@ -12,7 +12,7 @@ import sys
 os.chdir(os.path.dirname(os.path.dirname(os.path.abspath(__file__))))
 WORD = re.compile(r"[^\s(){};,.@\"«»|`:]+")
 PATH = re.compile(r"(?<![\w/.])((?:crates|tools|tests|docs|include|samples)/[\w./*{},-]*\w)")
-RULE = re.compile(r"\b((?:E2|E3|H|R|G|I|A|T|D|V|L)-\d+)\b")
+RULE = re.compile(r"\b((?:E21|E2|E3|H|R|G|I|A|T|D|V|L)-\d+)\b")
 NOT_NAMES = re.compile(r"[%+\d]|.*[ /].*|x|X|end|format|evt\d?|geometry|\.\.|\|")
 faults = []
 
@@ -90,7 +90,7 @@ class Claims:
                 faults.append(f'docs/CLAIMS.md: the public function {name} has no row')
 
 
-rules = set(re.findall(r'\*\*([A-Z]\d?-\d+)\*\*', read('docs/RULES.md')))
+rules = set(re.findall(r'\*\*([A-Z]\d*-\d+)\*\*', read('docs/RULES.md')))
 texts = ['README.md', 'include/prophesee_raw.h'] + sorted(glob.glob('docs/*.md') + glob.glob('docs/changes/*.md'))
 for path in texts:
     check_paths(path, read(path))

@@ -6,7 +6,8 @@ use Prim.Native.Nat.{ℕ, zero, suc, _≤_, _<_}
 use native.Mathlib.Omega.{arith}
 use Rattle.evt_types.specs.declared.Encoding.{Encoding}
 use Rattle.evt_types.specs.Outcome.{Outcome, refuse, give}
-use Rattle.evt_codec.specs.declared.{codec.Codec.Codec, codec.Codec.the-variants.Evt2 as OfEvt2, codec.Codec.the-variants.Evt21 as OfEvt21, codec.Codec.the-variants.Evt3 as OfEvt3}
+use Rattle.evt_codec.specs.declared.{codec.Codec.Codec, codec.Codec.the-variants.Evt2 as OfEvt2, codec.Codec.the-variants.Evt21 as OfEvt21}
+use Rattle.evt_codec.specs.declared.{codec.Codec.the-variants.Evt3 as OfEvt3}
 use Rattle.evt_codec.specs.Codec.{encodingOf, freshC, codecAfter, encoding-after, encoding-fresh}
 use Rattle.evt3_decoder.specs.{declared.Decoder.Decoder, Range.Regular3}
 use Rattle.read_fill.specs.Decode.{Bounded}

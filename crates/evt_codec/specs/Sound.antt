@@ -13,11 +13,14 @@ use Rattle.evt_types.specs.{declared.Encoding.Encoding, declared.vector.Vector.
 use Rattle.evt_types.specs.{Event.noEvents, Event.no-events, Trigger.Trigger, Trigger.triggerIf, Trigger.trigger-other}
 use Rattle.evt_types.specs.Layout.{type2, timeLow2, type3, time3, grain3, triggerType, upper, upper-type, mask21}
 use Rattle.evt_types.specs.declared.Encoding.the-variants as E
-use Rattle.evt2_decoder.specs.{declared.Evt2Decoder.Evt2Decoder, Evt2.step2, Evt2.vector2, Triggers.few-triggers2, Triggers.trigger2, Triggers.triggerIn2, Triggers.trigger-alone2, Range.Bounded2, Range.bounded-step2, Range.bounded-narrow2}
+use Rattle.evt2_decoder.specs.{declared.Evt2Decoder.Evt2Decoder, Evt2.step2, Evt2.vector2, Triggers.few-triggers2, Triggers.trigger2, Triggers.triggerIn2}
+use Rattle.evt2_decoder.specs.{Triggers.trigger-alone2, Range.Bounded2, Range.bounded-step2, Range.bounded-narrow2}
 use Rattle.evt2_decoder.specs.Range.{regular-step2, bounded-range2, fresh-range2}
-use Rattle.evt21_decoder.specs.{declared.Evt21Decoder.Evt21Decoder, Evt21.as2, Evt21.wide, Evt21.vector21, Range.few21, Range.bounded-step21, Range.bounded-narrow21}
+use Rattle.evt21_decoder.specs.{declared.Evt21Decoder.Evt21Decoder, Evt21.as2, Evt21.wide, Evt21.vector21, Range.few21, Range.bounded-step21}
+use Rattle.evt21_decoder.specs.{Range.bounded-narrow21}
 use Rattle.evt21_decoder.specs.{Range.bounded-range21, Range.fresh-range21, Triggers.trigger21, Triggers.few-triggers21, Triggers.trigger-alone21}
-use Rattle.evt3_decoder.specs.{declared.Decoder.Decoder, Evt3.step3, Evt3.vector3, Evt3.period3, Evt3.threshold3, Triggers.few-triggers3, Triggers.trigger3, Triggers.triggerIn3, Triggers.trigger-alone3, Range.Bounded3}
+use Rattle.evt3_decoder.specs.{declared.Decoder.Decoder, Evt3.step3, Evt3.vector3, Evt3.period3, Evt3.threshold3, Triggers.few-triggers3, Triggers.trigger3}
+use Rattle.evt3_decoder.specs.{Triggers.triggerIn3, Triggers.trigger-alone3, Range.Bounded3}
 use Rattle.evt3_decoder.specs.{Range.Paced3, Range.bounded-step3, Range.bounded-narrow3, Range.regular-range3, Range.regular-step3, Range.fresh-range3}
 use Rattle.evt2_decoder.specs.Evt2 as Evt2
 use Rattle.evt3_decoder.specs.Evt3 as Evt3
@@ -125,7 +128,8 @@ unfolding step2 vector2
 stamped21 d w =
     Evt2.by-kinds (λ k. All (λ e. e .t ≡ Evt2.stepAs k (as2 d) (upper w) .time) (eventsOf (wide (Evt2.vectorAs k (as2 d) (upper w)) (mask21 w))))
     (type2 (upper w)) (d .initialised)
-    (none-stamped _ _ (zero-mul (mask21 w))) (λ on q. events-timed (λ t. t ≡ d .«time_high» + timeLow2 (upper w)) _ refl) (none-stamped _ _ (zero-mul (mask21 w)))
+    (none-stamped _ _ (zero-mul (mask21 w))) (λ on q. events-timed (λ t. t ≡ d .«time_high» + timeLow2 (upper w)) _ refl)
+    (none-stamped _ _ (zero-mul (mask21 w)))
 
 silent21 : (d : Evt21Decoder) (w : ℕ) → carries21 w ≡ false → eventsOf (vector21 d w) ≡ []
 unfolding vector2

@@ -116,7 +116,8 @@ module _ (e : Encoding) where
     pub whole-past : (win : Window) → PastOver win (codecOf e d) (noteBytes e ns)
     whole-past win =
         past-over e win d (noteBytes e ns)
-        (good-timed (formatOf e) (lawfulOf e) (readerOf e .started) (readerOf e .time) clock (λ d es rd l. ready-ahead e d es rd) (win .t0) (win .t1) d ns understood)
+        (good-timed (formatOf e) (lawfulOf e) (readerOf e .started) (readerOf e .time) clock (λ d es rd l. ready-ahead e d es rd) (win .t0) (win .t1)
+        d ns understood)
 
     -- THE CUT: of the first c bytes, the events whose words lie whole within them
     pub cut-events : (c : ℕ) → eventsFrom (codecOf e d) (take c (noteBytes e ns)) ≡ notes (take (c / encodeSize e) ns)
@@ -125,4 +126,5 @@ module _ (e : Encoding) where
     pub cut-past : (c : ℕ) (win : Window) → PastOver win (codecOf e d) (take c (noteBytes e ns))
     cut-past c win =
         past-over e win d (take c (noteBytes e ns))
-        (cut-timed (formatOf e) (lawfulOf e) (readerOf e .started) (readerOf e .time) clock (λ d es rd l. ready-ahead e d es rd) (win .t0) (win .t1) d ns understood c)
+        (cut-timed (formatOf e) (lawfulOf e) (readerOf e .started) (readerOf e .time) clock (λ d es rd l. ready-ahead e d es rd) (win .t0) (win .t1)
+        d ns understood c)

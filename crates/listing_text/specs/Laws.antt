@@ -10,7 +10,8 @@ use borrow.Author.Tests.{lt-ltb, le-ltb}
 use lib.Dec.{ltb}
 use lib.IntN.{ℤ}
 use lib.ListN.{length, drop, length-append, length-drop}
-use Rattle.evt_types.specs.declared.{Encoding.Encoding, Encoding.the-variants.Evt2, Encoding.the-variants.Evt21, Encoding.the-variants.Evt3, Limit.the-variants.Unlimited}
+use Rattle.evt_types.specs.declared.{Encoding.Encoding, Encoding.the-variants.Evt2, Encoding.the-variants.Evt21, Encoding.the-variants.Evt3}
+use Rattle.evt_types.specs.declared.{Limit.the-variants.Unlimited}
 use Rattle.evt_types.specs.declared.{Refusal.Refusal, Refusal.the-variants.InvalidSensorSize}
 use Rattle.evt_types.specs.declared.{SensorSize.SensorSize, SensorSize.the-variants.Unknown}
 use Rattle.evt_types.specs.{Event.Event, Columns.colX, Columns.colY, Columns.colT, Columns.colP, Outcome.Outcome, Outcome.refuse, Outcome.give}

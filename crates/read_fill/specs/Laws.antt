@@ -8,11 +8,14 @@ use native.Mathlib.Nat.{suc-add, zero-add, mul-add-div-right, mul-div-cancel}
 use lib.ListN.{length, length-append}
 use borrow.Author.Tests.{lt-ltb}
 use Rattle.evt_types.specs.{declared.Encoding.Encoding, declared.vector.Vector.Vector, Event.Event, Event.eventAt, Event.eventsOf, Event.Narrow}
-use Rattle.laws_stream.specs.{Machine.Machine, Machine.All, Machine.all-of, Machine.all-map, Machine.all-mapped, Machine.run, Machine.emits-few, Machine.emits-all, Words.wordsOf}
-use Rattle.laws_stream.specs.{Words.length-words, Words.words-end, Mask.bits, Order.greatest, Order.greatest-append, Order.greatest-le, Slice.sift, Slice.sift-append}
+use Rattle.laws_stream.specs.{Machine.Machine, Machine.All, Machine.all-of, Machine.all-map, Machine.all-mapped, Machine.run, Machine.emits-few}
+use Rattle.laws_stream.specs.{Machine.emits-all, Words.wordsOf}
+use Rattle.laws_stream.specs.{Words.length-words, Words.words-end, Mask.bits, Order.greatest, Order.greatest-append, Order.greatest-le, Slice.sift}
+use Rattle.laws_stream.specs.{Slice.sift-append}
 use Rattle.laws_stream.specs.{Slice.sift-all, Slice.all-sift, Stream.decode-append, Stream.after-append, Stream.decode, Stream.after}
 use Rattle.evt_codec.specs.{declared.codec.Codec.Codec, Reader.Reader, Reader.view, Reader.View, Codec.freshC, Codec.wordSize, Codec.inRangeC, Codec.codec-view}
-use Rattle.evt_codec.specs.{Codec.view-after, Codec.view-fresh, Sound.Sound, Sound.sound, Sound.soundOf, Sound.able-range, Sound.able-fitting, Sound.bounded-words}
+use Rattle.evt_codec.specs.{Codec.view-after, Codec.view-fresh, Sound.Sound, Sound.sound, Sound.soundOf, Sound.able-range, Sound.able-fitting}
+use Rattle.evt_codec.specs.{Sound.bounded-words}
 use Rattle.read_columns.specs.Inside.{inside, clock, events-few, sift-few}
 use Rattle.read_fill.specs.{Decode.eventsFrom, Decode.codecAfter, Decode.insideEvents, Decode.Bounded, Decode.Fitting, Iteration.insideAll}
 

@@ -13,7 +13,8 @@ use lib.Count.{ones, trailingZeros, trailing-of-zero}
 use lib.Dec.{leb, ltb}
 use lib.Pow.{pow-lt, shl-exact}
 use borrow.Author.Tests.{leb-true, ltb-true, lt-leb, lt-ltb, le-ltb}
-use Rattle.laws_stream.specs.{Machine.All, Machine.all-mapped, Machine.all-of, Machine.all-map, Machine.and-both, Mask.trailing-wide, Slice.onto, Slice.sift-all}
+use Rattle.laws_stream.specs.{Machine.All, Machine.all-mapped, Machine.all-of, Machine.all-map, Machine.and-both, Mask.trailing-wide, Slice.onto}
+use Rattle.laws_stream.specs.{Slice.sift-all}
 use Rattle.laws_stream.specs.Mask.{Inc, bits, parity, bits-zero, bits-one, bits-even, bits-odd, bits-in, bits-count, clear-lt, low-bit, trailing-lt}
 use Rattle.laws_stream.specs.Select as Select
 use Rattle.evt_types.specs.{declared.vector.Vector.Vector, Event.Event, Event.eventAt, Event.eventsOf, Event.Narrow, Num.isInside}

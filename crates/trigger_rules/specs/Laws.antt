@@ -11,7 +11,8 @@ use lib.Seq.{take-all}
 use borrow.Author.Tests.{lt-ltb, le-ltb, ne-eqb, eqb-true}
 use Rattle.laws_stream.specs.Machine.{Machine, All, all-of, all-map, run, emits, emits-few}
 use Rattle.laws_stream.specs.{Words.value, Words.wordsOf, Words.wordsOf-append, Words.words-within, Words.words-taken, Words.words-next, Words.words-end}
-use Rattle.laws_stream.specs.{Words.length-words, Slice.sift, Slice.sift-all, Slice.sift-append, Stream.decode, Stream.after, Stream.decode-append, PassOver.numbersIn}
+use Rattle.laws_stream.specs.{Words.length-words, Slice.sift, Slice.sift-all, Slice.sift-append, Stream.decode, Stream.after, Stream.decode-append}
+use Rattle.laws_stream.specs.{PassOver.numbersIn}
 use Rattle.laws_stream.specs.Beside.{emitting, emitsBefore, before-none, before-few, before-most, before-nth, before-alike, ended-within, before-ended}
 use Rattle.laws_stream.specs.Select.{Reading, numberedOf}
 use Rattle.evt_types.specs.declared.{Encoding.Encoding, Limit.Limit, Limit.the-variants.Unlimited, Limit.the-variants.AtMost}

@@ -48,7 +48,8 @@ count-inside-requires c κs =
 loop-again : tie.Need-loop-again Inv-loop μ-loop
 loop-again c =
     let l = c .before .before .before .before .before .before .before .loop in
-    passing-next (omega arith) bounded-step21 (l .inv) (iteration21 (word (c .before)) (l .inv .inv)) (counted21 (word (c .before)) (l .inv .inv)) (c .if1 .left)
+    passing-next (omega arith) bounded-step21 (l .inv) (iteration21 (word (c .before)) (l .inv .inv)) (counted21 (word (c .before)) (l .inv .inv))
+    (c .if1 .left)
 
 returns : tie.Need-returns Inv-loop μ-loop
 returns c =

@@ -29,7 +29,8 @@ iteration : (c : tie.After-s Inv-loop μ-loop) →
     (c .before .before .advance .result .next) (c .before .before .advance .result .events)
 iteration c =
     let step = c .before .before .advance .ensures in
-    Loops.iteration sound2 (omega (arith, c .before .before .before .before .loop-test .taken)) (c .before .before .before .four-at .ensures) (step .0) (step .1)
+    Loops.iteration sound2 (omega (arith, c .before .before .before .before .loop-test .taken)) (c .before .before .before .four-at .ensures)
+    (step .0) (step .1)
 
 small : (c : tie.After-s Inv-loop μ-loop) →
     let events = c .before .before .advance .result .events in

@@ -2,9 +2,9 @@
 """vectors.py ORACLE [PROGRAM]: makes stdin and stdout of crates/test_vectors and crates/test_vectors_index anew, or those of one.
 
 ORACLE is the program tools/original/src/oracle.rs, built from the Rust original: tools/vectors.sh builds it and runs this.
-The cases are made here and in vectors_index.py, always the same ones.
+The cases are made here, in vectors_index.py and in vectors21.py, always the same ones.
 An expected answer is the oracle's, except where the table of refusals (docs/RULES.md) has a number that the Rust lacks, and except for
-recordings with a `%` behind the header's end line, where it is the model's (tools/model).
+recordings with a `%` behind the header's end line and everything of EVT 2.1, where it is the model's (tools/model).
 A layer of the library is a function that yields cases; LAYERS at the end lists those of crates/test_vectors.
 """
 import itertools, random, subprocess, sys
@@ -12,7 +12,7 @@ from pathlib import Path
 
 sys.path.append(str(Path(__file__).resolve().parent / 'model'))
 import answers as model
-from header import header_lines, percent_behind_end
+from header import header_lines, names_evt21, percent_behind_end
 
 CRATES = Path(__file__).resolve().parent.parent / 'crates'
 
@@ -358,9 +358,9 @@ def expected(expect, r, *case):
 
 
 def headed_case(group, line, data, asked, judge, expect):
-    """A case of a recording with its header. The Rust takes a `%` behind the end line for one more header line: of such a recording it isn't
-    asked, and the answer is the model's. Of all others it is asked."""
-    if percent_behind_end(data):
+    """A case of a recording with its header. The Rust takes a `%` behind the end line for one more header line, and EVT 2.1 for EVT2: of such a
+    recording it isn't asked, and the answer is the model's. Of all others it is asked."""
+    if percent_behind_end(data) or names_evt21(data):
         return Case(group, line, [], lambda _: expected(expect, model.answer(line), line))
     return Case(group, line, asked, lambda answers: expected(expect, judge(answers), line))
 
@@ -1092,14 +1092,14 @@ def write(program, oracle, cases):
 
 
 def main():
-    import vectors_index
+    import vectors21, vectors_index
     if len(sys.argv) not in (2, 3):
         sys.exit(__doc__)
     oracle, programs = sys.argv[1], sys.argv[2:] or ['test_vectors', 'test_vectors_index']
     if 'test_vectors' in programs:
-        write('test_vectors', oracle, [c for layer in LAYERS for c in layer()])
+        write('test_vectors', oracle, [c for layer in LAYERS + [vectors21.decoding, vectors21.reading, vectors21.writing] for c in layer()])
     if 'test_vectors_index' in programs:
-        write('test_vectors_index', oracle, list(vectors_index.cases(oracle)))
+        write('test_vectors_index', oracle, list(vectors_index.cases(oracle)) + list(vectors21.indexes()))
 
 
 if __name__ == '__main__':

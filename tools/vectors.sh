@@ -1,5 +1,6 @@
 #!/bin/sh
-# Makes stdin and stdout of crates/test_vectors and crates/test_vectors_index anew, by the Rust original (docs/VECTORS.md).
+# Makes stdin and stdout of crates/test_vectors and crates/test_vectors_index anew, by the Rust original, those of EVT 2.1 by the model
+# (docs/VECTORS.md).
 #   tools/vectors.sh CHECKOUT [PROGRAM]    CHECKOUT as tools/original.sh says; PROGRAM: one of the two alone
 [ $# -ge 1 ] || { echo "usage: tools/vectors.sh CHECKOUT [PROGRAM]"; exit 2; }
 checkout=$(cd "$1" && pwd) || exit 2

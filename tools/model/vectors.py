@@ -1,8 +1,8 @@
 #!/usr/bin/env python3
-"""Holds the model to the vectors of crates/test_vectors and crates/test_vectors_index (docs/VECTORS.md): decoders, headers, reading, index, slices.
+"""Holds the model to the vectors of crates/test_vectors and crates/test_vectors_index (docs/VECTORS.md).
 
-Their answers are the Rust original's, but for files with a `%` behind the header's end line: those came from the model, and are counted apart.
-Exit status 0: the model gives every answer; 1: it doesn't, and the cases are printed. Commands that the model doesn't know are counted apart.
+Their answers are the Rust original's, but for files with a `%` behind the header's end line and everything of EVT 2.1: those came from the model, and are
+counted apart. Exit status 0: the model gives every answer; 1: it doesn't, and the cases are printed. Commands that the model doesn't know are counted apart.
 """
 import sys
 from collections import Counter
@@ -15,24 +15,33 @@ CRATES = Path(__file__).resolve().parent.parent.parent / 'crates'
 PROGRAMS = 'test_vectors', 'test_vectors_index'
 
 
+def made_by_model(command, arguments):
+    """Why the model made the answer, if it did."""
+    if command in answers.WITH_HEADER:
+        data = answers.bytes_of(arguments[-1])
+        return 'percent' if header.percent_behind_end(data) else 'evt21' if header.names_evt21(data) else None
+    # ENC, STATE, SINK or SOURCE; and records of EVT 2.1 in the index of another encoding
+    return 'evt21' if arguments[0].startswith('21') and command != 'lengths' or command == 'slice' and '/21:' in arguments[1] else None
+
+
 def main():
-    count, left, own, wrong = Counter(), Counter(), 0, 0
+    count, left, own, wrong = Counter(), Counter(), Counter(), 0
     for program in PROGRAMS:
         asked, told = ((CRATES / program / name).read_text().splitlines() for name in ('stdin', 'stdout'))
         assert len(asked) == len(told)
         for line, expected in zip(asked, told):
             name, case = line.split(' ', 1)
-            command = case.split()[0]
+            command, *arguments = case.split()
             if command not in answers.COMMANDS:
                 left[command] += 1
                 continue
             count[command] += 1
-            own += command in answers.WITH_HEADER and header.percent_behind_end(answers.bytes_of(case.split()[-1]))
+            own[made_by_model(command, arguments)] += 1
             if f'{name} {answers.answer(case)}' != expected:
                 wrong += 1
                 print(f'{line}\n  expected: {expected}\n  model:    {name} {answers.answer(case)}')
     print(f'{sum(count.values()):,} vectors ({", ".join(f"{c} {n:,}" for c, n in count.items())}), {wrong} answered otherwise by the model;'
-          f' {own:,} of them with a % behind the end line, where it made the answer;'
+          f' it made the answers of {own["percent"]:,} with a % behind the end line and of {own["evt21"]:,} of EVT 2.1;'
           f' left out: {", ".join(f"{c} {n:,}" for c, n in left.items()) or "none"}')
     sys.exit(wrong > 0)
 

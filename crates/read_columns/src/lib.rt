@@ -55,7 +55,7 @@ pub fn put_all(
 }
 
 // Writes the events of v inside the sensor from index `at` on, and answers the next index. A single
-// event goes a shorter way.
+// event goes a shorter way. For EVT3 alone: with two callers it would stay a call.
 pub fn place(
     v: Vector,
     width: u64,
@@ -78,7 +78,8 @@ pub fn place(
     }
 }
 
-// `place`, bit by bit: the lowest set bit goes first, and is then cleared.
+// `place`, bit by bit: the lowest set bit goes first, and is then cleared. EVT2.1 goes this way, where a
+// bit alone is seldom the lowest.
 pub fn put(
     v: Vector,
     width: u64,

@@ -11,8 +11,8 @@ pub mod state;
 pub mod text;
 
 // Room for all cases, or for the bytes of one. The `ensures` keeps the array itself out of its callers' proofs.
-pub fn room() -> [u8; 1048576]
-    ensures { λ r. ⌜ 1048576 ≡ length r ⌝ }
+pub fn room() -> [u8; 1572864]
+    ensures { λ r. ⌜ 1572864 ≡ length r ⌝ }
 {
-    [0; 1048576]
+    [0; 1572864]
 }

@@ -96,8 +96,8 @@ fn beside(says: &str, t: Times) -> String {
 fn measure(a: &Asked, name: &str) -> Vec<Option<Times>> {
     let r = Recording::new(&recording(&a.dir, name, a.mib));
     let s = Setup { runs: a.runs.unwrap_or(9), spacing: a.spacing.unwrap_or(SPACING) };
-    let mut columns = memory::columns(r.most());
     let plain = r.encoding == archive::EVT21;
+    let mut columns = memory::columns(r.most(), plain); // the plain loop writes to the same
     let mut one = |(op, unit, _, f): &(&str, &str, &str, Operation)| {
         let f = if plain { evt21::operation(op) } else { Some(*f) }.filter(|_| wanted(&a.only, op))?;
         let t = f(&r, &s, &mut columns);
@@ -142,7 +142,7 @@ fn point(a: &Asked, k: usize) -> (usize, Times, Times) {
     let path = recording(&a.dir, "evt3long", Some(1 << k));
     let r = Recording::new(&path);
     let s = Setup { runs: a.runs.unwrap_or((512 >> k).clamp(5, 50)), spacing: SPACING };
-    let mut columns = memory::columns(r.most());
+    let mut columns = memory::columns(r.most(), false);
     let (reading, opening) = (operations::read(&r, &s, &mut columns), operations::open(&r, &s, &mut columns));
     memory::release(columns);
     std::fs::remove_file(&path).unwrap();

@@ -5,6 +5,7 @@ use crate::operations::*;
 use crate::plain::{Checkpoint, Index, Writer};
 use crate::recordings::Recording;
 use crate::plain;
+use std::cell::RefCell;
 
 /// By the names of `OPERATIONS`; None: not for EVT 2.1.
 pub fn operation(name: &str) -> Option<Operation> {
@@ -31,14 +32,15 @@ fn same(ours: &Lent, theirs: &Columns) {
     assert!(places && ours.ts[..n] == theirs.ts[..] && ours.ps[..n] == theirs.ps[..], "the columns differ");
 }
 
-/// The plain loop has columns of just the length that it needs, all of them written before.
+/// Both write to the same lent columns: where columns lie decides much of the time.
 fn read_places(r: &Recording, s: &Setup, c: &mut Lent, places: usize, n: usize) -> Times {
-    let mut warm = Columns::new(n);
-    let theirs = |w: &mut Columns| plain::read(r.body(), size(r), &mut w.xs, &mut w.ys, &mut w.ts, &mut w.ps);
+    let theirs = |w: Lent| plain::read(r.body(), size(r), w.xs, w.ys, w.ts, w.ps);
+    let mut apart = Columns::new(n);
     spoil(c, n);
-    assert_eq!(r.read(&mut c.first(places)), theirs(&mut warm));
-    same(c, &warm);
-    pair(s.runs, || r.read(&mut c.first(places)), || theirs(&mut warm))
+    assert_eq!(r.read(&mut c.first(places)), theirs(apart.lend()));
+    same(c, &apart);
+    let c = RefCell::new(c);
+    pair(s.runs, || r.read(&mut c.borrow_mut().first(places)), || theirs(c.borrow_mut().first(places)))
 }
 
 fn read(r: &Recording, s: &Setup, c: &mut Lent) -> Times {

@@ -33,8 +33,8 @@ opening =
 -- `%evt 2`, `%%  END `, and two lines that are body
 abbrev further : List ℕ
 further =
-    37 ∷ 101 ∷ 118 ∷ 116 ∷ 32 ∷ 50 ∷ 10 ∷ 37 ∷ 37 ∷ 32 ∷ 32 ∷ 69 ∷ 78 ∷ 68 ∷ 32 ∷ 13 ∷ 10 ∷ 37 ∷ 101 ∷ 118 ∷ 116 ∷ 32 ∷ 51 ∷ 10 ∷ 37 ∷ 103 ∷ 101 ∷ 111
-    ∷ 109 ∷ 101 ∷ 116 ∷ 114 ∷ 121 ∷ 32 ∷ 48 ∷ 120 ∷ 48 ∷ 10 ∷ []
+    37 ∷ 101 ∷ 118 ∷ 116 ∷ 32 ∷ 50 ∷ 10 ∷ 37 ∷ 37 ∷ 32 ∷ 32 ∷ 69 ∷ 78 ∷ 68 ∷ 32 ∷ 13 ∷ 10
+    ∷ 37 ∷ 101 ∷ 118 ∷ 116 ∷ 32 ∷ 51 ∷ 10 ∷ 37 ∷ 103 ∷ 101 ∷ 111 ∷ 109 ∷ 101 ∷ 116 ∷ 114 ∷ 121 ∷ 32 ∷ 48 ∷ 120 ∷ 48 ∷ 10 ∷ []
 
 -- `%evt 2`, three lines that are no end lines, `%evt 3`
 abbrev noEnds : List ℕ
@@ -52,7 +52,8 @@ pub worked :
     ∷ headerVerdict flat (Known 5 7) ∷ headerVerdict opening Unknown ∷ headerVerdict further Unknown ∷ headerVerdict noEnds Unknown
     ∷ headerVerdict endOfFile Unknown ∷ []
     ≡ accepted (31 ∷ 3 ∷ 1 ∷ 64 ∷ 48 ∷ []) ∷ refused 3 ∷ refused 2 ∷ refused 1 ∷ accepted (27 ∷ 2 ∷ 1 ∷ 5 ∷ 7 ∷ [])
-    ∷ accepted (14 ∷ 3 ∷ 0 ∷ 0 ∷ 0 ∷ []) ∷ accepted (17 ∷ 2 ∷ 0 ∷ 0 ∷ 0 ∷ []) ∷ accepted (35 ∷ 3 ∷ 0 ∷ 0 ∷ 0 ∷ []) ∷ accepted (11 ∷ 2 ∷ 0 ∷ 0 ∷ 0 ∷ []) ∷ []
+    ∷ accepted (14 ∷ 3 ∷ 0 ∷ 0 ∷ 0 ∷ []) ∷ accepted (17 ∷ 2 ∷ 0 ∷ 0 ∷ 0 ∷ [])
+    ∷ accepted (35 ∷ 3 ∷ 0 ∷ 0 ∷ 0 ∷ []) ∷ accepted (11 ∷ 2 ∷ 0 ∷ 0 ∷ 0 ∷ []) ∷ []
 unfolding isBlank upTo from any restOf trimStart trimEnd trimOf lowerOf begins same isDigit allDigits digitsValue numberFrom digitsOf numberOf
     both sizeAt geometryOf isEnd joined linesOf startsPercent leading throughEnd headerLines joinedLines headerBytes bodyStart bodyOf keyOf valueOf readLine
     readAll saidBy encodingOf sizeThatHolds hasZero withEncoding linesOutcome

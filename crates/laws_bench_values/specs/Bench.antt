@@ -1,16 +1,17 @@
--- Worked values of both encodings, proved of the definitions: one statement over one list.
+-- Worked values of each encoding, proved of the definitions: a statement over a list, and one of EVT2.1.
 use mathlib.Core.Path.{_≡_, refl}
 use mathlib.Core.List.{List, [], _∷_}
 use Prim.Native.Nat.{ℕ}
 use lib.ListN.{take, drop}
 use Rattle.laws_stream.specs.{Loop.loopsAfter, Loop.timeAfter, Machine.All, Mask.bits, Words.stream}
-use Rattle.evt_types.specs.declared.{Encoding.Encoding, Encoding.the-variants.Evt2, Encoding.the-variants.Evt3}
+use Rattle.evt_types.specs.declared.{Encoding.Encoding, Encoding.the-variants.Evt2, Encoding.the-variants.Evt21, Encoding.the-variants.Evt3}
 use Rattle.evt_codec.specs.{Codec.freshC, Codec.eventsFrom, Codec.codecAfter, Codec.timeC, Codec.loopsC, Triggers.triggersFrom}
 use Rattle.evt_types.specs.{Event.Event, Trigger.Trigger}
 use Rattle.evt2_decoder.specs.{Evt2.step2, Evt2.vector2, Triggers.trigger2}
 use Rattle.evt3_decoder.specs.{Evt3.step3, Evt3.vector3, Triggers.trigger3}
 use Rattle.write_words.specs.Encode.{encodeBytes}
 use Rattle.evt2_encoder.specs.Evt2.{encode2}
+use Rattle.evt21_encoder.specs.Evt21.{encode21}
 use Rattle.evt3_lead_words.specs.Evt3.{encode3, leads3, body3, maskCount, vectored, nearby, beyond}
 use Rattle.write_buffer.specs.Sent.{freshState}
 
@@ -92,3 +93,53 @@ bench =
     let late : All Right (drop 12 values) = ((refl, refl, refl), ((refl, refl, refl), ((refl, refl, refl), last))) in
     let more : All Right (drop 7 values) = ((refl, refl, refl), ((refl, refl, refl), ((refl, refl, refl), ((refl, refl, refl), ((refl, refl, refl), late))))) in
     (refl, (refl, (refl, (refl, (refl, (refl, (refl, more)))))))
+
+-- ---- EVT2.1
+
+-- 8000000100000000 1900000700000020
+abbrev one21 : List ℕ
+one21 = stream 8 (9223372041149743104 ∷ 1801439881012969504 ∷ [])
+
+-- 8000004000000000, and 0040000700002C00, 0040000780000000 0041000700000001 or 0040000700000400 twice
+abbrev block : List ℕ
+block = stream 8 (9223372311732682752 ∷ 18014428574264320 ∷ [])
+
+abbrev border : List ℕ
+border = stream 8 (9223372311732682752 ∷ 18014430721736704 ∷ 18295903550963713 ∷ [])
+
+abbrev again : List ℕ
+again = stream 8 (9223372311732682752 ∷ 18014428574254080 ∷ 18014428574254080 ∷ [])
+
+-- two events of t = 4097, y = 7, p = 0
+abbrev both : (a b : ℕ) → List Event
+both a b = ev 4097 a 7 0 ∷ ev 4097 b 7 0 ∷ []
+
+abbrev pub values21 : List Value
+values21 =
+    writes Evt21 (ev 100 5 7 1 ∷ []) one21
+    ∷ writes Evt21 (three 10 11 13) block
+    ∷ cuts Evt21 (three 10 11 13) 15 []
+    ∷ cuts Evt21 (three 10 11 13) 16 (three 10 11 13)
+    ∷ writes Evt21 (both 31 32) border
+    ∷ writes Evt21 (both 10 10) again
+    ∷ reads Evt21 one21 (ev 100 5 7 1 ∷ []) 100 0
+    ∷ reads Evt21 (take 15 block) [] 4096 0
+    ∷ reads Evt21 block (three 10 11 13) 4097 0
+    ∷ reads Evt21 border (both 31 32) 4097 0
+    ∷ reads Evt21 again (both 10 10) 4097 0
+    -- 8000000100000000 1900000000000000
+    ∷ reads Evt21 (stream 8 (9223372041149743104 ∷ 1801439850948198400 ∷ [])) [] 100 0
+    -- 8FFFFFFF00000000, and 80FFFFFF00000000 or 8100000000000000
+    ∷ reads Evt21 (stream 8 (10376293537166655488 ∷ 9295429626597736448 ∷ [])) [] 18253610944 1
+    ∷ reads Evt21 (stream 8 (10376293537166655488 ∷ 9295429630892703744 ∷ [])) [] 1073741824 0
+    -- 8000000100000000 A900030100000000
+    ∷ pulses Evt21 (stream 8 (9223372041149743104 ∷ 12177736695239671808 ∷ [])) (record { t = 100; id = 3; value = 1 } ∷ [])
+    ∷ []
+
+pub bench21 : All Right values21
+unfolding Right step2 vector2 trigger2 loopsAfter timeAfter bits encodeBytes encode21
+bench21 =
+    let last : All Right (drop 11 values21) = ((refl, refl, refl), ((refl, refl, refl), ((refl, refl, refl), (refl, tt)))) in
+    let late : All Right (drop 8 values21) = ((refl, refl, refl), ((refl, refl, refl), ((refl, refl, refl), last))) in
+    let more : All Right (drop 6 values21) = ((refl, refl, refl), ((refl, refl, refl), late)) in
+    (refl, (refl, (refl, (refl, (refl, (refl, more))))))

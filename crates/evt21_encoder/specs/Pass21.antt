@@ -1,25 +1,28 @@
 -- EVT 2.1: the loop over the events. The word of a run is stored at each of its events, with a bit more in the mask each time.
 use mathlib.Core.Path.{_≡_, refl, sym, ap, _∙_}
-use mathlib.Core.Bool.{Bool, true, false, cond}
+use mathlib.Core.Bool.{Bool, true, false, cond, _&&_, and-assoc}
 use mathlib.Core.List.{List, [], _∷_, _++_, append-assoc, map}
 use Prim.Native.Nat.{ℕ, suc, _+_, _-_, _*_, _/_, _%_, _^_, _≤_, _<_}
 use native.Mathlib.Omega.{arith}
-use native.Mathlib.Nat.{add-zero, zero-add, pow-le-pow-right}
+use native.Mathlib.Nat.{add-zero, zero-add, pow-le-pow-right, mod-eq-of-lt}
+use lib.Bits.{bitOr, bitXor}
 use lib.Dec.{eqb, ltb}
 use lib.IntN.{ℤ}
 use lib.ListN.{length, take, drop}
 use lib.Pow.{pow-pos}
 use lib.Seq.{sets}
-use borrow.Author.Tests.{eqb-true, eq-eqb, ltb-true, ltb-false}
+use borrow.Author.Tests.{eqb-true, eq-eqb, ltb-true, ltb-false, lt-ltb, le-ltb}
 use Rattle.laws_stream.specs.{Machine.run, Machine.and-both, Mask.mask, Words.bytes, Columns.sets-append}
-use Rattle.evt_types.specs.{Event.Event, Layout.wordSize21, Layout.grain2, Columns.colX}
+use Rattle.evt_types.specs.{Event.Event, Layout.wordSize21, Layout.grain2, Layout.eventWord2, Columns.colX}
+use Rattle.evt_types.specs.Layout.{type2, timeLow2, x2, y2, event-type2, event-low2, event-x2, event-y2}
 use Rattle.write_buffer.specs.declared.{EncoderState.EncoderState, Put.Put}
-use Rattle.write_buffer.specs.{Columns.Sized, Columns.eventsIn, Columns.eventsPast, Columns.eventOf, Columns.events-at, Columns.events-end}
+use Rattle.write_buffer.specs.Columns.{Sized, event, eventsIn, eventsPast, eventOf, events-at, events-end}
+use Rattle.write_buffer.specs.Every.{or-most, none-leb, xor-none, flag-none}
 use Rattle.write_buffer.specs.{Sent.sentNumber, Sent.number-is, Sent.state-some, Due.dueBytes, Due.bothBytes, Due.both-length, Due.both-few}
 use Rattle.write_buffer.specs.Storing.{Roomy, bytesFrom, bytes-cons, Storing, storing-start, storing-iteration, storing-over, storing-room, storing-end}
 use Rattle.evt2_encoder.specs.Evt2.{highSent2, stateOf2, encoded2, writer2}
 use Rattle.evt2_encoder.specs.Pass2.{Fit2, Fitting2, Within2, eventAt2, stateAt2, state-step2}
-use Rattle.evt3_run_rules.specs.Runs.{Run, firstOf, single, prepend, goesBy, GoesBy, goesBy-true, glueBy, runAt, runsBy-at, followBy, goes}
+use Rattle.evt3_run_rules.specs.Runs.{Run, firstOf, single, prepend, goesBy, GoesBy, goesBy-true, glueBy, runAt, runsBy-at, followBy}
 use Rattle.evt21_encoder.specs.Evt21.{blockOf, next21, runs21, highWord21, maskedWord21, wordOf21, writer21, stream21, run-bytes21}
 
 abbrev pub passed21 : EncoderState → List Event → ℕ → Put
@@ -28,6 +31,14 @@ passed21 v es at = record { state = run writer21 v (runs21 es); at = at + length
 -- an event goes on the run of the one before it
 abbrev pub goes21 : (last e : Event) → Bool
 goes21 a e = goesBy next21 (a .t) (a .y) (a .p) (a .x) e
+
+-- the upper half of its word
+abbrev pub upperOf : Event → ℕ
+upperOf e = eventWord2 (e .p % 2) (e .t % grain2) (blockOf (e .x) % 2048) (e .y % 2048)
+
+-- told by that, the high half of the time, and the column, of two events
+abbrev pub joins21 : (upper upper₂ high high₂ last x : ℕ) → Bool
+joins21 upper upper₂ high high₂ last x = eqb upper₂ upper && (eqb high₂ high && ltb last x)
 
 abbrev pub bitOf : (x : ℕ) → ℕ
 bitOf x = 2 ^ (x % 32)
@@ -92,16 +103,65 @@ module _ (a e : Event) (q : goes21 a e ≡ true) where
       let le : 2 ^ suc (a .x % 32) ≤ 2 ^ (e .x % 32) = pow-le-pow-right (omega arith) {j = e .x % 32} (omega (arith, went-block, went-up)) in
       omega arith
 
--- told by the block, and by what EVT 3.0 asks for
-pub goes-block : (a e : Event) → a .x / 32 ≡ e .x / 32 → goes (a .t) (a .y) (a .p) (a .x) e ≡ goes21 a e
-goes-block a e h = rw (eq-eqb (a .x / 32) (e .x / 32) h)
+-- compared at once
+pub joins-none : (upper upper₂ high high₂ last x : ℕ)
+    → eqb (bitOr (bitOr (bitXor upper₂ upper) (bitXor high₂ high)) (cond (ltb last x) 0 1)) 0 ≡ joins21 upper upper₂ high high₂ last x
+joins-none upper upper₂ high high₂ last x =
+    none-leb (bitOr (bitOr (bitXor upper₂ upper) (bitXor high₂ high)) (cond (ltb last x) 0 1))
+    ∙ or-most 0 0 (bitOr (bitXor upper₂ upper) (bitXor high₂ high)) (cond (ltb last x) 0 1) refl
+    ∙ rw (or-most 0 0 (bitXor upper₂ upper) (bitXor high₂ high) refl, xor-none upper₂ upper, xor-none high₂ high, flag-none (ltb last x))
+    (and-assoc (eqb upper₂ upper) (eqb high₂ high) (ltb last x))
 
-pub goes-apart : (a e : Event) → (a .x / 32 ≡ e .x / 32 → ⊥) → false ≡ goes21 a e
-goes-apart a e h = go (goes21 a e) refl
+alike : (b c : Bool) → (b ≡ true → c ≡ true) → (c ≡ true → b ≡ true) → b ≡ c
+alike true c f g = sym (f refl)
+alike false true f g = g refl
+alike false false f g = refl
+
+-- the fields of an upper half
+module _ (e : Event) where
+  upper-p : type2 (upperOf e) ≡ e .p % 2
+  upper-p = event-type2 (e .p % 2) (e .t % grain2) (blockOf (e .x) % 2048) (e .y % 2048) (omega arith) (omega arith) (omega arith) (omega arith)
+
+  upper-low : timeLow2 (upperOf e) ≡ e .t % grain2
+  upper-low = event-low2 (e .p % 2) (e .t % grain2) (blockOf (e .x) % 2048) (e .y % 2048) (omega arith) (omega arith) (omega arith) (omega arith)
+
+  upper-x : x2 (upperOf e) ≡ blockOf (e .x) % 2048
+  upper-x = event-x2 (e .p % 2) (e .t % grain2) (blockOf (e .x) % 2048) (e .y % 2048) (omega arith) (omega arith) (omega arith) (omega arith)
+
+  upper-y : y2 (upperOf e) ≡ e .y % 2048
+  upper-y = event-y2 (e .p % 2) (e .t % grain2) (blockOf (e .x) % 2048) (e .y % 2048) (omega arith) (omega arith) (omega arith) (omega arith)
+
+time-of : (a b : ℕ) → a % grain2 ≡ b % grain2 → a / grain2 ≡ b / grain2 → a ≡ b
+time-of a b low high = omega arith
+
+small-of : (n a b : ℕ) → a < n → b < n → a % n ≡ b % n → a ≡ b
+small-of n a b ha hb h = sym (mod-eq-of-lt ha) ∙ h ∙ mod-eq-of-lt hb
+
+block-of : (a b : ℕ) → a ≤ 2047 → b ≤ 2047 → blockOf b % 2048 ≡ blockOf a % 2048 → a / 32 ≡ b / 32
+block-of a b ha hb h = let e = small-of 2048 (blockOf b) (blockOf a) (omega arith) (omega arith) h in omega arith
+
+-- events that cut nothing off differ where the halves do
+joins-goes : (a e : Event) → Fit2 a → Fit2 e → joins21 (upperOf a) (upperOf e) (a .t / grain2) (e .t / grain2) (a .x) (e .x) ≡ goes21 a e
+joins-goes a e fa fe = alike (joins21 (upperOf a) (upperOf e) (a .t / grain2) (e .t / grain2) (a .x) (e .x)) (goes21 a e) there back
   where
-    go : (b : Bool) → goes21 a e ≡ b → false ≡ b
-    go true q = absurd (h (went-block a e q))
-    go false q = refl
+    there : joins21 (upperOf a) (upperOf e) (a .t / grain2) (e .t / grain2) (a .x) (e .x) ≡ true → goes21 a e ≡ true
+    there q =
+        let u = and-both (eqb (upperOf e) (upperOf a)) (eqb (e .t / grain2) (a .t / grain2) && ltb (a .x) (e .x)) q in
+        let h = and-both (eqb (e .t / grain2) (a .t / grain2)) (ltb (a .x) (e .x)) (u .1) in
+        let upper = eqb-true (upperOf e) (upperOf a) (u .0) in
+        let high = eqb-true (e .t / grain2) (a .t / grain2) (h .0) in
+        let t = time-of (e .t) (a .t) (sym (upper-low e) ∙ ap timeLow2 upper ∙ upper-low a) high in
+        let y = small-of 2048 (e .y) (a .y) (omega (arith, fe .fit-y)) (omega (arith, fa .fit-y)) (sym (upper-y e) ∙ ap y2 upper ∙ upper-y a) in
+        let p = small-of 2 (e .p) (a .p) (omega (arith, fe .fit-p)) (omega (arith, fa .fit-p)) (sym (upper-p e) ∙ ap type2 upper ∙ upper-p a) in
+        let b = block-of (a .x) (e .x) (fa .fit-x) (fe .fit-x) (sym (upper-x e) ∙ ap x2 upper ∙ upper-x a) in
+        rw (eq-eqb (e .t) (a .t) t, eq-eqb (e .y) (a .y) y, eq-eqb (e .p) (a .p) p, eq-eqb (a .x / 32) (e .x / 32) b, h .1)
+
+    back : goes21 a e ≡ true → joins21 (upperOf a) (upperOf e) (a .t / grain2) (e .t / grain2) (a .x) (e .x) ≡ true
+    back q =
+        let g = went a e q in
+        let u : upperOf e ≡ upperOf a = rw (g .is-t, g .is-y, g .is-p, went-block a e q) in
+        let h : e .t / grain2 ≡ a .t / grain2 = rw (g .is-t) in
+        rw (eq-eqb (upperOf e) (upperOf a) u, eq-eqb (e .t / grain2) (a .t / grain2) h, lt-ltb (a .x) (e .x) (went-up a e q))
 
 follow-none : (a e : Event) (es : List Event) → goes21 a e ≡ false → follow21 a (e ∷ es) ≡ 0
 unfolding followBy
@@ -213,40 +273,56 @@ module _ (v₀ : EncoderState) (all : List ℕ) (at₀ : ℕ) (out₀ : List ℕ
             storing = rw back (storing-over word (omega arith) (is-out ∙ sets-append out place lead word) s);
           }
 
--- ---- the loop over the events, at index i, after the event at index `prev`
+-- ---- the loop over the events, at index i, after an event a of which the upper half, the high half and the column are known
 
-pub record Under21 (v₀ : EncoderState) (xs ys : List ℕ) (ts : List ℤ) (ps : List ℕ) (at₀ : ℕ) (out₀ out : List ℕ) (high mask at prev i : ℕ) : Type 0 where
+pub record Under21 (v₀ : EncoderState) (xs ys : List ℕ) (ts : List ℤ) (ps : List ℕ) (at₀ : ℕ) (out₀ out : List ℕ) (high upper last mask at i : ℕ) : Type 0 where
+  pub a : Event
+  pub tells : (e : Event) → Fit2 e → joins21 upper (upperOf e) high (e .t / grain2) last (e .x) ≡ goes21 a e
   pub within : i ≤ length xs
-  pub before : prev ≤ i
   pub small : at ≤ at₀ + 16 * i
   pub is-high : high ≡ sentNumber (stateAt2 v₀ i high .«time_high»)
   pub state : run writer2 (stateAt2 v₀ i high) (eventsPast xs ys ts ps i) ≡ run writer2 v₀ (eventsIn xs ys ts ps)
-  pub closed : follow21 (eventOf xs ys ts ps prev) (eventsPast xs ys ts ps i) ≡ 0
+  pub closed : follow21 a (eventsPast xs ys ts ps i) ≡ 0
       → Storing (stream21 v₀ (eventsIn xs ys ts ps)) at₀ out₀ (stream21 (stateAt2 v₀ i high) (eventsPast xs ys ts ps i)) at out
-  pub opens : 0 < follow21 (eventOf xs ys ts ps prev) (eventsPast xs ys ts ps i)
-      → Opened v₀ (stream21 v₀ (eventsIn xs ys ts ps)) at₀ out₀ (eventOf xs ys ts ps prev) mask (eventsPast xs ys ts ps i) high at out
+  pub opens : 0 < follow21 a (eventsPast xs ys ts ps i)
+      → Opened v₀ (stream21 v₀ (eventsIn xs ys ts ps)) at₀ out₀ a mask (eventsPast xs ys ts ps i) high at out
 
--- an event doesn't go on itself
-goes-self : (a : Event) → goes21 a a ≡ false
-goes-self a = go (goes21 a a) refl
+-- no column is above 2047
+abbrev edge : Event
+edge = event 2047 0 0 0
+
+edge-none : (upper high : ℕ) (e : Event) → Fit2 e → joins21 upper (upperOf e) high (e .t / grain2) 2047 (e .x) ≡ goes21 edge e
+edge-none upper high e f = alike (joins21 upper (upperOf e) high (e .t / grain2) 2047 (e .x)) (goes21 edge e) there back
   where
-    go : (b : Bool) → goes21 a a ≡ b → b ≡ false
-    go true q = absurd (omega (arith, went-up a a q))
+    there : joins21 upper (upperOf e) high (e .t / grain2) 2047 (e .x) ≡ true → goes21 edge e ≡ true
+    there q =
+        let u = and-both (eqb (upperOf e) upper) (eqb (e .t / grain2) high && ltb 2047 (e .x)) q in
+        absurd (omega (arith, f .fit-x, ltb-true 2047 (e .x) (and-both (eqb (e .t / grain2) high) (ltb 2047 (e .x)) (u .1) .1)))
+
+    back : goes21 edge e ≡ true → joins21 upper (upperOf e) high (e .t / grain2) 2047 (e .x) ≡ true
+    back q = absurd (omega (arith, f .fit-x, went-up edge e q))
+
+edge-goes : (e : Event) → Fit2 e → goes21 edge e ≡ false
+edge-goes e f = go (goes21 edge e) refl
+  where
+    go : (b : Bool) → goes21 edge e ≡ b → b ≡ false
+    go true q = absurd (omega (arith, f .fit-x, went-up edge e q))
     go false q = refl
 
-module _ {xs ys : List ℕ} {ts : List ℤ} {ps : List ℕ} (sized : Sized xs ys ts ps) where
-  first-none : follow21 (eventOf xs ys ts ps 0) (eventsPast xs ys ts ps 0) ≡ 0
+module _ {xs ys : List ℕ} {ts : List ℤ} {ps : List ℕ} (sized : Sized xs ys ts ps) (fitting : Fitting2 xs ys ts ps) where
+  first-none : follow21 edge (eventsPast xs ys ts ps 0) ≡ 0
   first-none = go (ltb 0 (length xs)) refl
     where
-      go : (b : Bool) → ltb 0 (length xs) ≡ b → follow21 (eventOf xs ys ts ps 0) (eventsPast xs ys ts ps 0) ≡ 0
-      go true q = rw (events-at xs ys ts ps sized 0 (ltb-true 0 (length xs) q)) (follow-none _ _ _ (goes-self (eventOf xs ys ts ps 0)))
-      go false q = rw (events-end xs ys ts ps sized 0 (ltb-false 0 (length xs) q)) (follow-end (eventOf xs ys ts ps 0))
+      go : (b : Bool) → ltb 0 (length xs) ≡ b → follow21 edge (eventsPast xs ys ts ps 0) ≡ 0
+      go true q = rw (events-at xs ys ts ps sized 0 (ltb-true 0 (length xs) q)) (follow-none _ _ _ (edge-goes (eventOf xs ys ts ps 0) (fitting 0)))
+      go false q = rw (events-end xs ys ts ps sized 0 (ltb-false 0 (length xs) q)) (follow-end edge)
 
   module _ {v₀ : EncoderState} {at₀ : ℕ} {out₀ : List ℕ} where
-    pub under-start21 : (high : ℕ) → high ≡ sentNumber (v₀ .«time_high») → Under21 v₀ xs ys ts ps at₀ out₀ out₀ high 0 at₀ 0 0
+    pub under-start21 : (high : ℕ) → high ≡ sentNumber (v₀ .«time_high») → Under21 v₀ xs ys ts ps at₀ out₀ out₀ high 0 2047 0 at₀ 0
     under-start21 high h = record {
+      a = edge;
+      tells = edge-none 0 high;
       within = omega arith;
-      before = omega arith;
       small = omega arith;
       is-high = h;
       state = refl;
@@ -254,10 +330,10 @@ module _ {xs ys : List ℕ} {ts : List ℤ} {ps : List ℕ} (sized : Sized xs ys
       opens = λ q. absurd (omega (arith, first-none));
     }
 
-    module _ {out : List ℕ} {high mask at prev i : ℕ} (u : Under21 v₀ xs ys ts ps at₀ out₀ out high mask at prev i) where
+    module _ {out : List ℕ} {high upper last mask at i : ℕ} (u : Under21 v₀ xs ys ts ps at₀ out₀ out high upper last mask at i) where
       module _ (h : i < length xs) where
         abbrev a : Event
-        a = eventOf xs ys ts ps prev
+        a = u .a
 
         abbrev e : Event
         e = eventOf xs ys ts ps i
@@ -271,6 +347,11 @@ module _ {xs ys : List ℕ} {ts : List ℤ} {ps : List ℕ} (sized : Sized xs ys
         under-opened : goes21 a e ≡ true → Opened v₀ all at₀ out₀ a mask (e ∷ es) high at out
         under-opened q = (rw (events-at xs ys ts ps sized i h) at (u .opens)) (omega (arith, follow-on a e q es))
 
+        -- told by what the code has of it
+        pub under-goes21 : {b : Bool} {t upper₂ : ℕ} → t ≡ e .t → upper₂ ≡ upperOf (eventAt2 xs ys ps i t)
+            → b ≡ joins21 upper upper₂ high (t / grain2) last (e .x) → b ≡ goes21 a e
+        under-goes21 et eu is = is ∙ rw (eu, et) (u .tells e (fitting i))
+
         -- where the event goes on the run, there is a word, and its bits are below the event's
         pub under-joined21 : {b : Bool} → b ≡ goes21 a e → b ≡ true → (wordSize21 ≤ at) × (mask < bitOf (e .x))
         under-joined21 is on =
@@ -278,7 +359,7 @@ module _ {xs ys : List ℕ} {ts : List ℤ} {ps : List ℕ} (sized : Sized xs ys
             let o = under-opened q in (o .past, below-bit a e q mask (o .low))
 
         -- at time t, with the bits m, at `place`
-        module _ (fitting : Fitting2 xs ys ts ps) (b : Bool) (q : b ≡ goes21 a e) {t m place : ℕ} (et : t ≡ e .t) (em : m ≡ cond b mask 0 + bitOf (e .x))
+        module _ (b : Bool) (q : b ≡ goes21 a e) {t m place : ℕ} (et : t ≡ e .t) (em : m ≡ cond b mask 0 + bitOf (e .x))
             (ep : place ≡ cond b (at - wordSize21) at) where
           abbrev words : List ℕ
           words = eventBytes21 (eqb high (t / grain2)) (eventAt2 xs ys ps i t) m
@@ -309,15 +390,17 @@ module _ {xs ys : List ℕ} {ts : List ℤ} {ps : List ℕ} (sized : Sized xs ys
                 omega (arith, under-placed .low),
               )
 
-          pub under-iteration21 : (r : ℕ) (out′ : List ℕ) → r ≡ place + length words → out′ ≡ sets out place words
-              → Under21 v₀ xs ys ts ps at₀ out₀ out′ (t / grain2) m r i (i + 1)
-          under-iteration21 r out′ is-at is-out =
+          pub under-iteration21 : {upper₂ : ℕ} → upper₂ ≡ upperOf (eventAt2 xs ys ps i t) → (r : ℕ) (out′ : List ℕ)
+              → r ≡ place + length words → out′ ≡ sets out place words
+              → Under21 v₀ xs ys ts ps at₀ out₀ out′ (t / grain2) upper₂ (e .x) m r (i + 1)
+          under-iteration21 eu r out′ is-at is-out =
               let some = state-some (i + 1) v₀ (stateOf2 v₀ (t / grain2)) (omega arith) in
               let few = both-few wordSize21 (eqb high (t / grain2)) (highWord21 t) (maskedWord21 (eventAt2 xs ys ps i t) m) in
               let sent = ap (λ (s : EncoderState). run writer2 s es) (state-step2 v₀ i high e) in
               record {
+                a = e;
+                tells = λ f fits. rw (eu ∙ ap (λ (k : ℕ). upperOf (eventAt2 xs ys ps i k)) et, et) (joins-goes e f (fitting i) fits);
                 within = omega arith;
-                before = omega arith;
                 small = omega (arith, u .small, few, place-le);
                 is-high = rw some;
                 state = rw (some, et) (sym sent ∙ (rw (events-at xs ys ts ps sized i h) at (u .state)));
@@ -327,7 +410,7 @@ module _ {xs ys : List ℕ} {ts : List ℤ} {ps : List ℕ} (sized : Sized xs ys
 
       -- nothing is left
       pub under-last21 : length xs ≤ i → Storing (stream21 v₀ (eventsIn xs ys ts ps)) at₀ out₀ (stream21 (stateAt2 v₀ i high) []) at out
-      under-last21 h = (rw (events-end xs ys ts ps sized i h) at (u .closed)) (follow-end (eventOf xs ys ts ps prev))
+      under-last21 h = (rw (events-end xs ys ts ps sized i h) at (u .closed)) (follow-end (u .a))
 
       pub under-end21 : length xs ≤ i → (v : EncoderState) → v ≡ stateAt2 v₀ (length xs) high
           → (record { state = v; at = at } ≡ passed21 v₀ (eventsIn xs ys ts ps) at₀) × (out ≡ sets out₀ at₀ (stream21 v₀ (eventsIn xs ys ts ps)))

@@ -8,14 +8,14 @@ ghost use lib.Dec.{eqb};
 ghost use lib.ListN.{length};
 ghost use lib.Seq.{sets};
 ghost use Rattle.evt_types.specs.Layout.{wordSize21, grain2};
-ghost use Rattle.write_buffer.specs.Columns.{Sized, Whole, event, eventOf, eventsIn};
+ghost use Rattle.write_buffer.specs.Columns.{Sized, Whole, event, eventsIn};
 ghost use Rattle.write_buffer.specs.Storing.{Roomy};
 ghost use Rattle.evt2_encoder.specs.Pass2.{Fit2, Fitting2, Within2, eventAt2};
 ghost use Rattle.evt21_encoder.specs.Evt21.{highWord21, maskedWord21, stream21};
-ghost use Rattle.evt21_encoder.specs.Pass21.{bitOf, goes21, eventBytes21, passed21};
+ghost use Rattle.evt21_encoder.specs.Pass21.{upperOf, joins21, bitOf, eventBytes21, passed21};
 use evt_types::Sent;
 use evt2_decoder::Evt2Decoder;
-use evt3_run_rules::goes_on;
+use evt3_run_rules::no_rise;
 use write_buffer::EncoderState;
 use write_buffer::Put;
 use write_buffer::sent_number;
@@ -39,26 +39,25 @@ fn event_word(x: u16, y: u16, t: u64, p: u8, mask: u64) -> u64
     requires { ⌜ Fit2 (event x y t p) × (mask < 2 ^ 32) ⌝ }
     ensures { λ r. ⌜ r ≡ maskedWord21 (event x y t p) mask ⌝ }
 {
-    let upper = evt2_encoder::event_word(BLOCK * (x / BLOCK), y, t, p);
-    ((upper as u64) << 32) + mask
+    ((upper_half(x, y, t, p) as u64) << 32) + mask
 }
 
-// Whether the event at i goes on the run of the event at `prev`, found without a branch.
-fn joined(xs: &[u16], ys: &[u16], ts: &[i64], ps: &[u8], prev: usize, i: usize) -> bool
-    requires { ⌜ Sized (now xs) (now ys) (now ts) (now ps) × (prev < length (now xs)) × (i < length (now xs)) × Whole (now ts) ⌝ }
-    ensures { λ r. ⌜ r ≡ goes21 (eventOf (now (xs .entry)) (now (ys .entry)) (now (ts .entry)) (now (ps .entry)) prev)
-        (eventOf (now (xs .entry)) (now (ys .entry)) (now (ts .entry)) (now (ps .entry)) i) ⌝ }
+// What stands in the upper half of an event's word: polarity, low half of the time, block and row.
+fn upper_half(x: u16, y: u16, t: u64, p: u8) -> u32
+    requires { ⌜ Fit2 (event x y t p) ⌝ }
+    ensures { λ r. ⌜ r ≡ upperOf (event x y t p) ⌝ }
 {
-    let last = xs[prev];
-    let x = xs[i];
-    let t = time_at(ts, prev);
-    let t2 = time_at(ts, i);
-    let goes = goes_on(t, ys[prev], ps[prev], last, x, ys[i], t2, ps[i]);
-    if last / BLOCK == x / BLOCK {
-        goes
-    } else {
-        false
-    }
+    evt2_encoder::event_word(BLOCK * (x / BLOCK), y, t, p)
+}
+
+// Whether an event goes on a run: the upper half of its word, the high half of its time and its
+// column, beside those of the run's last event. All is compared at once, without a branch for each.
+fn joined(upper: u32, upper2: u32, high: u64, high2: u64, last: u16, x: u16) -> bool
+    ensures { λ r. ⌜ r ≡ joins21 upper upper2 high high2 last x ⌝ }
+{
+    let uppers = (upper2 ^ upper) as u64;
+    let differ = uppers | (high2 ^ high) | no_rise(last, x) as u64;
+    differ == 0
 }
 
 // The bits of a run with that of its next event, or with that of its first.
@@ -127,8 +126,8 @@ fn put_at(
 }
 
 // The words of all events, from `start` on. The word of a run is stored at each of its events, and
-// the next event's word takes its place where that goes on the run: no event needs a branch. The
-// first event is compared with itself, on which it doesn't go on. The bounds keep `at` from wrapping.
+// the next event's word takes its place where that goes on the run: no event needs a branch. No
+// event is above column 2047, so the first one goes on no run. The bounds keep `at` from wrapping.
 pub fn pass(
     state: EncoderState,
     xs: &[u16],
@@ -147,27 +146,31 @@ pub fn pass(
 {
     let sent = state.time_high;
     let mut high = sent_number(sent);
+    let mut upper: u32 = 0;
+    let mut last: u16 = 2047;
     let mut mask: u64 = 0;
     let mut at = start;
-    let mut prev: usize = 0;
     let mut i: usize = 0;
     while i < xs.len() {
-        let on = joined(xs, ys, ts, ps, prev, i);
+        let x = xs[i];
         let t = time_at(ts, i);
-        mask = with_bit(on, mask, xs[i]);
+        let upper2 = upper_half(x, ys[i], t, ps[i]);
+        let on = joined(upper, upper2, high, t / Evt2Decoder::GRAIN, last, x);
+        mask = with_bit(on, mask, x);
         let place = place_of(on, at);
         at = put_at(high, t, xs, ys, ps, i, mask, &mut *out, place);
         high = t / Evt2Decoder::GRAIN;
-        prev = i;
+        upper = upper2;
+        last = x;
         i += 1;
     }
     let low = state.time_low;
     let row = state.y;
-    let last = EncoderState {
+    let sent_last = EncoderState {
         time_high: Sent::Value(high),
         time_low: low,
         y: row,
     };
-    let after = state_after(xs.len(), state, last);
+    let after = state_after(xs.len(), state, sent_last);
     Put { state: after, at }
 }

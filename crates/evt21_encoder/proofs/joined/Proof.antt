@@ -1,28 +1,17 @@
-use mathlib.Core.Path.{_∙_}
-use denote.Ref.{now}
-use Rattle.write_buffer.specs.Columns.{eventOf}
-use Rattle.evt21_encoder.specs.Pass21.{goes-block, goes-apart}
+use native.Mathlib.Omega.{arith}
+use lib.Bits.{xor-lt}
+use Rattle.evt21_encoder.specs.Pass21.{joins-none}
 use borrow.Author.Needs.{needs}
 use Rattle.evt21_encoder.proofs.joined.Statement.{statement}
 use Rattle.evt21_encoder.proofs.joined.Tie as tie
 
+cast-uppers : tie.Need-cast-uppers
+cast-uppers c = omega (arith, xor-lt 32 (c .args .upper2) (c .args .upper) (omega arith) (omega arith))
+
 returns : tie.Need-returns
 returns c =
-    let b = c .before .before .before .before .before .before in
-    let a = b .before .before .before .before .before .before .before .args in
-    (rw (b .before .time-at .ensures, b .time-at2 .ensures) at (c .before .goes-on .ensures))
-    ∙ goes-block (eventOf (now (a .xs)) (now (a .ys)) (now (a .ts)) (now (a .ps)) (a .prev))
-    (eventOf (now (a .xs)) (now (a .ys)) (now (a .ts)) (now (a .ps)) (a .i)) (c .if1 .taken)
-
-returns-2 : tie.Need-returns-2
-returns-2 c =
-    let a = c .before .before .before .before .before .before .before .before .before .before .before .before .before .args in
-    goes-apart (eventOf (now (a .xs)) (now (a .ys)) (now (a .ts)) (now (a .ps)) (a .prev))
-    (eventOf (now (a .xs)) (now (a .ys)) (now (a .ts)) (now (a .ps)) (a .i)) (c .if1 .left)
+    let a = c .before .args in
+    rw (c .no-rise .ensures) (joins-none (a .upper) (a .upper2) (a .high) (a .high2) (a .last) (a .x))
 
 pub joined-spec : {M : Type 1} → statement M
-joined-spec =
-    tie.close
-    (tie.spec
-    (λ c. search needs) (λ c. search needs) (λ c. search needs) (λ c. search needs) (λ c κs. search needs) (λ c κs. search needs) (λ c. search needs)
-    (λ c. search needs) (λ c. search needs) (λ c. search needs) (λ c. search needs) (λ c. search needs) (λ c κs. search needs) returns returns-2)
+joined-spec = tie.close (tie.spec cast-uppers (λ c κs. search needs) (λ c. search needs) returns)

@@ -14,14 +14,14 @@ use lib.Seq.{sets}
 use borrow.Author.Tests.{eqb-true, eq-eqb, ltb-true, ltb-false, lt-ltb, le-ltb}
 use Rattle.laws_stream.specs.{Machine.run, Machine.and-both, Mask.mask, Words.bytes, Columns.sets-append}
 use Rattle.evt_types.specs.{Event.Event, Layout.wordSize21, Layout.grain2, Layout.eventWord2, Columns.colX}
-use Rattle.evt_types.specs.Layout.{type2, timeLow2, x2, y2, event-type2, event-low2, event-x2, event-y2}
+use Rattle.evt_types.specs.Layout.{type2, timeLow2, x2, y2, event-type2, event-low2, event-x2, event-y2, event-fits2}
 use Rattle.write_buffer.specs.declared.{EncoderState.EncoderState, Put.Put}
 use Rattle.write_buffer.specs.Columns.{Sized, event, eventsIn, eventsPast, eventOf, events-at, events-end}
 use Rattle.write_buffer.specs.Every.{or-most, none-leb, xor-none, flag-none}
 use Rattle.write_buffer.specs.{Sent.sentNumber, Sent.number-is, Sent.state-some, Due.dueBytes, Due.bothBytes, Due.both-length, Due.both-few}
 use Rattle.write_buffer.specs.Storing.{Roomy, bytesFrom, bytes-cons, Storing, storing-start, storing-iteration, storing-over, storing-room, storing-end}
-use Rattle.evt2_encoder.specs.Evt2.{highSent2, stateOf2, encoded2, writer2}
-use Rattle.evt2_encoder.specs.Pass2.{Fit2, Fitting2, Within2, eventAt2, stateAt2, state-step2}
+use Rattle.evt2_encoder.specs.Evt2.{wordOf2, highSent2, stateOf2, encoded2, writer2}
+use Rattle.evt2_encoder.specs.Pass2.{Fit2, Fitting2, eventAt2, stateAt2, state-step2}
 use Rattle.evt3_run_rules.specs.Runs.{Run, firstOf, single, prepend, goesBy, GoesBy, goesBy-true, glueBy, runAt, runsBy-at, followBy}
 use Rattle.evt21_encoder.specs.Evt21.{blockOf, next21, runs21, highWord21, maskedWord21, wordOf21, writer21, stream21, run-bytes21}
 
@@ -32,13 +32,19 @@ passed21 v es at = record { state = run writer21 v (runs21 es); at = at + length
 abbrev pub goes21 : (last e : Event) → Bool
 goes21 a e = goesBy next21 (a .t) (a .y) (a .p) (a .x) e
 
--- the upper half of its word
-abbrev pub upperOf : Event → ℕ
-upperOf e = eventWord2 (e .p % 2) (e .t % grain2) (blockOf (e .x) % 2048) (e .y % 2048)
+-- the upper half of a word, of an event's word in EVT 2.0: the column goes down to its block's first
+abbrev pub upperHalf : (key : ℕ) → ℕ
+upperHalf key = key / 2 ^ 16 * 2 ^ 16 + key % 2 ^ 11
 
--- told by that, the high half of the time, and the column, of two events
-abbrev pub joins21 : (upper upper₂ high high₂ last x : ℕ) → Bool
-joins21 upper upper₂ high high₂ last x = eqb upper₂ upper && (eqb high₂ high && ltb last x)
+abbrev pub keyWord : (key mask : ℕ) → ℕ
+keyWord key m = upperHalf key * 2 ^ 32 + m
+
+abbrev pub keyBytes : (sent : Bool) (t key mask : ℕ) → List ℕ
+keyBytes b t key m = bothBytes wordSize21 b (highWord21 t) (keyWord key m)
+
+-- going on, told by the words in EVT 2.0 and the high halves of the times
+abbrev pub joins21 : (last key sent high : ℕ) → Bool
+joins21 last key sent high = eqb (upperHalf key) (upperHalf last) && (eqb high sent && ltb last key)
 
 abbrev pub bitOf : (x : ℕ) → ℕ
 bitOf x = 2 ^ (x % 32)
@@ -104,31 +110,56 @@ module _ (a e : Event) (q : goes21 a e ≡ true) where
       omega arith
 
 -- compared at once
-pub joins-none : (upper upper₂ high high₂ last x : ℕ)
-    → eqb (bitOr (bitOr (bitXor upper₂ upper) (bitXor high₂ high)) (cond (ltb last x) 0 1)) 0 ≡ joins21 upper upper₂ high high₂ last x
-joins-none upper upper₂ high high₂ last x =
-    none-leb (bitOr (bitOr (bitXor upper₂ upper) (bitXor high₂ high)) (cond (ltb last x) 0 1))
-    ∙ or-most 0 0 (bitOr (bitXor upper₂ upper) (bitXor high₂ high)) (cond (ltb last x) 0 1) refl
-    ∙ rw (or-most 0 0 (bitXor upper₂ upper) (bitXor high₂ high) refl, xor-none upper₂ upper, xor-none high₂ high, flag-none (ltb last x))
-    (and-assoc (eqb upper₂ upper) (eqb high₂ high) (ltb last x))
+pub joins-none : (last key sent high : ℕ)
+    → eqb (bitOr (bitOr (bitXor (upperHalf key) (upperHalf last)) (bitXor high sent)) (cond (ltb last key) 0 1)) 0 ≡ joins21 last key sent high
+joins-none last key sent high =
+    let uppers = bitXor (upperHalf key) (upperHalf last) in
+    let highs = bitXor high sent in
+    none-leb (bitOr (bitOr uppers highs) (cond (ltb last key) 0 1)) ∙ or-most 0 0 (bitOr uppers highs) (cond (ltb last key) 0 1) refl
+    ∙ rw (or-most 0 0 uppers highs refl, xor-none (upperHalf key) (upperHalf last), xor-none high sent, flag-none (ltb last key))
+    (and-assoc (eqb (upperHalf key) (upperHalf last)) (eqb high sent) (ltb last key))
 
 alike : (b c : Bool) → (b ≡ true → c ≡ true) → (c ≡ true → b ≡ true) → b ≡ c
 alike true c f g = sym (f refl)
 alike false true f g = g refl
 alike false false f g = refl
 
--- the fields of an upper half
-module _ (e : Event) where
-  upper-p : type2 (upperOf e) ≡ e .p % 2
+-- an event's word in EVT 2.0
+module _ (p low y : ℕ) where
+  upper-is : (x : ℕ) → y < 2048 → upperHalf (eventWord2 p low x y) ≡ eventWord2 p low (blockOf x) y
+  upper-is x y< = omega arith
+
+  rises : (a x : ℕ) → eventWord2 p low a y < eventWord2 p low x y → a < x
+  rises a x h = omega arith
+
+  rising : (a x : ℕ) → a ≤ 2047 → x ≤ 2047 → a < x → eventWord2 p low (a % 2048) y < eventWord2 p low (x % 2048) y
+  rising a x ha hx h = omega arith
+
+module _ (e : Event) (f : Fit2 e) where
+  abbrev upperOf : ℕ
+  upperOf = eventWord2 (e .p % 2) (e .t % grain2) (blockOf (e .x) % 2048) (e .y % 2048)
+
+  block-in : blockOf (e .x % 2048) ≡ blockOf (e .x) % 2048
+  block-in = omega (arith, f .fit-x)
+
+  upper-of : upperHalf (wordOf2 e) ≡ upperOf
+  upper-of =
+      upper-is (e .p % 2) (e .t % grain2) (e .y % 2048) (e .x % 2048) (omega arith)
+      ∙ ap (λ (x : ℕ). eventWord2 (e .p % 2) (e .t % grain2) x (e .y % 2048)) block-in
+
+  key-word : (m : ℕ) → m < 2 ^ 32 → keyWord (wordOf2 e) m ≡ maskedWord21 e m
+  key-word m h = rw (upper-of, mod-eq-of-lt h)
+
+  upper-p : type2 upperOf ≡ e .p % 2
   upper-p = event-type2 (e .p % 2) (e .t % grain2) (blockOf (e .x) % 2048) (e .y % 2048) (omega arith) (omega arith) (omega arith) (omega arith)
 
-  upper-low : timeLow2 (upperOf e) ≡ e .t % grain2
+  upper-low : timeLow2 upperOf ≡ e .t % grain2
   upper-low = event-low2 (e .p % 2) (e .t % grain2) (blockOf (e .x) % 2048) (e .y % 2048) (omega arith) (omega arith) (omega arith) (omega arith)
 
-  upper-x : x2 (upperOf e) ≡ blockOf (e .x) % 2048
+  upper-x : x2 upperOf ≡ blockOf (e .x) % 2048
   upper-x = event-x2 (e .p % 2) (e .t % grain2) (blockOf (e .x) % 2048) (e .y % 2048) (omega arith) (omega arith) (omega arith) (omega arith)
 
-  upper-y : y2 (upperOf e) ≡ e .y % 2048
+  upper-y : y2 upperOf ≡ e .y % 2048
   upper-y = event-y2 (e .p % 2) (e .t % grain2) (blockOf (e .x) % 2048) (e .y % 2048) (omega arith) (omega arith) (omega arith) (omega arith)
 
 time-of : (a b : ℕ) → a % grain2 ≡ b % grain2 → a / grain2 ≡ b / grain2 → a ≡ b
@@ -140,28 +171,37 @@ small-of n a b ha hb h = sym (mod-eq-of-lt ha) ∙ h ∙ mod-eq-of-lt hb
 block-of : (a b : ℕ) → a ≤ 2047 → b ≤ 2047 → blockOf b % 2048 ≡ blockOf a % 2048 → a / 32 ≡ b / 32
 block-of a b ha hb h = let e = small-of 2048 (blockOf b) (blockOf a) (omega arith) (omega arith) h in omega arith
 
--- events that cut nothing off differ where the halves do
-joins-goes : (a e : Event) → Fit2 a → Fit2 e → joins21 (upperOf a) (upperOf e) (a .t / grain2) (e .t / grain2) (a .x) (e .x) ≡ goes21 a e
-joins-goes a e fa fe = alike (joins21 (upperOf a) (upperOf e) (a .t / grain2) (e .t / grain2) (a .x) (e .x)) (goes21 a e) there back
-  where
-    there : joins21 (upperOf a) (upperOf e) (a .t / grain2) (e .t / grain2) (a .x) (e .x) ≡ true → goes21 a e ≡ true
-    there q =
-        let u = and-both (eqb (upperOf e) (upperOf a)) (eqb (e .t / grain2) (a .t / grain2) && ltb (a .x) (e .x)) q in
-        let h = and-both (eqb (e .t / grain2) (a .t / grain2)) (ltb (a .x) (e .x)) (u .1) in
-        let upper = eqb-true (upperOf e) (upperOf a) (u .0) in
-        let high = eqb-true (e .t / grain2) (a .t / grain2) (h .0) in
-        let t = time-of (e .t) (a .t) (sym (upper-low e) ∙ ap timeLow2 upper ∙ upper-low a) high in
-        let y = small-of 2048 (e .y) (a .y) (omega (arith, fe .fit-y)) (omega (arith, fa .fit-y)) (sym (upper-y e) ∙ ap y2 upper ∙ upper-y a) in
-        let p = small-of 2 (e .p) (a .p) (omega (arith, fe .fit-p)) (omega (arith, fa .fit-p)) (sym (upper-p e) ∙ ap type2 upper ∙ upper-p a) in
-        let b = block-of (a .x) (e .x) (fa .fit-x) (fe .fit-x) (sym (upper-x e) ∙ ap x2 upper ∙ upper-x a) in
-        rw (eq-eqb (e .t) (a .t) t, eq-eqb (e .y) (a .y) y, eq-eqb (e .p) (a .p) p, eq-eqb (a .x / 32) (e .x / 32) b, h .1)
+-- events that cut nothing off differ where the words or the high halves do
+module _ (a e : Event) (fa : Fit2 a) (fe : Fit2 e) where
+  abbrev joins : Bool
+  joins = joins21 (wordOf2 a) (wordOf2 e) (a .t / grain2) (e .t / grain2)
 
-    back : goes21 a e ≡ true → joins21 (upperOf a) (upperOf e) (a .t / grain2) (e .t / grain2) (a .x) (e .x) ≡ true
-    back q =
-        let g = went a e q in
-        let u : upperOf e ≡ upperOf a = rw (g .is-t, g .is-y, g .is-p, went-block a e q) in
-        let h : e .t / grain2 ≡ a .t / grain2 = rw (g .is-t) in
-        rw (eq-eqb (upperOf e) (upperOf a) u, eq-eqb (e .t / grain2) (a .t / grain2) h, lt-ltb (a .x) (e .x) (went-up a e q))
+  joins-true : joins ≡ true → goes21 a e ≡ true
+  joins-true q =
+      let u = and-both (eqb (upperHalf (wordOf2 e)) (upperHalf (wordOf2 a))) (eqb (e .t / grain2) (a .t / grain2) && ltb (wordOf2 a) (wordOf2 e)) q in
+      let h = and-both (eqb (e .t / grain2) (a .t / grain2)) (ltb (wordOf2 a) (wordOf2 e)) (u .1) in
+      let upper = sym (upper-of e fe) ∙ eqb-true (upperHalf (wordOf2 e)) (upperHalf (wordOf2 a)) (u .0) ∙ upper-of a fa in
+      let t = time-of (e .t) (a .t) (sym (upper-low e fe) ∙ ap timeLow2 upper ∙ upper-low a fa) (eqb-true (e .t / grain2) (a .t / grain2) (h .0)) in
+      let y = small-of 2048 (e .y) (a .y) (omega (arith, fe .fit-y)) (omega (arith, fa .fit-y)) (sym (upper-y e fe) ∙ ap y2 upper ∙ upper-y a fa) in
+      let p = small-of 2 (e .p) (a .p) (omega (arith, fe .fit-p)) (omega (arith, fa .fit-p)) (sym (upper-p e fe) ∙ ap type2 upper ∙ upper-p a fa) in
+      let b = block-of (a .x) (e .x) (fa .fit-x) (fe .fit-x) (sym (upper-x e fe) ∙ ap x2 upper ∙ upper-x a fa) in
+      let lt = ltb-true (wordOf2 a) (wordOf2 e) (h .1) in
+      let up = rises (a .p % 2) (a .t % grain2) (a .y % 2048) (a .x % 2048) (e .x % 2048) (rw (t, y, p) at lt) in
+      let x = lt-ltb (a .x) (e .x) (omega (arith, fa .fit-x, fe .fit-x)) in
+      rw (eq-eqb (e .t) (a .t) t, eq-eqb (e .y) (a .y) y, eq-eqb (e .p) (a .p) p, eq-eqb (a .x / 32) (e .x / 32) b, x)
+
+  goes-true : goes21 a e ≡ true → joins ≡ true
+  goes-true q =
+      let g = went a e q in
+      let same : upperOf e fe ≡ upperOf a fa = rw (g .is-t, g .is-y, g .is-p, went-block a e q) in
+      let upper = upper-of e fe ∙ same ∙ sym (upper-of a fa) in
+      let h : e .t / grain2 ≡ a .t / grain2 = rw (g .is-t) in
+      let lt : wordOf2 a < wordOf2 e =
+      rw (g .is-t, g .is-y, g .is-p) (rising (a .p % 2) (a .t % grain2) (a .y % 2048) (a .x) (e .x) (fa .fit-x) (fe .fit-x) (went-up a e q)) in
+      rw (eq-eqb (upperHalf (wordOf2 e)) (upperHalf (wordOf2 a)) upper, eq-eqb (e .t / grain2) (a .t / grain2) h, lt-ltb (wordOf2 a) (wordOf2 e) lt)
+
+  joins-goes : joins ≡ goes21 a e
+  joins-goes = alike joins (goes21 a e) joins-true goes-true
 
 follow-none : (a e : Event) (es : List Event) → goes21 a e ≡ false → follow21 a (e ∷ es) ≡ 0
 unfolding followBy
@@ -273,11 +313,11 @@ module _ (v₀ : EncoderState) (all : List ℕ) (at₀ : ℕ) (out₀ : List ℕ
             storing = rw back (storing-over word (omega arith) (is-out ∙ sets-append out place lead word) s);
           }
 
--- ---- the loop over the events, at index i, after an event a of which the upper half, the high half and the column are known
+-- ---- the loop over the events, at index i, after an event a whose word in EVT 2.0 is `last`
 
-pub record Under21 (v₀ : EncoderState) (xs ys : List ℕ) (ts : List ℤ) (ps : List ℕ) (at₀ : ℕ) (out₀ out : List ℕ) (high upper last mask at i : ℕ) : Type 0 where
+pub record Under21 (v₀ : EncoderState) (xs ys : List ℕ) (ts : List ℤ) (ps : List ℕ) (at₀ : ℕ) (out₀ out : List ℕ) (high last mask at i : ℕ) : Type 0 where
   pub a : Event
-  pub tells : (e : Event) → Fit2 e → joins21 upper (upperOf e) high (e .t / grain2) last (e .x) ≡ goes21 a e
+  pub tells : (e : Event) → Fit2 e → joins21 last (wordOf2 e) high (e .t / grain2) ≡ goes21 a e
   pub within : i ≤ length xs
   pub small : at ≤ at₀ + 16 * i
   pub is-high : high ≡ sentNumber (stateAt2 v₀ i high .«time_high»)
@@ -287,20 +327,9 @@ pub record Under21 (v₀ : EncoderState) (xs ys : List ℕ) (ts : List ℤ) (ps 
   pub opens : 0 < follow21 a (eventsPast xs ys ts ps i)
       → Opened v₀ (stream21 v₀ (eventsIn xs ys ts ps)) at₀ out₀ a mask (eventsPast xs ys ts ps i) high at out
 
--- no column is above 2047
+-- nothing goes on an event in column 2047, and no word is above 2^32 - 1
 abbrev edge : Event
 edge = event 2047 0 0 0
-
-edge-none : (upper high : ℕ) (e : Event) → Fit2 e → joins21 upper (upperOf e) high (e .t / grain2) 2047 (e .x) ≡ goes21 edge e
-edge-none upper high e f = alike (joins21 upper (upperOf e) high (e .t / grain2) 2047 (e .x)) (goes21 edge e) there back
-  where
-    there : joins21 upper (upperOf e) high (e .t / grain2) 2047 (e .x) ≡ true → goes21 edge e ≡ true
-    there q =
-        let u = and-both (eqb (upperOf e) upper) (eqb (e .t / grain2) high && ltb 2047 (e .x)) q in
-        absurd (omega (arith, f .fit-x, ltb-true 2047 (e .x) (and-both (eqb (e .t / grain2) high) (ltb 2047 (e .x)) (u .1) .1)))
-
-    back : goes21 edge e ≡ true → joins21 upper (upperOf e) high (e .t / grain2) 2047 (e .x) ≡ true
-    back q = absurd (omega (arith, f .fit-x, went-up edge e q))
 
 edge-goes : (e : Event) → Fit2 e → goes21 edge e ≡ false
 edge-goes e f = go (goes21 edge e) refl
@@ -308,6 +337,16 @@ edge-goes e f = go (goes21 edge e) refl
     go : (b : Bool) → goes21 edge e ≡ b → b ≡ false
     go true q = absurd (omega (arith, f .fit-x, went-up edge e q))
     go false q = refl
+
+edge-none : (high : ℕ) (e : Event) → Fit2 e → joins21 4294967295 (wordOf2 e) high (e .t / grain2) ≡ goes21 edge e
+edge-none high e f =
+    let b = event-fits2 (e .p % 2) (e .t % grain2) (e .x % 2048) (e .y % 2048) (omega arith) (omega arith) (omega arith) (omega arith) in
+    rw (le-ltb 4294967295 (wordOf2 e) (omega arith), edge-goes e f) (none (eqb (upperHalf (wordOf2 e)) (upperHalf 4294967295)) (eqb (e .t / grain2) high))
+  where
+    none : (b c : Bool) → (b && (c && false)) ≡ false
+    none true true = refl
+    none true false = refl
+    none false c = refl
 
 module _ {xs ys : List ℕ} {ts : List ℤ} {ps : List ℕ} (sized : Sized xs ys ts ps) (fitting : Fitting2 xs ys ts ps) where
   first-none : follow21 edge (eventsPast xs ys ts ps 0) ≡ 0
@@ -318,10 +357,10 @@ module _ {xs ys : List ℕ} {ts : List ℤ} {ps : List ℕ} (sized : Sized xs ys
       go false q = rw (events-end xs ys ts ps sized 0 (ltb-false 0 (length xs) q)) (follow-end edge)
 
   module _ {v₀ : EncoderState} {at₀ : ℕ} {out₀ : List ℕ} where
-    pub under-start21 : (high : ℕ) → high ≡ sentNumber (v₀ .«time_high») → Under21 v₀ xs ys ts ps at₀ out₀ out₀ high 0 2047 0 at₀ 0
+    pub under-start21 : (high : ℕ) → high ≡ sentNumber (v₀ .«time_high») → Under21 v₀ xs ys ts ps at₀ out₀ out₀ high 4294967295 0 at₀ 0
     under-start21 high h = record {
       a = edge;
-      tells = edge-none 0 high;
+      tells = edge-none high;
       within = omega arith;
       small = omega arith;
       is-high = h;
@@ -330,7 +369,7 @@ module _ {xs ys : List ℕ} {ts : List ℤ} {ps : List ℕ} (sized : Sized xs ys
       opens = λ q. absurd (omega (arith, first-none));
     }
 
-    module _ {out : List ℕ} {high upper last mask at i : ℕ} (u : Under21 v₀ xs ys ts ps at₀ out₀ out high upper last mask at i) where
+    module _ {out : List ℕ} {high last mask at i : ℕ} (u : Under21 v₀ xs ys ts ps at₀ out₀ out high last mask at i) where
       module _ (h : i < length xs) where
         abbrev a : Event
         a = u .a
@@ -348,9 +387,8 @@ module _ {xs ys : List ℕ} {ts : List ℤ} {ps : List ℕ} (sized : Sized xs ys
         under-opened q = (rw (events-at xs ys ts ps sized i h) at (u .opens)) (omega (arith, follow-on a e q es))
 
         -- told by what the code has of it
-        pub under-goes21 : {b : Bool} {t upper₂ : ℕ} → t ≡ e .t → upper₂ ≡ upperOf (eventAt2 xs ys ps i t)
-            → b ≡ joins21 upper upper₂ high (t / grain2) last (e .x) → b ≡ goes21 a e
-        under-goes21 et eu is = is ∙ rw (eu, et) (u .tells e (fitting i))
+        pub under-goes21 : {b : Bool} {t key : ℕ} → t ≡ e .t → key ≡ wordOf2 (eventAt2 xs ys ps i t) → b ≡ joins21 last key high (t / grain2) → b ≡ goes21 a e
+        under-goes21 et ek is = is ∙ rw (ek, et) (u .tells e (fitting i))
 
         -- where the event goes on the run, there is a word, and its bits are below the event's
         pub under-joined21 : {b : Bool} → b ≡ goes21 a e → b ≡ true → (wordSize21 ≤ at) × (mask < bitOf (e .x))
@@ -358,11 +396,11 @@ module _ {xs ys : List ℕ} {ts : List ℤ} {ps : List ℕ} (sized : Sized xs ys
             let q = sym is ∙ on in
             let o = under-opened q in (o .past, below-bit a e q mask (o .low))
 
-        -- at time t, with the bits m, at `place`
-        module _ (b : Bool) (q : b ≡ goes21 a e) {t m place : ℕ} (et : t ≡ e .t) (em : m ≡ cond b mask 0 + bitOf (e .x))
-            (ep : place ≡ cond b (at - wordSize21) at) where
+        -- at time t, with the word `key`, the bits m, at `place`
+        module _ (b : Bool) (q : b ≡ goes21 a e) {t key m place : ℕ} (et : t ≡ e .t) (ek : key ≡ wordOf2 (eventAt2 xs ys ps i t))
+            (em : m ≡ cond b mask 0 + bitOf (e .x)) (ep : place ≡ cond b (at - wordSize21) at) where
           abbrev words : List ℕ
-          words = eventBytes21 (eqb high (t / grain2)) (eventAt2 xs ys ps i t) m
+          words = keyBytes (eqb high (t / grain2)) t key m
 
           under-placed : Placed v₀ all at₀ out₀ (eventAt2 xs ys ps i t) m es high place out
           under-placed =
@@ -370,6 +408,12 @@ module _ {xs ys : List ℕ} {ts : List ℤ} {ps : List ℕ} (sized : Sized xs ys
               rw (et, em, ep)
               (placed v₀ all at₀ out₀ b a e es (stateAt2 v₀ i high) (sym q) (u .is-high) (state-step2 v₀ i high e) (omega (arith, fitting i .fit-t))
               (rw next at (u .closed)) (rw next at (u .opens)))
+
+          words-are : words ≡ eventBytes21 (eqb high (t / grain2)) (eventAt2 xs ys ps i t) m
+          words-are =
+              let le : 2 ^ suc (e .x % 32) ≤ 2 ^ 32 = pow-le-pow-right (omega arith) {j = 32} (omega arith) in
+              rw ek (ap (bothBytes wordSize21 (eqb high (t / grain2)) (highWord21 t))
+              (key-word (eventAt2 xs ys ps i t) (rw et (fitting i)) m (omega (arith, under-placed .low))))
 
           place-le : place ≤ at
           place-le = rw ep (go b)
@@ -379,33 +423,27 @@ module _ {xs ys : List ℕ} {ts : List ℤ} {ps : List ℕ} (sized : Sized xs ys
               go false = omega arith
 
           -- what storing the event asks for
-          pub under-next21 : at₀ ≤ 2 ^ 32 → Roomy out₀ at₀ (length all)
-              → Within2 xs ys ps i × (place < 2 ^ 60) × Roomy out place (length words) × Fit2 (eventAt2 xs ys ps i t) × (m < 2 ^ 32)
+          pub under-next21 : at₀ ≤ 2 ^ 32 → Roomy out₀ at₀ (length all) → (place < 2 ^ 60) × Roomy out place (length words) × (t < 2 ^ 34)
           under-next21 near r =
-              let le : 2 ^ suc (e .x % 32) ≤ 2 ^ 32 = pow-le-pow-right (omega arith) {j = 32} (omega arith) in (
-                record { few = omega (arith, sized .few); in-x = h; in-y = omega (arith, sized .same-y); in-p = omega (arith, sized .same-p) },
-                omega (arith, u .small, sized .few, place-le),
-                placed-room v₀ all at₀ out₀ under-placed r,
-                rw et (fitting i),
-                omega (arith, under-placed .low),
-              )
+              (omega (arith, u .small, sized .few, place-le), rw words-are (placed-room v₀ all at₀ out₀ under-placed r), rw et (fitting i .fit-t))
 
-          pub under-iteration21 : {upper₂ : ℕ} → upper₂ ≡ upperOf (eventAt2 xs ys ps i t) → (r : ℕ) (out′ : List ℕ)
-              → r ≡ place + length words → out′ ≡ sets out place words
-              → Under21 v₀ xs ys ts ps at₀ out₀ out′ (t / grain2) upper₂ (e .x) m r (i + 1)
-          under-iteration21 eu r out′ is-at is-out =
+          pub under-iteration21 : (r : ℕ) (out′ : List ℕ) → r ≡ place + length words → out′ ≡ sets out place words
+              → Under21 v₀ xs ys ts ps at₀ out₀ out′ (t / grain2) key m r (i + 1)
+          under-iteration21 r out′ is-at is-out =
               let some = state-some (i + 1) v₀ (stateOf2 v₀ (t / grain2)) (omega arith) in
-              let few = both-few wordSize21 (eqb high (t / grain2)) (highWord21 t) (maskedWord21 (eventAt2 xs ys ps i t) m) in
+              let few = both-few wordSize21 (eqb high (t / grain2)) (highWord21 t) (keyWord key m) in
               let sent = ap (λ (s : EncoderState). run writer2 s es) (state-step2 v₀ i high e) in
+              let at-is = rw words-are at is-at in
+              let out-is = rw words-are at is-out in
               record {
                 a = e;
-                tells = λ f fits. rw (eu ∙ ap (λ (k : ℕ). upperOf (eventAt2 xs ys ps i k)) et, et) (joins-goes e f (fitting i) fits);
+                tells = λ f fits. rw (ek ∙ ap (λ (k : ℕ). wordOf2 (eventAt2 xs ys ps i k)) et, et) (joins-goes e f (fitting i) fits);
                 within = omega arith;
                 small = omega (arith, u .small, few, place-le);
                 is-high = rw some;
                 state = rw (some, et) (sym sent ∙ (rw (events-at xs ys ts ps sized i h) at (u .state)));
-                closed = λ z. rw some (placed-closed v₀ all at₀ out₀ under-placed is-at is-out (rw et z));
-                opens = λ z. rw (← et) (placed-open v₀ all at₀ out₀ under-placed is-at is-out);
+                closed = λ z. rw some (placed-closed v₀ all at₀ out₀ under-placed at-is out-is (rw et z));
+                opens = λ z. rw (← et) (placed-open v₀ all at₀ out₀ under-placed at-is out-is);
               }
 
       -- nothing is left

@@ -4,18 +4,17 @@
 ghost use mathlib.Core.Path.{_≡_};
 ghost use mathlib.Core.Bool.{true, cond};
 ghost use Prim.Native.Nat.{_+_, _-_, _/_, _^_, _≤_, _<_};
-ghost use lib.Dec.{eqb};
+ghost use lib.Dec.{eqb, ltb};
 ghost use lib.ListN.{length};
 ghost use lib.Seq.{sets};
 ghost use Rattle.evt_types.specs.Layout.{wordSize21, grain2};
-ghost use Rattle.write_buffer.specs.Columns.{Sized, Whole, event, eventsIn};
+ghost use Rattle.write_buffer.specs.Columns.{Sized, Whole, eventsIn};
 ghost use Rattle.write_buffer.specs.Storing.{Roomy};
-ghost use Rattle.evt2_encoder.specs.Pass2.{Fit2, Fitting2, Within2, eventAt2};
-ghost use Rattle.evt21_encoder.specs.Evt21.{highWord21, maskedWord21, stream21};
-ghost use Rattle.evt21_encoder.specs.Pass21.{upperOf, joins21, bitOf, eventBytes21, passed21};
+ghost use Rattle.evt2_encoder.specs.Pass2.{Fitting2};
+ghost use Rattle.evt21_encoder.specs.Evt21.{highWord21, stream21};
+ghost use Rattle.evt21_encoder.specs.Pass21.{upperHalf, keyWord, keyBytes, joins21, bitOf, passed21};
 use evt_types::Sent;
 use evt2_decoder::Evt2Decoder;
-use evt3_run_rules::no_rise;
 use write_buffer::EncoderState;
 use write_buffer::Put;
 use write_buffer::sent_number;
@@ -35,37 +34,42 @@ fn high_word(t: u64) -> u64
     (evt2_encoder::high_word(t) as u64) << 32
 }
 
-fn event_word(x: u16, y: u16, t: u64, p: u8, mask: u64) -> u64
-    requires { ⌜ Fit2 (event x y t p) × (mask < 2 ^ 32) ⌝ }
-    ensures { λ r. ⌜ r ≡ maskedWord21 (event x y t p) mask ⌝ }
+// The upper half of an event's word: its word in EVT 2.0, whose column goes down to its block's first.
+fn upper_half(key: u32) -> u32
+    ensures { λ r. ⌜ r ≡ upperHalf key ⌝ }
 {
-    ((upper_half(x, y, t, p) as u64) << 32) + mask
+    key / 65536 * 65536 + key % 2048
 }
 
-// What stands in the upper half of an event's word: polarity, low half of the time, block and row.
-fn upper_half(x: u16, y: u16, t: u64, p: u8) -> u32
-    requires { ⌜ Fit2 (event x y t p) ⌝ }
-    ensures { λ r. ⌜ r ≡ upperOf (event x y t p) ⌝ }
+fn masked_word(key: u32, mask: u32) -> u64
+    ensures { λ r. ⌜ r ≡ keyWord key mask ⌝ }
 {
-    evt2_encoder::event_word(BLOCK * (x / BLOCK), y, t, p)
+    ((upper_half(key) as u64) << 32) + mask as u64
 }
 
-// Whether an event goes on a run: the upper half of its word, the high half of its time and its
-// column, beside those of the run's last event. All is compared at once, without a branch for each.
-fn joined(upper: u32, upper2: u32, high: u64, high2: u64, last: u16, x: u16) -> bool
-    ensures { λ r. ⌜ r ≡ joins21 upper upper2 high high2 last x ⌝ }
+// 1 where a number isn't above the one before it, else 0.
+fn no_rise(last: u32, key: u32) -> u64
+    ensures { λ r. ⌜ r ≡ cond (ltb last key) 0 1 ⌝ }
 {
-    let uppers = (upper2 ^ upper) as u64;
-    let differ = uppers | (high2 ^ high) | no_rise(last, x) as u64;
+    if last < key { 0 } else { 1 }
+}
+
+// Whether an event goes on a run: its word in EVT 2.0 and the high half of its time, beside those of
+// the run's last event. All is compared at once, without a branch for each.
+fn joined(last: u32, key: u32, sent: u64, high: u64) -> bool
+    ensures { λ r. ⌜ r ≡ joins21 last key sent high ⌝ }
+{
+    let uppers = (upper_half(key) ^ upper_half(last)) as u64;
+    let differ = uppers | (high ^ sent) | no_rise(last, key);
     differ == 0
 }
 
 // The bits of a run with that of its next event, or with that of its first.
-fn with_bit(on: bool, mask: u64, x: u16) -> u64
+fn with_bit(on: bool, mask: u32, x: u16) -> u32
     requires { ⌜ (on ≡ true → mask < bitOf x) ⌝ }
     ensures { λ r. ⌜ r ≡ cond on mask 0 + bitOf x ⌝ }
 {
-    let bit = 1 << (x % BLOCK) as u64;
+    let bit = 1 << (x % BLOCK) as u32;
     if on { mask + bit } else { bit }
 }
 
@@ -77,57 +81,24 @@ fn place_of(on: bool, at: usize) -> usize
     if on { at - WORD_SIZE } else { at }
 }
 
-// The words of one event, at `at`, where `high` was sent last and the event's run has the bits of
-// `mask` so far. The word of the high half is stored always: where it isn't due the event's word
-// takes its place, which is faster than a branch.
-fn put_event(
-    high: u64,
-    x: u16,
-    y: u16,
-    t: u64,
-    p: u8,
-    mask: u64,
-    out: &mut [u8],
-    at: usize,
-) -> usize
-    requires { ⌜ (at < 2 ^ 60) × Roomy (now out) at (length (eventBytes21 (eqb high (t / grain2)) (event x y t p) mask)) × Fit2 (event x y t p)
-        × (mask < 2 ^ 32) ⌝ }
-    ensures { λ r. ⌜ r ≡ at + length (eventBytes21 (eqb high (t / grain2)) (event x y t p) mask) ⌝
-        ∗ ⌜ now (out .exit) ≡ sets (now (out .entry)) at (eventBytes21 (eqb high (t / grain2)) (event x y t p) mask) ⌝ }
+// The words of an event, at `at`, where `high` was sent last: its word in EVT 2.0 is `key`, and its
+// run has the bits of `mask` so far. The word of the high half is stored always: where it isn't due
+// the event's word takes its place, which is faster than a branch.
+fn put_words(high: u64, t: u64, key: u32, mask: u32, out: &mut [u8], at: usize) -> usize
+    requires { ⌜ (at < 2 ^ 60) × Roomy (now out) at (length (keyBytes (eqb high (t / grain2)) t key mask)) × (t < 2 ^ 34) ⌝ }
+    ensures { λ r. ⌜ r ≡ at + length (keyBytes (eqb high (t / grain2)) t key mask) ⌝
+        ∗ ⌜ now (out .exit) ≡ sets (now (out .entry)) at (keyBytes (eqb high (t / grain2)) t key mask) ⌝ }
 {
-    let w = event_word(x, y, t, p, mask);
+    let w = masked_word(key, mask);
     let a = write_buffer::past(high == t / Evt2Decoder::GRAIN, WORD_SIZE, at);
     write_buffer::put64(&mut *out, at, high_word(t));
     write_buffer::put64(&mut *out, a, w);
     a + WORD_SIZE
 }
 
-// The words of the event at index i, whose time is t.
-fn put_at(
-    high: u64,
-    t: u64,
-    xs: &[u16],
-    ys: &[u16],
-    ps: &[u8],
-    i: usize,
-    mask: u64,
-    out: &mut [u8],
-    at: usize,
-) -> usize
-    requires { ⌜ Within2 (now xs) (now ys) (now ps) i × (at < 2 ^ 60)
-        × Roomy (now out) at (length (eventBytes21 (eqb high (t / grain2)) (eventAt2 (now xs) (now ys) (now ps) i t) mask))
-        × Fit2 (eventAt2 (now xs) (now ys) (now ps) i t) × (mask < 2 ^ 32) ⌝ }
-    ensures { λ r. ⌜ r ≡ at + length (eventBytes21 (eqb high (t / grain2)) (eventAt2
-        (now (xs .entry)) (now (ys .entry)) (now (ps .entry)) i t) mask) ⌝
-        ∗ ⌜ now (out .exit) ≡ sets (now (out .entry)) at (eventBytes21 (eqb high (t / grain2)) (eventAt2
-        (now (xs .entry)) (now (ys .entry)) (now (ps .entry)) i t) mask) ⌝ }
-{
-    put_event(high, xs[i], ys[i], t, ps[i], mask, &mut *out, at)
-}
-
 // The words of all events, from `start` on. The word of a run is stored at each of its events, and
 // the next event's word takes its place where that goes on the run: no event needs a branch. No
-// event is above column 2047, so the first one goes on no run. The bounds keep `at` from wrapping.
+// word is above 2^32 - 1, so the first event goes on no run. The bounds keep `at` from wrapping.
 pub fn pass(
     state: EncoderState,
     xs: &[u16],
@@ -146,31 +117,29 @@ pub fn pass(
 {
     let sent = state.time_high;
     let mut high = sent_number(sent);
-    let mut upper: u32 = 0;
-    let mut last: u16 = 2047;
-    let mut mask: u64 = 0;
+    let mut last: u32 = 4294967295;
+    let mut mask: u32 = 0;
     let mut at = start;
     let mut i: usize = 0;
     while i < xs.len() {
         let x = xs[i];
         let t = time_at(ts, i);
-        let upper2 = upper_half(x, ys[i], t, ps[i]);
-        let on = joined(upper, upper2, high, t / Evt2Decoder::GRAIN, last, x);
+        let key = evt2_encoder::event_word(x, ys[i], t, ps[i]);
+        let on = joined(last, key, high, t / Evt2Decoder::GRAIN);
         mask = with_bit(on, mask, x);
         let place = place_of(on, at);
-        at = put_at(high, t, xs, ys, ps, i, mask, &mut *out, place);
+        at = put_words(high, t, key, mask, &mut *out, place);
         high = t / Evt2Decoder::GRAIN;
-        upper = upper2;
-        last = x;
+        last = key;
         i += 1;
     }
     let low = state.time_low;
     let row = state.y;
-    let sent_last = EncoderState {
+    let sent_now = EncoderState {
         time_high: Sent::Value(high),
         time_low: low,
         y: row,
     };
-    let after = state_after(xs.len(), state, sent_last);
+    let after = state_after(xs.len(), state, sent_now);
     Put { state: after, at }
 }

@@ -8,11 +8,11 @@ use Rattle.evt21_encoder.proofs.pass.Statement.{statement}
 use Rattle.evt21_encoder.proofs.pass.Tie as tie
 
 abbrev Inv-loop : tie.InvT-loop
-Inv-loop state xs ys ts ps out₀ start high₀ upper₀ last₀ mask₀ at₀ i₀ out high upper last mask at i =
-    Under21 state xs ys ts ps start out₀ out high upper last mask at i
+Inv-loop state xs ys ts ps out₀ start high₀ last₀ mask₀ at₀ i₀ out high last mask at i =
+    Under21 state xs ys ts ps start out₀ out high last mask at i
 
 abbrev μ-loop : tie.MeasureT-loop
-μ-loop state xs ys ts ps out₀ start high₀ upper₀ last₀ mask₀ at₀ i₀ out high upper last mask at i = length xs - i
+μ-loop state xs ys ts ps out₀ start high₀ last₀ mask₀ at₀ i₀ out high last mask at i = length xs - i
 
 loop-holds : tie.Need-loop-holds Inv-loop μ-loop
 loop-holds c = let p = c .before .before .before .before .before .pre in under-start21 (p .0) (p .4) _ (c .sent-number .ensures)
@@ -20,18 +20,18 @@ loop-holds c = let p = c .before .before .before .before .before .pre in under-s
 time-at-requires : tie.Need-time-at-requires Inv-loop μ-loop
 time-at-requires c κs = let p = c .before .before .before .before .before .before .before .before .pre in time-asks2 (p .0) (p .2) (c .before .loop-test .taken)
 
-read-y : tie.Need-shared-slice-read-upper-half Inv-loop μ-loop
+read-y : tie.Need-shared-slice-read-event-word Inv-loop μ-loop
 read-y c =
     let d = c .before .before .before in
     omega (arith, d .loop-test .taken, d .before .before .before .before .before .before .before .pre .0 .same-y)
 
-read-p : tie.Need-shared-slice-read-upper-half-2 Inv-loop μ-loop
+read-p : tie.Need-shared-slice-read-event-word-2 Inv-loop μ-loop
 read-p c =
     let d = c .before .before .before .before in
     omega (arith, d .loop-test .taken, d .before .before .before .before .before .before .before .pre .0 .same-p)
 
-upper-half-requires : tie.Need-upper-half-requires Inv-loop μ-loop
-upper-half-requires c κs =
+event-word-requires : tie.Need-event-word-requires Inv-loop μ-loop
+event-word-requires c κs =
     let d = c .before .before in
     rw (d .time-at .ensures) (d .before .before .before .before .before .before .before .before .before .pre .4 _)
 
@@ -40,7 +40,7 @@ with-bit-requires c κs =
     let d = c .before .before .before .before in
     let l = d .before .before in
     let p = l .before .before .before .before .before .before .before .pre in
-    let goes = under-goes21 (p .0) (p .4) (l .before .loop .inv) (l .loop-test .taken) (d .time-at .ensures) (c .before .upper-half .ensures) (c .joined .ensures) in
+    let goes = under-goes21 (p .0) (p .4) (l .before .loop .inv) (l .loop-test .taken) (d .time-at .ensures) (c .before .event-word .ensures) (c .joined .ensures) in
     λ q. under-joined21 (p .0) (p .4) (l .before .loop .inv) (l .loop-test .taken) goes q .1
 
 place-of-requires : tie.Need-place-of-requires Inv-loop μ-loop
@@ -49,30 +49,30 @@ place-of-requires c κs =
     let d = b .before .before .before .before in
     let l = d .before .before in
     let p = l .before .before .before .before .before .before .before .pre in
-    let goes = under-goes21 (p .0) (p .4) (l .before .loop .inv) (l .loop-test .taken) (d .time-at .ensures) (b .before .upper-half .ensures) (b .joined .ensures) in
+    let goes = under-goes21 (p .0) (p .4) (l .before .loop .inv) (l .loop-test .taken) (d .time-at .ensures) (b .before .event-word .ensures) (b .joined .ensures) in
     λ q. under-joined21 (p .0) (p .4) (l .before .loop .inv) (l .loop-test .taken) goes q .0
 
-put-at-requires : tie.Need-put-at-requires Inv-loop μ-loop
-put-at-requires c κs =
+put-words-requires : tie.Need-put-words-requires Inv-loop μ-loop
+put-words-requires c κs =
     let b = c .before .before .before in
     let d = b .before .before .before .before in
     let l = d .before .before in
     let p = l .before .before .before .before .before .before .before .pre in
-    let goes = under-goes21 (p .0) (p .4) (l .before .loop .inv) (l .loop-test .taken) (d .time-at .ensures) (b .before .upper-half .ensures) (b .joined .ensures) in
+    let goes = under-goes21 (p .0) (p .4) (l .before .loop .inv) (l .loop-test .taken) (d .time-at .ensures) (b .before .event-word .ensures) (b .joined .ensures) in
     under-next21 (p .0) (p .4) (l .before .loop .inv) (l .loop-test .taken) (b .joined .result) goes
-    (d .time-at .ensures) (c .before .before .with-bit .ensures) (c .before .place-of .ensures) (p .1) (p .3)
+    (d .time-at .ensures) (b .before .event-word .ensures) (c .before .before .with-bit .ensures) (c .before .place-of .ensures) (p .1) (p .3)
 
 loop-again : tie.Need-loop-again Inv-loop μ-loop
 loop-again c =
-    let put = c .before .before .put-at in
+    let put = c .before .before .put-words in
     let w = c .before .before .before .before in
     let b = w .before .before in
     let d = b .before .before .before .before in
     let l = d .before .before in
     let p = l .before .before .before .before .before .before .before .pre in
-    let goes = under-goes21 (p .0) (p .4) (l .before .loop .inv) (l .loop-test .taken) (d .time-at .ensures) (b .before .upper-half .ensures) (b .joined .ensures) in
+    let goes = under-goes21 (p .0) (p .4) (l .before .loop .inv) (l .loop-test .taken) (d .time-at .ensures) (b .before .event-word .ensures) (b .joined .ensures) in
     under-iteration21 (p .0) (p .4) (l .before .loop .inv) (l .loop-test .taken) (b .joined .result) goes
-    (d .time-at .ensures) (w .before .with-bit .ensures) (w .place-of .ensures) (b .before .upper-half .ensures)
+    (d .time-at .ensures) (b .before .event-word .ensures) (w .before .with-bit .ensures) (w .place-of .ensures)
     (put .result) _ (put .ensures .0) (put .ensures .1)
 
 same-length : tie.Need-same-length Inv-loop μ-loop
@@ -90,5 +90,5 @@ pass-spec =
     tie.close
     (tie.spec
     Inv-loop μ-loop (λ c κs. search needs) loop-holds (λ c. omega arith) (λ c. omega arith) time-at-requires (λ c. omega arith) read-y read-p
-    upper-half-requires (λ c κs. search needs) with-bit-requires place-of-requires put-at-requires (λ c. omega arith) (λ c. omega arith) loop-again
+    event-word-requires (λ c κs. search needs) with-bit-requires place-of-requires put-words-requires (λ c. omega arith) (λ c. omega arith) loop-again
     (λ c κs. search needs) same-length returns)

@@ -6,8 +6,8 @@ use borrow.Author.Needs.{needs}
 use Rattle.evt21_encoder.proofs.with_bit.Statement.{statement}
 use Rattle.evt21_encoder.proofs.with_bit.Tie as tie
 
-bit-le : (x : ℕ) → bitOf x ≤ 2 ^ 32
-bit-le x = pow-le-pow-right (omega arith) {j = 32} (omega arith)
+bit-le : (x : ℕ) → bitOf x ≤ 2 ^ 31
+bit-le x = pow-le-pow-right (omega arith) {j = 31} (omega arith)
 
 add-result : tie.Need-add-result
 add-result c = omega (arith, c .before .pre (c .if1 .taken), bit-le (c .before .args .x))

@@ -1,8 +1,12 @@
 -- What of an EVT3 decoder tells the time: what a word does to it, in the code's form, is what the step does.
 use mathlib.Core.Path.{_≡_, refl, ap}
 use mathlib.Core.Bool.{Bool, true, cond}
-use Prim.Native.Nat.{ℕ, _+_, _*_, _<_, _^_}
+use Prim.Native.Nat.{ℕ, zero, suc, _+_, _*_, _/_, _%_, _≤_, _<_, _^_}
+use native.Mathlib.Omega.{arith}
+use native.Mathlib.Nat.{div-eq-of-lt}
+use lib.Pow.{pow-mono}
 use lib.Dec.{eqb}
+use borrow.Author.Tests.{ne-eqb}
 use Rattle.laws_stream.specs.{Loop.loopsAfter, Loop.timeAfter, Seek.Reach}
 use Rattle.evt3_decoder.specs.{declared.Decoder.Decoder, Evt3.by-type, Evt3.kindOn, Evt3.kindOf, Evt3.stepAs, Evt3.step3, Evt3.period3, Evt3.threshold3}
 use Rattle.evt_types.specs.Layout.{type3, time3, wordSize3, grain3}
@@ -47,3 +51,19 @@ module _ (d : Decoder) (w : ℕ) (on : d .initialised ≡ true) where
   pub step-times : timesOf (step3 d w) ≡ ticked (timesOf d) w
   step-times = rw (started-step d w on) (by-type (λ k. timesOf (stepAs (kindOn k) d w) ≡ tickedAs k (timesOf d) w) (type3 w) refl refl refl refl refl refl refl
       (λ e0 e2 e3 e4 e5 e6 e8. rw (e0, e2, e3, e4, e5, e6, e8)))
+
+-- the types that carry events, as the bits of 52
+bit-past : (k : ℕ) → 6 ≤ k → eqb (52 / 2 ^ k % 2 ^ 1) 1 ≡ carriesAs k
+bit-past k h =
+    let le = pow-mono h in
+    let none : 52 / 2 ^ k ≡ 0 = div-eq-of-lt (omega arith) in
+    rw (none, ne-eqb k 2 (λ e. omega arith), ne-eqb k 4 (λ e. omega arith), ne-eqb k 5 (λ e. omega arith))
+
+pub carries-bit : (k : ℕ) → eqb (52 / 2 ^ k % 2 ^ 1) 1 ≡ carriesAs k
+carries-bit zero = refl
+carries-bit (suc zero) = refl
+carries-bit (suc (suc zero)) = refl
+carries-bit (suc (suc (suc zero))) = refl
+carries-bit (suc (suc (suc (suc zero)))) = refl
+carries-bit (suc (suc (suc (suc (suc zero))))) = refl
+carries-bit (suc (suc (suc (suc (suc (suc k)))))) = bit-past (suc (suc (suc (suc (suc (suc k)))))) (omega arith)

@@ -2,6 +2,7 @@
 // which needs no events, rows or columns.
 ghost use mathlib.Core.Path.{_≡_};
 ghost use mathlib.Core.Bool.{cond};
+ghost use Prim.Native.Nat.{_<_};
 ghost use Rattle.read_seek.specs.Times.{timesOf, ticked, Slow, carriesAs};
 use evt_types::clock;
 use evt_types::fields::bits;
@@ -53,15 +54,10 @@ pub fn tick(c: Times, word: u64) -> Times
     }
 }
 
-// Whether words of a type can carry events.
+// Whether words of a type can carry events: types 2, 4 and 5, as the bits of a number.
 pub fn carries(kind: u64) -> bool
+    requires { ⌜ kind < 16 ⌝ }
     ensures { λ r. ⌜ r ≡ carriesAs kind ⌝ }
 {
-    if kind == 2 {
-        return true;
-    }
-    if kind == 4 {
-        return true;
-    }
-    kind == 5
+    bits(52, kind, 1) == 1
 }

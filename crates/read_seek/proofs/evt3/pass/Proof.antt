@@ -68,4 +68,4 @@ pass-spec =
     tie.close
     (tie.spec
     Inv-loop μ-loop (λ c κs. search needs) loop-holds add-loop (λ c κs. omega arith) tick-requires
-    (λ c κs. search needs) (λ c κs. search needs) (λ c κs. search needs) (λ c. omega arith) (λ c. omega arith) loop-again returns returns-2)
+    (λ c κs. search needs) (λ c κs. omega (arith, c .bits .ensures)) (λ c κs. search needs) (λ c. omega arith) (λ c. omega arith) loop-again returns returns-2)

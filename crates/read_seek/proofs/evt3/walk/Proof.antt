@@ -49,5 +49,5 @@ walk-spec =
     tie.close
     (tie.spec
     Inv-loop μ-loop (λ c κs. search needs) loop-holds (λ c. omega arith) (λ c κs. omega arith) (λ c κs. bounded-sane3 (c .before .before .loop .inv .inv))
-    (λ c κs. search needs) (λ c κs. search needs) (λ c κs. search needs) (λ c. omega arith) (λ c. omega arith) loop-again
+    (λ c κs. search needs) (λ c κs. omega (arith, c .bits .ensures)) (λ c κs. search needs) (λ c. omega arith) (λ c. omega arith) loop-again
     (λ c κs. bounded-slim3 (c .before .loop .inv .inv)) returns)

@@ -5,13 +5,15 @@
 // there is room for what is written: the loops above see to it.
 ghost use mathlib.Core.Path.{_≡_};
 ghost use mathlib.Core.List.{[]};
-ghost use Prim.Native.Nat.{_+_, _≤_, _<_, min, max};
+ghost use Prim.Native.Nat.{_+_, _-_, _≤_, _<_, _^_, min, max};
+ghost use lib.Bits.{bitAnd};
 ghost use lib.Count.{trailingZeros};
-ghost use lib.ListN.{length};
+ghost use lib.ListN.{length, set};
 ghost use Rattle.laws_stream.specs.Slice.{onto};
 ghost use Rattle.evt_types.specs.Event.{eventsOf};
-ghost use Rattle.evt_types.specs.Columns.{Room, Wrote};
-ghost use Rattle.read_columns.specs.Inside.{insideOf, firstOf, latestOf};
+ghost use Rattle.evt_types.specs.Columns.{Fits, Room, Wrote};
+ghost use Rattle.read_columns.specs.Inside.{insideOf, firstOf, latestOf, columnBound, below, keptBits};
+use evt_types::fields::bits;
 use evt_types::num::inside;
 use evt_types::num::saturating_add;
 use evt_types::vector::Vector;
@@ -21,6 +23,48 @@ fn column(x: u64, mask: u64) -> u64
     ensures { λ r. ⌜ r ≡ min (x + trailingZeros 64 mask) 65535 ⌝ }
 {
     saturating_add(x, u64::trailing_zeros(mask) as u64)
+}
+
+// The bound of a column: the sensor's width, past all columns where that is more than 65,535.
+pub fn column_bound(width: u64) -> u64
+    ensures { λ r. ⌜ r ≡ columnBound width ⌝ }
+{
+    if width < 65536 { width } else { 65568 }
+}
+
+// The bits whose columns are below the bound.
+fn bits_below(x: u64, mask: u64, bound: u64) -> u64
+    requires { ⌜ (x < 65536) × (mask < 2 ^ 32) ⌝ }
+    ensures { λ r. ⌜ r ≡ below x mask bound ⌝ }
+{
+    if x + 32 <= bound {
+        mask
+    } else {
+        if x < bound {
+            bits(mask, 0, bound - x)
+        } else {
+            0
+        }
+    }
+}
+
+// The bits of a mask from column x on in row y whose events lie inside.
+pub fn clip(x: u64, y: u64, mask: u64, bound: u64, height: u64) -> u64
+    requires { ⌜ (x < 65536) × (mask < 2 ^ 32) ⌝ }
+    ensures { λ r. ⌜ r ≡ keptBits x y mask bound height ⌝ }
+{
+    if y < height {
+        bits_below(x, mask, bound)
+    } else {
+        0
+    }
+}
+
+// The mask without its lowest bit.
+fn clear_lowest(mask: u64) -> u64
+    ensures { λ r. ⌜ r ≡ bitAnd mask (mask - 1) ⌝ }
+{
+    if mask == 0 { 0 } else { mask & (mask - 1) }
 }
 
 // Writes all events of v from index `at` on, and answers the next index.
@@ -78,9 +122,8 @@ pub fn place(
     }
 }
 
-// `place`, bit by bit: the lowest set bit goes first, and is then cleared. EVT2.1 goes this way, where a
-// bit alone is seldom the lowest.
-pub fn put(
+// `place`, bit by bit: the lowest set bit goes first, and is then cleared.
+fn put(
     v: Vector,
     width: u64,
     height: u64,
@@ -113,6 +156,78 @@ pub fn put(
         mask = rest;
     }
     n
+}
+
+// `place` for EVT2.1, whose masks are long: clipped once, then two events a turn.
+pub fn spread(
+    v: Vector,
+    width: u64,
+    height: u64,
+    at: usize,
+    xs: &mut [u16],
+    ys: &mut [u16],
+    ts: &mut [i64],
+    ps: &mut [u8],
+) -> usize
+    requires { ⌜ Room (length (insideOf width height v)) v at (length (now xs)) (length (now ys)) (length (now ts)) (length (now ps)) ⌝ }
+    ensures { λ r. ⌜ r ≡ at + length (insideOf width height v) ⌝
+        ∗ ⌜ Wrote (insideOf width height v) at (now (xs .entry)) (now (ys .entry)) (now (ts .entry)) (now (ps .entry))
+        (now (xs .exit)) (now (ys .exit)) (now (ts .exit)) (now (ps .exit)) ⌝ }
+{
+    let y = v.y as u16;
+    let t = v.t as i64;
+    let p = v.p as u8;
+    let bound = column_bound(width);
+    let mut mask = clip(v.x, v.y, v.mask, bound, height);
+    let mut rest = clear_lowest(mask);
+    let mut n = at;
+    while rest != 0 {
+        let a = column(v.x, mask) as u16;
+        let b = column(v.x, rest) as u16;
+        n = put_two(a, b, y, t, p, n, &mut *xs, &mut *ys, &mut *ts, &mut *ps);
+        mask = clear_lowest(rest);
+        rest = clear_lowest(mask);
+    }
+    if mask != 0 {
+        let x = column(v.x, mask);
+        xs[n] = x as u16;
+        ys[n] = y;
+        ts[n] = t;
+        ps[n] = p;
+        n += 1;
+    }
+    n
+}
+
+// Writes two events of a row, in columns a and b, to index n and the next. The stores to one slice stand together:
+// the compiler makes one of them.
+fn put_two(
+    a: u16,
+    b: u16,
+    y: u16,
+    t: i64,
+    p: u8,
+    n: usize,
+    xs: &mut [u16],
+    ys: &mut [u16],
+    ts: &mut [i64],
+    ps: &mut [u8],
+) -> usize
+    requires { ⌜ Fits (n + 2) (length (now xs)) (length (now ys)) (length (now ts)) (length (now ps)) ⌝ }
+    ensures { λ r. ⌜ (r ≡ n + 2) × (now (xs .exit) ≡ set (set (now (xs .entry)) n a) (n + 1) b)
+        × (now (ys .exit) ≡ set (set (now (ys .entry)) n y) (n + 1) y)
+        × (now (ts .exit) ≡ set (set (now (ts .entry)) n t) (n + 1) t)
+        × (now (ps .exit) ≡ set (set (now (ps .entry)) n p) (n + 1) p) ⌝ }
+{
+    xs[n] = a;
+    xs[n + 1] = b;
+    ys[n] = y;
+    ys[n + 1] = y;
+    ts[n] = t;
+    ts[n + 1] = t;
+    ps[n] = p;
+    ps[n + 1] = p;
+    n + 2
 }
 
 // `place` where at most the lowest bit is set, as in EVT2.

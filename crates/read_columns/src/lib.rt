@@ -199,8 +199,7 @@ pub fn spread(
     n
 }
 
-// Writes two events of a row, in columns a and b, to index n and the next. The stores to one slice stand together:
-// the compiler makes one of them.
+// Writes two events, of columns a and b, to index n and the next.
 fn put_two(
     a: u16,
     b: u16,

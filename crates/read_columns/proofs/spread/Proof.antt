@@ -1,7 +1,7 @@
 -- `read_columns::spread` meets its contract. The loop: the events of the clipped mask's bits that are left are still to be written.
 use mathlib.Core.Path.{_≡_, _∙_}
 use mathlib.Core.List.{[], _∷_}
-use Prim.Native.Nat.{_+_, _-_, _^_, _<_}
+use Prim.Native.Nat.{_+_, _-_, _^_, _<_, min}
 use native.Mathlib.Omega.{arith}
 use borrow.Author.Needs.{needs}
 use lib.Bits.{bitAnd, and-le-l, and-le-r}
@@ -79,7 +79,8 @@ loop-again c =
     let rest = c .before .clear-lowest2 .ensures in
     let at : k .n + 1 + 1 ≡ k .n + 2 = omega arith in
     let a = c .before .before .before .before .before .before .before .before .before .before .before .before .before .before .before .column .ensures in
-    let b = c .before .before .before .before .before .before .before .before .before .before .before .before .before .before .column2 .ensures in (
+    let r = c .before .before .before .before .before .before .before .before .before .before .before .before .before .before .column2 in
+    let b : r .result ≡ min (v .x + trailingZeros 64 (k .rest)) 65535 = r .ensures in (
       omega (arith, k .inv .0, k .inv .1, and-le-l (k .mask) (k .mask - 1), and-le-l (k .rest) (k .rest - 1), rest),
       c .clear-lowest3 .ensures,
       rw (wrote .0, wrote .1, wrote .2, wrote .3, wrote .4, a, b, rest, toZ-pos w64 (v .t) (s .pre .time), ← at)

@@ -4,15 +4,18 @@ use mathlib.Core.Bool.{Bool, true, false, cond, and-true, and-false}
 use mathlib.Core.List.{List, [], _∷_, map}
 use Prim.Native.Nat.{ℕ, zero, suc, _+_, _-_, _/_, _%_, _≤_, _<_, _^_, min, max}
 use native.Mathlib.Omega.{arith}
-use native.Mathlib.Nat.{mod-le, mod-eq-of-lt, lt-of-lt-of-le}
-use lib.ListN.{length, length-map}
+use native.Mathlib.Nat.{add-zero, mod-le, mod-eq-of-lt, lt-of-lt-of-le}
+use lib.ListN.{length, set, length-map}
+use lib.Seq.{set-set}
+use lib.IntN.{ℤ, pos}
 use lib.Bits.{bitAnd, and-le-l}
 use lib.Count.{trailingZeros}
-use lib.Dec.{ltb}
+use lib.Dec.{eqb, ltb}
 use lib.Pow.{pow-mono}
-use borrow.Author.Tests.{ltb-true, ltb-false, lt-ltb, le-ltb}
+use borrow.Author.Tests.{eqb-true, eqb-false, ltb-true, ltb-false, lt-ltb, le-ltb}
 use Rattle.laws_stream.specs.{Machine.all-of, Machine.all-mapped, Mask.bits, Mask.bits-zero, Mask.bits-one, Mask.bits-few, Mask.bits-below, Mask.low-bit}
 use Rattle.laws_stream.specs.{Mask.trailing-wide, Order.greatest, Slice.onto, Slice.sift, Slice.sift-none, Slice.sift-all, Slice.sift-mapped}
+use Rattle.evt_types.specs.Columns.{Going, going-one}
 use Rattle.evt_types.specs.{declared.vector.Vector.Vector, Num.isInside, Event.Event, Event.eventAt, Event.eventsOf}
 
 abbrev pub inside : (width height : ℕ) → Event → Bool
@@ -43,15 +46,43 @@ module _ (v : Vector) where
   pub events-next : (m : ℕ) → 0 < m → m < 2 ^ 32 → eventsAt v m ≡ eventAt v (v .x + trailingZeros 64 m) ∷ eventsAt v (bitAnd m (m - 1))
   events-next m h l = ap (map (eventAt v)) (low-bit 32 (v .x) m h l) ∙ rw (trailing-wide 32 64 m h l (omega arith))
 
-  -- the lowest two, and one that is the last
+  pub events-some : (m : ℕ) → 0 < m → m < 2 ^ 32 → 1 ≤ length (eventsAt v m)
+  events-some m h l = rw (events-next m h l) (omega arith)
+
+  -- the lowest two
   pub events-two : (m n : ℕ) → n ≡ bitAnd m (m - 1) → 0 < n → m < 2 ^ 32
       → eventsAt v m ≡ eventAt v (v .x + trailingZeros 64 m) ∷ eventAt v (v .x + trailingZeros 64 n) ∷ eventsAt v (bitAnd n (n - 1))
   events-two m n is h l =
       let few : n ≤ m = omega (arith, and-le-l m (m - 1)) in
       events-next m (omega arith) l ∙ rw (← is, events-next n h (omega arith))
 
-  pub events-last : (m : ℕ) → bitAnd m (m - 1) ≡ 0 → 0 < m → m < 2 ^ 32 → eventsAt v m ≡ eventAt v (v .x + trailingZeros 64 m) ∷ []
-  events-last m none h l = events-next m h l ∙ rw (none, events-none)
+  -- one bit or two are left: the first event is written to n, the last to where it belongs, which is n again if there is but one
+  module _ {es : List Event} {at : ℕ} {xs₀ ys₀ : List ℕ} {ts₀ : List ℤ} {ps₀ : List ℕ} {n : ℕ} {xs ys : List ℕ} {ts : List ℤ} {ps : List ℕ} where
+    pub going-last : (m r : ℕ) → r ≡ bitAnd m (m - 1) → bitAnd r (r - 1) ≡ 0 → 0 < m → m < 2 ^ 32
+        → Going es at xs₀ ys₀ ts₀ ps₀ (eventsAt v m) n xs ys ts ps → (l k : ℕ) → l ≡ cond (eqb r 0) m r → k ≡ n + cond (eqb r 0) 0 1
+        → let a = eventAt v (v .x + trailingZeros 64 m) in
+        let b = eventAt v (v .x + trailingZeros 64 l) in
+        Going es at xs₀ ys₀ ts₀ ps₀ [] (k + 1) (set (set xs n (a .x)) k (b .x)) (set (set ys n (a .y)) k (b .y)) (set (set ts n (pos (a .t))) k (pos (b .t)))
+        (set (set ps n (a .p)) k (b .p))
+    going-last m r is-r none h small g l k is-l is-k = rw (is-l, is-k) (go (eqb r 0) refl)
+      where
+        a : Event
+        a = eventAt v (v .x + trailingZeros 64 m)
+
+        go : (c : Bool) → eqb r 0 ≡ c →
+            let b = eventAt v (v .x + trailingZeros 64 (cond c m r)) in
+            Going es at xs₀ ys₀ ts₀ ps₀ [] (n + cond c 0 1 + 1) (set (set xs n (a .x)) (n + cond c 0 1) (b .x))
+            (set (set ys n (a .y)) (n + cond c 0 1) (b .y)) (set (set ts n (pos (a .t))) (n + cond c 0 1) (pos (b .t)))
+            (set (set ps n (a .p)) (n + cond c 0 1) (b .p))
+        go true e =
+            let z = eqb-true r 0 e in
+            let one : Going es at xs₀ ys₀ ts₀ ps₀ (a ∷ []) n xs ys ts ps = rw (events-next m h small, ← is-r, z, events-none) at g in
+            rw (add-zero n, set-set xs n (a .x) (a .x), set-set ys n (a .y) (a .y), set-set ts n (pos (a .t)) (pos (a .t)), set-set ps n (a .p) (a .p)) (going-one a one)
+        go false e =
+            let z = eqb-false r 0 e in
+            let b = eventAt v (v .x + trailingZeros 64 r) in
+            let two : Going es at xs₀ ys₀ ts₀ ps₀ (a ∷ b ∷ []) n xs ys ts ps = rw (events-two m r is-r (omega arith) small, none, events-none) at g in
+            going-one b (going-one a two)
 
 module _ (width height : ℕ) (v : Vector) where
   pub inside-none : insideAt width height v 0 ≡ []

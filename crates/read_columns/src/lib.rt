@@ -4,10 +4,12 @@
 // What they require is that the vector's numbers are as small as every step yields them, and that
 // there is room for what is written: the loops above see to it.
 ghost use mathlib.Core.Path.{_≡_};
+ghost use mathlib.Core.Bool.{cond};
 ghost use mathlib.Core.List.{[]};
 ghost use Prim.Native.Nat.{_+_, _-_, _≤_, _<_, _^_, min, max};
 ghost use lib.Bits.{bitAnd};
 ghost use lib.Count.{trailingZeros};
+ghost use lib.Dec.{eqb};
 ghost use lib.ListN.{length, set};
 ghost use Rattle.laws_stream.specs.Slice.{onto};
 ghost use Rattle.evt_types.specs.Event.{eventsOf};
@@ -158,7 +160,8 @@ fn put(
     n
 }
 
-// `place` for EVT2.1, whose masks are long: clipped once, then two events a turn.
+// `place` for EVT2.1, whose masks are long: clipped once, then two events a turn. The last turn has no branch
+// between one event and two, which no processor would foresee: one alone is written twice.
 pub fn spread(
     v: Vector,
     width: u64,
@@ -179,27 +182,44 @@ pub fn spread(
     let p = v.p as u8;
     let bound = column_bound(width);
     let mut mask = clip(v.x, v.y, v.mask, bound, height);
+    if mask == 0 {
+        return at;
+    }
     let mut rest = clear_lowest(mask);
+    let mut more = clear_lowest(rest);
     let mut n = at;
-    while rest != 0 {
+    while more != 0 {
         let a = column(v.x, mask) as u16;
         let b = column(v.x, rest) as u16;
-        n = put_two(a, b, y, t, p, n, &mut *xs, &mut *ys, &mut *ts, &mut *ps);
-        mask = clear_lowest(rest);
+        let m = n + 1;
+        n = put_two(a, b, y, t, p, n, m, &mut *xs, &mut *ys, &mut *ts, &mut *ps);
+        mask = more;
         rest = clear_lowest(mask);
+        more = clear_lowest(rest);
     }
-    if mask != 0 {
-        let x = column(v.x, mask);
-        xs[n] = x as u16;
-        ys[n] = y;
-        ts[n] = t;
-        ps[n] = p;
-        n += 1;
-    }
-    n
+    let last = last_of(mask, rest);
+    let m = last_at(n, rest);
+    let a = column(v.x, mask) as u16;
+    let b = column(v.x, last) as u16;
+    put_two(a, b, y, t, p, n, m, &mut *xs, &mut *ys, &mut *ts, &mut *ps)
 }
 
-// Writes two events, of columns a and b, to index n and the next.
+// Of a mask with one bit or two, where `rest` is without the lowest: the mask of the last bit, and the index
+// of its event where the first has index n.
+fn last_of(mask: u64, rest: u64) -> u64
+    ensures { λ r. ⌜ r ≡ cond (eqb rest 0) mask rest ⌝ }
+{
+    if rest == 0 { mask } else { rest }
+}
+
+fn last_at(n: usize, rest: u64) -> usize
+    requires { ⌜ n + 1 < 2 ^ 64 ⌝ }
+    ensures { λ r. ⌜ r ≡ n + cond (eqb rest 0) 0 1 ⌝ }
+{
+    if rest == 0 { n } else { n + 1 }
+}
+
+// Writes two events, of columns a and b, to the indexes n and m, and answers the next.
 fn put_two(
     a: u16,
     b: u16,
@@ -207,26 +227,27 @@ fn put_two(
     t: i64,
     p: u8,
     n: usize,
+    m: usize,
     xs: &mut [u16],
     ys: &mut [u16],
     ts: &mut [i64],
     ps: &mut [u8],
 ) -> usize
-    requires { ⌜ Fits (n + 2) (length (now xs)) (length (now ys)) (length (now ts)) (length (now ps)) ⌝ }
-    ensures { λ r. ⌜ (r ≡ n + 2) × (now (xs .exit) ≡ set (set (now (xs .entry)) n a) (n + 1) b)
-        × (now (ys .exit) ≡ set (set (now (ys .entry)) n y) (n + 1) y)
-        × (now (ts .exit) ≡ set (set (now (ts .entry)) n t) (n + 1) t)
-        × (now (ps .exit) ≡ set (set (now (ps .entry)) n p) (n + 1) p) ⌝ }
+    requires { ⌜ Fits (m + 1) (length (now xs)) (length (now ys)) (length (now ts)) (length (now ps)) ⌝ ∗ ⌜ n ≤ m ⌝ }
+    ensures { λ r. ⌜ (r ≡ m + 1) × (now (xs .exit) ≡ set (set (now (xs .entry)) n a) m b)
+        × (now (ys .exit) ≡ set (set (now (ys .entry)) n y) m y)
+        × (now (ts .exit) ≡ set (set (now (ts .entry)) n t) m t)
+        × (now (ps .exit) ≡ set (set (now (ps .entry)) n p) m p) ⌝ }
 {
     xs[n] = a;
-    xs[n + 1] = b;
+    xs[m] = b;
     ys[n] = y;
-    ys[n + 1] = y;
+    ys[m] = y;
     ts[n] = t;
-    ts[n + 1] = t;
+    ts[m] = t;
     ps[n] = p;
-    ps[n + 1] = p;
-    n + 2
+    ps[m] = p;
+    m + 1
 }
 
 // `place` where at most the lowest bit is set, as in EVT2.

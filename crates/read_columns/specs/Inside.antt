@@ -62,8 +62,8 @@ module _ (v : Vector) where
         → Going es at xs₀ ys₀ ts₀ ps₀ (eventsAt v m) n xs ys ts ps → (l k : ℕ) → l ≡ cond (eqb r 0) m r → k ≡ n + cond (eqb r 0) 0 1
         → let a = eventAt v (v .x + trailingZeros 64 m) in
         let b = eventAt v (v .x + trailingZeros 64 l) in
-        Going es at xs₀ ys₀ ts₀ ps₀ [] (k + 1) (set (set xs n (a .x)) k (b .x)) (set (set ys n (a .y)) k (b .y)) (set (set ts n (pos (a .t))) k (pos (b .t)))
-        (set (set ps n (a .p)) k (b .p))
+        Going es at xs₀ ys₀ ts₀ ps₀ [] (k + 1) (set (set xs n (a .x)) k (b .x)) (set (set ys n (a .y)) k (b .y))
+        (set (set ts n (pos (a .t))) k (pos (b .t))) (set (set ps n (a .p)) k (b .p))
     going-last m r is-r none h small g l k is-l is-k = rw (is-l, is-k) (go (eqb r 0) refl)
       where
         a : Event
@@ -77,7 +77,7 @@ module _ (v : Vector) where
         go true e =
             let z = eqb-true r 0 e in
             let one : Going es at xs₀ ys₀ ts₀ ps₀ (a ∷ []) n xs ys ts ps = rw (events-next m h small, ← is-r, z, events-none) at g in
-            rw (add-zero n, set-set xs n (a .x) (a .x), set-set ys n (a .y) (a .y), set-set ts n (pos (a .t)) (pos (a .t)), set-set ps n (a .p) (a .p)) (going-one a one)
+            rw (add-zero n, set-set xs n, set-set ys n, set-set ts n, set-set ps n) (going-one a one)
         go false e =
             let z = eqb-false r 0 e in
             let b = eventAt v (v .x + trailingZeros 64 r) in

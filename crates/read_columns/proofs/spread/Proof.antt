@@ -56,12 +56,15 @@ last : (c : tie.After-column4 Inv-loop μ-loop) →
     (set (set (k .xs) (k .n) (c .before .column3 .result)) m (c .column4 .result)) (set (set (k .ys) (k .n) (a .v .y)) m (a .v .y))
     (set (set (k .ts) (k .n) (pos (a .v .t))) m (pos (a .v .t))) (set (set (k .ps) (k .n) (a .v .p)) m (a .v .p))
 last c =
-    let v = c .before .before .before .before .before .before .before .before .before .before .before .before .before .before .before .before .before .args .v in
-    let k = c .before .before .before .before .before .loop in
-    let b : c .column4 .result ≡ min (v .x + trailingZeros 64 (c .before .before .before .last-of .result)) 65535 = c .column4 .ensures in
+    let t = c .before .before .before .before in
+    let k = t .before .loop in
+    let v = t .before .before .before .before .before .before .before .before .before .before .before .before .before .args .v in
+    let l = c .before .before .before .last-of in
+    let m = c .before .before .last-at in
+    let b : c .column4 .result ≡ min (v .x + trailingZeros 64 (l .result)) 65535 = c .column4 .ensures in
+    let none : bitAnd (k .rest) (k .rest - 1) ≡ 0 = omega (arith, k .inv .3, t .loop-test .left) in
     rw (c .before .column3 .ensures, b)
-    (going-last v (k .mask) (k .rest) (k .inv .2) (omega (arith, k .inv .3, c .before .before .before .before .loop-test .left)) (k .inv .1) (k .inv .0) (k .inv .4)
-    (c .before .before .before .last-of .result) (c .before .before .last-at .result) (c .before .before .before .last-of .ensures) (c .before .before .last-at .ensures))
+    (going-last v (k .mask) (k .rest) (k .inv .2) none (k .inv .1) (k .inv .0) (k .inv .4) (l .result) (m .result) (l .ensures) (m .ensures))
 
 returns : tie.Need-returns Inv-loop μ-loop
 returns c =
@@ -121,35 +124,46 @@ loop-again c =
 
 last-at-requires : tie.Need-last-at-requires Inv-loop μ-loop
 last-at-requires c κs =
+    let s = c .before .before .before .before .before .before .before .before .before .before .before .before .before .before in
     let k = c .before .before .loop in
-    let some = events-some (c .before .before .before .before .before .before .before .before .before .before .before .before .before .before .args .v) (k .mask) (k .inv .1) (k .inv .0) in
-    let sized = c .before .before .before .before .before .before .before .before .before .before .before .before .before .before .good .1 .1 .1 .1 in
+    let some = events-some (s .args .v) (k .mask) (k .inv .1) (k .inv .0) in
+    let sized = s .good .1 .1 .1 .1 in
     omega arith
 
 put-two-requires-2 : tie.Need-put-two-requires-2 Inv-loop μ-loop
 put-two-requires-2 c κs =
-    let g = last (c .before .before .before .before) in
+    let b = c .before .before .before .before in
+    let g = last b in
     let l = c .before .before .before .before .before .before .before .before .before .loop .inv .4 in
-    let room = c .before .before .before .before .before .before .before .before .before .before .before .before .before .before .before .before .before .before .before .before .before .pre in
-    (record { fit-x = omega arith; fit-y = omega arith; fit-t = omega arith; fit-p = omega arith }, omega (arith, c .before .before .before .before .before .before .last-at .ensures))
+    let room = b .before .before .before .before .before .before .before .before .before .before .before .before .before .before .before .before .before .pre in
+    (record { fit-x = omega arith; fit-y = omega arith; fit-t = omega arith; fit-p = omega arith }, omega (arith, b .before .before .last-at .ensures))
 
 same-x : tie.Need-same-length Inv-loop μ-loop
-same-x c = rw (c .before .before .before .before .before .before .before .put-two2 .ensures .1) (simp length-set (c .before .before .before .before .before .before .before .before .before .before .before .before .before .before .before .before .before .loop .inv .4 .in-x .long))
+same-x c =
+    let k = c .before .before .before .before .before .before .before .before .before .before .before .before .before .before .before .before .before .loop in
+    rw (c .before .before .before .before .before .before .before .put-two2 .ensures .1) (simp length-set (k .inv .4 .in-x .long))
 
 same-y : tie.Need-same-length-2 Inv-loop μ-loop
-same-y c = rw (c .before .before .before .before .before .before .before .put-two2 .ensures .2) (simp length-set (c .before .before .before .before .before .before .before .before .before .before .before .before .before .before .before .before .before .loop .inv .4 .in-y .long))
+same-y c =
+    let k = c .before .before .before .before .before .before .before .before .before .before .before .before .before .before .before .before .before .loop in
+    rw (c .before .before .before .before .before .before .before .put-two2 .ensures .2) (simp length-set (k .inv .4 .in-y .long))
 
 same-t : tie.Need-same-length-3 Inv-loop μ-loop
-same-t c = rw (c .before .before .before .before .before .before .before .put-two2 .ensures .3) (simp length-set (c .before .before .before .before .before .before .before .before .before .before .before .before .before .before .before .before .before .loop .inv .4 .in-t .long))
+same-t c =
+    let k = c .before .before .before .before .before .before .before .before .before .before .before .before .before .before .before .before .before .loop in
+    rw (c .before .before .before .before .before .before .before .put-two2 .ensures .3) (simp length-set (k .inv .4 .in-t .long))
 
 same-p : tie.Need-same-length-4 Inv-loop μ-loop
-same-p c = rw (c .before .before .before .before .before .before .before .put-two2 .ensures .4) (simp length-set (c .before .before .before .before .before .before .before .before .before .before .before .before .before .before .before .before .before .loop .inv .4 .in-p .long))
+same-p c =
+    let k = c .before .before .before .before .before .before .before .before .before .before .before .before .before .before .before .before .before .loop in
+    rw (c .before .before .before .before .before .before .before .put-two2 .ensures .4) (simp length-set (k .inv .4 .in-p .long))
 
 returns-2 : tie.Need-returns-2 Inv-loop μ-loop
 returns-2 c =
-    let s = c .before .before .before .before .before .before .before .before .before .before .before .before .before .before .before .before .before .before .before .before .before .before .before .before .before .before .before .before .before in
+    let b = c .before .before .before .before .before .before .before .before .before .before .before .before in
+    let s = b .before .before .before .before .before .before .before .before .before .before .before .before .before .before .before .before .before in
     let wrote = c .before .before .before .before .before .before .before .put-two2 .ensures in
-    let g = last (c .before .before .before .before .before .before .before .before .before .before .before .before) in (
+    let g = last b in (
       wrote .0 ∙ omega (arith, g .count),
       rw (wrote .1, wrote .2, wrote .3, wrote .4, toZ-pos w64 (s .args .v .t) (s .pre .time))
           (going-end (s .pre .room-x) (s .pre .room-y) (s .pre .room-t) (s .pre .room-p) g),

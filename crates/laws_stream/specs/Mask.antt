@@ -6,13 +6,14 @@ use mathlib.Core.List.{List, [], _∷_}
 use Prim.Native.Nat.{ℕ, zero, suc, _+_, _-_, _*_, _/_, _%_, _^_, _≤_, _<_}
 use native.Mathlib.Omega.{arith}
 use native.Mathlib.Nat.{add-suc, suc-add, add-zero}
-use lib.Dec.{eqb}
+use native.Mathlib.Numerals.{add-one}
+use lib.Dec.{eqb, ltb}
 use lib.ListN.{length}
 use lib.Bits.{bitAnd, and-step, and-self, and-le-r}
 use lib.Count.{ones, ones-step, trailingZeros, leadingZeros, leading-top}
-use lib.Pow.{pow-pos}
-use borrow.Author.Tests.{eqb-true, eqb-false}
-use Rattle.laws_stream.specs.{Machine.All, Machine.all-map, Slice.onto, Order.greatest}
+use lib.Pow.{pow-pos, field, mod-mod-pow}
+use borrow.Author.Tests.{eqb-true, eqb-false, ltb-true, ltb-false}
+use Rattle.laws_stream.specs.{Machine.All, Machine.all-map, Slice.onto, Slice.sift, Order.greatest}
 
 -- rising numbers, from `at` up to below `to`
 abbrev pub Inc : ℕ → ℕ → List ℕ → Type 0
@@ -69,6 +70,32 @@ bits-zero (suc k) at = bits-even k at 0 refl ∙ bits-zero k (suc at)
 
 pub bits-one : (k at : ℕ) → bits (suc k) at 1 ≡ at ∷ []
 bits-one k at = bits-odd k at 1 refl ∙ ap (λ (l : List ℕ). at ∷ l) (bits-zero k (suc at))
+
+-- the numbers below w are those of the bits below w's
+pub bits-below : (k at m w : ℕ) → sift (λ c. ltb c w) (bits k at m) ≡ bits k at (m % 2 ^ (w - at))
+bits-below zero at m w = rw (bits-none at m, bits-none at (m % 2 ^ (w - at)))
+bits-below (suc k) at m w = go (ltb at w) refl (bits-below k (suc at) (m / 2) w)
+  where
+    go : (b : Bool) → ltb at w ≡ b → sift (λ c. ltb c w) (bits k (suc at) (m / 2)) ≡ bits k (suc at) (m / 2 % 2 ^ (w - suc at))
+        → sift (λ c. ltb c w) (bits (suc k) at m) ≡ bits (suc k) at (m % 2 ^ (w - at))
+    go true q ih =
+        let l = ltb-true at w q in
+        let j = w - suc at in
+        let e : w - at ≡ suc j = omega arith in
+        let r : m % 2 ^ suc j % 2 ≡ m % 2 = rw add-one at (mod-mod-pow m j 1) in
+        let h : m % 2 ^ suc j / 2 ≡ m / 2 % 2 ^ j = rw add-one at (field m j 1) in
+        rw e (⊎-elim
+        (λ (z : m % 2 ≡ 0). rw (bits-even k at m z, bits-even k at (m % 2 ^ suc j) (r ∙ z), h) ih)
+        (λ (z : m % 2 ≡ 1). rw (bits-odd k at m z, bits-odd k at (m % 2 ^ suc j) (r ∙ z), h, q, ih))
+        (parity m))
+    go false q ih =
+        let l = ltb-false at w q in
+        let a : w - at ≡ 0 = omega arith in
+        let b : w - suc at ≡ 0 = omega arith in
+        let n : m % 2 ^ 0 ≡ 0 = omega arith in
+        let o : m / 2 % 2 ^ 0 ≡ 0 = omega arith in
+        let t : sift (λ c. ltb c w) (bits k (suc at) (m / 2)) ≡ [] = ih ∙ rw (b, o) (bits-zero k (suc at)) in
+        rw (a, n, bits-zero) (⊎-elim (λ (z : m % 2 ≡ 0). rw (bits-even k at m z) t) (λ (z : m % 2 ≡ 1). rw (bits-odd k at m z, q) t) (parity m))
 
 -- ---- a loop over the bits: the lowest goes first, and is then cleared from the mask
 

@@ -1,6 +1,6 @@
 -- A part of a stream's events, by number and by time.
 use mathlib.Core.Path.{_≡_, refl, sym, ap, _∙_}
-use mathlib.Core.List.{List, [], _∷_, _++_, append-assoc}
+use mathlib.Core.List.{List, [], _∷_, _++_, map, append-assoc}
 use mathlib.Core.Bool.{Bool, true, false, _&&_, and-false}
 use Prim.Native.Nat.{ℕ, _≤_, _<_}
 use native.Mathlib.Omega.{arith}
@@ -48,6 +48,15 @@ module _ {E : Type 0} (keep : E → Bool) where
 pub sift-alike : {E : Type 0} (keep other : E → Bool) (a : List E) → All (λ e. keep e ≡ other e) a → sift keep a ≡ sift other a
 sift-alike keep other [] h = refl
 sift-alike keep other (e ∷ a) h = rw (h .0, sift-alike keep other a (h .1))
+
+-- a test of what comes of each
+pub sift-mapped : {A E : Type 0} (f : E → Bool) (g : A → E) (h : A → Bool) → ((a : A) → f (g a) ≡ h a) → (l : List A) → sift f (map g l) ≡ map g (sift h l)
+sift-mapped f g h same [] = refl
+sift-mapped f g h same (a ∷ l) = rw (same a, sift-mapped f g h same l) (go (h a))
+  where
+    go : (b : Bool) → onto b (g a) (map g (sift h l)) ≡ map g (onto b a (sift h l))
+    go true = refl
+    go false = refl
 
 -- one test after another
 module _ {E : Type 0} (first then : E → Bool) where

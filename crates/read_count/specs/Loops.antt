@@ -13,15 +13,15 @@ use Rattle.evt2_decoder.specs.{declared.Evt2Decoder.Evt2Decoder, Evt2.step2, Ev
 use Rattle.evt2_decoder.specs.declared.Evt2Step.{Evt2Step}
 use Rattle.evt21_decoder.specs.{Evt21.of2, Evt21.wide, Evt21.reader21, Range.Bounded21}
 use Rattle.evt3_decoder.specs.{declared.Decoder.Decoder, Evt3.vector3, Evt3.reader3, Evt3.slimmed, Range.Bounded3, Range.bounded-step3}
-use Rattle.read_columns.specs.Inside.{insideOf, clock, latestOf}
+use Rattle.read_columns.specs.Inside.{insideOf, columnBound, clock, latestOf}
 use Rattle.read_fill.specs.{Iteration.Iteration, Iteration.insideAll}
 use Rattle.read_fill.specs.Loops as Loops
 use Rattle.evt_codec.specs.{declared.codec.Codec.the-variants.Evt3, Sound.sound2, Sound.sound21, Sound.bounded-words}
 use Rattle.read_count.specs.{declared.evt3_step.CountingStep.CountingStep, Counting.Counting, Counting.counting-few, Counting.counting-next}
 use Rattle.read_count.specs.{Counting.counting-end, Passing.Passing, Passing.Reached, Passing.passing-stop, Passing.passing-next}
 use Rattle.read_count.specs.{Evt2Inside.keyBound, Evt2Inside.isEventInside, Evt2Inside.oneIf, Evt2Inside.event-count, Evt2Inside.event-step}
-use Rattle.read_count.specs.{Evt3Inside.columnBound, Evt3Inside.insideCount, Evt3Inside.inside-counted, Evt3Step.AgreesWithStep}
-use Rattle.read_count.specs.{Evt3Step.decoderOf, Evt3Step.countedVector}
+use Rattle.read_count.specs.{Evt3Inside.insideCount, Evt3Inside.inside-counted, Evt3Step.AgreesWithStep, Evt3Step.decoderOf}
+use Rattle.read_count.specs.Evt3Step.{countedVector}
 
 -- ---- EVT2
 

@@ -86,7 +86,7 @@ pub fn evt21(bytes: &[u8], d: Evt21Decoder, width: u64, height: u64) -> Evt21Cou
         × (r .latest ≡ greatest clock (insideAll wordSize21 reader21 width height d (now (bytes .entry))))
         × (r .decoder ≡ after wordSize21 reader21 d (now (bytes .entry))) ⌝ }
 {
-    let bound = evt3_inside::column_bound(width);
+    let bound = read_columns::column_bound(width);
     let mut s = d.evt2();
     let mut n: usize = 0;
     let mut top: u64 = 0;
@@ -118,7 +118,7 @@ pub fn evt3(bytes: &[u8], d: Decoder, width: u64, height: u64) -> Evt3CountedAll
     let spans = evt3_step::span_table();
     let vects = evt3_step::vect_table();
     let counts = evt3_inside::bit_counts();
-    let bound = evt3_inside::column_bound(width);
+    let bound = read_columns::column_bound(width);
     let mut s = evt3_step::counting(widen(d));
     let mut n: usize = 0;
     let mut top: u64 = 0;

@@ -1,9 +1,9 @@
 // EVT3 for counting loops: how many events of a word lie inside the sensor, by a table of bit counts.
 // specs/Evt3Inside.antt says that it is so many.
 ghost use mathlib.Core.Path.{_≡_};
-ghost use Prim.Native.Nat.{_-_, _%_, _<_, _^_};
+ghost use Prim.Native.Nat.{_<_, _^_};
 ghost use lib.Count.{ones};
-ghost use Rattle.read_count.specs.Evt3Inside.{bitCounts, columnBound, insideCount};
+ghost use Rattle.read_count.specs.Evt3Inside.{bitCounts, insideCount};
 use evt_types::fields::bits;
 
 // How many bits are set in each number of six bits.
@@ -81,13 +81,6 @@ pub fn bit_counts() -> [usize; 64]
     BIT_COUNTS
 }
 
-// The bound of a column: the sensor's width, past all columns where that is more than 65,535.
-pub fn column_bound(width: u64) -> u64
-    ensures { λ r. ⌜ r ≡ columnBound width ⌝ }
-{
-    if width < 65536 { width } else { 65568 }
-}
-
 // How many of a mask's events, from column x on in row y, lie inside.
 pub fn count_inside(
     x: u64,
@@ -100,28 +93,8 @@ pub fn count_inside(
     requires { ⌜ (x < 65536) × (mask < 2 ^ 12) ⌝ ∗ ⌜ now counts ≡ bitCounts ⌝ }
     ensures { λ r. ⌜ r ≡ insideCount x y mask bound height ⌝ }
 {
-    if y < height {
-        let kept = bits_below(x, mask, bound);
-        count_bits(kept, counts)
-    } else {
-        0
-    }
-}
-
-// The bits whose columns are below the bound.
-fn bits_below(x: u64, mask: u64, bound: u64) -> u64
-    requires { ⌜ (x < 65536) × (mask < 2 ^ 12) ⌝ }
-    ensures { λ r. ⌜ r ≡ mask % 2 ^ (bound - x) ⌝ }
-{
-    if x + 12 <= bound {
-        mask
-    } else {
-        if x < bound {
-            bits(mask, 0, bound - x)
-        } else {
-            0
-        }
-    }
+    let kept = read_columns::clip(x, y, mask, bound, height);
+    count_bits(kept, counts)
 }
 
 // How many bits are set.

@@ -79,7 +79,7 @@ pub fn evt21(bytes: &[u8], d: Evt21Decoder, width: u64, height: u64, most: usize
     requires { ⌜ Bounded21 (length (now bytes) / wordSize21) d ⌝ }
     ensures { λ r. ⌜ Reached wordSize21 reader21 Bounded21 width height most d (now (bytes .entry)) (r .at) (r .count) (r .decoder) ⌝ }
 {
-    let bound = evt3_inside::column_bound(width);
+    let bound = read_columns::column_bound(width);
     let mut s = d.evt2();
     let mut n: usize = 0;
     let mut i: usize = 0;
@@ -111,7 +111,7 @@ pub fn evt3(bytes: &[u8], d: Decoder, width: u64, height: u64, most: usize) -> E
     let spans = evt3_step::span_table();
     let vects = evt3_step::vect_table();
     let counts = evt3_inside::bit_counts();
-    let bound = evt3_inside::column_bound(width);
+    let bound = read_columns::column_bound(width);
     let mut s = evt3_step::counting(widen(d));
     let mut n: usize = 0;
     let mut i: usize = 0;

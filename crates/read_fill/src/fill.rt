@@ -83,7 +83,7 @@ pub fn evt21(
         let v = step.events;
         s = step.next;
         i += Evt21Decoder::WORD_SIZE;
-        n = read_columns::put(v, width, height, n, &mut *xs, &mut *ys, &mut *ts, &mut *ps);
+        n = read_columns::spread(v, width, height, n, &mut *xs, &mut *ys, &mut *ts, &mut *ps);
     }
     let decoder = of_evt2(s);
     FilledAll {

@@ -54,21 +54,21 @@ loop-holds c =
 advance-requires : tie.Need-advance-requires Inv-loop μ-loop
 advance-requires c κs = bounded-sane2 (c .before .before .loop .inv .stand .inv)
 
-put-requires : tie.Need-put-requires Inv-loop μ-loop
-put-requires c κs =
+spread-requires : tie.Need-spread-requires Inv-loop μ-loop
+spread-requires c κs =
     filling-room (omega arith) bounded-step21 (fits-at (c .before .before .before .before .before .before .before .before .before .before))
     (c .before .before .before .before .before .before .before .before .before .loop .inv) (iteration (c .before .before .before .before))
     (small (c .before .before .before .before))
 
 loop-again : tie.Need-loop-again Inv-loop μ-loop
 loop-again c =
-    let put = c .before .before .before .before .before .before .before .put .ensures in
-    rw (put .0)
+    let wrote = c .before .before .before .before .before .before .before .spread .ensures in
+    rw (wrote .0)
     (filling-next (omega arith) bounded-step21 (fits-at
     (c .before .before .before .before .before .before .before .before .before .before .before .before .before .before .before .before .before .before))
     (c .before .before .before .before .before .before .before .before .before .before .before .before .before .before .before .before .before .loop .inv)
     (iteration (c .before .before .before .before .before .before .before .before .before .before .before .before))
-    (small (c .before .before .before .before .before .before .before .before .before .before .before .before)) (put .1))
+    (small (c .before .before .before .before .before .before .before .before .before .before .before .before)) (wrote .1))
 
 returns : tie.Need-returns Inv-loop μ-loop
 returns c =
@@ -80,7 +80,7 @@ pub evt21-spec : {M : Type 1} → statement M
 evt21-spec =
     tie.close
     (tie.spec
-    Inv-loop μ-loop (λ c κs. search needs) loop-holds (λ c. omega arith) (λ c κs. omega arith) advance-requires (λ c. omega arith) put-requires
+    Inv-loop μ-loop (λ c κs. search needs) loop-holds (λ c. omega arith) (λ c κs. omega arith) advance-requires (λ c. omega arith) spread-requires
     (λ c. omega arith) loop-again (λ c κs. search needs) (λ c. c .before .before .loop .inv .going .in-x .long)
     (λ c. c .before .before .loop .inv .going .in-y .long) (λ c. c .before .before .loop .inv .going .in-t .long)
     (λ c. c .before .before .loop .inv .going .in-p .long) returns)

@@ -1,7 +1,7 @@
--- `read_count::evt3_inside::column_bound` meets its contract.
+-- `read_columns::column_bound` meets its contract.
 use borrow.Author.Tests.{lt-ltb, le-ltb}
-use Rattle.read_count.proofs.evt3_inside.column_bound.Statement.{statement}
-use Rattle.read_count.proofs.evt3_inside.column_bound.Tie as tie
+use Rattle.read_columns.proofs.column_bound.Statement.{statement}
+use Rattle.read_columns.proofs.column_bound.Tie as tie
 
 returns : tie.Need-returns
 returns c = rw (lt-ltb (c .before .args .width) 65536 (c .if1 .taken))

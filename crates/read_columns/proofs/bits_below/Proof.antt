@@ -1,14 +1,14 @@
--- `read_count::evt3_inside::bits_below` meets its contract.
+-- `read_columns::bits_below` meets its contract.
 use mathlib.Core.Path.{_≡_, sym, _∙_}
 use Prim.Native.Nat.{_-_}
 use native.Mathlib.Omega.{arith}
-use Rattle.read_count.specs.Evt3Inside.{all-bits, low-bits}
+use Rattle.read_columns.specs.Inside.{all-bits, low-bits}
 use borrow.Author.Needs.{needs}
-use Rattle.read_count.proofs.evt3_inside.bits_below.Statement.{statement}
-use Rattle.read_count.proofs.evt3_inside.bits_below.Tie as tie
+use Rattle.read_columns.proofs.bits_below.Statement.{statement}
+use Rattle.read_columns.proofs.bits_below.Tie as tie
 
 returns : tie.Need-returns
-returns c = sym (all-bits 12 (c .before .args .mask) (c .before .args .bound - c .before .args .x) (c .before .pre .1) (omega arith))
+returns c = sym (all-bits 32 (c .before .args .mask) (c .before .args .bound - c .before .args .x) (c .before .pre .1) (omega arith))
 
 returns-2 : tie.Need-returns-2
 returns-2 c =

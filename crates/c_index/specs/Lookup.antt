@@ -101,15 +101,18 @@ module _ (e : Encoding) (n : ℕ) (l : List (List ℕ)) where
         next : Finds asked records (apart t) r
         next = finds-next asked records (apart t) t s more r (is-r ∙ ap (narrowed t) (is-c ∙ sym (nth-records (t .at) looks-place)))
 
-        pub looks-next : Looks asked r
+        looks-next : Looks asked r
         looks-next = rebound asked (apart t) r next
 
-        pub looks-less : left-of r < left-of t
+        looks-less : left-of r < left-of t
         looks-less = go (r .more) refl
           where
             go : (b : Bool) → r .more ≡ b → cond b (suc (apart r)) 0 < left-of t
             go true p = rw more (omega (arith, next .searching .left p))
             go false p = rw more (omega arith)
+
+        pub looks-on : Looks asked r × (left-of r < left-of t)
+        looks-on = (looks-next, looks-less)
 
     pub looks-end : (asked : Choice) (t₀ : Search) → t₀ ≡ firstSearch n asked → (t : Search) → Looks (t₀ .asked) t → t .more ≡ false
         → t .best ≡ chosenOf asked records

@@ -66,16 +66,18 @@ abbrev pub SlicesFromC : List ℕ → RawSliceSource → (ok : Bool) → (asked 
     → (xs₀ ys₀ : List ℕ) (ts₀ : List ℤ) (ps₀ xs ys : List ℕ) (ts : List ℤ) (ps : List ℕ) → Type 0
 SlicesFromC recording s ok asked r xs₀ ys₀ ts₀ ps₀ = SlicesC (sliceOutcome recording s ok asked (shortest xs₀ ys₀ ts₀ ps₀)) r xs₀ ys₀ ts₀ ps₀
 
-abbrev pub SlicesIndexC : List ℕ → PropheseeSource → (records : List (List ℕ)) → (i0 i1 : ℕ) → PropheseeSlice
+-- of those that an index's records lead to
+abbrev pub SlicesByC : List ℕ → PropheseeSource → (records : List (List ℕ)) → (asked : RawSliceSource → List Checkpoint → List Event) → PropheseeSlice
     → (xs₀ ys₀ : List ℕ) (ts₀ : List ℤ) (ps₀ xs ys : List ℕ) (ts : List ℤ) (ps : List ℕ) → Type 0
-SlicesIndexC recording s l i0 i1 =
+SlicesByC recording s l asked =
     let source = sourceOf s in
     let records = recordsIn s l in
-    SlicesFromC recording source (indexInRange source records) (indexEvents recording source records i0 i1)
+    SlicesFromC recording source (indexInRange source records) (asked source records)
+
+abbrev pub SlicesIndexC : List ℕ → PropheseeSource → (records : List (List ℕ)) → (i0 i1 : ℕ) → PropheseeSlice
+    → (xs₀ ys₀ : List ℕ) (ts₀ : List ℤ) (ps₀ xs ys : List ℕ) (ts : List ℤ) (ps : List ℕ) → Type 0
+SlicesIndexC recording s l i0 i1 = SlicesByC recording s l (λ source records. indexEvents recording source records i0 i1)
 
 abbrev pub SlicesTimeC : List ℕ → PropheseeSource → (records : List (List ℕ)) → (t0 t1 : ℤ) → PropheseeSlice
     → (xs₀ ys₀ : List ℕ) (ts₀ : List ℤ) (ps₀ xs ys : List ℕ) (ts : List ℤ) (ps : List ℕ) → Type 0
-SlicesTimeC recording s l t0 t1 =
-    let source = sourceOf s in
-    let records = recordsIn s l in
-    SlicesFromC recording source (indexInRange source records) (timeEvents recording source records t0 t1)
+SlicesTimeC recording s l t0 t1 = SlicesByC recording s l (λ source records. timeEvents recording source records t0 t1)

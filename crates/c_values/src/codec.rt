@@ -1,12 +1,12 @@
 // A decoder of any encoding as numbers.
 ghost use mathlib.Core.Path.{_≡_};
 ghost use Rattle.c_values.specs.{Codec.numbersOf, Codec.placeFits, Codec.isCodec, Codec.codecOf};
-use crate::flags::and3;
 use crate::flags::bit_of;
 use crate::flags::is_flag_wide;
 use crate::flags::is_set_wide;
 use evt_codec::Codec;
 use evt_types::Encoding;
+use evt_types::num::and3;
 use evt_types::num::saturate;
 use evt2_decoder::Evt2Decoder;
 use evt3_decoder::Decoder;

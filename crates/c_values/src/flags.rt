@@ -1,6 +1,5 @@
 // Flags: truth as a number.
 ghost use mathlib.Core.Path.{_≡_};
-ghost use mathlib.Core.Bool.{_&&_};
 ghost use Rattle.c_values.specs.{Flags.flag, Flags.bit, Flags.isFlag};
 
 pub fn is_set(n: u8) -> bool
@@ -31,16 +30,4 @@ pub fn bit_of(b: bool) -> u8
     ensures { λ r. ⌜ r ≡ bit b ⌝ }
 {
     if b { 1 } else { 0 }
-}
-
-pub fn and2(a: bool, b: bool) -> bool
-    ensures { λ r. ⌜ r ≡ (a && b) ⌝ }
-{
-    if a { b } else { false }
-}
-
-pub fn and3(a: bool, b: bool, c: bool) -> bool
-    ensures { λ r. ⌜ r ≡ (a && (b && c)) ⌝ }
-{
-    if a { if b { c } else { false } } else { false }
 }

@@ -6,8 +6,6 @@ ghost use Rattle.c_writer.specs.{Writer.sinkOf, Writer.hasSent, Writer.s
 ghost use Rattle.c_writer.specs.{Writer.appendedOf};
 use c_values::encoding::encoding_of;
 use c_values::encoding::is_known;
-use c_values::flags::and2;
-use c_values::flags::and3;
 use c_values::flags::bit_of;
 use c_values::flags::is_flag;
 use c_values::flags::is_set;
@@ -15,6 +13,8 @@ use c_values::refusal::count_of;
 use evt_types::Refusal;
 use evt_types::Sent;
 use evt_types::encoding_number;
+use evt_types::num::and2;
+use evt_types::num::and3;
 use evt_types::refusal_number;
 use write_append::AppendAnswer;
 use write_append::Appended;

@@ -1,5 +1,7 @@
-// Numbers: minimum and maximum, columns that saturate at 65,535, and times as natural numbers.
+// Numbers: minimum and maximum, columns that saturate at 65,535, times as natural numbers, and
+// two or three tests as one.
 ghost use mathlib.Core.Path.{_≡_};
+ghost use mathlib.Core.Bool.{_&&_};
 ghost use Prim.Native.Nat.{_+_, _-_, _≤_, min, max};
 ghost use Rattle.evt_types.specs.Num.{isInside, natural};
 
@@ -55,4 +57,16 @@ pub fn natural_time(t: i64) -> u64
     ensures { λ r. ⌜ r ≡ natural t ⌝ }
 {
     if t < 0 { 0 } else { t as u64 }
+}
+
+pub fn and2(a: bool, b: bool) -> bool
+    ensures { λ r. ⌜ r ≡ (a && b) ⌝ }
+{
+    if a { b } else { false }
+}
+
+pub fn and3(a: bool, b: bool, c: bool) -> bool
+    ensures { λ r. ⌜ r ≡ (a && (b && c)) ⌝ }
+{
+    if a { if b { c } else { false } } else { false }
 }

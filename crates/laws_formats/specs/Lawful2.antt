@@ -10,11 +10,12 @@ use Rattle.evt2_decoder.specs.declared.Evt2Decoder.{Evt2Decoder}
 use Rattle.evt_types.specs.Layout.{type2, timeLow2, x2, y2, event-type2, event-low2, event-x2, event-y2, event-fits2, time-type2, time-high2, time-fits2}
 use Rattle.evt_types.specs.Layout.{grain2}
 use Rattle.evt2_decoder.specs.Evt2 as Reader
-use Rattle.evt2_decoder.specs.Evt2.{fresh2, period2, threshold2, step2, vector2, reader2, time-word, event-word}
+use Rattle.evt2_decoder.specs.Evt2.{period2, threshold2, step2, vector2, reader2, time-word, event-word}
 use Rattle.read_columns.specs.Inside.{clock}
-use Rattle.write_buffer.specs.{declared.EncoderState.EncoderState, Sent.freshState, Sent.carries, Sent.due}
+use Rattle.write_buffer.specs.{declared.EncoderState.EncoderState, Sent.carries, Sent.due}
 use Rattle.evt2_encoder.specs.Evt2.{highWord2, wordOf2, highSent2, encode2, writer2, encode-notes2}
-use Rattle.laws_formats.specs.Ready.{limit, sayable, Ready, IfSent, holds-sent, Sayable, sayable-true, no-event, one-event}
+use Rattle.evt_codec.specs.Reader.{evt2}
+use Rattle.laws_formats.specs.Ready.{formatBy, limit, sayable, Ready, IfSent, holds-sent, Sayable, sayable-true, no-event, one-event}
 
 abbrev pub Ready2 : Evt2Decoder → List Event → Type 0
 Ready2 d es = Ready period2 (limit Evt2) (d .«time_high») (d .time) (d .«high_loops») es
@@ -24,17 +25,7 @@ abbrev pub High2 : Evt2Decoder → (h : ℕ) → Type 0
 High2 d h = (d .initialised ≡ true) × (d .«time_high» ≡ h * grain2)
 
 abbrev pub format2 : Format Evt2Decoder EncoderState Event Event
-format2 = record {
-  size = 4;
-  reader = reader2;
-  start = fresh2;
-  writer = writer2;
-  fresh = freshState;
-  given = λ e. e ∷ [];
-  Valid = λ e. Unit;
-  Ready = Ready2;
-  Agree = λ v d. IfSent (v .«time_high») (High2 d);
-}
+format2 = formatBy evt2 writer2 (λ e. e ∷ []) (λ e. Unit) Ready2 (λ v d. IfSent (v .«time_high») (High2 d))
 
 -- ---- an event's word, at the coarse time that the event has
 

@@ -10,14 +10,16 @@ use Rattle.evt_types.specs.{declared.Encoding.the-variants.Evt21, declared.vect
 use Rattle.evt_types.specs.Layout.{grain2, upper, mask21, built-upper, built-mask, bare-upper, bare-mask}
 use Rattle.evt2_decoder.specs.Evt2.{step2, vector2}
 use Rattle.evt21_decoder.specs.declared.Evt21Decoder.{Evt21Decoder}
-use Rattle.evt21_decoder.specs.Evt21.{as2, of2, wide, fresh21, step21, vector21, reader21}
+use Rattle.evt21_decoder.specs.Evt21.{as2, of2, wide, step21, vector21, reader21}
 use Rattle.read_columns.specs.Inside.{clock}
-use Rattle.write_buffer.specs.{declared.EncoderState.EncoderState, Columns.event, Sent.freshState, Sent.due}
+use Rattle.write_buffer.specs.{declared.EncoderState.EncoderState, Columns.event, Sent.due}
 use Rattle.evt2_encoder.specs.Evt2.{highWord2, wordOf2, highSent2}
 use Rattle.evt3_run_rules.specs.Runs.{Run, runOf, firstOf, given, spread}
 use Rattle.evt21_encoder.specs.Evt21.{Block, Valid21, blockOf, maskOf, highWord21, wordOf21, vectorOf21, encode21, writer21}
 use Rattle.evt21_encoder.specs.Evt21.{mask-small21, vector-events21, word-fits21, encode-notes21}
-use Rattle.laws_formats.specs.{Ready.limit, Ready.sayable, Ready.IfSent, Ready.holds-sent, Ready.Sayable, Ready.sayable-true, Ready.no-event}
+use Rattle.evt_codec.specs.Reader.{evt21}
+use Rattle.laws_formats.specs.{Ready.formatBy, Ready.limit, Ready.sayable, Ready.IfSent, Ready.holds-sent, Ready.Sayable, Ready.sayable-true}
+use Rattle.laws_formats.specs.Ready.{no-event}
 use Rattle.laws_formats.specs.Lawful2.{Ready2, High2, event-vector, event-steps, risen, high-vector, high-steps, high-ready}
 
 abbrev pub Ready21 : Evt21Decoder → List Event → Type 0
@@ -28,17 +30,7 @@ abbrev High21 : Evt21Decoder → (h : ℕ) → Type 0
 High21 d h = High2 (as2 d) h
 
 abbrev pub format21 : Format Evt21Decoder EncoderState Run Event
-format21 = record {
-  size = 8;
-  reader = reader21;
-  start = fresh21;
-  writer = writer21;
-  fresh = freshState;
-  given = given;
-  Valid = Valid21;
-  Ready = Ready21;
-  Agree = λ v d. IfSent (v .«time_high») (High21 d);
-}
+format21 = formatBy evt21 writer21 given Valid21 Ready21 (λ v d. IfSent (v .«time_high») (High21 d))
 
 abbrev carriesRun : Run → Note ℕ Event
 carriesRun r = record { word = wordOf21 r; events = given r }

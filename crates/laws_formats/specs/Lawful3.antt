@@ -13,16 +13,17 @@ use Rattle.evt_types.specs.{declared.Encoding.the-variants.Evt3, declared.Sent.
 use Rattle.evt_types.specs.{Event.eventsOf, Layout.column-polarity3, Layout.column-x3, Layout.column-fits3}
 use Rattle.evt3_decoder.specs.{declared.Decoder.Decoder, Evt3.first-word}
 use Rattle.evt_types.specs.Layout.{type3, x3, polarity3, mask12, time3, word-type3, word-time3, word-mask12, word-y3, word-fits3, column-type3, grain3}
-use Rattle.evt3_decoder.specs.Evt3.{fresh3, period3, threshold3, atCoarse, past, number, step3, vector3, reader3, stepAs, vectorAs, kindOn, started-word}
+use Rattle.evt3_decoder.specs.Evt3.{period3, threshold3, atCoarse, past, number, step3, vector3, reader3, stepAs, vectorAs, kindOn, started-word}
 use Rattle.read_columns.specs.Inside.{clock}
-use Rattle.write_buffer.specs.{declared.EncoderState.EncoderState, Columns.event, Sent.freshState, Sent.sentIs, Sent.due}
+use Rattle.write_buffer.specs.{declared.EncoderState.EncoderState, Columns.event, Sent.sentIs, Sent.due}
 use Rattle.evt3_run_rules.specs.Runs.{Run, given, spread, Rising, Valid, firstX, lastX}
 use Rattle.evt3_run_rules.specs.Vectors.{mask-events}
 use Rattle.evt3_lead_words.specs.Evt3.{highWord3, lowWord3, rowWord3, lowKept, highSent3, lowSent3, rowSent3, leads3, singleWord3, baseWord3, maskWord3, nearby}
 use Rattle.evt3_lead_words.specs.Evt3.{beyond, maskCount, vectored, singles, masks, vectors, body3, encode3, encoded3, writer3}
 use Rattle.evt3_run_words.specs.Masks.{near-inc}
 use Rattle.write_words.specs.Laws.{reach, spread-is, none-left, singles-notes, masks-notes, body-notes, due-notes, encode-notes3}
-use Rattle.laws_formats.specs.Ready.{limit, sayable, Ready, IfSent, holds-sent, Sayable, sayable-true, no-event, one-event}
+use Rattle.evt_codec.specs.Reader.{evt3}
+use Rattle.laws_formats.specs.Ready.{formatBy, limit, sayable, Ready, IfSent, holds-sent, Sayable, sayable-true, no-event, one-event}
 
 abbrev pub Ready3 : Decoder → List Event → Type 0
 Ready3 d es = Ready period3 (limit Evt3) (d .«time_base») (d .time) (d .«high_loops») es
@@ -38,17 +39,7 @@ pub record Agree3 (v : EncoderState) (d : Decoder) : Type 0 where
   pub rows : IfSent (v .y) (λ y. d .y ≡ y)
 
 abbrev pub format3 : Format Decoder EncoderState Run Event
-format3 = record {
-  size = 2;
-  reader = reader3;
-  start = fresh3;
-  writer = writer3;
-  fresh = freshState;
-  given = given;
-  Valid = Valid;
-  Ready = Ready3;
-  Agree = Agree3;
-}
+format3 = formatBy evt3 writer3 given Valid Ready3 Agree3
 
 abbrev Rises : ℕ → List Event → Type 0
 Rises = Rise clock (sayable (limit Evt3))

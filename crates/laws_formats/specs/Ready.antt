@@ -6,13 +6,14 @@ use Prim.Native.Nat.{ℕ, _*_, _≤_, _<_, min}
 use native.Mathlib.Omega.{arith}
 use lib.Dec.{leb, ltb}
 use borrow.Author.Tests.{leb-true, ltb-true, eqb-true}
-use Rattle.laws_stream.specs.{Machine.and-both, Mask.bits-zero, Mask.bits-one, Order.Rise}
+use Rattle.laws_stream.specs.{Machine.Machine, Machine.Note, Machine.and-both, Format.Format, Mask.bits-zero, Mask.bits-one, Order.Rise}
 use Rattle.evt_types.specs.declared.{Encoding.Encoding, Encoding.the-variants.Evt2, Encoding.the-variants.Evt21, Encoding.the-variants.Evt3, Sent.Sent}
 use Rattle.evt_types.specs.{declared.Sent.the-variants.Nothing, declared.Sent.the-variants.Value, Event.Event, Event.eventsOf, Event.noEvents}
 use Rattle.evt2_decoder.specs.Evt2.{period2}
 use Rattle.evt3_decoder.specs.Evt3.{period3}
+use Rattle.evt_codec.specs.Reader.{Reader}
 use Rattle.read_columns.specs.Inside.{clock}
-use Rattle.write_buffer.specs.{Columns.event, Sent.sentIs}
+use Rattle.write_buffer.specs.{declared.EncoderState.EncoderState, Columns.event, Sent.freshState, Sent.sentIs}
 
 -- the times that a writer's words can say, those of the first loop: rule 7's bound is not above it
 abbrev pub limit : Encoding → ℕ
@@ -34,6 +35,21 @@ pub record Ready (period limit coarse time loops : ℕ) (es : List Event) : Type
 abbrev pub IfSent : Sent → (P : ℕ → Type 0) → Type 0
 IfSent Nothing P = Unit
 IfSent (Value q) P = P q
+
+-- an encoding, by its decoder and its writer
+abbrev pub formatBy : (R : Reader) {I : Type 0} → Machine EncoderState I (Note ℕ Event) → (given : I → List Event) (Valid : I → Type 0)
+    → (R .State → List Event → Type 0) → (EncoderState → R .State → Type 0) → Format (R .State) EncoderState I Event
+formatBy R writer given Valid Ready Agree = record {
+  size = R .size;
+  reader = R .machine;
+  writer = writer;
+  start = R .fresh;
+  fresh = freshState;
+  given = given;
+  Valid = Valid;
+  Ready = Ready;
+  Agree = Agree;
+}
 
 -- ---- laws
 

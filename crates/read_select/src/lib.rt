@@ -30,9 +30,7 @@ pub struct Filled {
     pub codec: Codec,
 }
 
-mod evt2;
-mod evt21;
-mod evt3;
+mod passes;
 mod word;
 
 // Counts what a pass hands over, from a decoder and the next event's number, and alters nothing.
@@ -43,9 +41,9 @@ pub fn survey(bytes: &[u8], codec: Codec, win: Window, number: u64) -> SurveyTot
     ensures { λ r. ⌜ r ≡ surveyed win number codec (now (bytes .entry)) ⌝ }
 {
     match codec {
-        Codec::Evt2(d) => evt2::survey2(bytes, d, win, number),
-        Codec::Evt21(d) => evt21::survey21(bytes, d, win, number),
-        Codec::Evt3(d) => evt3::survey3(bytes, d, win, number),
+        Codec::Evt2(d) => passes::survey2(bytes, d, win, number),
+        Codec::Evt21(d) => passes::survey21(bytes, d, win, number),
+        Codec::Evt3(d) => passes::survey3(bytes, d, win, number),
     }
 }
 
@@ -70,7 +68,7 @@ pub fn fill(
 {
     match codec {
         Codec::Evt2(d) => {
-            evt2::fill2(
+            passes::fill2(
                 bytes,
                 d,
                 win,
@@ -82,7 +80,7 @@ pub fn fill(
             )
         }
         Codec::Evt21(d) => {
-            evt21::fill21(
+            passes::fill21(
                 bytes,
                 d,
                 win,
@@ -94,7 +92,7 @@ pub fn fill(
             )
         }
         Codec::Evt3(d) => {
-            evt3::fill3(
+            passes::fill3(
                 bytes,
                 d,
                 win,

@@ -1,6 +1,6 @@
 -- What the loops of a check keep, and what a check that is passed says.
 use mathlib.Core.Path.{_≡_, refl, sym, ap, _∙_}
-use mathlib.Core.Bool.{Bool, true, false, _&&_, _||_, true≢false}
+use mathlib.Core.Bool.{Bool, true, false, cond, _&&_, _||_, true≢false}
 use mathlib.Core.List.{List, [], _∷_}
 use Prim.Native.Nat.{ℕ, zero, suc, _+_, _-_, _^_, _≤_, _<_}
 use native.Mathlib.Omega.{arith}
@@ -15,6 +15,7 @@ use lib.Signed.{ltZ, nonNeg}
 use borrow.Author.Tests.{eqb-true, leb-true, ltb-true, ltb-false, lt-ltb, le-ltb}
 use Rattle.laws_stream.specs.Machine.{and-both}
 use Rattle.evt_types.specs.declared.{Encoding.Encoding, Encoding.the-variants.Evt2, Encoding.the-variants.Evt21, Encoding.the-variants.Evt3, Refusal.Refusal}
+use Rattle.evt_types.specs.declared.Refusal.the-variants.{EventOutOfRange}
 use Rattle.evt_types.specs.{Outcome.Outcome, Outcome.refuse, Outcome.give, Outcome.given-if, Outcome.given-unless, Outcome.given-then, Num.natural}
 use Rattle.write_buffer.specs.{declared.EncoderState.EncoderState, Columns.Sized, Columns.Whole, Every.everyFrom, Every.Gathered}
 use Rattle.write_buffer.specs.{Every.gathered-iteration, Every.gathered-end}
@@ -195,6 +196,11 @@ module _ (xs ys : List ℕ) (ts : List ℤ) (ps : List ℕ) (c : Check) (is : c 
   -- what they refuse is refused
   pub lengths-failed : (s : RawEventSink) → sinkInRange s ≡ true → (why : Refusal) → c ≡ Failed why → c ≡ checkOf (checkOutcome s xs ys ts ps)
   lengths-failed s r why h = h ∙ rw (r, check-refused (lengths xs ys ts ps) why (sym is ∙ h))
+
+  -- behind them, and where no time falls, the events decide
+  pub events-decide : (s : RawEventSink) → sinkInRange s ≡ true → c ≡ Passed → fallsAfter (s .«last_t») ts ≡ false
+      → (b : Bool) → b ≡ eventsInRange (s .version) xs ys ts ps → checkOf (cond b (give tt) (refuse EventOutOfRange)) ≡ checkOf (checkOutcome s xs ys ts ps)
+  events-decide s r h d b e = let l = lengths-passed h in rw (r, l .0, l .1, d, e)
 
 -- ---- what a check that is passed says
 

@@ -11,11 +11,13 @@ ghost use Rattle.write_rules.specs.Blocks.{placesInRange, Looks};
 use crate::LastTime;
 use crate::range;
 use evt_types::Encoding;
+use evt_types::num::and2;
+use evt_types::num::and3;
 
 pub fn same_lengths(a: usize, b: usize, c: usize, d: usize) -> bool
     ensures { λ r. ⌜ r ≡ sameLengths a b c d ⌝ }
 {
-    range::and3(b == a, c == a, d == a)
+    and3(b == a, c == a, d == a)
 }
 
 // What looking through columns tells: whether a time falls, and else whether all places, that is
@@ -85,7 +87,7 @@ fn times_in_range(version: Encoding, ts: &[i64]) -> bool
     if 0 < n {
         let first = range::time(version, ts[0]);
         let last = range::time(version, ts[n - 1]);
-        range::and2(first, last)
+        and2(first, last)
     } else {
         true
     }
@@ -97,7 +99,7 @@ pub fn events_in_range(version: Encoding, fine: bool, ts: &[i64]) -> bool
     ensures { λ r. ⌜ r ≡ (fine && every (timeInRange version) (now (ts .entry))) ⌝ }
 {
     let t = times_in_range(version, ts);
-    range::and2(fine, t)
+    and2(fine, t)
 }
 
 // Whether columns, rows and polarities are in range.
@@ -108,7 +110,7 @@ fn places_in_range(xs: &[u16], ys: &[u16], ps: &[u8]) -> bool
     let x = all_at_most_2047(xs);
     let y = all_at_most_2047(ys);
     let p = all_at_most_1(ps);
-    range::and3(x, y, p)
+    and3(x, y, p)
 }
 
 // Whether a time is before the one before it, the first before `from`, and else whether all places are
@@ -129,14 +131,14 @@ fn look(from: i64, xs: &[u16], ys: &[u16], ts: &[i64], ps: &[u8]) -> Looked
             };
         }
         let places = places_in_range(&xs[i..to], &ys[i..to], &ps[i..to]);
-        ok = range::and2(ok, places);
+        ok = and2(ok, places);
         last = ts[to - 1];
         i = to;
     }
     let end = ts.len();
     let fall = times_fall(last, &ts[i..end]);
     let places = places_in_range(&xs[i..end], &ys[i..end], &ps[i..end]);
-    let fine = range::and2(ok, places);
+    let fine = and2(ok, places);
     Looked { falls: fall, fine }
 }
 

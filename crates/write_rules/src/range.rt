@@ -1,10 +1,11 @@
 // Whether a writer is in range (10), and a time (7).
 ghost use mathlib.Core.Path.{_≡_};
-ghost use mathlib.Core.Bool.{_&&_};
 ghost use Rattle.write_rules.specs.Range.{timeBound, timeInRange, isNothing, belongs, sentAtMost, highInRange, sentInRange, lastInRange};
 use crate::LastTime;
 use evt_types::Encoding;
 use evt_types::Sent;
+use evt_types::num::and2;
+use evt_types::num::and3;
 use evt_types::num::natural_time;
 use evt2_decoder::Evt2Decoder;
 use evt3_decoder::Decoder;
@@ -50,18 +51,6 @@ fn time_bound(version: Encoding) -> u64
         Encoding::Evt21 => EVT2_TIMES,
         Encoding::Evt3 => 16777216,
     }
-}
-
-pub fn and2(a: bool, b: bool) -> bool
-    ensures { λ r. ⌜ r ≡ (a && b) ⌝ }
-{
-    if a { b } else { false }
-}
-
-pub fn and3(a: bool, b: bool, c: bool) -> bool
-    ensures { λ r. ⌜ r ≡ (a && (b && c)) ⌝ }
-{
-    if a { if b { c } else { false } } else { false }
 }
 
 pub fn time(version: Encoding, t: i64) -> bool

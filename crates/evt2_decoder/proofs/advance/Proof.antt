@@ -20,23 +20,20 @@ returns-2 c =
 
 returns-3 : tie.Need-returns-3
 returns-3 c =
-    let a = c .before .before .before .before .before .args in
-    let e = early-word (a .decoder) (a .word) (c .before .before .before .before .bits .result)
-    (c .before .before .before .before .bits .ensures) (c .before .if1 .taken) (c .if2 .left) in
+    let b = c .before .before .before .before in
+    let e = early-word (b .before .args .decoder) (b .before .args .word) _ (b .bits .ensures) (c .before .if1 .taken) (c .if2 .left) in
     rw (e .0, e .1) (refl, c .before .before .before .none .ensures)
 
 returns-4 : tie.Need-returns-4
 returns-4 c =
-    let a = c .before .before .before .before .before .args in
-    let e = other-word (a .decoder) (a .word) (c .before .before .before .before .bits .result)
-    (c .before .before .before .before .bits .ensures) (c .before .before .match .rest .1) (c .before .if1 .left) in
+    let b = c .before .before .before .before in
+    let e = other-word (b .before .args .decoder) (b .before .args .word) _ (b .bits .ensures) (c .before .before .match .rest .1) (c .before .if1 .left) in
     rw (e .0, e .1) (refl, c .before .before .before .none .ensures)
 
 returns-5 : tie.Need-returns-5
 returns-5 c =
-    let a = c .before .before .before .before .before .args in
-    let e = other-word (a .decoder) (a .word) (c .before .before .before .before .bits .result)
-    (c .before .before .before .before .bits .ensures) (c .before .before .match .rest .1) (c .before .if1 .left) in
+    let b = c .before .before .before .before in
+    let e = other-word (b .before .args .decoder) (b .before .args .word) _ (b .bits .ensures) (c .before .before .match .rest .1) (c .before .if1 .left) in
     rw (e .0, e .1) (refl, c .before .before .before .none .ensures)
 
 pub advance-spec : {M : Type 1} → statement M

@@ -28,10 +28,9 @@ deliver-all-requires-2 c κs =
 
 returns-2 : tie.Need-returns-2
 returns-2 c =
-    delivers-plainly (c .before .before .before .before .before .before .before .before .before .before .before .before .before .before
-    .plan-window .ensures .plainly
-    (c .before .before .before .before .before .before .before .before .before .before .before .before .if2 .taken))
-    (c .before .before .before .before .before .before .before .deliver-all2 .ensures)
+    let b = c .before .before .before .before .before .before .before in
+    let p = b .before .before .before .before .before in
+    delivers-plainly (p .before .before .plan-window .ensures .plainly (p .if2 .taken)) (b .deliver-all2 .ensures)
 
 deliver-window-requires : tie.Need-deliver-window-requires
 deliver-window-requires c κs =
@@ -39,10 +38,9 @@ deliver-window-requires c κs =
 
 returns-3 : tie.Need-returns-3
 returns-3 c =
-    delivers-under (c .before .before .before .before .before .before .before .before .before .before .before .before .before .before
-    .plan-window .ensures .under
-    (c .before .before .before .before .before .before .before .before .before .before .before .before .if2 .left))
-    (c .before .before .before .before .before .before .before .deliver-window .ensures)
+    let b = c .before .before .before .before .before .before .before in
+    let p = b .before .before .before .before .before in
+    delivers-under (p .before .before .plan-window .ensures .under (p .if2 .left)) (b .deliver-window .ensures)
 
 pub deliver-spec : {M : Type 1} → statement M
 deliver-spec =

@@ -23,21 +23,20 @@ returns c =
     short-fits (length (sends (a .sink) (a .width) (a .height) (now (a .xs)) (now (a .ys)) (now (a .ts)) (now (a .ps)))) (a .room)
     (omega (arith, few, c .before .most-bytes .ensures))
 
+-- what was written into no room is as long as what is sent
+all-sent : (c : tie.After-write) → let a = c .before .before .before .before .before .before .before .args in
+    c .write .result .at ≡ length (sends (a .sink) (a .width) (a .height) (now (a .xs)) (now (a .ys)) (now (a .ts)) (now (a .ps)))
+all-sent c = ap (λ (p : Put). p .at) (c .write .ensures .0)
+
 returns-2 : tie.Need-returns-2
 returns-2 c =
-    let a = c .before .before .before .before .before .before .before .before .before .args in
-    let n : c .before .before .write .result .at
-    ≡ length (sends (a .sink) (a .width) (a .height) (now (a .xs)) (now (a .ys)) (now (a .ts)) (now (a .ps))) =
-    ap (λ (p : Put). p .at) (c .before .before .write .ensures .0) in
-    short-fits (length (sends (a .sink) (a .width) (a .height) (now (a .xs)) (now (a .ys)) (now (a .ts)) (now (a .ps)))) (a .room) (omega arith)
+    let n = all-sent (c .before .before) in
+    short-fits _ (c .before .before .before .before .before .before .before .before .before .args .room) (omega arith)
 
 returns-3 : tie.Need-returns-3
 returns-3 c =
-    let a = c .before .before .before .before .before .before .before .before .before .args in
-    let n : c .before .before .write .result .at
-    ≡ length (sends (a .sink) (a .width) (a .height) (now (a .xs)) (now (a .ys)) (now (a .ts)) (now (a .ps))) =
-    ap (λ (p : Put). p .at) (c .before .before .write .ensures .0) in
-    n ∙ short-lacks (length (sends (a .sink) (a .width) (a .height) (now (a .xs)) (now (a .ys)) (now (a .ts)) (now (a .ps)))) (a .room) (omega arith)
+    let n = all-sent (c .before .before) in
+    n ∙ short-lacks _ (c .before .before .before .before .before .before .before .before .before .args .room) (omega arith)
 
 pub shortfall-spec : {M : Type 1} → statement M
 shortfall-spec =

@@ -1,12 +1,14 @@
 use mathlib.Core.Path.{_≡_, sym, ap, _∙_}
-use mathlib.Core.Bool.{Bool, true, false, _&&_}
+use mathlib.Core.Bool.{Bool, true, false, cond, _&&_}
 use Prim.Native.Nat.{_^_}
 use borrow.Author.Tests.{leb-true}
 use denote.Ref.{now}
 use lib.ListN.{length}
 use Rattle.write_rules.specs.Range.{timeInRange, every, fallsAfter}
 use Rattle.write_rules.specs.Blocks.{all-in-range}
-use Rattle.write_rules.specs.Checks.{sized-of, falls-never, lengths-passed, lengths-failed}
+use Rattle.write_rules.specs.Checks.{sized-of, falls-never, lengths-passed, lengths-failed, events-decide}
+use Rattle.write_rules.specs.Rules.{checkOutcome, checkOf}
+use Rattle.evt_types.specs.{declared.Refusal.the-variants.EventOutOfRange, Outcome.refuse, Outcome.give}
 use borrow.Author.Needs.{needs}
 use Rattle.write_rules.proofs.check_append.Statement.{statement}
 use Rattle.write_rules.proofs.check_append.Tie as tie
@@ -36,43 +38,23 @@ events-in-range-requires : tie.Need-events-in-range-requires
 events-in-range-requires c κs = let s = c .before .before .before .before .before .before .before .before .before .before .args in
     falls-never (s .sink .«last_t») (now (s .ts)) (sym (c .before .look-after .ensures .is-falls) ∙ c .if2 .left)
 
-returns-4 : tie.Need-returns-4
-returns-4 c =
-    let b′ = c .before .before .before in
+-- the last test, whichever way it goes
+judged : (c : tie.After-events-in-range) (b : Bool) → c .events-in-range .result ≡ b →
+    let s = c .before .before .before .before .before .before .before .before .before .before .before .args in
+    checkOf (cond b (give tt) (refuse EventOutOfRange)) ≡ checkOf (checkOutcome (s .sink) (now (s .xs)) (now (s .ys)) (now (s .ts)) (now (s .ps)))
+judged c b e =
+    let b′ = c .before .before in
     let s = b′ .before .before .before .before .before .before .before .before .before .args in
-    let l = lengths-passed (now (s .xs)) (now (s .ys)) (now (s .ts)) (now (s .ps)) _ (b′ .before .before .before .check-lengths .ensures)
-    (b′ .before .enum-told .given .1) in
-    let d : fallsAfter (s .sink .«last_t») (now (s .ts)) ≡ false = sym (b′ .look-after .ensures .is-falls) ∙ c .before .before .if2 .left in
+    let d : fallsAfter (s .sink .«last_t») (now (s .ts)) ≡ false = sym (b′ .look-after .ensures .is-falls) ∙ c .before .if2 .left in
     let f = ap (λ (b : Bool). b && every (timeInRange (s .sink .version)) (now (s .ts))) (b′ .look-after .ensures .is-fine d)
     ∙ all-in-range (s .sink .version) (now (s .xs)) (now (s .ys)) (now (s .ts)) (now (s .ps)) in
-    rw (
-      sym (b′ .before .before .before .before .before .in-range .ensures) ∙ b′ .before .before .before .before .if1 .taken,
-      l .0,
-      l .1,
-      d,
-      sym f ∙ sym (c .before .events-in-range .ensures) ∙ c .if3 .taken,
-    )
-
-returns-5 : tie.Need-returns-5
-returns-5 c =
-    let b′ = c .before .before .before in
-    let s = b′ .before .before .before .before .before .before .before .before .before .args in
-    let l = lengths-passed (now (s .xs)) (now (s .ys)) (now (s .ts)) (now (s .ps)) _ (b′ .before .before .before .check-lengths .ensures)
-    (b′ .before .enum-told .given .1) in
-    let d : fallsAfter (s .sink .«last_t») (now (s .ts)) ≡ false = sym (b′ .look-after .ensures .is-falls) ∙ c .before .before .if2 .left in
-    let f = ap (λ (b : Bool). b && every (timeInRange (s .sink .version)) (now (s .ts))) (b′ .look-after .ensures .is-fine d)
-    ∙ all-in-range (s .sink .version) (now (s .xs)) (now (s .ys)) (now (s .ts)) (now (s .ps)) in
-    rw (
-      sym (b′ .before .before .before .before .before .in-range .ensures) ∙ b′ .before .before .before .before .if1 .taken,
-      l .0,
-      l .1,
-      d,
-      sym f ∙ sym (c .before .events-in-range .ensures) ∙ c .if3 .left,
-    )
+    events-decide (now (s .xs)) (now (s .ys)) (now (s .ts)) (now (s .ps)) _ (b′ .before .before .before .check-lengths .ensures) (s .sink)
+    (sym (b′ .before .before .before .before .before .in-range .ensures) ∙ b′ .before .before .before .before .if1 .taken)
+    (b′ .before .enum-told .given .1) d b (sym e ∙ c .events-in-range .ensures ∙ f)
 
 pub check-append-spec : {M : Type 1} → statement M
 check-append-spec =
     tie.close
     (tie.spec
     (λ c κs. search needs) returns (λ c κs. search needs) (λ c. search needs) (λ c. search needs) returns-2 look-after-requires returns-3
-    events-in-range-requires returns-4 returns-5)
+    events-in-range-requires (λ c. judged (c .before) true (c .if3 .taken)) (λ c. judged (c .before) false (c .if3 .left)))

@@ -9,7 +9,4 @@ returns-2 : tie.Need-returns-2
 returns-2 c = rw (c .before .before .answer2 .given .1) (c .refused-decoded .ensures)
 
 pub decoded-of-spec : {M : Type 1} → statement M
-decoded-of-spec =
-    tie.close
-    (tie.spec
-    (λ c. search needs) (λ c κs. search needs) (λ c κs. search needs) (λ c. search needs) (λ c κs. search needs) returns returns-2)
+decoded-of-spec = tie.close (tie.spec (λ c. c .match .keys1) (λ c κs. tt) (λ c κs. tt) (λ c. c .match .keys2) (λ c κs. tt) returns returns-2)

@@ -1,4 +1,3 @@
-use borrow.Author.Needs.{needs}
 use Rattle.c_decoder.proofs.decoder.decoder_of.Statement.{statement}
 use Rattle.c_decoder.proofs.decoder.decoder_of.Tie as tie
 
@@ -15,5 +14,4 @@ pub decoder-of-spec : {M : Type 1} → statement M
 decoder-of-spec =
     tie.close
     (tie.spec
-    (λ c. search needs) (λ c κs. search needs) (λ c. search needs) (λ c κs. search needs) (λ c. search needs) (λ c κs. search needs) returns returns-2
-    returns-3)
+    (λ c. c .match .keys1) (λ c κs. tt) (λ c. c .match .keys2) (λ c κs. tt) (λ c. c .match .keys3) (λ c κs. tt) returns returns-2 returns-3)

@@ -1,4 +1,3 @@
-use borrow.Author.Needs.{needs}
 use Rattle.c_index.proofs.opening.opening_of.Statement.{statement}
 use Rattle.c_index.proofs.opening.opening_of.Tie as tie
 
@@ -9,4 +8,4 @@ returns-2 : tie.Need-returns-2
 returns-2 c = rw (c .before .before .answer2 .given .1) (c .refused-numbers .ensures)
 
 pub opening-of-spec : {M : Type 1} → statement M
-opening-of-spec = tie.close (tie.spec (λ c. search needs) (λ c κs. search needs) (λ c. search needs) (λ c κs. search needs) returns returns-2)
+opening-of-spec = tie.close (tie.spec (λ c. c .match .keys1) (λ c κs. tt) (λ c. c .match .keys2) (λ c κs. tt) returns returns-2)

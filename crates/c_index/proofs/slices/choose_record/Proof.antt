@@ -1,5 +1,5 @@
-use Rattle.c_index.specs.{Lookup.left-of, Lookup.Looks, Lookup.looks-start, Lookup.looks-place, Lookup.looks-next, Lookup.looks-less}
-use Rattle.c_index.specs.{Lookup.looks-end}
+use Prim.Native.Nat.{_<_}
+use Rattle.c_index.specs.{Lookup.left-of, Lookup.Looks, Lookup.looks-start, Lookup.looks-place, Lookup.looks-on, Lookup.looks-end}
 use native.Mathlib.Omega.{arith}
 use borrow.Author.Needs.{needs}
 use Rattle.c_index.proofs.slices.choose_record.Statement.{statement}
@@ -31,20 +31,18 @@ shared-slice-copy-out-a c =
     let place = looks-place (a .encoding) (a .n) (a .records .now) (s .pre) _ _ (c .before .loop .inv) (c .loop-test .taken) in
     omega (arith, s .pre)
 
-loop-less : tie.Need-loop-less Inv-loop μ-loop
-loop-less c =
+-- the record that is read narrows the search
+turn : (c : tie.After-narrow Inv-loop μ-loop) →
+    let b = c .before .before .before in
+    let a = b .before .before .before .args in
+    let l = a .records .now in
+    Looks (a .encoding) (a .n) l (b .before .before .first-search .result .asked) (c .narrow .result)
+    × (left-of (a .encoding) (a .n) l (c .narrow .result) < left-of (a .encoding) (a .n) l (b .before .loop .t))
+turn c =
     let b = c .before .before .before in
     let s = b .before .before .before in
     let a = s .args in
-    looks-less (a .encoding) (a .n) (a .records .now) (s .pre) _ _ (b .before .loop .inv) (b .loop-test .taken) _
-    (c .before .checkpoint-in .ensures) _ (c .narrow .ensures)
-
-loop-again : tie.Need-loop-again Inv-loop μ-loop
-loop-again c =
-    let b = c .before .before .before in
-    let s = b .before .before .before in
-    let a = s .args in
-    looks-next (a .encoding) (a .n) (a .records .now) (s .pre) _ _ (b .before .loop .inv) (b .loop-test .taken) _
+    looks-on (a .encoding) (a .n) (a .records .now) (s .pre) _ _ (b .before .loop .inv) (b .loop-test .taken) _
     (c .before .checkpoint-in .ensures) _ (c .narrow .ensures)
 
 returns : tie.Need-returns Inv-loop μ-loop
@@ -59,4 +57,5 @@ pub choose-record-spec : {M : Type 1} → statement M
 choose-record-spec =
     tie.close
     (tie.spec
-    Inv-loop μ-loop (λ c κs. search needs) loop-holds mul-a shared-slice-copy-out-a (λ c κs. search needs) (λ c κs. search needs) loop-less loop-again returns)
+    Inv-loop μ-loop (λ c κs. search needs) loop-holds mul-a shared-slice-copy-out-a (λ c κs. search needs) (λ c κs. search needs) (λ c. turn c .1)
+    (λ c. turn c .0) returns)

@@ -15,5 +15,5 @@ pub judge-records-spec : {M : Type 1} → statement M
 judge-records-spec =
     tie.close
     (tie.spec
-    (λ c. search needs) (λ c κs. search needs) (λ c. search needs) (λ c κs. search needs) (λ c. search needs) (λ c κs. search needs) returns returns-2
-    returns-3)
+    (λ c. c .match .keys1) (λ c κs. search needs) (λ c. c .match .keys2) (λ c κs. search needs) (λ c. c .match .keys3) (λ c κs. search needs) returns
+    returns-2 returns-3)

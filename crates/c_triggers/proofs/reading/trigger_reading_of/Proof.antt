@@ -1,4 +1,3 @@
-use borrow.Author.Needs.{needs}
 use Rattle.c_triggers.proofs.reading.trigger_reading_of.Statement.{statement}
 use Rattle.c_triggers.proofs.reading.trigger_reading_of.Tie as tie
 
@@ -12,4 +11,4 @@ pub trigger-reading-of-spec : {M : Type 1} → statement M
 trigger-reading-of-spec =
     tie.close
     (tie.spec
-    (λ c. search needs) (λ c κs. search needs) (λ c. search needs) (λ c κs. search needs) returns returns-2)
+    (λ c. c .match .keys1) (λ c κs. tt) (λ c. c .match .keys2) (λ c κs. tt) returns returns-2)

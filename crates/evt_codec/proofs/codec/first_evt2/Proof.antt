@@ -3,7 +3,6 @@ use native.Mathlib.Omega.{arith}
 use Rattle.laws_stream.specs.Words.{value-four}
 use Rattle.evt_codec.specs.Decode.{owed-idle, owed-word}
 use Rattle.evt_codec.specs.declared.codec.Codec.the-variants.{Evt2}
-use borrow.Author.Needs.{needs}
 use Rattle.evt_codec.proofs.codec.first_evt2.Statement.{statement}
 use Rattle.evt_codec.proofs.codec.first_evt2.Tie as tie
 
@@ -18,7 +17,4 @@ returns-2 c =
 
 pub first-evt2-spec : {M : Type 1} → statement M
 first-evt2-spec =
-    tie.close
-    (tie.spec
-    (λ c κs. search needs) returns (λ c. search needs) (λ c. search needs) (λ c. search needs) (λ c. search needs) (λ c κs. search needs) (λ c κs. search needs)
-    returns-2)
+    tie.close (tie.spec (λ c κs. tt) returns (λ c. omega arith) (λ c. omega arith) (λ c. omega arith) (λ c. omega arith) (λ c κs. tt) (λ c κs. tt) returns-2)

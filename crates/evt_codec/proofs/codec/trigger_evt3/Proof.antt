@@ -3,7 +3,6 @@ use native.Mathlib.Omega.{arith}
 use Rattle.laws_stream.specs.Words.{value-two}
 use Rattle.evt_codec.specs.Triggers.{trigger-few, trigger-whole}
 use Rattle.evt_codec.specs.declared.codec.Codec.the-variants.{Evt3}
-use borrow.Author.Needs.{needs}
 use Rattle.evt_codec.proofs.codec.trigger_evt3.Statement.{statement}
 use Rattle.evt_codec.proofs.codec.trigger_evt3.Tie as tie
 
@@ -17,7 +16,4 @@ returns-2 c =
     rw (trigger-whole (Evt3 (a .d)) l (omega arith), ← (c .before .word16 .ensures ∙ sym (value-two l 0 (omega arith)))) (c .trigger .ensures)
 
 pub trigger-evt3-spec : {M : Type 1} → statement M
-trigger-evt3-spec =
-    tie.close
-    (tie.spec
-    (λ c κs. search needs) returns (λ c. search needs) (λ c. search needs) (λ c κs. search needs) (λ c κs. search needs) returns-2)
+trigger-evt3-spec = tie.close (tie.spec (λ c κs. tt) returns (λ c. omega arith) (λ c. omega arith) (λ c κs. tt) (λ c κs. tt) returns-2)

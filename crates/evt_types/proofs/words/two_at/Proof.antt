@@ -3,7 +3,6 @@ use mathlib.Core.Path.{sym}
 use native.Mathlib.Omega.{arith}
 use denote.Ref.{now}
 use Rattle.evt_types.specs.Ahead.{ahead-none, ahead-two}
-use borrow.Author.Needs.{needs}
 use Rattle.evt_types.proofs.words.two_at.Statement.{statement}
 use Rattle.evt_types.proofs.words.two_at.Tie as tie
 
@@ -16,7 +15,4 @@ returns-2 : tie.Need-returns-2
 returns-2 c = sym (ahead-none 2 (now (c .before .before .args .bytes)) (c .before .before .args .i) (omega arith))
 
 pub two-at-spec : {M : Type 1} → statement M
-two-at-spec =
-    tie.close
-    (tie.spec
-    (λ c. search needs) (λ c. search needs) (λ c. search needs) (λ c. search needs) (λ c κs. search needs) returns returns-2)
+two-at-spec = tie.close (tie.spec (λ c. omega arith) (λ c. omega arith) (λ c. omega arith) (λ c. omega arith) (λ c κs. tt) returns returns-2)

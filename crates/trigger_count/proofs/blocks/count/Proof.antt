@@ -28,11 +28,6 @@ loop-again c =
     counting-next (c .before .before .before .before .loop .inv) (s .before .pre) (c .before .before .before .before .before .last-bytes .ensures)
     (λ k. s .shared-slice-known .given k .fits) (omega arith) (c .sum .ensures)
 
-add-n : tie.Need-add-n Inv-loop μ-loop
-add-n c =
-    let a = c .before .before .before .before .before .before .before .args in
-    omega (arith, loop-again c .counts, count-few (a .size) triggerType (now (a .bytes)))
-
 sum-requires-2 : tie.Need-sum-requires-2 Inv-loop μ-loop
 sum-requires-2 c κs =
     let bytes = now (c .before .before .before .before .before .before .args .bytes) in
@@ -44,16 +39,16 @@ returns c =
     counting-end (c .before .before .before .before .loop .inv) (s .before .pre) (c .before .before .before .before .before .last-bytes .ensures)
     (λ k. s .shared-slice-known .given k .fits) (omega arith) (c .sum2 .ensures)
 
-add-result : tie.Need-add-result Inv-loop μ-loop
-add-result c =
-    let a = c .before .before .before .before .before .before .before .args in
-    omega (arith, returns c, count-few (a .size) triggerType (now (a .bytes)))
-
 pub count-spec : {M : Type 1} → statement M
 count-spec =
     tie.close
     (tie.spec
     Inv-loop μ-loop
     (λ c κs. c .before .pre .pos) (λ c. counting-start) (λ c. omega arith) (λ c. omega arith) (λ c. omega arith) (λ c. search needs) (λ c. search needs)
-    sum-requires (λ c. search needs) add-n (λ c. omega arith) loop-again (λ c. omega arith) (λ c. search needs) (λ c. search needs) sum-requires-2
-    (λ c. search needs) add-result returns)
+    sum-requires (λ c. search needs)
+    (λ c. let a = c .before .before .before .before .before .before .before .args in
+    omega (arith, loop-again c .counts, count-few (a .size) triggerType (now (a .bytes))))
+    (λ c. omega arith) loop-again (λ c. omega arith) (λ c. search needs) (λ c. search needs) sum-requires-2 (λ c. search needs)
+    (λ c. let a = c .before .before .before .before .before .before .before .args in
+    omega (arith, returns c, count-few (a .size) triggerType (now (a .bytes))))
+    returns)

@@ -1,6 +1,5 @@
 use mathlib.Core.Path.{sym, ap, _∙_}
 use Rattle.evt_codec.specs.Codec.{inRangeC}
-use borrow.Author.Needs.{needs}
 use Rattle.evt_codec.proofs.codec.Codec.in_range.Statement.{statement}
 use Rattle.evt_codec.proofs.codec.Codec.in_range.Tie as tie
 
@@ -17,5 +16,4 @@ pub in-range-spec : {M : Type 1} → statement M
 in-range-spec =
     tie.close
     (tie.spec
-    (λ c. search needs) (λ c κs. search needs) (λ c. search needs) (λ c κs. search needs) (λ c. search needs) (λ c κs. search needs) returns returns-2
-    returns-3)
+    (λ c. c .match .keys1) (λ c κs. tt) (λ c. c .match .keys2) (λ c κs. tt) (λ c. c .match .keys3) (λ c κs. tt) returns returns-2 returns-3)

@@ -1,7 +1,6 @@
 use mathlib.Core.Path.{sym, ap, _∙_}
 use Rattle.evt_codec.specs.Codec.{freshC}
 use Rattle.evt_codec.specs.declared.codec.Codec.the-variants.{Evt2, Evt21, Evt3}
-use borrow.Author.Needs.{needs}
 use Rattle.evt_codec.proofs.codec.Codec.new.Statement.{statement}
 use Rattle.evt_codec.proofs.codec.Codec.new.Tie as tie
 
@@ -18,5 +17,4 @@ pub new-spec : {M : Type 1} → statement M
 new-spec =
     tie.close
     (tie.spec
-    (λ c. search needs) (λ c κs. search needs) (λ c. search needs) (λ c κs. search needs) (λ c. search needs) (λ c κs. search needs) returns returns-2
-    returns-3)
+    (λ c. c .match .keys1) (λ c κs. tt) (λ c. c .match .keys2) (λ c κs. tt) (λ c. c .match .keys3) (λ c κs. tt) returns returns-2 returns-3)

@@ -1,4 +1,4 @@
--- `read_select::evt21::survey21` meets its contract. The loop's invariant is `Counts`; what an iteration keeps is in specs/Iteration.antt and specs/Count.antt.
+-- `read_select::passes::survey21` meets its contract. The loop's invariant is `Counts`; what an iteration keeps is in specs/Iteration.antt, specs/Count.antt.
 use mathlib.Core.Path.{sym, ap, _∙_}
 use mathlib.Core.Logic.{⊎-elim}
 use native.Mathlib.Omega.{arith}
@@ -13,8 +13,8 @@ use Rattle.read_select.specs.Iteration as It
 use Rattle.read_select.specs.Iteration.{Iteration, narrow-here, number-here}
 use Rattle.read_select.specs.Count.{Counts, CountsIf, Counted, counts-start, counts-on, counts-stop, counted, counts-end, notable-here, counts-next}
 use Rattle.evt_codec.specs.{Reader.evt21, Sound.sound21, Sound.bounded-words, declared.codec.Codec.the-variants.Evt21}
-use Rattle.read_select.proofs.evt21.survey21.Statement.{statement}
-use Rattle.read_select.proofs.evt21.survey21.Tie as tie
+use Rattle.read_select.proofs.passes.survey21.Statement.{statement}
+use Rattle.read_select.proofs.passes.survey21.Tie as tie
 
 abbrev Inv-loop : tie.InvT-loop
 Inv-loop bytes win number s₀ t₀ i₀ s t i = Counts evt21 win number (of2 s₀) bytes (of2 s) t i

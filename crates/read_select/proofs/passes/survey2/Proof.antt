@@ -1,4 +1,4 @@
--- `read_select::evt2::survey2` meets its contract. The loop's invariant is `Counts`; what an iteration keeps is in specs/Iteration.antt and specs/Count.antt.
+-- `read_select::passes::survey2` meets its contract. The loop's invariant is `Counts`; what an iteration keeps is in specs/Iteration.antt and specs/Count.antt.
 use mathlib.Core.Path.{sym, _∙_}
 use mathlib.Core.Logic.{⊎-elim}
 use native.Mathlib.Omega.{arith}
@@ -12,8 +12,8 @@ use Rattle.read_select.specs.Iteration as It
 use Rattle.read_select.specs.Iteration.{Iteration, mask-here, narrow-here}
 use Rattle.read_select.specs.Count.{Counts, CountsIf, Counted, counts-start, counts-on, counts-stop, counted, counts-end, notable-here, counts-next}
 use Rattle.evt_codec.specs.{Reader.evt2, Sound.sound2, Sound.bounded-words, declared.codec.Codec.the-variants.Evt2}
-use Rattle.read_select.proofs.evt2.survey2.Statement.{statement}
-use Rattle.read_select.proofs.evt2.survey2.Tie as tie
+use Rattle.read_select.proofs.passes.survey2.Statement.{statement}
+use Rattle.read_select.proofs.passes.survey2.Tie as tie
 
 abbrev Inv-loop : tie.InvT-loop
 Inv-loop bytes win number s₀ t₀ i₀ s t i = Counts evt2 win number s₀ bytes s t i

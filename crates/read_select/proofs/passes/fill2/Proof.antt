@@ -1,4 +1,4 @@
--- `read_select::evt2::fill2` meets its contract. The loop's invariant is `Fills`; what an iteration keeps is in specs/Iteration.antt and specs/Fill.antt.
+-- `read_select::passes::fill2` meets its contract. The loop's invariant is `Fills`; what an iteration keeps is in specs/Iteration.antt and specs/Fill.antt.
 use mathlib.Core.Path.{sym, _∙_}
 use mathlib.Core.Logic.{⊎-elim}
 use native.Mathlib.Omega.{arith}
@@ -12,8 +12,8 @@ use Rattle.read_select.specs.Iteration as It
 use Rattle.read_select.specs.Iteration.{Iteration, mask-here, all, narrow-here}
 use Rattle.read_select.specs.Fill.{Fills, Full, fills-start, fills-on, fills-stop, full, full-wrote, fills-end, fills-next, room-here, number-fits}
 use Rattle.evt_codec.specs.{Reader.evt2, Sound.sound2, Sound.bounded-words, declared.codec.Codec.the-variants.Evt2}
-use Rattle.read_select.proofs.evt2.fill2.Statement.{statement}
-use Rattle.read_select.proofs.evt2.fill2.Tie as tie
+use Rattle.read_select.proofs.passes.fill2.Statement.{statement}
+use Rattle.read_select.proofs.passes.fill2.Tie as tie
 
 abbrev Inv-loop : tie.InvT-loop
 Inv-loop bytes win number xs₀ ys₀ ts₀ ps₀ s₀ k₀ n₀ i₀ xs ys ts ps s k n i = Fills evt2 win number s₀ bytes xs₀ ys₀ ts₀ ps₀ xs ys ts ps s k n i

@@ -1,4 +1,4 @@
--- `read_select::evt3::survey3` meets its contract. The loop's invariant is `Counts`; what an iteration keeps is in specs/Iteration.antt and specs/Count.antt.
+-- `read_select::passes::survey3` meets its contract. The loop's invariant is `Counts`; what an iteration keeps is in specs/Iteration.antt and specs/Count.antt.
 use mathlib.Core.Path.{sym, ap, _∙_}
 use mathlib.Core.Logic.{⊎-elim}
 use native.Mathlib.Omega.{arith}
@@ -13,8 +13,8 @@ use Rattle.read_select.specs.Iteration as It
 use Rattle.read_select.specs.Iteration.{Iteration, narrow-here, number-here}
 use Rattle.read_select.specs.Count.{Counts, CountsIf, Counted, counts-start, counts-on, counts-stop, counted, counts-end, notable-here, counts-next}
 use Rattle.evt_codec.specs.{Reader.evt3, Sound.sound3, Sound.bounded-words, Sound.able-fitting, declared.codec.Codec.the-variants.Evt3}
-use Rattle.read_select.proofs.evt3.survey3.Statement.{statement}
-use Rattle.read_select.proofs.evt3.survey3.Tie as tie
+use Rattle.read_select.proofs.passes.survey3.Statement.{statement}
+use Rattle.read_select.proofs.passes.survey3.Tie as tie
 
 abbrev Inv-loop : tie.InvT-loop
 Inv-loop bytes win number s₀ t₀ i₀ s t i = Counts evt3 win number (slimmed s₀) bytes (slimmed s) t i

@@ -1,4 +1,4 @@
--- `read_select::evt21::fill21` meets its contract. The loop's invariant is `Fills`; what an iteration keeps is in specs/Iteration.antt and specs/Fill.antt.
+-- `read_select::passes::fill21` meets its contract. The loop's invariant is `Fills`; what an iteration keeps is in specs/Iteration.antt and specs/Fill.antt.
 use mathlib.Core.Path.{sym, ap, _∙_}
 use mathlib.Core.Logic.{⊎-elim}
 use native.Mathlib.Omega.{arith}
@@ -13,8 +13,8 @@ use Rattle.read_select.specs.Iteration as It
 use Rattle.read_select.specs.Iteration.{Iteration, all, narrow-here, number-here}
 use Rattle.read_select.specs.Fill.{Fills, Full, fills-start, fills-on, fills-stop, full, full-wrote, fills-end, fills-next, room-here, number-fits}
 use Rattle.evt_codec.specs.{Reader.evt21, Sound.sound21, Sound.bounded-words, declared.codec.Codec.the-variants.Evt21}
-use Rattle.read_select.proofs.evt21.fill21.Statement.{statement}
-use Rattle.read_select.proofs.evt21.fill21.Tie as tie
+use Rattle.read_select.proofs.passes.fill21.Statement.{statement}
+use Rattle.read_select.proofs.passes.fill21.Tie as tie
 
 abbrev Inv-loop : tie.InvT-loop
 Inv-loop bytes win number xs₀ ys₀ ts₀ ps₀ s₀ k₀ n₀ i₀ xs ys ts ps s k n i =

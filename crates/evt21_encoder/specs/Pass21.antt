@@ -386,65 +386,64 @@ module _ {xs ys : List ℕ} {ts : List ℤ} {ps : List ℕ} (sized : Sized xs ys
         under-opened : goes21 a e ≡ true → Opened v₀ all at₀ out₀ a mask (e ∷ es) high at out
         under-opened q = (rw (events-at xs ys ts ps sized i h) at (u .opens)) (omega (arith, follow-on a e q es))
 
-        -- told by what the code has of it
-        pub under-goes21 : {b : Bool} {t key : ℕ} → t ≡ e .t → key ≡ wordOf2 (eventAt2 xs ys ps i t) → b ≡ joins21 last key high (t / grain2) → b ≡ goes21 a e
-        under-goes21 et ek is = is ∙ rw (ek, et) (u .tells e (fitting i))
+        -- told by what the code has of it: its time t and its word `key`
+        module _ {b : Bool} {t key : ℕ} (et : t ≡ e .t) (ek : key ≡ wordOf2 (eventAt2 xs ys ps i t)) (is : b ≡ joins21 last key high (t / grain2)) where
+          goes-is : b ≡ goes21 a e
+          goes-is = is ∙ rw (ek, et) (u .tells e (fitting i))
 
-        -- where the event goes on the run, there is a word, and its bits are below the event's
-        pub under-joined21 : {b : Bool} → b ≡ goes21 a e → b ≡ true → (wordSize21 ≤ at) × (mask < bitOf (e .x))
-        under-joined21 is on =
-            let q = sym is ∙ on in
-            let o = under-opened q in (o .past, below-bit a e q mask (o .low))
+          -- where the event goes on the run, there is a word, and its bits are below the event's
+          pub under-joined21 : b ≡ true → (wordSize21 ≤ at) × (mask < bitOf (e .x))
+          under-joined21 on =
+              let q = sym goes-is ∙ on in
+              let o = under-opened q in (o .past, below-bit a e q mask (o .low))
 
-        -- at time t, with the word `key`, the bits m, at `place`
-        module _ (b : Bool) (q : b ≡ goes21 a e) {t key m place : ℕ} (et : t ≡ e .t) (ek : key ≡ wordOf2 (eventAt2 xs ys ps i t))
-            (em : m ≡ cond b mask 0 + bitOf (e .x)) (ep : place ≡ cond b (at - wordSize21) at) where
-          abbrev words : List ℕ
-          words = keyBytes (eqb high (t / grain2)) t key m
+          module _ {m place : ℕ} (em : m ≡ cond b mask 0 + bitOf (e .x)) (ep : place ≡ cond b (at - wordSize21) at) where
+            abbrev words : List ℕ
+            words = keyBytes (eqb high (t / grain2)) t key m
 
-          under-placed : Placed v₀ all at₀ out₀ (eventAt2 xs ys ps i t) m es high place out
-          under-placed =
-              let next = events-at xs ys ts ps sized i h in
-              rw (et, em, ep)
-              (placed v₀ all at₀ out₀ b a e es (stateAt2 v₀ i high) (sym q) (u .is-high) (state-step2 v₀ i high e) (omega (arith, fitting i .fit-t))
-              (rw next at (u .closed)) (rw next at (u .opens)))
+            under-placed : Placed v₀ all at₀ out₀ (eventAt2 xs ys ps i t) m es high place out
+            under-placed =
+                let next = events-at xs ys ts ps sized i h in
+                rw (et, em, ep)
+                (placed v₀ all at₀ out₀ b a e es (stateAt2 v₀ i high) (sym goes-is) (u .is-high) (state-step2 v₀ i high e) (omega (arith, fitting i .fit-t))
+                (rw next at (u .closed)) (rw next at (u .opens)))
 
-          words-are : words ≡ eventBytes21 (eqb high (t / grain2)) (eventAt2 xs ys ps i t) m
-          words-are =
-              let le : 2 ^ suc (e .x % 32) ≤ 2 ^ 32 = pow-le-pow-right (omega arith) {j = 32} (omega arith) in
-              rw ek (ap (bothBytes wordSize21 (eqb high (t / grain2)) (highWord21 t))
-              (key-word (eventAt2 xs ys ps i t) (rw et (fitting i)) m (omega (arith, under-placed .low))))
+            words-are : words ≡ eventBytes21 (eqb high (t / grain2)) (eventAt2 xs ys ps i t) m
+            words-are =
+                let le : 2 ^ suc (e .x % 32) ≤ 2 ^ 32 = pow-le-pow-right (omega arith) {j = 32} (omega arith) in
+                rw ek (ap (bothBytes wordSize21 (eqb high (t / grain2)) (highWord21 t))
+                (key-word (eventAt2 xs ys ps i t) (rw et (fitting i)) m (omega (arith, under-placed .low))))
 
-          place-le : place ≤ at
-          place-le = rw ep (go b)
-            where
-              go : (c : Bool) → cond c (at - wordSize21) at ≤ at
-              go true = omega arith
-              go false = omega arith
+            place-le : place ≤ at
+            place-le = rw ep (go b)
+              where
+                go : (c : Bool) → cond c (at - wordSize21) at ≤ at
+                go true = omega arith
+                go false = omega arith
 
-          -- what storing the event asks for
-          pub under-next21 : at₀ ≤ 2 ^ 32 → Roomy out₀ at₀ (length all) → (place < 2 ^ 60) × Roomy out place (length words) × (t < 2 ^ 34)
-          under-next21 near r =
-              (omega (arith, u .small, sized .few, place-le), rw words-are (placed-room v₀ all at₀ out₀ under-placed r), rw et (fitting i .fit-t))
+            -- what storing the event asks for
+            pub under-next21 : at₀ ≤ 2 ^ 32 → Roomy out₀ at₀ (length all) → (place < 2 ^ 60) × Roomy out place (length words) × (t < 2 ^ 34)
+            under-next21 near r =
+                (omega (arith, u .small, sized .few, place-le), rw words-are (placed-room v₀ all at₀ out₀ under-placed r), rw et (fitting i .fit-t))
 
-          pub under-iteration21 : (r : ℕ) (out′ : List ℕ) → r ≡ place + length words → out′ ≡ sets out place words
-              → Under21 v₀ xs ys ts ps at₀ out₀ out′ (t / grain2) key m r (i + 1)
-          under-iteration21 r out′ is-at is-out =
-              let some = state-some (i + 1) v₀ (stateOf2 v₀ (t / grain2)) (omega arith) in
-              let few = both-few wordSize21 (eqb high (t / grain2)) (highWord21 t) (keyWord key m) in
-              let sent = ap (λ (s : EncoderState). run writer2 s es) (state-step2 v₀ i high e) in
-              let at-is = rw words-are at is-at in
-              let out-is = rw words-are at is-out in
-              record {
-                a = e;
-                tells = λ f fits. rw (ek ∙ ap (λ (k : ℕ). wordOf2 (eventAt2 xs ys ps i k)) et, et) (joins-goes e f (fitting i) fits);
-                within = omega arith;
-                small = omega (arith, u .small, few, place-le);
-                is-high = rw some;
-                state = rw (some, et) (sym sent ∙ (rw (events-at xs ys ts ps sized i h) at (u .state)));
-                closed = λ z. rw some (placed-closed v₀ all at₀ out₀ under-placed at-is out-is (rw et z));
-                opens = λ z. rw (← et) (placed-open v₀ all at₀ out₀ under-placed at-is out-is);
-              }
+            pub under-iteration21 : (r : ℕ) (out′ : List ℕ) → r ≡ place + length words → out′ ≡ sets out place words
+                → Under21 v₀ xs ys ts ps at₀ out₀ out′ (t / grain2) key m r (i + 1)
+            under-iteration21 r out′ is-at is-out =
+                let some = state-some (i + 1) v₀ (stateOf2 v₀ (t / grain2)) (omega arith) in
+                let few = both-few wordSize21 (eqb high (t / grain2)) (highWord21 t) (keyWord key m) in
+                let sent = ap (λ (s : EncoderState). run writer2 s es) (state-step2 v₀ i high e) in
+                let at-is = rw words-are at is-at in
+                let out-is = rw words-are at is-out in
+                record {
+                  a = e;
+                  tells = λ f fits. rw (ek ∙ ap (λ (k : ℕ). wordOf2 (eventAt2 xs ys ps i k)) et, et) (joins-goes e f (fitting i) fits);
+                  within = omega arith;
+                  small = omega (arith, u .small, few, place-le);
+                  is-high = rw some;
+                  state = rw (some, et) (sym sent ∙ (rw (events-at xs ys ts ps sized i h) at (u .state)));
+                  closed = λ z. rw some (placed-closed v₀ all at₀ out₀ under-placed at-is out-is (rw et z));
+                  opens = λ z. rw (← et) (placed-open v₀ all at₀ out₀ under-placed at-is out-is);
+                }
 
       -- nothing is left
       pub under-last21 : length xs ≤ i → Storing (stream21 v₀ (eventsIn xs ys ts ps)) at₀ out₀ (stream21 (stateAt2 v₀ i high) []) at out

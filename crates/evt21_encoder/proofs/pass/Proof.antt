@@ -2,7 +2,7 @@ use Prim.Native.Nat.{_-_}
 use native.Mathlib.Omega.{arith}
 use lib.ListN.{length}
 use Rattle.evt2_encoder.specs.Pass2.{time-asks2}
-use Rattle.evt21_encoder.specs.Pass21.{Under21, under-start21, under-goes21, under-joined21, under-next21, under-iteration21, under-last21, under-end21}
+use Rattle.evt21_encoder.specs.Pass21.{Under21, under-start21, under-joined21, under-next21, under-iteration21, under-last21, under-end21}
 use borrow.Author.Needs.{needs}
 use Rattle.evt21_encoder.proofs.pass.Statement.{statement}
 use Rattle.evt21_encoder.proofs.pass.Tie as tie
@@ -40,8 +40,8 @@ with-bit-requires c κs =
     let d = c .before .before .before .before in
     let l = d .before .before in
     let p = l .before .before .before .before .before .before .before .pre in
-    let goes = under-goes21 (p .0) (p .4) (l .before .loop .inv) (l .loop-test .taken) (d .time-at .ensures) (c .before .event-word .ensures) (c .joined .ensures) in
-    λ q. under-joined21 (p .0) (p .4) (l .before .loop .inv) (l .loop-test .taken) goes q .1
+    λ q. under-joined21 (p .0) (p .4) (l .before .loop .inv) (l .loop-test .taken) (d .time-at .ensures) (c .before .event-word .ensures)
+    (c .joined .ensures) q .1
 
 place-of-requires : tie.Need-place-of-requires Inv-loop μ-loop
 place-of-requires c κs =
@@ -49,8 +49,8 @@ place-of-requires c κs =
     let d = b .before .before .before .before in
     let l = d .before .before in
     let p = l .before .before .before .before .before .before .before .pre in
-    let goes = under-goes21 (p .0) (p .4) (l .before .loop .inv) (l .loop-test .taken) (d .time-at .ensures) (b .before .event-word .ensures) (b .joined .ensures) in
-    λ q. under-joined21 (p .0) (p .4) (l .before .loop .inv) (l .loop-test .taken) goes q .0
+    λ q. under-joined21 (p .0) (p .4) (l .before .loop .inv) (l .loop-test .taken) (d .time-at .ensures) (b .before .event-word .ensures)
+    (b .joined .ensures) q .0
 
 put-words-requires : tie.Need-put-words-requires Inv-loop μ-loop
 put-words-requires c κs =
@@ -58,9 +58,8 @@ put-words-requires c κs =
     let d = b .before .before .before .before in
     let l = d .before .before in
     let p = l .before .before .before .before .before .before .before .pre in
-    let goes = under-goes21 (p .0) (p .4) (l .before .loop .inv) (l .loop-test .taken) (d .time-at .ensures) (b .before .event-word .ensures) (b .joined .ensures) in
-    under-next21 (p .0) (p .4) (l .before .loop .inv) (l .loop-test .taken) (b .joined .result) goes
-    (d .time-at .ensures) (b .before .event-word .ensures) (c .before .before .with-bit .ensures) (c .before .place-of .ensures) (p .1) (p .3)
+    under-next21 (p .0) (p .4) (l .before .loop .inv) (l .loop-test .taken) (d .time-at .ensures) (b .before .event-word .ensures) (b .joined .ensures)
+    (c .before .before .with-bit .ensures) (c .before .place-of .ensures) (p .1) (p .3)
 
 loop-again : tie.Need-loop-again Inv-loop μ-loop
 loop-again c =
@@ -70,9 +69,8 @@ loop-again c =
     let d = b .before .before .before .before in
     let l = d .before .before in
     let p = l .before .before .before .before .before .before .before .pre in
-    let goes = under-goes21 (p .0) (p .4) (l .before .loop .inv) (l .loop-test .taken) (d .time-at .ensures) (b .before .event-word .ensures) (b .joined .ensures) in
-    under-iteration21 (p .0) (p .4) (l .before .loop .inv) (l .loop-test .taken) (b .joined .result) goes
-    (d .time-at .ensures) (b .before .event-word .ensures) (w .before .with-bit .ensures) (w .place-of .ensures)
+    under-iteration21 (p .0) (p .4) (l .before .loop .inv) (l .loop-test .taken) (d .time-at .ensures) (b .before .event-word .ensures) (b .joined .ensures)
+    (w .before .with-bit .ensures) (w .place-of .ensures)
     (put .result) _ (put .ensures .0) (put .ensures .1)
 
 same-length : tie.Need-same-length Inv-loop μ-loop

@@ -20,9 +20,12 @@ wordSize c = view c .reader .size
 abbrev pub encodingOf : Codec → Encoding
 encodingOf c = view c .reader .encoding
 
--- whether it is started, its time, the loops that it counted
+-- whether it is started, its coarse time and its time, the loops that it counted
 abbrev pub startedC : Codec → Bool
 startedC c = view c .reader .started (view c .state)
+
+abbrev pub coarseC : Codec → ℕ
+coarseC c = view c .reader .coarse (view c .state)
 
 abbrev pub timeC : Codec → ℕ
 timeC c = view c .reader .time (view c .state)

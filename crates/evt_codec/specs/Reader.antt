@@ -29,6 +29,7 @@ pub record Reader : Type 1 where
   -- whether a word is of a type that carries events
   pub carries : ℕ → Bool
   pub started : State → Bool
+  pub coarse : State → ℕ
   pub time : State → ℕ
   pub loops : State → ℕ
   -- rule 10, and what every state keeps that came from one in range
@@ -62,6 +63,7 @@ evt2 = record {
   trigger = trigger2;
   carries = carries2;
   started = λ d. d .initialised;
+  coarse = λ d. d .«time_high»;
   time = λ d. d .time;
   loops = λ d. d .«high_loops»;
   inRange = inRange2;
@@ -88,6 +90,7 @@ evt21 = record {
   trigger = trigger21;
   carries = carries21;
   started = λ d. d .initialised;
+  coarse = λ d. d .«time_high»;
   time = λ d. d .time;
   loops = λ d. d .«high_loops»;
   inRange = inRange21;
@@ -110,6 +113,7 @@ evt3 = record {
   trigger = trigger3;
   carries = carries3;
   started = λ d. d .initialised;
+  coarse = λ d. d .«time_base»;
   time = λ d. d .time;
   loops = λ d. d .«high_loops»;
   inRange = inRange3;

@@ -30,17 +30,13 @@ module _ {S Q I E : Type 0} (F : Format S Q I E) where
   pub record Lawful : Type 0 where
     pub sized : 0 < F .size
     pub noted : (v : Q) (i : I) → F .Valid i → notes (F .writer .emit v i) ≡ F .given i
-    pub starts : (s : S) → F .Agree (F .fresh) s
+    pub starts : F .Agree (F .fresh) (F .start)
     pub group : (v : Q) (s : S) (i : I) (more : List E) → F .Valid i → F .Agree v s → F .Ready s (F .given i ++ more)
         → Good s (F .writer .emit v i) more × F .Agree (F .writer .step v i) (run (F .reader) s (words (F .writer .emit v i)))
 
   abbrev pub givens : List I → List E
   givens [] = []
   givens (i ∷ is) = F .given i ++ givens is
-
-  -- the words that a fresh writer sends
-  abbrev pub sent : List I → List (Note ℕ E)
-  sent is = emits (F .writer) (F .fresh) is
 
 module _ {S Q I E : Type 0} (F : Format S Q I E) (L : Lawful F) where
   pub written-notes : (v : Q) (is : List I) → All (F .Valid) is → notes (emits (F .writer) v is) ≡ givens F is
@@ -63,17 +59,20 @@ module _ {S Q I E : Type 0} (F : Format S Q I E) (L : Lawful F) where
         rw (words-append (P .emit v i) (emits P (P .step v i) is), run-append) (r .1),
       )
 
-  pub sent-good : (s : S) (is : List I) (more : List E) → All (F .Valid) is → F .Ready s (givens F is ++ more) → Good F s (sent F is) more
-  sent-good s is more va rd = writes (F .fresh) s is more va (L .starts s) rd .0
+  -- after k words the reader is ready for the events that were cut off
+  pub ready-after : (k : ℕ) (s : S) (ns : List (Note ℕ E)) (more : List E) → Good F s ns more
+      → F .Ready (run (F .reader) s (words (take k ns))) (notes (drop k ns) ++ more)
+  ready-after k s ns more p =
+      says-ready (F .reader) (Fits (F .size)) (F .Ready) s (take k ns) (notes (drop k ns) ++ more)
+      (says-take (F .reader) (Fits (F .size)) (F .Ready) k s ns more p)
 
-  -- a stream that is cut after k words and resumed by a fresh writer, given the events that were cut off, is understood too
-  pub resumes : (k : ℕ) (s : S) (ns : List (Note ℕ E)) (is : List I) (more : List E) → All (F .Valid) is → Good F s ns more → givens F is ≡ notes (drop k ns)
-      → Good F s (take k ns ++ sent F is) more
-  resumes k s ns is more va p e =
+  -- a stream that is cut after k words and resumed, by a writer that agrees with the reader there and is given the events that were cut off, is understood too
+  pub resumes : (k : ℕ) (s : S) (ns : List (Note ℕ E)) (v : Q) (is : List I) (more : List E) → All (F .Valid) is → Good F s ns more
+      → givens F is ≡ notes (drop k ns) → F .Agree v (run (F .reader) s (words (take k ns))) → Good F s (take k ns ++ emits (F .writer) v is) more
+  resumes k s ns v is more va p e ag =
       let q = says-take (F .reader) (Fits (F .size)) (F .Ready) k s ns more p in
-      let rd = says-ready (F .reader) (Fits (F .size)) (F .Ready) s (take k ns) (notes (drop k ns) ++ more) q in
-      let r = sent-good (run (F .reader) s (words (take k ns))) is more va (rw e rd) in
-      says-append (F .reader) (Fits (F .size)) (F .Ready) s (take k ns) (sent F is) more (rw (written-notes (F .fresh) is va, e) q) r
+      let r = writes v (run (F .reader) s (words (take k ns))) is more va ag (rw e (ready-after k s ns more p)) .0 in
+      says-append (F .reader) (Fits (F .size)) (F .Ready) s (take k ns) (emits (F .writer) v is) more (rw (written-notes v is va, e) q) r
 
 -- a writer that is given more at a time: `f` takes apart what it is given
 module _ {S Q A I E : Type 0} (F : Format S Q I E) (f : A → List I) (g : A → List E) (Valid : A → Type 0) where

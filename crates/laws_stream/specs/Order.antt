@@ -37,6 +37,10 @@ module _ {E : Type 0} (clock : E → ℕ) (ok : E → Bool) where
   rise-append from [] b r q = q
   rise-append from (e ∷ a) b r q = (r .0, rise-append (clock e) a b (r .1) q)
 
+  pub rise-last : (from : ℕ) (es : List E) → Rise from es → from ≤ lastOf from es
+  rise-last from [] r = omega arith
+  rise-last from (e ∷ es) r = omega (arith, r .0 .rises, rise-last (clock e) es (r .1))
+
   -- what follows
   pub rise-suffix : (from : ℕ) (a b : List E) → Rise from (a ++ b) → Rise from b
   rise-suffix from [] b r = r

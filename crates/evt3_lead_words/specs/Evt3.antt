@@ -1,15 +1,15 @@
 -- EVT3: the words that a writer sends of a run.
 use mathlib.Core.Bool.{Bool, true, false, cond, _&&_}
 use mathlib.Core.List.{List, [], _∷_, _++_}
-use Prim.Native.Nat.{ℕ, zero, suc, _+_, _-_, _/_, _%_, _^_}
-use lib.Dec.{ltb}
+use Prim.Native.Nat.{ℕ, zero, suc, _+_, _-_, _*_, _/_, _%_, _^_}
+use lib.Dec.{eqb, ltb}
 use lib.ListN.{length}
 use Rattle.laws_stream.specs.{Machine.Machine, Machine.Note, Mask.mask}
 use Rattle.evt_types.specs.{Event.Event, Layout.grain3, Layout.word3, Layout.columnWord3, declared.Sent.Sent, declared.Sent.the-variants.Value}
+use Rattle.evt_types.specs.declared.Sent.the-variants.{Nothing}
+use Rattle.evt3_decoder.specs.Evt3.{period3}
 use Rattle.write_buffer.specs.{declared.EncoderState.EncoderState, Columns.event, Sent.sentIs, Sent.quiet, Sent.carries, Sent.due}
 use Rattle.evt3_run_rules.specs.Runs.{Run, spread, firstX, lastX}
-
--- ---- time and row
 
 abbrev pub highWord3 : (t : ℕ) → ℕ
 highWord3 t = word3 8 (t / grain3 % 2 ^ 12)
@@ -19,6 +19,36 @@ lowWord3 t = word3 6 (t % grain3)
 
 abbrev pub rowWord3 : (y : ℕ) → ℕ
 rowWord3 y = word3 0 (y % 2048)
+
+-- ---- loops
+
+-- the loop of the half that is held: a writer that holds none is in loop 0
+abbrev pub loopOf : Sent → ℕ
+loopOf Nothing = 0
+loopOf (Value h) = h / 2 ^ 12
+
+abbrev pub atEnd : Sent → Bool
+atEnd Nothing = false
+atEnd (Value h) = eqb (h % 2 ^ 12) 4095
+
+-- to pass n loops: for each type 8 with FFF, unless the half that is held is that, and type 8 with 000
+unfoldable pub passes3 : (n : ℕ) (end : Bool) → List (Note ℕ Event)
+passes3 zero end = []
+passes3 (suc n) end = due end (word3 8 4095) ++ (quiet (word3 8 0) ∷ passes3 n false)
+
+-- how many loops are passed to get to t
+abbrev pub ahead3 : EncoderState → (t : ℕ) → ℕ
+ahead3 v t = t / period3 - loopOf (v .«time_high»)
+
+-- what is held then: if any was passed, the half 000 of t's loop, and the low half counts as 0
+abbrev pub loopedBy : EncoderState → (t passed : ℕ) → EncoderState
+loopedBy v t zero = v
+loopedBy v t (suc n) = record { «time_high» = Value (t / period3 * 2 ^ 12); «time_low» = Value 0; y = v .y }
+
+abbrev pub looped3 : EncoderState → (t : ℕ) → EncoderState
+looped3 v t = loopedBy v t (ahead3 v t)
+
+-- ---- time and row in their loop
 
 -- after a type 8 the low half counts as 0
 abbrev pub lowKept : (sent : Bool) → Sent → Sent
@@ -90,7 +120,8 @@ module _ (t y p : ℕ) where
 -- ---- the writer
 
 unfoldable pub encode3 : EncoderState → Run → List (Note ℕ Event)
-encode3 v r = leads3 v (r .t) (r .y) ++ body3 (r .t) (r .y) (r .p) (r .xs)
+encode3 v r =
+    passes3 (ahead3 v (r .t)) (atEnd (v .«time_high»)) ++ (leads3 (looped3 v (r .t)) (r .t) (r .y) ++ body3 (r .t) (r .y) (r .p) (r .xs))
 
 abbrev pub stateOf3 : (high low row : ℕ) → EncoderState
 stateOf3 high low row = record { «time_high» = Value high; «time_low» = Value low; y = Value row }

@@ -1,6 +1,7 @@
 // EVT3: the words of time and row that lead a run, stored, or in a dry run only counted: `put_leads`
-// is proved to store those that are due. specs/Evt3.antt says which words a writer sends of a run,
-// each with a note of the events that it carries, specs/Leads.antt which bytes its leading words have.
+// is proved to store those that are due, `loops::put_loops` those that pass into a later loop.
+// specs/Evt3.antt says which words a writer sends of a run, each with a note of the events that it
+// carries, specs/Leads.antt which bytes its leading words have, specs/Loops.antt those of the loops.
 ghost use mathlib.Core.Path.{_≡_};
 ghost use mathlib.Core.Bool.{cond};
 ghost use Prim.Native.Nat.{_+_, _^_, _<_};
@@ -13,6 +14,8 @@ ghost use Rattle.evt3_lead_words.specs.Evt3.{highWord3, lowWord3, rowWor
 ghost use Rattle.evt3_lead_words.specs.Leads.{dueBytes3, leadsBytes, Leads};
 use evt_types::fields::bits;
 use evt3_decoder::Decoder;
+
+pub mod loops;
 
 fn high_word(t: u64) -> u16
     ensures { λ r. ⌜ r ≡ highWord3 t ⌝ }

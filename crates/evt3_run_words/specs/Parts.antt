@@ -15,7 +15,8 @@ use Rattle.write_buffer.specs.{declared.EncoderState.EncoderState, Storing.piec
 use Rattle.evt3_run_rules.specs.Runs.{Run, firstX, lastX}
 use Rattle.evt3_lead_words.specs.Evt3.{leads3, singleWord3, baseWord3, maskWord3, nearby, beyond, maskCount}
 use Rattle.evt3_lead_words.specs.Evt3.{vectored, singles, masks, vectors, body3, encode3, writer3}
-use Rattle.evt3_lead_words.specs.Leads.{leadBytes, lead-few}
+use Rattle.evt3_lead_words.specs.{Evt3.passes3, Evt3.ahead3, Evt3.atEnd, Evt3.looped3, Leads.leadBytes, Leads.lead-few}
+use Rattle.evt3_lead_words.specs.Loops.{passesBytes, passes-few}
 
 abbrev pub bytes3 : EncoderState → Run → List ℕ
 bytes3 = piece wordSize3 writer3
@@ -79,15 +80,33 @@ length-body p xs = go (vectored xs) refl
         )
     go false h = omega (arith, length-map xs (singleWord3 p))
 
-pub bytes-parts : (v : EncoderState) (r : Run) → bytes3 v r ≡ leadBytes v (r .t) (r .y) ++ bodyBytes (r .p) (r .xs)
-unfolding encode3
-bytes-parts v r = rw (words-append (leads3 v (r .t) (r .y)), stream-append wordSize3 (words (leads3 v (r .t) (r .y))), words-body)
+-- the words into the run's loop
+abbrev pub aheadBytes : EncoderState → (t : ℕ) → List ℕ
+aheadBytes v t = passesBytes (ahead3 v t) (atEnd (v .«time_high»))
 
-pub few3 : (v : EncoderState) (r : Run) → 1 ≤ length (r .xs) → length (bytes3 v r) ≤ 8 * length (r .xs)
+pub bytes-parts : (v : EncoderState) (r : Run)
+    → bytes3 v r ≡ aheadBytes v (r .t) ++ (leadBytes (looped3 v (r .t)) (r .t) (r .y) ++ bodyBytes (r .p) (r .xs))
+unfolding encode3 passesBytes
+bytes-parts v r =
+    let loops = passes3 (ahead3 v (r .t)) (atEnd (v .«time_high»)) in
+    let leads = leads3 (looped3 v (r .t)) (r .t) (r .y) in
+    rw (words-append loops, stream-append wordSize3 (words loops), words-append leads, stream-append wordSize3 (words leads), words-body)
+
+pub few3 : (v : EncoderState) (r : Run) → 1 ≤ length (r .xs) → length (bytes3 v r) ≤ 8 * length (r .xs) + 4 * ahead3 v (r .t)
 few3 v r h =
-    let a = leadBytes v (r .t) (r .y) in
+    let l = aheadBytes v (r .t) in
+    let a = leadBytes (looped3 v (r .t)) (r .t) (r .y) in
     let b = bodyWords (r .p) (r .xs) in
-    rw bytes-parts (omega (arith, length-append a (stream wordSize3 b), length-stream wordSize3 b, length-body (r .p) (r .xs), lead-few v (r .t) (r .y)))
+    rw bytes-parts
+    (omega (
+      arith,
+      length-append l (a ++ stream wordSize3 b),
+      length-append a (stream wordSize3 b),
+      length-stream wordSize3 b,
+      length-body (r .p) (r .xs),
+      lead-few (looped3 v (r .t)) (r .t) (r .y),
+      passes-few (ahead3 v (r .t)) (atEnd (v .«time_high»)),
+    ))
 
 -- ---- a part of a column
 

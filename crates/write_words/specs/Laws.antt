@@ -2,22 +2,26 @@
 use mathlib.Core.Path.{_≡_, refl, ap, _∙_}
 use mathlib.Core.Bool.{Bool, true, false, cond}
 use mathlib.Core.List.{List, [], _∷_, _++_}
-use Prim.Native.Nat.{ℕ, zero, suc, _+_, _*_, _%_, _^_, _≤_, _<_}
+use Prim.Native.Nat.{ℕ, zero, suc, _+_, _-_, _*_, _/_, _%_, _^_, _≤_, _<_}
 use native.Mathlib.Omega.{arith}
 use lib.Dec.{ltb}
-use lib.ListN.{length, length-map}
+use lib.ListN.{length, getD, length-map, length-append}
+use lib.IntN.{ℤ, pos}
 use Rattle.laws_stream.specs.Machine.{Note, All, all-of, all-append, words, words-append, notes, notes-append}
-use Rattle.laws_stream.specs.{Mask.Inc, Mask.mask, Words.Fits}
-use Rattle.evt_types.specs.{Event.Event, Layout.wordSize2, Layout.wordSize21, Layout.wordSize3}
+use Rattle.laws_stream.specs.{Mask.Inc, Mask.mask, Order.Rise, Order.lastOf, Order.rise-last, Words.Fits}
+use Rattle.evt3_decoder.specs.Evt3.{period3}
+use Rattle.evt_types.specs.{Event.Event, Num.natural, Layout.wordSize2, Layout.wordSize21, Layout.wordSize3, Layout.grain3, Layout.word3}
 use Rattle.evt_types.specs.declared.{Encoding.Encoding, Encoding.the-variants.Evt2, Encoding.the-variants.Evt21, Encoding.the-variants.Evt3}
 use Rattle.write_buffer.specs.{declared.EncoderState.EncoderState, Columns.event, Sent.due, Emits.events-single, Emits.emits-fit, Emits.emits-notes}
-use Rattle.write_buffer.specs.{Emits.emits-few, Storing.bytesFrom}
+use Rattle.write_buffer.specs.{Columns.Sized, Columns.eventsIn, Emits.emits-few, Storing.bytesFrom, Storing.bytes-cons}
 use Rattle.evt2_encoder.specs.{Evt2.writer2, Evt2.encode-notes2, Evt2.encode-fits2, Pass2.few2}
 use Rattle.evt21_encoder.specs.Evt21.{Valid21, runs21, runs-are21, writer21, encode-notes21, encode-fits21, stream-few21}
-use Rattle.evt3_run_rules.specs.Runs.{Run, runs, runs-are, given, spread, Rising, Valid, firstX, lastX}
+use Rattle.evt3_run_rules.specs.Runs.{Run, runs, runs-are, given, givenBy, spread, Rising, Valid, firstX, lastX}
+use Rattle.evt3_run_rules.specs.Runs.{goes, goes-true, firstOf, single, prepend, glue}
 use Rattle.evt3_lead_words.specs.Evt3.{highWord3, lowWord3, rowWord3, highSent3, lowSent3, rowSent3, leads3, nearby}
-use Rattle.evt3_lead_words.specs.Evt3.{beyond, maskCount, vectored, singles, masks, vectors, body3, encode3, writer3}
-use Rattle.write_words.specs.Encode.{encodeNotes, encodeSize, encodeBytes, encodeMost}
+use Rattle.evt3_lead_words.specs.Evt3.{beyond, maskCount, vectored, singles, masks, vectors, body3, encode3, encoded3, writer3}
+use Rattle.evt3_lead_words.specs.Evt3.{loopOf, atEnd, passes3, ahead3, looped3}
+use Rattle.write_words.specs.Encode.{encodeNotes, encodeSize, encodeBytes, encodeMost, loopClock, Paced, loopsAhead, lastLoop}
 use Rattle.evt3_run_words.specs.{Parts.bytes3, Parts.few3, Masks.near-inc, Masks.inc-to}
 
 -- ---- the masks of a run hold all of it
@@ -78,10 +82,19 @@ leads-notes v t y =
     none true = refl
     none false = refl
 
+pub passes-notes : (n : ℕ) (end : Bool) → notes (passes3 n end) ≡ []
+unfolding passes3
+passes-notes zero end = refl
+passes-notes (suc n) end = due-notes end (word3 8 4095) _ ∙ passes-notes n false
+
 pub encode-notes3 : (v : EncoderState) (r : Run) → Valid r → notes (encode3 v r) ≡ given r
 unfolding encode3
 encode-notes3 v r va =
-    notes-append (leads3 v (r .t) (r .y)) (body3 (r .t) (r .y) (r .p) (r .xs)) ∙ rw (leads-notes v (r .t) (r .y), body-notes (r .t) (r .y) (r .p) (r .xs) va)
+    let leads = leads3 (looped3 v (r .t)) (r .t) (r .y) in
+    let body = body3 (r .t) (r .y) (r .p) (r .xs) in
+    notes-append (passes3 (ahead3 v (r .t)) (atEnd (v .«time_high»))) (leads ++ body)
+    ∙ rw (passes-notes (ahead3 v (r .t)) (atEnd (v .«time_high»)), notes-append leads body, leads-notes (looped3 v (r .t)) (r .t) (r .y))
+    (body-notes (r .t) (r .y) (r .p) (r .xs) va)
 
 -- THE NOTES of some events' words are the events, in order
 pub encode-notes : (e : Encoding) (v : EncoderState) (es : List Event) → notes (encodeNotes e v es) ≡ es
@@ -130,11 +143,19 @@ leads-fit v t y =
     last true = tt
     last false = (omega arith, tt)
 
+passes-fit : (n : ℕ) (end : Bool) → All (Fits wordSize3) (words (passes3 n end))
+unfolding passes3
+passes-fit zero end = tt
+passes-fit (suc n) end = due-fits end (word3 8 4095) _ (omega arith) (omega arith, passes-fit n false)
+
+both-fit : (a b : List (Note ℕ Event)) → All (Fits wordSize3) (words a) → All (Fits wordSize3) (words b) → All (Fits wordSize3) (words (a ++ b))
+both-fit a b p q = rw (words-append a b) (all-append (Fits wordSize3) (words a) (words b) p q)
+
 pub encode-fits3 : (v : EncoderState) (r : Run) → All (Fits wordSize3) (words (encode3 v r))
 unfolding encode3
 encode-fits3 v r =
-    rw words-append (all-append (Fits wordSize3) (words (leads3 v (r .t) (r .y))) (words (body3 (r .t) (r .y) (r .p) (r .xs))) (leads-fit v (r .t) (r .y))
-    (body-fits (r .t) (r .y) (r .p) (r .xs)))
+    both-fit (passes3 (ahead3 v (r .t)) (atEnd (v .«time_high»))) _ (passes-fit (ahead3 v (r .t)) (atEnd (v .«time_high»)))
+    (both-fit (leads3 (looped3 v (r .t)) (r .t) (r .y)) _ (leads-fit (looped3 v (r .t)) (r .t) (r .y)) (body-fits (r .t) (r .y) (r .p) (r .xs)))
 
 -- EVERY WORD fits its width
 pub encode-fits : (e : Encoding) (v : EncoderState) (es : List Event) → All (Fits (encodeSize e)) (words (encodeNotes e v es))
@@ -144,18 +165,99 @@ encode-fits Evt3 v es = emits-fit writer3 wordSize3 encode-fits3 v (runs es)
 
 -- ---- how many bytes
 
-few-run : (v : EncoderState) (r : Run) → Valid r → length (bytes3 v r) ≤ 8 * length (given r)
-few-run v r va = let n : length (given r) ≡ length (r .xs) = length-map (r .xs) (λ x. event x (r .y) (r .t) (r .p)) in omega (arith, few3 v r (va .some))
+abbrev runClock : Run → ℕ
+runClock r = r .t / period3
 
-pub most-le : (e : Encoding) (n : ℕ) → encodeMost e n ≤ 16 * n
-most-le Evt2 n = omega arith
-most-le Evt21 n = omega arith
-most-le Evt3 n = omega arith
+-- of runs: each in no loop before that of the one before
+abbrev PacedRuns : ℕ → List Run → Type 0
+PacedRuns = Rise runClock (λ r. true)
 
-pub encode-few : (e : Encoding) (v : EncoderState) (es : List Event) → length (encodeBytes e v es) ≤ encodeMost e (length es)
+abbrev lastRun : ℕ → List Run → ℕ
+lastRun = lastOf runClock (λ r. true)
+
+few-runs : (v : EncoderState) (rs : List Run) → All Valid rs → PacedRuns (loopOf (v .«time_high»)) rs
+    → let held = loopOf (v .«time_high») in
+    length (bytesFrom wordSize3 writer3 v rs) ≤ 8 * length (givenBy rs) + 4 * (lastRun held rs - held)
+unfolding bytesFrom
+few-runs v [] va p = omega arith
+few-runs v (r ∷ rs) va p =
+    let here = bytes3 v r in
+    let left = bytesFrom wordSize3 writer3 (encoded3 v r) rs in
+    let held : r .t / grain3 / 2 ^ 12 ≡ runClock r = omega arith in
+    let n : length (given r) ≡ length (r .xs) = length-map (r .xs) (λ x. event x (r .y) (r .t) (r .p)) in
+    let ih : length left ≤ 8 * length (givenBy rs) + 4 * (lastRun (runClock r) rs - runClock r) =
+    rw held at (few-runs (encoded3 v r) rs (va .1) (rw held (p .1))) in
+    omega (
+      arith,
+      ap length (bytes-cons wordSize3 writer3 v r rs),
+      length-append here left,
+      length-append (given r) (givenBy rs),
+      few3 v r (va .0 .some),
+      p .0 .rises,
+      rise-last runClock (λ r. true) (runClock r) rs (p .1),
+    )
+
+-- runs of events in order are in order
+module _ (from : ℕ) (e : Event) where
+  glue-go : (b : Bool) (r : Run) (rs : List Run) → goes (e .t) (e .y) (e .p) (e .x) (firstOf r) ≡ b → from ≤ loopClock e → PacedRuns (loopClock e) (r ∷ rs)
+      → PacedRuns from (cond b (prepend e r ∷ rs) (single e ∷ r ∷ rs))
+      × (lastRun from (cond b (prepend e r ∷ rs) (single e ∷ r ∷ rs)) ≡ lastRun (loopClock e) (r ∷ rs))
+  glue-go true r rs q h p =
+      let same = goes-true (e .t) (e .y) (e .p) (e .x) (firstOf r) q .is-t in
+      ((record { rises = h; fine = refl }, rw (← same) (p .1)), rw same)
+  glue-go false r rs q h p = ((record { rises = h; fine = refl }, p), refl)
+
+  glue-paced : (rs : List Run) → from ≤ loopClock e → PacedRuns (loopClock e) rs
+      → PacedRuns from (glue e rs) × (lastRun from (glue e rs) ≡ lastRun (loopClock e) rs)
+  glue-paced [] h p = ((record { rises = h; fine = refl }, tt), refl)
+  glue-paced (r ∷ rs) h p = glue-go (goes (e .t) (e .y) (e .p) (e .x) (firstOf r)) r rs refl h p
+
+runs-paced : (from : ℕ) (es : List Event) → Rise loopClock (λ e. true) from es
+    → PacedRuns from (runs es) × (lastRun from (runs es) ≡ lastOf loopClock (λ e. true) from es)
+runs-paced from [] p = (tt, refl)
+runs-paced from (e ∷ es) p =
+    let ih = runs-paced (loopClock e) es (p .1) in
+    let g = glue-paced from e (runs es) (p .0 .rises) (ih .0) in
+    (g .0, g .1 ∙ ih .1)
+
+pub most-le : (e : Encoding) (n loops : ℕ) → encodeMost e n loops ≤ 16 * n + 4 * loops
+most-le Evt2 n loops = omega arith
+most-le Evt21 n loops = omega arith
+most-le Evt3 n loops = omega arith
+
+pub encode-few : (e : Encoding) (v : EncoderState) (es : List Event) → Paced e v es → length (encodeBytes e v es) ≤ encodeMost e (length es) (loopsAhead v es)
 unfolding encodeBytes bytesFrom
-encode-few Evt2 v es =
+encode-few Evt2 v es p =
     let few = emits-few writer2 (λ e. Unit) (λ e. e ∷ []) 8 wordSize2 (λ v e u. few2 v e) v es (all-of _ (λ e. tt) es) in
     omega (arith, few, ap length (events-single es))
-encode-few Evt21 v es = stream-few21 v es
-encode-few Evt3 v es = let r = runs-are es in omega (arith, emits-few writer3 Valid given 8 wordSize3 few-run v (runs es) (r .0), ap length (r .1))
+encode-few Evt21 v es p = stream-few21 v es
+encode-few Evt3 v es p =
+    let r = runs-are es in
+    let q = runs-paced (loopOf (v .«time_high»)) es p in
+    omega (arith, few-runs v (runs es) (r .0) (q .0), ap length (r .1), q .1)
+
+-- the last loop, by the columns
+last-loop : (held : ℕ) (xs ys : List ℕ) (ts : List ℤ) (ps : List ℕ) → length ys ≡ length xs → length ts ≡ length xs → length ps ≡ length xs
+    → lastOf loopClock (λ e. true) held (eventsIn xs ys ts ps) ≡ lastLoop held ts
+last-loop held [] ys [] ps a b c = refl
+last-loop held [] ys (t ∷ ts) ps a b c = absurd (omega arith)
+last-loop held (x ∷ xs) [] ts ps a b c = absurd (omega arith)
+last-loop held (x ∷ xs) (y ∷ ys) [] ps a b c = absurd (omega arith)
+last-loop held (x ∷ xs) (y ∷ ys) (t ∷ ts) [] a b c = absurd (omega arith)
+last-loop held (x ∷ xs) (y ∷ ys) (t ∷ ts) (p ∷ ps) a b c = last-loop (natural t / period3) xs ys ts ps (omega arith) (omega arith) (omega arith)
+
+pub ahead-times : (v : EncoderState) (xs ys : List ℕ) (ts : List ℤ) (ps : List ℕ) → Sized xs ys ts ps
+    → loopsAhead v (eventsIn xs ys ts ps) ≡ lastLoop (loopOf (v .«time_high»)) ts - loopOf (v .«time_high»)
+ahead-times v xs ys ts ps z = rw (last-loop (loopOf (v .«time_high»)) xs ys ts ps (z .same-y) (z .same-t) (z .same-p))
+
+pub last-loop-none : (held : ℕ) (ts : List ℤ) → length ts ≤ 0 → lastLoop held ts ≡ held
+last-loop-none held [] h = refl
+last-loop-none held (t ∷ ts) h = absurd (omega arith)
+
+last-loop-is : (held : ℕ) (t : ℤ) (ts : List ℤ) → lastLoop held (t ∷ ts) ≡ natural (getD (t ∷ ts) (length ts) (pos 0)) / period3
+last-loop-is held t [] = refl
+last-loop-is held t (u ∷ ts) = last-loop-is (natural t / period3) u ts
+
+pub last-loop-some : (held : ℕ) (ts : List ℤ) → 0 < length ts → lastLoop held ts ≡ natural (getD ts (length ts - 1) (pos 0)) / period3
+last-loop-some held [] h = absurd (omega arith)
+last-loop-some held (t ∷ ts) h = let n : suc (length ts) - 1 ≡ length ts = omega arith in last-loop-is held t ts ∙ rw n

@@ -7,20 +7,21 @@ use Rattle.write_words.proofs.pass.Tie as tie
 pass2-requires : tie.Need-pass-requires
 pass2-requires c κs =
     let s = c .before .before .before .before .before .before .before in
-    let room = rw (c .before .enum-told .given .1) at (s .pre .3) in
-    (s .pre .0, s .pre .1, s .pre .2, unfold encodeBytes bytesFrom in room, rw (c .before .enum-told .given .1) at (s .pre .4))
+    let room = rw (c .before .enum-told .given .1) at (s .pre .4) in
+    (s .pre .0, s .pre .1, s .pre .2, unfold encodeBytes bytesFrom in room, rw (c .before .enum-told .given .1) at (s .pre .5))
 
 pass21-requires : tie.Need-pass-requires-2
 pass21-requires c κs =
     let s = c .before .before .before .before .before .before .before in
-    let room = rw (c .before .enum-told2 .given .1) at (s .pre .3) in
-    (s .pre .0, s .pre .1, s .pre .2, unfold encodeBytes bytesFrom in room, rw (c .before .enum-told2 .given .1) at (s .pre .4))
+    let room = rw (c .before .enum-told2 .given .1) at (s .pre .4) in
+    (s .pre .0, s .pre .1, s .pre .2, unfold encodeBytes bytesFrom in room, rw (c .before .enum-told2 .given .1) at (s .pre .5))
 
 pass3-requires : tie.Need-pass-requires-3
 pass3-requires c κs =
     let s = c .before .before .before .before .before .before .before in
-    let room = rw (c .before .enum-told3 .given .1) at (s .pre .3) in
-    (s .pre .0, s .pre .1, s .pre .2, unfold encodeBytes bytesFrom in room)
+    let few = rw (c .before .enum-told3 .given .1) at (s .pre .3) in
+    let room = rw (c .before .enum-told3 .given .1) at (s .pre .4) in
+    (s .pre .0, s .pre .1, s .pre .2, unfold encodeBytes bytesFrom in few, unfold encodeBytes bytesFrom in room)
 
 returns : tie.Need-returns
 returns c = rw (c .before .before .before .before .enum-told .given .1) (unfold encodeBytes bytesFrom in c .before .before .pass .ensures)

@@ -13,14 +13,17 @@ use lib.IntN.{ℤ, pos}
 use Rattle.evt_types.specs.Outcome.{Outcome, refuse, give, onOutcome, given-if, given-then}
 use Rattle.evt_types.specs.declared.{Encoding.Encoding, Encoding.the-variants.Evt2, Encoding.the-variants.Evt21, Encoding.the-variants.Evt3, Refusal.Refusal}
 use Rattle.evt_types.specs.declared.{Refusal.the-variants.OutputTooShort}
-use Rattle.write_buffer.specs.{declared.EncoderState.EncoderState, declared.Put.Put, Columns.eventsIn, Columns.Sized, Columns.events-length}
+use Rattle.write_buffer.specs.{declared.EncoderState.EncoderState, declared.Put.Put, Columns.eventsIn, Columns.events-length}
 use Rattle.write_buffer.specs.{Storing.Roomy, Storing.roomy-rest, Storing.stored-both}
 use Rattle.evt2_encoder.specs.Pass2.{Fitting2}
-use Rattle.write_words.specs.{Laws.encode-few, Encode.encodeState, Encode.encodeMost, Encode.passed, Encode.Fitting}
+use Rattle.evt3_lead_words.specs.Evt3.{loopOf}
+use Rattle.write_words.specs.{Laws.encode-few, Laws.most-le, Laws.ahead-times, Encode.encodeState, Encode.encodeMost, Encode.passed, Encode.Fitting}
+use Rattle.write_words.specs.Encode.{lastLoop}
 use Rattle.write_header.specs.Header.{headerText, header-few}
 use Rattle.write_rules.specs.declared.{Check.the-variants.Passed, Check.the-variants.Failed, LastTime.LastTime, LastTime.the-variants.At}
 use Rattle.write_rules.specs.{declared.RawEventSink.RawEventSink, Range.eventsInRange, Rules.checkOutcome, Rules.checkOf, Checks.event-fine}
-use Rattle.write_rules.specs.{Checks.check-given, Checks.check-refused}
+use Rattle.write_rules.specs.{Checks.check-given, Checks.check-refused, Checks.Checked}
+use Rattle.write_append.specs.Rising.{append-rise, rises-paced}
 use Rattle.write_append.specs.declared.AppendAnswer.the-variants.{Written, Refused}
 use Rattle.write_append.specs.Append.{some, headerDue, dueHeader, wordBytes, lastAfter, sends, nextSink, AppendedBytes, appendOutcome}
 use Rattle.write_append.specs.Append.{accepts, handedOver, sinkAfter, Appends, AppendOwed}
@@ -129,12 +132,12 @@ pub some-is : {A : Type 0} (l : List A) → ltb 0 (length l) ≡ some l
 some-is [] = refl
 some-is (a ∷ l) = lt-ltb 0 (suc (length l)) (omega arith)
 
-fitting2 : (xs ys : List ℕ) (ts : List ℤ) (ps : List ℕ) → eventsInRange Evt2 xs ys ts ps ≡ true → Fitting2 xs ys ts ps
+fitting2 : (xs ys : List ℕ) (ts : List ℤ) (ps : List ℕ) → eventsInRange xs ys ts ps ≡ true → Fitting2 xs ys ts ps
 fitting2 xs ys ts ps h i =
-    let f = event-fine Evt2 xs ys ts ps h i in record { fit-x = f .fine-x; fit-y = f .fine-y; fit-t = f .fine-t; fit-p = f .fine-p }
+    let f = event-fine xs ys ts ps h i in record { fit-x = f .fine-x; fit-y = f .fine-y; fit-t = f .fine-t; fit-p = f .fine-p }
 
 -- events that rule 7 lets pass can be written
-pub fitting-of : (e : Encoding) (xs ys : List ℕ) (ts : List ℤ) (ps : List ℕ) → eventsInRange e xs ys ts ps ≡ true → Fitting e xs ys ts ps
+pub fitting-of : (e : Encoding) (xs ys : List ℕ) (ts : List ℤ) (ps : List ℕ) → eventsInRange xs ys ts ps ≡ true → Fitting e xs ys ts ps
 fitting-of Evt2 xs ys ts ps h = fitting2 xs ys ts ps h
 fitting-of Evt21 xs ys ts ps h = fitting2 xs ys ts ps h
 fitting-of Evt3 xs ys ts ps h = tt
@@ -167,18 +170,32 @@ module _ (s : RawEventSink) (width height : ℕ) (xs ys : List ℕ) (ts : List �
       let h = cond due (headerText (s .version) width height) [] in
       roomy-rest out o 0 h (wordBytes s xs ys ts ps) (a ∙ sym (zero-add (length h))) n (rw (← d) at r)
 
-  pub sends-few : Sized xs ys ts ps → width < 2 ^ 64 → height < 2 ^ 64
-      → length (sends s width height xs ys ts ps) ≤ 96 + encodeMost (s .version) (length xs)
-  sends-few z lw lh =
+  -- the loops that are passed, by the times
+  abbrev pub ahead : ℕ
+  ahead = lastLoop (loopOf (s .state .«time_high»)) ts - loopOf (s .state .«time_high»)
+
+  -- what surely suffices, a header having at most 96 bytes, and no place wraps
+  pub record Suffices : Type 0 where
+    pub loops : ahead ≤ 1023
+    pub most : length (sends s width height xs ys ts ps) ≤ 96 + encodeMost (s .version) (length xs) ahead
+    pub few : length (sends s width height xs ys ts ps) ≤ 2 ^ 34
+
+  pub suffices : Checked s xs ys ts ps → width < 2 ^ 64 → height < 2 ^ 64 → Suffices
+  suffices k lw lh =
       let h = dueHeader s width height xs ys ts ps in
       let w = wordBytes s xs ys ts ps in
+      let is = ahead-times (s .state) xs ys ts ps (k .sized) in
+      let paced = rises-paced s (eventsIn xs ys ts ps) (k .in-range) (append-rise s xs ys ts ps k) in
+      let loops : ahead ≤ 1023 = rw is at (paced .1) in
+      let most : length (sends s width height xs ys ts ps) ≤ 96 + encodeMost (s .version) (length xs) ahead =
       omega (
         arith,
         length-append h w,
         due-few (headerDue s xs) (s .version) width height lw lh,
-        encode-few (s .version) (s .state) (eventsIn xs ys ts ps),
-        ap (encodeMost (s .version)) (events-length xs ys ts ps z 0),
-      )
+        rw is at (encode-few (s .version) (s .state) (eventsIn xs ys ts ps) (paced .0)),
+        ap (λ (n : ℕ). encodeMost (s .version) n ahead) (events-length xs ys ts ps (k .sized) 0),
+      ) in
+      record { loops = loops; most = most; few = omega (arith, most, k .sized .few, most-le (s .version) (length xs) ahead, loops) }
 
 -- what is missing, or 0
 pub short-fits : (n room : ℕ) → n ≤ room → 0 ≡ cond (leb n room) 0 n

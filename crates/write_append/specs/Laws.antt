@@ -10,7 +10,7 @@ use lib.ListN.{length, drop}
 use lib.IntN.{ℤ}
 use borrow.Author.Tests.{eq-eqb, le-leb}
 use Rattle.laws_stream.specs.Machine.{run, and-both}
-use Rattle.evt_types.specs.{Event.Event, Outcome.give, Num.natural, declared.Sent.the-variants.Value}
+use Rattle.evt_types.specs.{Event.Event, Outcome.give, Num.natural, declared.Sent.Sent, declared.Sent.the-variants.Nothing, declared.Sent.the-variants.Value}
 use Rattle.evt_types.specs.declared.{Encoding.Encoding, Encoding.the-variants.Evt2, Encoding.the-variants.Evt21, Encoding.the-variants.Evt3}
 use Rattle.write_buffer.specs.{declared.EncoderState.EncoderState, Columns.event, Columns.eventsIn}
 use Rattle.write_words.specs.Encode.{encodeState, encodeBytes}
@@ -19,7 +19,8 @@ use Rattle.evt21_encoder.specs.Pass21.{run-events21}
 use Rattle.evt3_run_rules.specs.Runs.{Run, goes, goes-true, firstOf, single, prepend, glue, runs, runAt, runs-at, follow}
 use Rattle.evt3_lead_words.specs.Evt3.{writer3}
 use Rattle.write_rules.specs.declared.{LastTime.LastTime, LastTime.the-variants.Never, LastTime.the-variants.At, RawEventSink.RawEventSink}
-use Rattle.write_rules.specs.Range.{timeInRange, every, atMost, falls, fallsAfter, isNothing, belongs, lastInRange, sinkInRange}
+use Rattle.write_rules.specs.Range.{timeInRange, every, atMost, falls, fallsAfter, isNothing, belongs, heldInRange, lastInRange, sinkInRange, sinkNotBefore}
+use Rattle.write_append.specs.Rising.{state-none}
 use Rattle.write_append.specs.Append.{lastAfter, nextSink, sends, appendOutcome, accepts, sinkAfter}
 use Rattle.write_append.specs.Ends.{accepts-checked, by-acceptance}
 use Rattle.write_rules.specs.Checks.{Checked, checked-of}
@@ -39,11 +40,6 @@ unfolding falls
 falls-none Never = refl
 falls-none (At t) = refl
 
-state-none : (e : Encoding) (v : EncoderState) → encodeState e v [] ≡ v
-state-none Evt2 v = refl
-state-none Evt21 v = refl
-state-none Evt3 v = refl
-
 words-none : (e : Encoding) (v : EncoderState) → encodeBytes e v [] ≡ []
 unfolding encodeBytes
 words-none Evt2 v = refl
@@ -59,7 +55,7 @@ module _ (s : RawEventSink) (in-range : sinkInRange s ≡ true) (width height ro
   empty-append =
       rw (
         in-range,
-        falls-none (s .«last_t»),
+        falls-none (sinkNotBefore s),
         sends-none,
         le-leb 0 room (omega arith),
         or-none (s .«header_written»),
@@ -98,53 +94,57 @@ run-last2 v e [] = refl
 run-last2 v e (f ∷ es) = run-last2 (record { «time_high» = Value (e .t / 64); «time_low» = v .«time_low»; y = v .y }) f es
 
 -- the last of some columns whose events are in range
-pub record LastFine (e : Encoding) (l : Event) (last : LastTime) : Type 0 where
+pub record LastFine (l : Event) (last : LastTime) : Type 0 where
   pub time : ℤ
   pub is-last : last ≡ At time
-  pub fine : timeInRange e time ≡ true
+  pub fine : timeInRange time ≡ true
   pub same : natural time ≡ l .t
   pub row : leb (l .y) 2047 ≡ true
 
-last-fine : (e : Encoding) (k : LastTime) (x y : ℕ) (t : ℤ) (p : ℕ) (xs ys : List ℕ) (ts : List ℤ) (ps : List ℕ) → length ys ≡ length xs
+last-fine : (k : LastTime) (x y : ℕ) (t : ℤ) (p : ℕ) (xs ys : List ℕ) (ts : List ℤ) (ps : List ℕ) → length ys ≡ length xs
     → length ts ≡ length xs → length ps ≡ length xs
-    → every (atMost 2047) (y ∷ ys) ≡ true → every (timeInRange e) (t ∷ ts) ≡ true
-    → LastFine e (lastEvent (event x y (natural t) p) (eventsIn xs ys ts ps)) (lastAfter k (t ∷ ts))
+    → every (atMost 2047) (y ∷ ys) ≡ true → every timeInRange (t ∷ ts) ≡ true
+    → LastFine (lastEvent (event x y (natural t) p) (eventsIn xs ys ts ps)) (lastAfter k (t ∷ ts))
 unfolding every lastAfter
-last-fine e k x y t p [] ys [] ps ey et ep hy ht =
-    record { time = t; is-last = refl; fine = and-both (timeInRange e t) _ ht .0; same = refl; row = and-both (atMost 2047 y) _ hy .0 }
-last-fine e k x y t p [] ys (t₂ ∷ ts) ps ey et ep hy ht = absurd (omega arith)
-last-fine e k x y t p (x₂ ∷ xs) [] ts ps ey et ep hy ht = absurd (omega arith)
-last-fine e k x y t p (x₂ ∷ xs) (y₂ ∷ ys) [] ps ey et ep hy ht = absurd (omega arith)
-last-fine e k x y t p (x₂ ∷ xs) (y₂ ∷ ys) (t₂ ∷ ts) [] ey et ep hy ht = absurd (omega arith)
-last-fine e k x y t p (x₂ ∷ xs) (y₂ ∷ ys) (t₂ ∷ ts) (p₂ ∷ ps) ey et ep hy ht =
-    last-fine e (At t) x₂ y₂ t₂ p₂ xs ys ts ps (omega arith) (omega arith) (omega arith) (and-both (atMost 2047 y) _ hy .1) (and-both (timeInRange e t) _ ht .1)
+last-fine k x y t p [] ys [] ps ey et ep hy ht =
+    record { time = t; is-last = refl; fine = and-both (timeInRange t) _ ht .0; same = refl; row = and-both (atMost 2047 y) _ hy .0 }
+last-fine k x y t p [] ys (t₂ ∷ ts) ps ey et ep hy ht = absurd (omega arith)
+last-fine k x y t p (x₂ ∷ xs) [] ts ps ey et ep hy ht = absurd (omega arith)
+last-fine k x y t p (x₂ ∷ xs) (y₂ ∷ ys) [] ps ey et ep hy ht = absurd (omega arith)
+last-fine k x y t p (x₂ ∷ xs) (y₂ ∷ ys) (t₂ ∷ ts) [] ey et ep hy ht = absurd (omega arith)
+last-fine k x y t p (x₂ ∷ xs) (y₂ ∷ ys) (t₂ ∷ ts) (p₂ ∷ ps) ey et ep hy ht =
+    last-fine (At t) x₂ y₂ t₂ p₂ xs ys ts ps (omega arith) (omega arith) (omega arith) (and-both (atMost 2047 y) _ hy .1) (and-both (timeInRange t) _ ht .1)
 
 -- in EVT2 nothing but the high half is ever sent
 only-high : (v : EncoderState) (n : ℕ) (l : LastTime) → lastInRange Evt2 v n l ≡ true → (isNothing (v .«time_low») ≡ true) × (isNothing (v .y) ≡ true)
 only-high v n Never h =
-    let a = and-both (isNothing (v .«time_high»)) _ h in
+    let a = and-both (heldInRange Evt2 (v .«time_high»)) _ h in
     let b = and-both (isNothing (v .«time_low»)) _ (a .1) in
     (b .0, and-both (isNothing (v .y)) _ (b .1) .0)
 only-high v n (At t) h =
-    let a = and-both (timeInRange Evt2 t) _ h in
+    let a = and-both (timeInRange t) _ h in
     let b = and-both (leb n (2 ^ 62)) _ (a .1) in
     let c = and-both (belongs (v .«time_high») (natural t / 64)) _ (b .1) in
     and-both (isNothing (v .«time_low»)) (isNothing (v .y)) (c .1)
 
 -- EVT 2.1 has EVT2's ranges
+same-held : (held : Sent) → heldInRange Evt21 held ≡ heldInRange Evt2 held
+same-held Nothing = refl
+same-held (Value h) = refl
+
 same-range : (v : EncoderState) (n : ℕ) (l : LastTime) → lastInRange Evt21 v n l ≡ lastInRange Evt2 v n l
-same-range v n Never = refl
+same-range v n Never = rw (same-held (v .«time_high»))
 same-range v n (At t) = refl
 
 after-high : (v : EncoderState) (n m : ℕ) (k : LastTime) (f : Event) (es : List Event) (l : LastTime) → m ≤ 2 ^ 62
-    → lastInRange Evt2 v n k ≡ true → (t : ℤ) → l ≡ At t → timeInRange Evt2 t ≡ true → natural t ≡ lastEvent f es .t
+    → lastInRange Evt2 v n k ≡ true → (t : ℤ) → l ≡ At t → timeInRange t ≡ true → natural t ≡ lastEvent f es .t
     → lastInRange Evt2 (run writer2 v (f ∷ es)) m l ≡ true
 after-high v n m k f es l h q t is fine same =
     let o = only-high v n k q in
     rw (is, run-last2 v f es, ← same, fine, le-leb m (2 ^ 62) h, eq-eqb (natural t / 64) (natural t / 64) refl, o .0, o .1)
 
 after-some : (e : Encoding) (v : EncoderState) (n m : ℕ) (k : LastTime) (f : Event) (es : List Event) (l : LastTime) → m ≤ 2 ^ 62
-    → lastInRange e v n k ≡ true → LastFine e (lastEvent f es) l
+    → lastInRange e v n k ≡ true → LastFine (lastEvent f es) l
     → lastInRange e (encodeState e v (f ∷ es)) m l ≡ true
 after-some Evt2 v n m k f es l h q r = after-high v n m k f es l h q (r .time) (r .is-last) (r .fine) (r .same)
 after-some Evt21 v n m k f es l h q r =
@@ -174,8 +174,8 @@ kept-as s (x ∷ xs) (y ∷ ys) (t ∷ ts) (p ∷ ps) c h =
     let z = c .sized in
     let a = and-both (every (atMost 2047) (x ∷ xs)) _ (c .events) in
     let b = and-both (every (atMost 2047) (y ∷ ys)) _ (a .1) in
-    let d = and-both (every (atMost 1) (p ∷ ps)) (every (timeInRange (s .version)) (t ∷ ts)) (b .1) in
-    let r = last-fine (s .version) (s .«last_t») x y t p xs ys ts ps
+    let d = and-both (every (atMost 1) (p ∷ ps)) (every timeInRange (t ∷ ts)) (b .1) in
+    let r = last-fine (s .«last_t») x y t p xs ys ts ps
     (omega (arith, z .same-y)) (omega (arith, z .same-t)) (omega (arith, z .same-p)) (b .0) (d .1) in
     after-some (s .version) (s .state) (s .«n_events») (s .«n_events» + length (x ∷ xs)) (s .«last_t»)
     (event x y (natural t) p) (eventsIn xs ys ts ps) _ h (c .in-range) r

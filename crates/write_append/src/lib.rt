@@ -11,7 +11,7 @@ ghost use Rattle.write_buffer.specs.Columns.{Sized, Whole};
 ghost use Rattle.write_buffer.specs.Storing.{Roomy};
 ghost use Rattle.write_words.specs.Encode.{Fitting};
 ghost use Rattle.write_append.specs.Append.{headerDue, some, lastAfter, sends, AppendOwed};
-ghost use Rattle.write_append.specs.Ends.{sinkWith, wrote};
+ghost use Rattle.write_append.specs.Ends.{sinkWith, wrote, Suffices};
 use evt_types::Refusal;
 use write_buffer::EncoderState;
 use write_buffer::Put;
@@ -90,6 +90,7 @@ fn write(
     out: &mut [u8],
 ) -> Put
     requires { ⌜ Sized (now xs) (now ys) (now ts) (now ps) × Whole (now ts)
+        × Suffices sink width height (now xs) (now ys) (now ts) (now ps)
         × Roomy (now out) 0 (length (sends sink width height (now xs) (now ys) (now ts) (now ps)))
         × Fitting (sink .version) (now xs) (now ys) (now ts) (now ps) ⌝ }
     ensures { λ r. ⌜ r ≡ wrote sink width height (now (xs .entry)) (now (ys .entry)) (now (ts .entry)) (now (ps .entry)) ⌝
@@ -104,7 +105,7 @@ fn write(
 }
 
 // The bytes that are needed where there are fewer, and else 0. A header needs at most 96: where that
-// and the most bytes of the events have room nothing is measured.
+// and the most bytes of the events and of the loops that they pass have room nothing is measured.
 fn shortfall(
     sink: RawEventSink,
     width: usize,
@@ -115,13 +116,17 @@ fn shortfall(
     ps: &[u8],
     room: usize,
 ) -> usize
-    requires { ⌜ Sized (now xs) (now ys) (now ts) (now ps) × Whole (now ts) × Fitting (sink .version) (now xs) (now ys) (now ts) (now ps) ⌝ }
+    requires { ⌜ Sized (now xs) (now ys) (now ts) (now ps) × Whole (now ts) × Suffices sink width height (now xs) (now ys) (now ts) (now ps)
+        × Fitting (sink .version) (now xs) (now ys) (now ts) (now ps) ⌝ }
     ensures { λ r. ⌜ r ≡ cond (leb (length (sends sink width height
         (now (xs .entry)) (now (ys .entry)) (now (ts .entry)) (now (ps .entry)))) room) 0
         (length (sends sink width height (now (xs .entry)) (now (ys .entry)) (now (ts .entry)) (now (ps .entry)))) ⌝ }
 {
     let version = sink.version;
-    if 96 + write_words::most_bytes(version, xs.len()) <= room {
+    let state = sink.state;
+    let held = state.time_high;
+    let loops = write_words::loops_ahead(held, ts);
+    if 96 + write_words::most_bytes(version, xs.len(), loops) <= room {
         return 0;
     }
     let mut none = [0u8; 0];

@@ -9,7 +9,6 @@ use lib.Seq.{take-all}
 use lib.IntN.{ℤ, pos}
 use lib.Signed.{ltZ}
 use Rattle.laws_stream.specs.Part.{between, between-rest, between-getD, length-between}
-use Rattle.evt_types.specs.declared.Encoding.{Encoding}
 use Rattle.write_rules.specs.declared.{LastTime.the-variants.Never, columns.Looked.Looked}
 use Rattle.write_rules.specs.Range.{timeInRange, every, atMost, eventsInRange, falls, fallsAfter}
 use Rattle.write_rules.specs.Checks.{lastOf, falls-first, falls-end, every-none}
@@ -56,11 +55,11 @@ places-parted xs ys ps i to h =
     (every (atMost 2047) (drop to xs)) (every (atMost 2047) (drop to ys)) (every (atMost 1) (drop to ps)))
 
 -- all of rule 7
-pub all-in-range : (e : Encoding) (xs ys : List ℕ) (ts : List ℤ) (ps : List ℕ)
-    → (placesInRange xs ys ps && every (timeInRange e) ts) ≡ eventsInRange e xs ys ts ps
-all-in-range e xs ys ts ps =
-    and-assoc (every (atMost 2047) xs) (every (atMost 2047) ys && every (atMost 1) ps) (every (timeInRange e) ts)
-    ∙ ap (λ (b : Bool). every (atMost 2047) xs && b) (and-assoc (every (atMost 2047) ys) (every (atMost 1) ps) (every (timeInRange e) ts))
+pub all-in-range : (xs ys : List ℕ) (ts : List ℤ) (ps : List ℕ)
+    → (placesInRange xs ys ps && every timeInRange ts) ≡ eventsInRange xs ys ts ps
+all-in-range xs ys ts ps =
+    and-assoc (every (atMost 2047) xs) (every (atMost 2047) ys && every (atMost 1) ps) (every timeInRange ts)
+    ∙ ap (λ (b : Bool). every (atMost 2047) xs && b) (and-assoc (every (atMost 2047) ys) (every (atMost 1) ps) (every timeInRange ts))
 
 -- ---- the loop
 

@@ -2,7 +2,7 @@
 use mathlib.Core.Path.{_≡_, refl, sym, ap, _∙_}
 use mathlib.Core.Bool.{Bool, true, false, cond, _&&_, _||_, true≢false}
 use mathlib.Core.List.{List, [], _∷_}
-use Prim.Native.Nat.{ℕ, zero, suc, _+_, _-_, _^_, _≤_, _<_}
+use Prim.Native.Nat.{ℕ, zero, suc, _+_, _-_, _*_, _/_, _^_, _≤_, _<_}
 use native.Mathlib.Omega.{arith}
 use native.Mathlib.Nat.{zero-add}
 use native.Mathlib.Numerals.{add-one}
@@ -16,13 +16,14 @@ use borrow.Author.Tests.{eqb-true, leb-true, ltb-true, ltb-false, lt-ltb, le-ltb
 use Rattle.laws_stream.specs.Machine.{and-both}
 use Rattle.evt_types.specs.declared.{Encoding.Encoding, Encoding.the-variants.Evt2, Encoding.the-variants.Evt21, Encoding.the-variants.Evt3, Refusal.Refusal}
 use Rattle.evt_types.specs.declared.Refusal.the-variants.{EventOutOfRange}
+use Rattle.evt_types.specs.declared.Sent.the-variants.{Value}
 use Rattle.evt_types.specs.{Outcome.Outcome, Outcome.refuse, Outcome.give, Outcome.given-if, Outcome.given-unless, Outcome.given-then, Num.natural}
 use Rattle.write_buffer.specs.{declared.EncoderState.EncoderState, Columns.Sized, Columns.Whole, Every.everyFrom, Every.Gathered}
 use Rattle.write_buffer.specs.{Every.gathered-iteration, Every.gathered-end}
 use Rattle.write_rules.specs.declared.{Check.Check, Check.the-variants.Passed, Check.the-variants.Failed, LastTime.LastTime}
 use Rattle.write_rules.specs.declared.{LastTime.the-variants.Never, LastTime.the-variants.At, RawEventSink.RawEventSink}
 use Rattle.write_rules.specs.Range.{timeBound, timeInRange, every, atMost, eventsInRange, falls, fallsAfter, sameLengths, isNothing, sentInRange}
-use Rattle.write_rules.specs.Range.{lastInRange, sinkInRange}
+use Rattle.write_rules.specs.Range.{grainOf, sinkNotBefore, heldInRange, lastInRange, sinkInRange}
 use Rattle.write_rules.specs.Rules.{lengthsOutcome, checkOutcome, checkOf}
 
 pub or-neither : (a b : Bool) → (a || b) ≡ false → (a ≡ false) × (b ≡ false)
@@ -99,38 +100,37 @@ last-late b (pos m ∷ ts) h =
     omega (arith, ltb-false m b (g .0), last-late m ts (g .1))
 last-late b (negsuc m ∷ ts) h = absurd (true≢false h)
 
-module _ (e : Encoding) where
-  between-fine : (t u : ℤ) (ts : List ℤ) → ltZ u t ≡ false → falls u ts ≡ false → timeInRange e t ≡ true → timeInRange e (lastOf u ts) ≡ true
-      → timeInRange e u ≡ true
-  between-fine (negsuc a) u ts h f p q = absurd (true≢false (sym p))
-  between-fine (pos a) (negsuc b) ts h f p q = absurd (true≢false h)
-  between-fine (pos a) (pos b) ts h f p q =
-      let last = and-both (nonNeg (lastOf (pos b) ts)) (ltb (natural (lastOf (pos b) ts)) (timeBound e)) q in
-      lt-ltb b (timeBound e) (omega (arith, last-late b ts f, ltb-true (natural (lastOf (pos b) ts)) (timeBound e) (last .1)))
+between-fine : (t u : ℤ) (ts : List ℤ) → ltZ u t ≡ false → falls u ts ≡ false → timeInRange t ≡ true → timeInRange (lastOf u ts) ≡ true
+    → timeInRange u ≡ true
+between-fine (negsuc a) u ts h f p q = absurd (true≢false (sym p))
+between-fine (pos a) (negsuc b) ts h f p q = absurd (true≢false h)
+between-fine (pos a) (pos b) ts h f p q =
+    let last = and-both (nonNeg (lastOf (pos b) ts)) (ltb (natural (lastOf (pos b) ts)) timeBound) q in
+    lt-ltb b timeBound (omega (arith, last-late b ts f, ltb-true (natural (lastOf (pos b) ts)) timeBound (last .1)))
 
-  middle : (a b c : Bool) → (a ≡ true → c ≡ true → b ≡ true) → (a && (b && c)) ≡ (a && c)
-  middle false b c h = refl
-  middle true b true h = rw (h refl refl)
-  middle true true false h = refl
-  middle true false false h = refl
+middle : (a b c : Bool) → (a ≡ true → c ≡ true → b ≡ true) → (a && (b && c)) ≡ (a && c)
+middle false b c h = refl
+middle true b true h = rw (h refl refl)
+middle true true false h = refl
+middle true false false h = refl
 
-  twice : (a : Bool) → (a && true) ≡ (a && a)
-  twice true = refl
-  twice false = refl
+twice : (a : Bool) → (a && true) ≡ (a && a)
+twice true = refl
+twice false = refl
 
-  ends-go : (t : ℤ) (ts : List ℤ) → falls t ts ≡ false → every (timeInRange e) (t ∷ ts) ≡ (timeInRange e t && timeInRange e (lastOf t ts))
-  unfolding falls every
-  ends-go t [] h = twice (timeInRange e t)
-  ends-go t (u ∷ ts) h =
-      let g = or-neither (ltZ u t) (falls u ts) h in
-      ap (λ (b : Bool). timeInRange e t && b) (ends-go u ts (g .1))
-      ∙ middle (timeInRange e t) (timeInRange e u) (timeInRange e (lastOf u ts)) (between-fine t u ts (g .0) (g .1))
+ends-go : (t : ℤ) (ts : List ℤ) → falls t ts ≡ false → every timeInRange (t ∷ ts) ≡ (timeInRange t && timeInRange (lastOf t ts))
+unfolding falls every
+ends-go t [] h = twice (timeInRange t)
+ends-go t (u ∷ ts) h =
+    let g = or-neither (ltZ u t) (falls u ts) h in
+    ap (λ (b : Bool). timeInRange t && b) (ends-go u ts (g .1))
+    ∙ middle (timeInRange t) (timeInRange u) (timeInRange (lastOf u ts)) (between-fine t u ts (g .0) (g .1))
 
-  -- of times in order the first and the last tell
-  pub times-ends : (ts : List ℤ) → 0 < length ts → fallsAfter Never ts ≡ false
-      → (timeInRange e (getD ts 0 (pos 0)) && timeInRange e (getD ts (length ts - 1) (pos 0))) ≡ every (timeInRange e) ts
-  times-ends [] h f = absurd (omega arith)
-  times-ends (t ∷ ts) h f = let n : suc (length ts) - 1 ≡ length ts = omega arith in rw n (sym (ends-go t ts f))
+-- of times in order the first and the last tell
+pub times-ends : (ts : List ℤ) → 0 < length ts → fallsAfter Never ts ≡ false
+    → (timeInRange (getD ts 0 (pos 0)) && timeInRange (getD ts (length ts - 1) (pos 0))) ≡ every timeInRange ts
+times-ends [] h f = absurd (omega arith)
+times-ends (t ∷ ts) h f = let n : suc (length ts) - 1 ≡ length ts = omega arith in rw n (sym (ends-go t ts f))
 
 pub every-none : {A : Type 0} (f : A → Bool) (l : List A) → length l ≤ 0 → every f l ≡ true
 unfolding every
@@ -143,33 +143,28 @@ every-at f d [] e h i = e
 every-at f d (a ∷ l) e h zero = and-both (f a) (every f l) h .0
 every-at f d (a ∷ l) e h (suc i) = every-at f d l e (and-both (f a) (every f l) h .1) i
 
-zero-in-range : (e : Encoding) → timeInRange e (pos 0) ≡ true
-zero-in-range Evt2 = refl
-zero-in-range Evt21 = refl
-zero-in-range Evt3 = refl
-
 -- rule 7 for one event
-pub record EventFine (e : Encoding) (x y : ℕ) (t : ℤ) (p : ℕ) : Type 0 where
+pub record EventFine (x y : ℕ) (t : ℤ) (p : ℕ) : Type 0 where
   pub fine-x : x ≤ 2047
   pub fine-y : y ≤ 2047
   pub fine-p : p ≤ 1
   pub whole : nonNeg t ≡ true
-  pub fine-t : natural t < timeBound e
+  pub fine-t : natural t < timeBound
 
-pub event-fine : (e : Encoding) (xs ys : List ℕ) (ts : List ℤ) (ps : List ℕ) → eventsInRange e xs ys ts ps ≡ true → (i : ℕ)
-    → EventFine e (getD xs i 0) (getD ys i 0) (getD ts i (pos 0)) (getD ps i 0)
-event-fine e xs ys ts ps h i =
+pub event-fine : (xs ys : List ℕ) (ts : List ℤ) (ps : List ℕ) → eventsInRange xs ys ts ps ≡ true → (i : ℕ)
+    → EventFine (getD xs i 0) (getD ys i 0) (getD ts i (pos 0)) (getD ps i 0)
+event-fine xs ys ts ps h i =
     let a = and-both (every (atMost 2047) xs) _ h in
     let b = and-both (every (atMost 2047) ys) _ (a .1) in
     let c = and-both (every (atMost 1) ps) _ (b .1) in
     let t = getD ts i (pos 0) in
-    let d = and-both (nonNeg t) (ltb (natural t) (timeBound e)) (every-at (timeInRange e) (pos 0) ts (zero-in-range e) (c .1) i) in
+    let d = and-both (nonNeg t) (ltb (natural t) timeBound) (every-at timeInRange (pos 0) ts refl (c .1) i) in
     record {
       fine-x = leb-true (getD xs i 0) 2047 (every-at (atMost 2047) 0 xs refl (a .0) i);
       fine-y = leb-true (getD ys i 0) 2047 (every-at (atMost 2047) 0 ys refl (b .0) i);
       fine-p = leb-true (getD ps i 0) 1 (every-at (atMost 1) 0 ps refl (c .0) i);
       whole = d .0;
-      fine-t = ltb-true (natural t) (timeBound e) (d .1);
+      fine-t = ltb-true (natural t) timeBound (d .1);
     }
 
 -- ---- what a check says of its outcome
@@ -198,9 +193,37 @@ module _ (xs ys : List ℕ) (ts : List ℤ) (ps : List ℕ) (c : Check) (is : c 
   lengths-failed s r why h = h ∙ rw (r, check-refused (lengths xs ys ts ps) why (sym is ∙ h))
 
   -- behind them, and where no time falls, the events decide
-  pub events-decide : (s : RawEventSink) → sinkInRange s ≡ true → c ≡ Passed → fallsAfter (s .«last_t») ts ≡ false
-      → (b : Bool) → b ≡ eventsInRange (s .version) xs ys ts ps → checkOf (cond b (give tt) (refuse EventOutOfRange)) ≡ checkOf (checkOutcome s xs ys ts ps)
+  pub events-decide : (s : RawEventSink) → sinkInRange s ≡ true → c ≡ Passed → fallsAfter (sinkNotBefore s) ts ≡ false
+      → (b : Bool) → b ≡ eventsInRange xs ys ts ps → checkOf (cond b (give tt) (refuse EventOutOfRange)) ≡ checkOf (checkOutcome s xs ys ts ps)
   events-decide s r h d b e = let l = lengths-passed h in rw (r, l .0, l .1, d, e)
+
+-- ---- a high half that is held without a last time
+
+pub held-bound : (e : Encoding) (h : ℕ) → heldInRange e (Value h) ≡ true → h * grainOf e < 2 ^ 34
+held-bound e h r = ltb-true (h * grainOf e) timeBound r
+
+module _ (a b c d : ℕ) (below : a < b → c < d) (above : b ≤ a → d ≤ c) where
+  same-go : (x : Bool) → ltb a b ≡ x → ltb a b ≡ ltb c d
+  same-go true h = h ∙ sym (lt-ltb c d (below (ltb-true a b h)))
+  same-go false h = h ∙ sym (le-ltb c d (above (ltb-false a b h)))
+
+  same-test : ltb a b ≡ ltb c d
+  same-test = same-go (ltb a b) refl
+
+-- its bound without a product
+pub held-as : (e : Encoding) (h : ℕ) → ltb h (timeBound / grainOf e) ≡ heldInRange e (Value h)
+held-as Evt2 h = same-test h (timeBound / grainOf Evt2) (h * grainOf Evt2) timeBound (λ l. omega arith) (λ l. omega arith)
+held-as Evt21 h = same-test h (timeBound / grainOf Evt21) (h * grainOf Evt21) timeBound (λ l. omega arith) (λ l. omega arith)
+held-as Evt3 h = same-test h (timeBound / grainOf Evt3) (h * grainOf Evt3) timeBound (λ l. omega arith) (λ l. omega arith)
+
+pub grain-some : (e : Encoding) → 0 < grainOf e
+grain-some Evt2 = omega arith
+grain-some Evt21 = omega arith
+grain-some Evt3 = omega arith
+
+pub held-of : (e : Encoding) (v : EncoderState) (n : ℕ) (l : LastTime) → lastInRange e v n l ≡ true → l ≡ Never → heldInRange e (v .«time_high») ≡ true
+held-of e v n Never h is = and-both (heldInRange e (v .«time_high»)) _ h .0
+held-of e v n (At t) h is = let no : _≡_ {A = ℕ} 0 1 = cc in absurd (omega arith)
 
 -- ---- what a check that is passed says
 
@@ -218,12 +241,12 @@ sized-of xs ys ts ps h f =
 
 count-as : (e : Encoding) (v : EncoderState) (n : ℕ) (l : LastTime) → lastInRange e v n l ≡ true → n ≤ 2 ^ 62
 count-as e v n Never h =
-    let a = and-both (isNothing (v .«time_high»)) (isNothing (v .«time_low») && (isNothing (v .y) && eqb n 0)) h in
+    let a = and-both (heldInRange e (v .«time_high»)) (isNothing (v .«time_low») && (isNothing (v .y) && eqb n 0)) h in
     let b = and-both (isNothing (v .«time_low»)) (isNothing (v .y) && eqb n 0) (a .1) in
     let c = and-both (isNothing (v .y)) (eqb n 0) (b .1) in
     omega (arith, eqb-true n 0 (c .1))
 count-as e v n (At t) h =
-    let a = and-both (timeInRange e t) (leb n (2 ^ 62) && sentInRange e v (natural t)) h in
+    let a = and-both (timeInRange t) (leb n (2 ^ 62) && sentInRange e v (natural t)) h in
     let b = and-both (leb n (2 ^ 62)) (sentInRange e v (natural t)) (a .1) in
     leb-true n (2 ^ 62) (b .0)
 
@@ -233,8 +256,8 @@ pub record Checked (s : RawEventSink) (xs ys : List ℕ) (ts : List ℤ) (ps : L
   pub count : s .«n_events» ≤ 2 ^ 62
   pub sized : Sized xs ys ts ps
   pub whole : Whole ts
-  pub rising : fallsAfter (s .«last_t») ts ≡ false
-  pub events : eventsInRange (s .version) xs ys ts ps ≡ true
+  pub rising : fallsAfter (sinkNotBefore s) ts ≡ false
+  pub events : eventsInRange xs ys ts ps ≡ true
 
 pub checked-of : (s : RawEventSink) (xs ys : List ℕ) (ts : List ℤ) (ps : List ℕ) → checkOutcome s xs ys ts ps ≡ give tt → Checked s xs ys ts ps
 checked-of s xs ys ts ps h =
@@ -242,23 +265,23 @@ checked-of s xs ys ts ps h =
     let b = given-then tt (lengths xs ys ts ps) _ (a .1) .1 in
     let l = given-if tt (sameLengths (length xs) (length ys) (length ts) (length ps)) _ _ (b .0) in
     let f = given-if tt (leb (length xs) (2 ^ 28)) _ _ (l .1) in
-    let c = given-unless tt (fallsAfter (s .«last_t») ts) _ _ (b .1) in
-    let e = given-if tt (eventsInRange (s .version) xs ys ts ps) _ _ (c .1) in
+    let c = given-unless tt (fallsAfter (sinkNotBefore s) ts) _ _ (b .1) in
+    let e = given-if tt (eventsInRange xs ys ts ps) _ _ (c .1) in
     record {
       in-range = a .0;
       count = count-as (s .version) (s .state) (s .«n_events») (s .«last_t») (a .0);
       sized = sized-of xs ys ts ps (l .0) (leb-true (length xs) (2 ^ 28) (f .0));
-      whole = λ i. event-fine (s .version) xs ys ts ps (e .0) i .whole;
+      whole = λ i. event-fine xs ys ts ps (e .0) i .whole;
       rising = c .0;
       events = e .0;
     }
 
 -- ---- a time, by its sign
 
-pub time-early : (e : Encoding) (t : ℤ) → ltZ t (pos 0) ≡ true → false ≡ timeInRange e t
-time-early e (pos n) h = absurd (omega (arith, ltb-true n 0 h))
-time-early e (negsuc n) h = refl
+pub time-early : (t : ℤ) → ltZ t (pos 0) ≡ true → false ≡ timeInRange t
+time-early (pos n) h = absurd (omega (arith, ltb-true n 0 h))
+time-early (negsuc n) h = refl
 
-pub time-late : (e : Encoding) (t : ℤ) → ltZ t (pos 0) ≡ false → ltb (natural t) (timeBound e) ≡ timeInRange e t
-time-late e (pos n) h = refl
-time-late e (negsuc n) h = absurd (true≢false h)
+pub time-late : (t : ℤ) → ltZ t (pos 0) ≡ false → ltb (natural t) timeBound ≡ timeInRange t
+time-late (pos n) h = refl
+time-late (negsuc n) h = absurd (true≢false h)

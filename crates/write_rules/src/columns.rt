@@ -10,7 +10,6 @@ ghost use Rattle.write_rules.specs.Range.{timeInRange, every, atMost, fa
 ghost use Rattle.write_rules.specs.Blocks.{placesInRange, Looks};
 use crate::LastTime;
 use crate::range;
-use evt_types::Encoding;
 use evt_types::num::and2;
 use evt_types::num::and3;
 
@@ -79,14 +78,14 @@ fn all_at_most_1(ps: &[u8]) -> bool
 }
 
 // Of times in order the first and the last tell.
-fn times_in_range(version: Encoding, ts: &[i64]) -> bool
+fn times_in_range(ts: &[i64]) -> bool
     requires { ⌜ fallsAfter Never (now ts) ≡ false ⌝ }
-    ensures { λ r. ⌜ r ≡ every (timeInRange version) (now (ts .entry)) ⌝ }
+    ensures { λ r. ⌜ r ≡ every timeInRange (now (ts .entry)) ⌝ }
 {
     let n = ts.len();
     if 0 < n {
-        let first = range::time(version, ts[0]);
-        let last = range::time(version, ts[n - 1]);
+        let first = range::time(ts[0]);
+        let last = range::time(ts[n - 1]);
         and2(first, last)
     } else {
         true
@@ -94,11 +93,11 @@ fn times_in_range(version: Encoding, ts: &[i64]) -> bool
 }
 
 // Rule 7, where the places were looked at.
-pub fn events_in_range(version: Encoding, fine: bool, ts: &[i64]) -> bool
+pub fn events_in_range(fine: bool, ts: &[i64]) -> bool
     requires { ⌜ fallsAfter Never (now ts) ≡ false ⌝ }
-    ensures { λ r. ⌜ r ≡ (fine && every (timeInRange version) (now (ts .entry))) ⌝ }
+    ensures { λ r. ⌜ r ≡ (fine && every timeInRange (now (ts .entry))) ⌝ }
 {
-    let t = times_in_range(version, ts);
+    let t = times_in_range(ts);
     and2(fine, t)
 }
 

@@ -85,13 +85,15 @@ pub fn check_append(sink: RawEventSink, xs: &[u16], ys: &[u16], ts: &[i64], ps: 
     let Check::Passed = lengths else {
         return lengths;
     };
+    let version = sink.version;
+    let state = sink.state;
     let last = sink.last_t;
-    let looked = columns::look_after(last, xs, ys, ts, ps);
+    let from = range::not_before(version, state, last);
+    let looked = columns::look_after(from, xs, ys, ts, ps);
     if looked.falls {
         return Check::Failed(Refusal::TimeOrder);
     }
-    let version = sink.version;
-    if columns::events_in_range(version, looked.fine, ts) {
+    if columns::events_in_range(looked.fine, ts) {
         Check::Passed
     } else {
         Check::Failed(Refusal::EventOutOfRange)

@@ -1,6 +1,9 @@
-// Whether a writer is in range (10), and a time (7).
+// Whether a writer is in range (10), and a time (7), and what no time may be below (6).
 ghost use mathlib.Core.Path.{_≡_};
-ghost use Rattle.write_rules.specs.Range.{timeBound, timeInRange, isNothing, belongs, sentAtMost, highInRange, sentInRange, lastInRange};
+ghost use mathlib.Core.Bool.{true};
+ghost use Rattle.write_rules.specs.declared.LastTime.the-variants.{Never};
+ghost use Rattle.write_rules.specs.Range.{timeInRange, isNothing, belongs, sentAtMost, highInRange, sentInRange, lastInRange};
+ghost use Rattle.write_rules.specs.Range.{grainOf, notBefore, heldInRange};
 use crate::LastTime;
 use evt_types::Encoding;
 use evt_types::Sent;
@@ -11,8 +14,8 @@ use evt2_decoder::Evt2Decoder;
 use evt3_decoder::Decoder;
 use write_buffer::EncoderState;
 
-// Times that EVT2 and EVT 2.1 can say.
-const EVT2_TIMES: u64 = 17179869184;
+// Rule 7's bound, of every encoding.
+const TIMES: u64 = 17179869184;
 
 fn is_nothing(s: Sent) -> bool
     ensures { λ r. ⌜ r ≡ isNothing s ⌝ }
@@ -42,24 +45,59 @@ fn at_most(s: Sent, most: u64) -> bool
     }
 }
 
-// Rule 7's bound. It is no period of the encoding.
-fn time_bound(version: Encoding) -> u64
-    ensures { λ r. ⌜ r ≡ timeBound version ⌝ }
-{
-    match version {
-        Encoding::Evt2 => EVT2_TIMES,
-        Encoding::Evt21 => EVT2_TIMES,
-        Encoding::Evt3 => 16777216,
-    }
-}
-
-pub fn time(version: Encoding, t: i64) -> bool
-    ensures { λ r. ⌜ r ≡ timeInRange version t ⌝ }
+pub fn time(t: i64) -> bool
+    ensures { λ r. ⌜ r ≡ timeInRange t ⌝ }
 {
     if t < 0 {
         false
     } else {
-        natural_time(t) < time_bound(version)
+        natural_time(t) < TIMES
+    }
+}
+
+fn grain_of(version: Encoding) -> u64
+    ensures { λ r. ⌜ r ≡ grainOf version ⌝ }
+{
+    match version {
+        Encoding::Evt2 => Evt2Decoder::GRAIN,
+        Encoding::Evt21 => Evt2Decoder::GRAIN,
+        Encoding::Evt3 => Decoder::GRAIN,
+    }
+}
+
+// Whether a half's coarse time is below the bound: divided, since a product could wrap.
+fn held(version: Encoding, high: Sent) -> bool
+    ensures { λ r. ⌜ r ≡ heldInRange version high ⌝ }
+{
+    match high {
+        Sent::Nothing => true,
+        Sent::Value(h) => h < TIMES / grain_of(version),
+    }
+}
+
+// The coarse time that is held, if any.
+fn coarse(version: Encoding, high: Sent) -> LastTime
+    requires { ⌜ heldInRange version high ≡ true ⌝ }
+    ensures { λ r. ⌜ r ≡ notBefore version high Never ⌝ }
+{
+    match high {
+        Sent::Nothing => LastTime::Never,
+        Sent::Value(h) => {
+            let time = (h * grain_of(version)) as i64;
+            LastTime::At(time)
+        }
+    }
+}
+
+// What no time of an append may be below: the last time, or else the coarse time that is held.
+pub fn not_before(version: Encoding, state: EncoderState, last: LastTime) -> LastTime
+    requires { ⌜ (last ≡ Never → heldInRange version (state .«time_high») ≡ true) ⌝ }
+    ensures { λ r. ⌜ r ≡ notBefore version (state .«time_high») last ⌝ }
+{
+    let high = state.time_high;
+    match last {
+        LastTime::Never => coarse(version, high),
+        LastTime::At(_) => last,
     }
 }
 
@@ -98,12 +136,12 @@ pub fn last(version: Encoding, state: EncoderState, n: usize, last: LastTime) ->
     let row = state.y;
     match last {
         LastTime::Never => and3(
-            is_nothing(high),
+            held(version, high),
             is_nothing(low),
             and2(is_nothing(row), n == 0),
         ),
         LastTime::At(t) => and3(
-            time(version, t),
+            time(t),
             n <= 4611686018427387904,
             sent(version, state, natural_time(t)),
         ),

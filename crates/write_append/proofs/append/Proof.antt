@@ -4,7 +4,7 @@ use denote.Ref.{now}
 use lib.ListN.{length}
 use Rattle.write_buffer.specs.declared.Put.{Put}
 use Rattle.write_append.specs.Append.{sends}
-use Rattle.write_append.specs.Ends.{ends-failed, ends-short, ends-written, sinkWith, short-cases, fitting-of}
+use Rattle.write_append.specs.Ends.{ends-failed, ends-short, ends-written, sinkWith, short-cases, fitting-of, suffices}
 use Rattle.write_rules.specs.Checks.{check-given, checked-of}
 use borrow.Author.Needs.{needs}
 use Rattle.write_append.proofs.append.Statement.{statement}
@@ -14,8 +14,12 @@ shortfall-requires : tie.Need-shortfall-requires
 shortfall-requires c κs =
     let a = c .before .before .before .before .before .before .before .args in
     let r = checked-of (a .sink) (now (a .xs)) (now (a .ys)) (now (a .ts)) (now (a .ps))
-    (check-given _ (sym (c .before .before .check-append .ensures) ∙ c .enum-told .given .1)) in
-    (r .sized, r .whole, fitting-of (a .sink .version) (now (a .xs)) (now (a .ys)) (now (a .ts)) (now (a .ps)) (r .events))
+    (check-given _ (sym (c .before .before .check-append .ensures) ∙ c .enum-told .given .1)) in (
+      r .sized,
+      r .whole,
+      suffices (a .sink) (a .width) (a .height) (now (a .xs)) (now (a .ys)) (now (a .ts)) (now (a .ps)) r (omega arith) (omega arith),
+      fitting-of (a .sink .version) (now (a .xs)) (now (a .ys)) (now (a .ts)) (now (a .ps)) (r .events),
+    )
 
 write-requires : tie.Need-write-requires
 write-requires c κs =
@@ -24,8 +28,13 @@ write-requires c κs =
     (check-given _ (sym (c .before .before .before .before .before .check-append .ensures) ∙ c .before .before .before .enum-told .given .1)) in
     let all = sends (a .sink) (a .width) (a .height) (now (a .xs)) (now (a .ys)) (now (a .ts)) (now (a .ps)) in
     let fits = short-cases (length all) (length (now (a .output))) (c .before .before .shortfall .result)
-    (c .before .before .shortfall .ensures) .0 (c .before .if1 .taken) in
-    (r .sized, r .whole, (λ h. omega arith), fitting-of (a .sink .version) (now (a .xs)) (now (a .ys)) (now (a .ts)) (now (a .ps)) (r .events))
+    (c .before .before .shortfall .ensures) .0 (c .before .if1 .taken) in (
+      r .sized,
+      r .whole,
+      suffices (a .sink) (a .width) (a .height) (now (a .xs)) (now (a .ys)) (now (a .ts)) (now (a .ps)) r (omega arith) (omega arith),
+      (λ h. omega arith),
+      fitting-of (a .sink .version) (now (a .xs)) (now (a .ys)) (now (a .ts)) (now (a .ps)) (r .events),
+    )
 
 next-sink-requires : tie.Need-next-sink-requires
 next-sink-requires c κs =

@@ -1,5 +1,7 @@
 use native.Mathlib.Omega.{arith}
 use denote.Ref.{now}
+use lib.ListN.{length-append}
+use Rattle.write_append.specs.Append.{dueHeader, wordBytes}
 use Rattle.write_append.specs.Ends.{due-few, wrote-is, room-words}
 use borrow.Author.Needs.{needs}
 use Rattle.write_append.proofs.write.Statement.{statement}
@@ -14,10 +16,16 @@ pass-requires c κs =
       s .pre .0,
       omega arith,
       s .pre .1,
+      omega (
+        arith,
+        s .pre .2 .few,
+        length-append (dueHeader (a .sink) (a .width) (a .height) (now (a .xs)) (now (a .ys)) (now (a .ts)) (now (a .ps)))
+            (wordBytes (a .sink) (now (a .xs)) (now (a .ys)) (now (a .ts)) (now (a .ps))),
+      ),
       room-words (a .sink) (a .width) (a .height) (now (a .xs)) (now (a .ys)) (now (a .ts)) (now (a .ps)) (now (a .out))
           (c .before .before .before .put-due .last .1 .1 .1 .1 .0) (header-due .ensures) (c .before .before .before .put-due .ensures .0)
-          (c .before .before .out .given) (s .pre .2),
-      s .pre .3,
+          (c .before .before .out .given) (s .pre .3),
+      s .pre .4,
     )
 
 returns : tie.Need-returns

@@ -15,15 +15,14 @@ returns : tie.Need-returns
 returns c =
     let s = c .before .before .before .before .before .before in
     let ts = now (s .args .ts) in
-    let e = s .args .version in
-    let a : c .before .before .before .time .result ≡ timeInRange e (getD ts 0 (pos 0)) = c .before .before .before .time .ensures
-    ∙ ap (timeInRange e) (toZ-ofZ w64 (getD ts 0 (pos 0)) (record { sfits = c .before .before .before .before .time-arg .given })) in
-    let b : c .before .time2 .result ≡ timeInRange e (getD ts (length ts - 1) (pos 0)) = c .before .time2 .ensures
-    ∙ ap (timeInRange e) (toZ-ofZ w64 (getD ts (length ts - 1) (pos 0)) (record { sfits = c .before .before .time-arg2 .given })) in
-    c .and2 .ensures ∙ rw (a, b) (times-ends e ts (c .before .before .before .before .before .if1 .taken) (s .pre))
+    let a : c .before .before .before .time .result ≡ timeInRange (getD ts 0 (pos 0)) = c .before .before .before .time .ensures
+    ∙ ap timeInRange (toZ-ofZ w64 (getD ts 0 (pos 0)) (record { sfits = c .before .before .before .before .time-arg .given })) in
+    let b : c .before .time2 .result ≡ timeInRange (getD ts (length ts - 1) (pos 0)) = c .before .time2 .ensures
+    ∙ ap timeInRange (toZ-ofZ w64 (getD ts (length ts - 1) (pos 0)) (record { sfits = c .before .before .time-arg2 .given })) in
+    c .and2 .ensures ∙ rw (a, b) (times-ends ts (c .before .before .before .before .before .if1 .taken) (s .pre))
 
 returns-2 : tie.Need-returns-2
-returns-2 c = sym (every-none (timeInRange (c .before .args .version)) (now (c .before .args .ts)) (c .if1 .left))
+returns-2 c = sym (every-none timeInRange (now (c .before .args .ts)) (c .if1 .left))
 
 pub times-in-range-spec : {M : Type 1} → statement M
 times-in-range-spec =

@@ -13,10 +13,10 @@ returns c =
     rw (
       c .and3 .ensures,
       b .before .before .before .enum-told .given .1,
-      b .before .before .is-nothing .ensures,
-      b .before .is-nothing2 .ensures,
+      b .before .before .held .ensures,
+      b .before .is-nothing .ensures,
       c .before .and2 .ensures,
-      b .is-nothing3 .ensures,
+      b .is-nothing2 .ensures,
     )
 
 returns-2 : tie.Need-returns-2
@@ -25,7 +25,7 @@ returns-2 c =
     let t = k .before .last .given .0 .0 in
     let a = k .before .before .before .args in
     let z = toZ-ofZ w64 t (record { sfits = k .known-told .given .0 .1 }) in
-    let f : c .before .before .before .time .result ≡ timeInRange (a .version) t = c .before .before .before .time .ensures ∙ ap (timeInRange (a .version)) z in
+    let f : c .before .before .before .time .result ≡ timeInRange t = c .before .before .before .time .ensures ∙ ap timeInRange z in
     let g : c .before .sent .result ≡ sentInRange (a .version) (a .state) (natural t) = c .before .sent .ensures
     ∙ ap (sentInRange (a .version) (a .state)) (c .before .before .natural-time .ensures ∙ ap natural z) in
     c .and32 .ensures ∙ rw (k .before .last .given .1, f, g)

@@ -214,3 +214,18 @@ header-four s given =
     go false true at size n = omega arith
     go false false at size Nothing = omega arith
     go false false at size (As e) = by-bool (hasZero size) (λ z. rw z (omega arith)) (λ z. rw z (omega arith))
+
+-- and never by 1 where a size without a zero is given
+pub header-sized : (s : List ℕ) (given : SensorSize) → ((read : SensorSize) → hasZero (sizeThatHolds given read) ≡ false)
+    → toldHeader (headerOf s given) .number ≡ 1 → ⊥
+unfolding headerOf linesOutcome headerBytes bodyStart saidBy withEncoding
+header-sized s given fine =
+    let read = saidBy s .size in
+    go (ltb mostBytes (length s)) (any notAscii (headerBytes s)) (bodyStart s) (sizeThatHolds given read) (fine read) (encodingOf (saidBy s))
+  where
+    go : (long high : Bool) (at : ℕ) (size : SensorSize) → hasZero size ≡ false → (n : Named)
+        → toldHeader (answerBy (cond long (refuse TooLong) (cond high (refuse HeaderNotAscii) (withEncoding at size n)))) .number ≡ 1 → ⊥
+    go true high at size z n e = omega arith
+    go false true at size z n e = omega arith
+    go false false at size z Nothing e = omega arith
+    go false false at size z (As k) e = let e′ = rw z at e in omega (arith, e′)

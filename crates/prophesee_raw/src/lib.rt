@@ -30,33 +30,44 @@
 //
 // Writing. `RawEventSink::to_writer` is a fresh writer, which sends a header before its first words or
 // none. `append` writes events in four columns into an output that the caller lends, and answers how
-// many bytes it wrote and the next writer. The size given is for the header. Appending no
-// events writes nothing. Examples: `write_words`, `write_recording`, `write_evt21`.
+// many bytes it wrote and the next writer. Times are below 2^34 microseconds and never fall. In EVT3 a
+// time from 2^24 on is in a later loop, and the writer sends up to two words for each loop that it
+// passes. An output surely suffices with 8 bytes an event, 16 in EVT2.1, in EVT3 4 more for each loop
+// from the last append's to the last time's, and 96 for a header. The size given is for the header.
+// Appending no events writes nothing. Examples: `write_words`, `write_recording`, `write_evt21`,
+// `long_show`.
 //
 // Cutting and resuming. A stream without a header may break off at any byte. Read what has arrived as
 // it is: a broken last word is ignored, and exactly the events whose word is whole are there, with the
 // numbers that they have in the whole stream. Make an index from just the bytes that have arrived; one
 // of other bytes isn't theirs. To go on, drop the broken word, the bytes past a multiple of the
 // decoder's `WORD_SIZE`, and behind the others let a second writer append the events that are missing,
-// from the number on that reading told. It is a fresh one: the first has sent a time and a row that may
-// not have arrived. The joined stream reads as all events, and its slices are exact. That is proved
-// for every list of appends and every cut (crates/laws_handover/specs/Handover.antt). A recording with
-// a header may break off anywhere at the header's end or behind it: read it with no size, so that the
-// header's holds, and give the writer a size that covers all events. Count whole words from where the
-// body starts, and resume with a writer that sends no header (crates/laws_handover/specs/Headed.antt).
-// Examples: `cut_and_resume`, `cut_recording`.
+// from the number on that reading told. `resume_words` makes that writer from the bytes that have
+// arrived: it holds the coarse time, with its loops, that decoding them gives, and sends low half and
+// row anew, since those of the first writer may not have arrived. The joined stream reads as all events,
+// and its slices are exact. That is proved for every list of appends and every cut
+// (crates/laws_handover/specs/Handover.antt). A recording with a header may break off anywhere at the
+// header's end or behind it: read it with no size, so that the header's holds, and give the writer a
+// size that covers all events. Count whole words from where the body starts, and resume with
+// `resume_raw`, whose writer sends no header (crates/laws_handover/specs/Headed.antt). `resume` makes
+// the writer behind a decoder. Each answers a `Resumed`: the writer, and `Ready` or the refusal, beside
+// which the writer is a fresh one. A resumed writer refuses an event below the coarse time that it holds
+// (6), and no other for being early, not even one before the last that has arrived: append just those
+// that are missing. Where all events are below 2^24, and in EVT2 and EVT2.1, a fresh writer that sends
+// no header resumes as well. Examples: `resume_stream`, `resume_recording`; with a fresh writer
+// `cut_and_resume`, `cut_recording`.
 //
 // Single words. `Evt2Decoder`, `Evt21Decoder`, `Decoder` (EVT3) and `Codec` (any) step over one word, by value
 // (`step`) or lent (`decode`), and `EventVector::next` takes out the word's events one by one.
-// `decoder_after` has the decoder after all whole words of some bytes. Examples: `decode_singly`,
-// `decode_after`.
+// `decoder_after` has the decoder after all whole words of some bytes, `decoder_after_raw` the one after
+// a recording's body. Examples: `decode_singly`, `decode_after`.
 //
 // Refusals. An answer is what was asked for or `Refused`, with the reason; `refusal_number` has its
 // number in the table of docs/RULES.md. 5, 9, 11 and 13 tell how many places, records, bytes or places
 // for triggers are needed: lend as many, and call again. A refused call alters no buffer, and returns
-// the writer or the decoder as it was. An accepted one alters nothing behind what it hands over.
-// Examples: `no_encoding`, `columns_too_short`, `records_too_few`, `output_too_short`, `times_fall`,
-// `triggers_too_many`.
+// the writer or the decoder that it was given as it was. An accepted one alters nothing behind what it
+// hands over. Examples: `no_encoding`, `columns_too_short`, `records_too_few`, `output_too_short`,
+// `times_fall`, `triggers_too_many`.
 pub use evt_codec::Codec;
 pub use evt_codec::codec::CodecDecoded;
 pub use evt_types::DecodeAnswer;
@@ -96,6 +107,7 @@ pub use read::decode_words;
 pub use read::read_raw;
 pub use read_after::AfterAnswer;
 pub use read_after::decoder_after;
+pub use read_after::decoder_after_raw;
 pub use read_triggers::TriggerReadAnswer;
 pub use read_triggers::TriggerReading;
 pub use read_triggers::decode_words_triggers;
@@ -109,5 +121,10 @@ pub use write_append::LastTime;
 pub use write_append::RawEventSink;
 pub use write_append::append;
 pub use write_buffer::EncoderState;
+pub use write_resume::ResumeAnswer;
+pub use write_resume::Resumed;
+pub use write_resume::resume;
+pub use write_resume::resume_raw;
+pub use write_resume::resume_words;
 
 pub mod fixed;

@@ -1,4 +1,4 @@
--- Worked values of each encoding, proved of the definitions: a statement over a list, and one of EVT2.1.
+-- Worked values of each encoding, proved of the definitions: a statement over a list, one of EVT2.1, and one of EVT3's loops.
 use mathlib.Core.Path.{_≡_, refl}
 use mathlib.Core.List.{List, [], _∷_}
 use Prim.Native.Nat.{ℕ}
@@ -12,7 +12,7 @@ use Rattle.evt3_decoder.specs.{Evt3.step3, Evt3.vector3, Triggers.trigger3}
 use Rattle.write_words.specs.Encode.{encodeBytes}
 use Rattle.evt2_encoder.specs.Evt2.{encode2}
 use Rattle.evt21_encoder.specs.Evt21.{encode21}
-use Rattle.evt3_lead_words.specs.Evt3.{encode3, leads3, body3, maskCount, vectored, nearby, beyond}
+use Rattle.evt3_lead_words.specs.Evt3.{encode3, passes3, leads3, body3, maskCount, vectored, nearby, beyond}
 use Rattle.write_buffer.specs.Sent.{freshState}
 
 abbrev ev : (t x y p : ℕ) → Event
@@ -87,7 +87,7 @@ values =
 
 pub bench : All Right values
 unfolding Right step2 vector2 trigger2 step3 vector3 trigger3
-    loopsAfter timeAfter bits encodeBytes encode2 encode3 leads3 body3 maskCount vectored nearby beyond
+    loopsAfter timeAfter bits encodeBytes encode2 encode3 passes3 leads3 body3 maskCount vectored nearby beyond
 bench =
     let last : All Right (drop 15 values) = ((refl, refl, refl), ((refl, refl, refl), ((refl, refl, refl), (refl, (refl, tt))))) in
     let late : All Right (drop 12 values) = ((refl, refl, refl), ((refl, refl, refl), ((refl, refl, refl), last))) in
@@ -143,3 +143,27 @@ bench21 =
     let late : All Right (drop 8 values21) = ((refl, refl, refl), ((refl, refl, refl), ((refl, refl, refl), last))) in
     let more : All Right (drop 6 values21) = ((refl, refl, refl), ((refl, refl, refl), late)) in
     (refl, (refl, (refl, (refl, (refl, (refl, more))))))
+
+-- ---- EVT3's loops
+
+-- 8FFF 8000 0007 2805
+abbrev late3 : List ℕ
+late3 = stream 2 (36863 ∷ 32768 ∷ 7 ∷ 10245 ∷ [])
+
+abbrev pub valuesLong : List Value
+valuesLong =
+    -- t = 2^24: no type 6
+    writes Evt3 (ev 16777216 5 7 1 ∷ []) late3
+    -- two loops and a microsecond later: 8FFF 8000 8FFF 8000 6001 0007 2805
+    ∷ writes Evt3 (ev 33554433 5 7 1 ∷ []) (stream 2 (36863 ∷ 32768 ∷ 36863 ∷ 32768 ∷ 24577 ∷ 7 ∷ 10245 ∷ []))
+    -- FFF is held: 8FFF 6FFF 0007 2805 8000 2805
+    ∷ writes Evt3 (ev 16777215 5 7 1 ∷ ev 16777216 5 7 1 ∷ []) (stream 2 (36863 ∷ 28671 ∷ 7 ∷ 10245 ∷ 32768 ∷ 10245 ∷ []))
+    ∷ cuts Evt3 (ev 16777215 5 7 1 ∷ ev 16777216 5 7 1 ∷ []) 11 (ev 16777215 5 7 1 ∷ [])
+    ∷ reads Evt3 late3 (ev 16777216 5 7 1 ∷ []) 16777216 1
+    -- 8FFF 8000 8000
+    ∷ reads Evt3 (stream 2 (36863 ∷ 32768 ∷ 32768 ∷ [])) [] 16777216 1
+    ∷ []
+
+pub bench-long : All Right valuesLong
+unfolding Right step3 vector3 loopsAfter timeAfter bits encodeBytes encode3 passes3 leads3 body3 maskCount vectored
+bench-long = (refl, (refl, (refl, (refl, ((refl, refl, refl), ((refl, refl, refl), tt))))))

@@ -1,6 +1,6 @@
 -- Appends to a writer, one after another, in either encoding: the words, the cut, the resumption, and slices by time.
 -- All laws are over streams that a decoder understands, and what is left of one and resumed is such a one again.
-use mathlib.Core.Path.{_≡_, refl, ap, _∙_}
+use mathlib.Core.Path.{_≡_, refl, sym, ap, subst, _∙_}
 use mathlib.Core.Bool.{Bool, true}
 use mathlib.Core.List.{List, [], _∷_, _++_, append-nil}
 use Prim.Native.Nat.{ℕ, _*_, _/_, _≤_}
@@ -8,7 +8,7 @@ use borrow.Author.Tests.{lt-ltb}
 use lib.ListN.{take, drop}
 use Rattle.laws_stream.specs.Machine.{Note, All, all-of, run, emits, words, notes, words-append, notes-append, words-take, says-take, says-fits}
 use Rattle.laws_stream.specs.{Words.Fits, Words.stream, Words.stream-append, Words.wordsOf, Words.wordsOf-take, Format.Format}
-use Rattle.laws_stream.specs.{Format.Lawful, Format.Good, Format.givens, Format.writes, Format.resumes, Stream.notedBytes}
+use Rattle.laws_stream.specs.{Format.Lawful, Format.Good, Format.givens, Format.writes, Format.resumes, Format.ready-after, Stream.notedBytes, Stream.after}
 use Rattle.laws_stream.specs.{Stream.decode-whole, Stream.decode-cut, Stream.bytes-resumed, Stream.good-timed, Order.Rise, Slice.Past}
 use Rattle.laws_stream.specs.{Slice.within, Slice.reached, Slice.over-time, Slice.says-past}
 use Rattle.evt_types.specs.{declared.Encoding.Encoding, Event.Event}
@@ -18,7 +18,7 @@ use Rattle.read_window.specs.declared.Window.{Window}
 use Rattle.read_select.specs.Uses.{PastOver}
 use Rattle.write_buffer.specs.{declared.EncoderState.EncoderState, Sent.freshState}
 use Rattle.write_words.specs.{Encode.encodeNotes, Encode.encodeState, Encode.encodeSize, Encode.encodeBytes, Laws.encode-notes}
-use Rattle.laws_formats.specs.Ready.{limit, sayable, sayable-true}
+use Rattle.laws_formats.specs.Ready.{sayable, sayable-true}
 use Rattle.laws_formats.specs.Either.{StateOf, codecOf, freshOf, appender, ReadyOf, AgreeOf, formatOf, lawfulOf, events-are, fresh-ready}
 use Rattle.laws_formats.specs.Either.{ready-ahead, past-over}
 use Rattle.evt_codec.specs.Reader.{readerOf}
@@ -30,7 +30,7 @@ flat (g ∷ gs) = g ++ flat gs
 
 -- they can be said, and no time falls
 abbrev pub Orderly : Encoding → List (List Event) → Type 0
-Orderly e gs = Rise clock (sayable (limit e)) 0 (flat gs)
+Orderly e gs = Rise clock sayable 0 (flat gs)
 
 -- the words that a writer sends of them, each with a note of the events that it carries
 abbrev pub appendNotes : Encoding → EncoderState → List (List Event) → List (Note ℕ Event)
@@ -59,10 +59,10 @@ notes-all e v [] = refl
 notes-all e v (g ∷ gs) = notes-append (encodeNotes e v g) (appendNotes e (encodeState e v g) gs) ∙ rw (encode-notes e v g, notes-all e (encodeState e v g) gs)
 
 -- what can be said lies inside 2048 by 2048
-pub rise-inside : (e : Encoding) (from : ℕ) (es : List Event) → Rise clock (sayable (limit e)) from es → All (λ a. inside 2048 2048 a ≡ true) es
+pub rise-inside : (e : Encoding) (from : ℕ) (es : List Event) → Rise clock sayable from es → All (λ a. inside 2048 2048 a ≡ true) es
 rise-inside e from [] r = tt
 rise-inside e from (a ∷ es) r =
-    let f = sayable-true (limit e) a (r .0 .fine) in
+    let f = sayable-true a (r .0 .fine) in
     (rw (lt-ltb (a .x) 2048 (f .x<), lt-ltb (a .y) 2048 (f .y<)), rise-inside e (clock a) es (r .1))
 
 -- what is cut off comes after the rest, so the first c bytes can be sliced too
@@ -97,12 +97,31 @@ module _ (e : Encoding) where
 
   -- FROM A FRESH WRITER to a fresh decoder
   pub fresh-understood : (gs : List (List Event)) → Orderly e gs → Understood (freshOf e) (appendNotes e freshState gs)
-  fresh-understood gs o = sent-understood (freshOf e) freshState gs (lawfulOf e .starts (freshOf e)) (fresh-ready e (flat gs) o) .0
+  fresh-understood gs o = sent-understood (freshOf e) freshState gs (lawfulOf e .starts) (fresh-ready e (flat gs) o) .0
 
-  -- THE RESUMPTION: after k words, by a fresh writer that is given what was noted of the others
-  pub resumed-understood : (d : StateOf e) (k : ℕ) (ns : List (Note ℕ Event)) (gs : List (List Event)) → Understood d ns → flat gs ≡ notes (drop k ns)
-      → Understood d (take k ns ++ appendNotes e freshState gs)
-  resumed-understood d k ns gs u h = resumes (formatOf e) (lawfulOf e) k d ns gs [] (valid gs) u (given-all gs ∙ h)
+  -- THE RESUMPTION: after k words, by a writer that agrees with the decoder there and is given what was noted of the others
+  pub resumed-understood : (d : StateOf e) (k : ℕ) (ns : List (Note ℕ Event)) (v : EncoderState) (gs : List (List Event)) → Understood d ns
+      → flat gs ≡ notes (drop k ns) → AgreeOf e v (run (readerOf e .machine) d (words (take k ns))) → Understood d (take k ns ++ appendNotes e v gs)
+  resumed-understood d k ns v gs u h ag = resumes (formatOf e) (lawfulOf e) k d ns v gs [] (valid gs) u (given-all gs ∙ h) ag
+
+  -- where nothing is left to be given any writer will do
+  pub resumed-none : (d : StateOf e) (k : ℕ) (ns : List (Note ℕ Event)) → Understood d ns → notes (drop k ns) ≡ [] → Understood d (take k ns)
+  resumed-none d k ns u h =
+      subst (λ (l : List Event). Good (formatOf e) d (take k ns) l) (append-nil _ ∙ h)
+      (says-take (readerOf e .machine) (Fits (encodeSize e)) (ReadyOf e) k d ns [] u)
+
+  -- the decoder there is ready for them
+  pub ready-left : (d : StateOf e) (k : ℕ) (ns : List (Note ℕ Event)) → Understood d ns
+      → ReadyOf e (run (readerOf e .machine) d (words (take k ns))) (notes (drop k ns))
+  ready-left d k ns u = rw append-nil at (ready-after (formatOf e) (lawfulOf e) k d ns [] u)
+
+  -- it is the decoder after the bytes that are left
+  pub after-left : (d : StateOf e) (c : ℕ) (ns : List (Note ℕ Event)) → Understood d ns
+      → after (encodeSize e) (readerOf e .machine) d (take c (noteBytes e ns)) ≡ run (readerOf e .machine) d (words (take (c / encodeSize e) ns))
+  after-left d c ns u =
+      ap (run (readerOf e .machine) d)
+      (wordsOf-take (encodeSize e) (lawfulOf e .sized) c (words ns) (says-fits (readerOf e .machine) (Fits (encodeSize e)) (ReadyOf e) d ns [] u)
+      ∙ sym (words-take (c / encodeSize e) ns))
 
   pub resumed-bytes : (c : ℕ) (ns ms : List (Note ℕ Event))
       → take (c / encodeSize e * encodeSize e) (noteBytes e ns) ++ noteBytes e ms ≡ noteBytes e (take (c / encodeSize e) ns ++ ms)

@@ -18,7 +18,7 @@ use Rattle.evt_codec.specs.Reader.{evt2}
 use Rattle.laws_formats.specs.Ready.{formatBy, limit, sayable, Ready, IfSent, holds-sent, Sayable, sayable-true, no-event, one-event}
 
 abbrev pub Ready2 : Evt2Decoder → List Event → Type 0
-Ready2 d es = Ready period2 (limit Evt2) (d .«time_high») (d .time) (d .«high_loops») es
+Ready2 d es = Ready period2 (d .«time_high») (d .time) (d .«high_loops») es
 
 -- the decoder has the coarse time of the half h
 abbrev pub High2 : Evt2Decoder → (h : ℕ) → Type 0
@@ -29,7 +29,7 @@ format2 = formatBy evt2 writer2 (λ e. e ∷ []) (λ e. Unit) Ready2 (λ v d. If
 
 -- ---- an event's word, at the coarse time that the event has
 
-module _ (d : Evt2Decoder) (e : Event) (f : Sayable (limit Evt2) e) (on : d .initialised ≡ true) (at : d .«time_high» ≡ e .t / grain2 * grain2) where
+module _ (d : Evt2Decoder) (e : Event) (f : Sayable e) (on : d .initialised ≡ true) (at : d .«time_high» ≡ e .t / grain2 * grain2) where
   abbrev w : ℕ
   w = wordOf2 e
 
@@ -72,7 +72,7 @@ module _ (d : Evt2Decoder) (e : Event) (f : Sayable (limit Evt2) e) (on : d .ini
       ready = rd;
       fits = event-fits2 (e .p % 2) (e .t % grain2) (e .x % 2048) (e .y % 2048) p<2 low< x<2048 y<2048;
       says = ap eventsOf event-vector ∙ one-event (e .x) (e .y) (e .t) (e .p) (omega (arith, f .x<));
-      rest = rw event-steps (record { counted = rd .counted; past = omega (arith, at); rises = rd .rises .1 });
+      rest = rw event-steps (record { counted = rd .counted; below = rd .below; past = omega (arith, at); rises = rd .rises .1 });
     },
     rw event-steps (on, at),
   )
@@ -98,30 +98,31 @@ module _ (d : Evt2Decoder) (e : Event) (more : List Event) (rd : Ready2 d (e ∷
 
   pub high-steps : step2 d high ≡ risen d (e .t)
   high-steps =
-      let f = sayable-true (limit Evt2) e (rd .rises .0 .fine) in
+      let f = sayable-true e (rd .rises .0 .fine) in
       let le : d .«time_high» ≤ e .t = omega (arith, rd .past, rd .rises .0 .rises) in
-      let low : d .«high_loops» * period2 ≤ e .t = omega (arith, rd .counted) in
-      let top : e .t < d .«high_loops» * period2 + period2 = omega (arith, f .t<) in
+      let none : d .«high_loops» ≡ 0 = omega (arith, rd .counted, rd .below) in
+      let top : e .t < period2 = f .t< in
       let k = tracks-same period2 threshold2 (d .«time_high») (d .«high_loops») (q * 64) (e .t / grain2 * grain2) (omega arith) (omega arith) in
       by-time .0 ∙ rw (time-high2 q (omega arith), k .0, k .1)
 
   pub high-ready : Ready2 (risen d (e .t)) (e ∷ more)
   high-ready =
-      let low : d .«high_loops» * period2 ≤ e .t = omega (arith, rd .counted, rd .past, rd .rises .0 .rises) in
+      let f = sayable-true e (rd .rises .0 .fine) in
       record {
-        counted = omega arith;
+        counted = omega (arith, rd .counted, rd .below, f .t<);
+        below = omega (arith, f .t<);
         past = omega arith;
-        rises = rise-first clock (sayable (limit Evt2)) (d .time) (e .t / grain2 * grain2) e more (omega arith) (rd .rises);
+        rises = rise-first clock sayable (d .time) (e .t / grain2 * grain2) e more (omega arith) (rd .rises);
       }
 
 -- ---- the law
 
 group-as : (b : Bool) (d : Evt2Decoder) (e : Event) (more : List Event) → (b ≡ true → High2 d (e .t / grain2)) → Ready2 d (e ∷ more)
     → let ns = due b (highWord2 (e .t)) ++ (carries (wordOf2 e) e ∷ []) in Good format2 d ns more × High2 (run reader2 d (words ns)) (e .t / grain2)
-group-as true d e more h rd = said-event d e (sayable-true (limit Evt2) e (rd .rises .0 .fine)) (h refl .0) (h refl .1) more rd
+group-as true d e more h rd = said-event d e (sayable-true e (rd .rises .0 .fine)) (h refl .0) (h refl .1) more rd
 group-as false d e more h rd =
     let up = high-steps d e more rd in
-    let r = said-event (risen d (e .t)) e (sayable-true (limit Evt2) e (rd .rises .0 .fine)) refl refl more (high-ready d e more rd) in (
+    let r = said-event (risen d (e .t)) e (sayable-true e (rd .rises .0 .fine)) refl refl more (high-ready d e more rd) in (
       record {
         ready = rd;
         fits = time-fits2 (e .t / grain2 % 2 ^ 28) (omega arith);
@@ -136,6 +137,6 @@ unfolding encode2
 lawful2 = record {
   sized = omega arith;
   noted = λ v e va. encode-notes2 v e;
-  starts = λ d. tt;
+  starts = tt;
   group = λ v d e more va ag rd. group-as (highSent2 v e) d e more (holds-sent (v .«time_high») (High2 d) (e .t / grain2) ag) rd;
 }

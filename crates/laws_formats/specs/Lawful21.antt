@@ -48,10 +48,10 @@ module _ (t y p x : ℕ) (xs : List ℕ) (block : Block (x ∷ xs)) (d : Evt21De
   abbrev first : Event
   first = event (blockOf x) y t p
 
-  f : Sayable (limit Evt21) (event x y t p)
-  f = sayable-true (limit Evt21) (event x y t p) (rd .rises .0 .fine)
+  f : Sayable (event x y t p)
+  f = sayable-true (event x y t p) (rd .rises .0 .fine)
 
-  g : Sayable (limit Evt21) first
+  g : Sayable first
   g = record { x< = omega (arith, f .x<); y< = f .y<; p< = f .p<; t< = f .t< }
 
   is-upper : upper w ≡ wordOf2 first
@@ -76,8 +76,9 @@ module _ (t y p x : ℕ) (xs : List ℕ) (block : Block (x ∷ xs)) (d : Evt21De
       says = ap eventsOf run-vector ∙ vector-events21 r block (omega (arith, f .x<));
       rest = rw run-steps (record {
         counted = rd .counted;
+        below = rd .below;
         past = omega (arith, at);
-        rises = rise-suffix clock (sayable (limit Evt21)) t (spread t y p xs) more (rd .rises .1);
+        rises = rise-suffix clock sayable t (spread t y p xs) more (rd .rises .1);
       });
     },
     rw run-steps (on, at),
@@ -114,6 +115,6 @@ pub lawful21 : Lawful format21
 lawful21 = record {
   sized = omega arith;
   noted = λ v r va. encode-notes21 v r;
-  starts = λ d. tt;
+  starts = tt;
   group = λ v d r more va ag rd. group21 v d (r .t) (r .y) (r .p) (r .xs) more va ag rd;
 }

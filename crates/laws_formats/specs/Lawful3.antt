@@ -7,26 +7,29 @@ use native.Mathlib.Omega.{arith}
 use lib.Dec.{eqb}
 use lib.ListN.{length, getD}
 use borrow.Author.Tests.{eqb-true}
-use Rattle.laws_stream.specs.{Machine.Note, Machine.run, Machine.words, Machine.notes, Format.Format, Format.Lawful, Format.Good, Loop.tracks-same}
+use Rattle.laws_stream.specs.{Machine.Note, Machine.run, Machine.words, Machine.notes, Machine.notes-append, Format.Format, Format.Lawful, Format.Good}
+use Rattle.laws_stream.specs.Loop.{tracks-same, tracks-next}
 use Rattle.laws_stream.specs.{Mask.Inc, Mask.mask, Mask.mask-lt, Order.Rise, Order.rise-from, Order.rise-suffix}
-use Rattle.evt_types.specs.{declared.Encoding.the-variants.Evt3, declared.Sent.Sent, Event.Event}
+use Rattle.evt_types.specs.{declared.Sent.Sent, declared.Sent.the-variants.Nothing, declared.Sent.the-variants.Value, Event.Event, Layout.word3}
 use Rattle.evt_types.specs.{Event.eventsOf, Layout.column-polarity3, Layout.column-x3, Layout.column-fits3}
 use Rattle.evt3_decoder.specs.{declared.Decoder.Decoder, Evt3.first-word}
 use Rattle.evt_types.specs.Layout.{type3, x3, polarity3, mask12, time3, word-type3, word-time3, word-mask12, word-y3, word-fits3, column-type3, grain3}
 use Rattle.evt3_decoder.specs.Evt3.{period3, threshold3, atCoarse, past, number, step3, vector3, reader3, stepAs, vectorAs, kindOn, started-word}
 use Rattle.read_columns.specs.Inside.{clock}
-use Rattle.write_buffer.specs.{declared.EncoderState.EncoderState, Columns.event, Sent.sentIs, Sent.due}
+use Rattle.write_buffer.specs.{declared.EncoderState.EncoderState, Columns.event, Sent.sentIs, Sent.due, Sent.quiet}
 use Rattle.evt3_run_rules.specs.Runs.{Run, given, spread, Rising, Valid, firstX, lastX}
 use Rattle.evt3_run_rules.specs.Vectors.{mask-events}
 use Rattle.evt3_lead_words.specs.Evt3.{highWord3, lowWord3, rowWord3, lowKept, highSent3, lowSent3, rowSent3, leads3, singleWord3, baseWord3, maskWord3, nearby}
 use Rattle.evt3_lead_words.specs.Evt3.{beyond, maskCount, vectored, singles, masks, vectors, body3, encode3, encoded3, writer3}
+use Rattle.evt3_lead_words.specs.Evt3.{loopOf, atEnd, passes3, ahead3, loopedBy, looped3}
 use Rattle.evt3_run_words.specs.Masks.{near-inc}
-use Rattle.write_words.specs.Laws.{reach, spread-is, none-left, singles-notes, masks-notes, body-notes, due-notes, encode-notes3}
+use Rattle.write_words.specs.Laws.{reach, spread-is, none-left, singles-notes, masks-notes, body-notes, due-notes, leads-notes, passes-notes}
+use Rattle.write_words.specs.Laws.{encode-notes3}
 use Rattle.evt_codec.specs.Reader.{evt3}
 use Rattle.laws_formats.specs.Ready.{formatBy, limit, sayable, Ready, IfSent, holds-sent, Sayable, sayable-true, no-event, one-event}
 
 abbrev pub Ready3 : Decoder → List Event → Type 0
-Ready3 d es = Ready period3 (limit Evt3) (d .«time_base») (d .time) (d .«high_loops») es
+Ready3 d es = Ready period3 (d .«time_base») (d .time) (d .«high_loops») es
 
 -- the decoder has the coarse time of the half h
 abbrev pub High3 : Decoder → (h : ℕ) → Type 0
@@ -37,23 +40,30 @@ pub record Agree3 (v : EncoderState) (d : Decoder) : Type 0 where
   pub highs : IfSent (v .«time_high») (High3 d)
   pub lows : IfSent (v .«time_low») (λ l. d .time ≡ d .«time_base» + l)
   pub rows : IfSent (v .y) (λ y. d .y ≡ y)
+  pub loops : d .«high_loops» ≡ loopOf (v .«time_high»)
 
 abbrev pub format3 : Format Decoder EncoderState Run Event
 format3 = formatBy evt3 writer3 given Valid Ready3 Agree3
 
 abbrev Rises : ℕ → List Event → Type 0
-Rises = Rise clock (sayable (limit Evt3))
+Rises = Rise clock sayable
 
 -- the decoder has the time t and the row y
 record Fixed (t y : ℕ) (d : Decoder) : Type 0 where
+  early : t < limit
   on : d .initialised ≡ true
-  counted : d .«high_loops» * period3 ≤ d .«time_base»
+  counted : d .«high_loops» ≡ t / period3
   at-coarse : d .«time_base» ≡ t / grain3 * grain3
   at-time : d .time ≡ t
   at-row : d .y ≡ y
 
 fixed-ready : (t y : ℕ) (d : Decoder) (es : List Event) → Fixed t y d → Rises t es → Ready3 d es
-fixed-ready t y d es f r = record { counted = f .counted; past = omega (arith, f .at-coarse, f .at-time); rises = rw (f .at-time) r }
+fixed-ready t y d es f r = record {
+  counted = omega (arith, f .counted, f .at-coarse);
+  below = omega (arith, f .early, f .at-coarse);
+  past = omega (arith, f .at-coarse, f .at-time);
+  rises = rw (f .at-time) r;
+}
 
 -- what the decoder makes of some words, the last of which leave it at t and y
 abbrev Reads : (t y : ℕ) → Decoder → List (Note ℕ Event) → List Event → Type 0
@@ -79,7 +89,7 @@ said-singles : (t y p : ℕ) (xs : List ℕ) (d : Decoder) (more : List Event) �
     → Reads t y d (singles t y p xs) more
 said-singles t y p [] d more f r = (fixed-ready t y d more f r, f)
 said-singles t y p (x ∷ xs) d more f r =
-    let g = sayable-true (limit Evt3) (event x y t p) (r .0 .fine) in
+    let g = sayable-true (event x y t p) (r .0 .fine) in
     let w = singleWord3 p x in
     let p2 : p % 2 < 2 = omega arith in
     let xm : x % 2048 < 2048 = omega arith in
@@ -115,18 +125,18 @@ said-masks t y p (suc k) b xs d more f eb ep fits i r =
     (word-fits3 4 (mask b near % 4096) (omega arith) m<) (masks-notes t y p k (b + 12) far i′)
     (fixed-ready t y d (spread t y p near ++ (spread t y p far ++ more)) f r₂)
     (said-masks t y p k (b + 12) far (past 12 d) more
-    (record { on = f .on; counted = f .counted; at-coarse = f .at-coarse; at-time = f .at-time; at-row = f .at-row })
-    next ep (omega arith) i′ (rise-suffix clock (sayable (limit Evt3)) t (spread t y p near) (spread t y p far ++ more) r₂))
+    (record { early = f .early; on = f .on; counted = f .counted; at-coarse = f .at-coarse; at-time = f .at-time; at-row = f .at-row })
+    next ep (omega arith) i′ (rise-suffix clock sayable t (spread t y p near) (spread t y p far ++ more) r₂))
 
 -- ---- the columns of a run
 
-first-fine : (t y p : ℕ) (xs : List ℕ) (more : List Event) → 1 ≤ length xs → Rises t (spread t y p xs ++ more) → Sayable (limit Evt3) (event (firstX xs) y t p)
+first-fine : (t y p : ℕ) (xs : List ℕ) (more : List Event) → 1 ≤ length xs → Rises t (spread t y p xs ++ more) → Sayable (event (firstX xs) y t p)
 first-fine t y p [] more h r = absurd (omega arith)
-first-fine t y p (x ∷ xs) more h r = sayable-true (limit Evt3) (event x y t p) (r .0 .fine)
+first-fine t y p (x ∷ xs) more h r = sayable-true (event x y t p) (r .0 .fine)
 
 all-fine : (t y p : ℕ) (xs : List ℕ) (more : List Event) → Rises t (spread t y p xs ++ more) → (k : ℕ) → getD xs k 0 < 2048
 all-fine t y p [] more r k = omega arith
-all-fine t y p (x ∷ xs) more r zero = sayable-true (limit Evt3) (event x y t p) (r .0 .fine) .x<
+all-fine t y p (x ∷ xs) more r zero = sayable-true (event x y t p) (r .0 .fine) .x<
 all-fine t y p (x ∷ xs) more r (suc k) = all-fine t y p xs more (r .1) k
 
 masks-few : (xs : List ℕ) → lastX xs < 2048 → maskCount xs ≤ 171
@@ -138,8 +148,70 @@ number-is zero h = refl
 number-is (suc zero) h = refl
 number-is (suc (suc p)) h = absurd (omega arith)
 
+-- ---- time words
+
+-- the first type 8, and each later one, takes the decoder to the coarse time of t, in the loop that it has counted
+high-word : (t : ℕ) (on : Bool) (d : Decoder) → d .initialised ≡ on → d .«high_loops» ≡ t / period3 → d .«time_base» < t / grain3 * grain3 + threshold3
+    → (d .initialised ≡ false → d .«high_loops» ≡ 0)
+    → (step3 d (highWord3 t) ≡ atCoarse d (t / grain3 * grain3) (d .«high_loops»)) × (eventsOf (vector3 d (highWord3 t)) ≡ [])
+high-word t on d o lp near off =
+    let q< : t / grain3 % 4096 < 4096 = omega arith in
+    go on o (word-type3 8 (t / grain3 % 4096) (omega arith) q<) (ap (λ (h : ℕ). h * grain3) (word-time3 8 (t / grain3 % 4096) (omega arith) q<))
+  where
+    go : (on : Bool) → d .initialised ≡ on → type3 (highWord3 t) ≡ 8 → time3 (highWord3 t) * grain3 ≡ t / grain3 % 4096 * grain3
+        → (step3 d (highWord3 t) ≡ atCoarse d (t / grain3 * grain3) (d .«high_loops»)) × (eventsOf (vector3 d (highWord3 t)) ≡ [])
+    go true o is-8 is-raw =
+        let w = highWord3 t in
+        let by = started-word d w (type3 w) refl 8 is-8 o in
+        let q = tracks-same period3 threshold3 (d .«time_base») (d .«high_loops») (t / grain3 % 4096 * grain3) (t / grain3 * grain3) (omega arith) near in
+        (by .0 ∙ rw (is-raw, q .0, q .1), ap eventsOf (by .1) ∙ no-event)
+    go false o is-8 is-raw =
+        let w = highWord3 t in
+        let by = first-word d w (type3 w) refl is-8 o in
+        let z = off o in
+        let same : t / grain3 % 4096 * grain3 ≡ t / grain3 * grain3 = omega arith in
+        (by .0 ∙ rw (is-raw, same), ap eventsOf (by .1) ∙ no-event)
+
+-- with FFF to the last half of its loop
+last-half : (d : Decoder) → d .«high_loops» ≡ d .«time_base» / period3 → (d .initialised ≡ false → d .«high_loops» ≡ 0)
+    → let last = d .«high_loops» * period3 + 16773120 in
+    (step3 d (word3 8 4095) ≡ atCoarse d last (d .«high_loops»)) × (eventsOf (vector3 d (word3 8 4095)) ≡ [])
+last-half d counted off =
+    let last = d .«high_loops» * period3 + 16773120 in
+    let half : last / grain3 % 2 ^ 12 ≡ 4095 = omega arith in
+    let whole : last / grain3 * grain3 ≡ last = omega arith in
+    rw (half, whole) at (high-word last (d .initialised) d refl (omega arith) (omega arith) off)
+
+-- a loop later
+abbrev nextLoop : Decoder → Decoder
+nextLoop d = atCoarse d (suc (d .«high_loops») * period3) (suc (d .«high_loops»))
+
+abbrev afterLoops : (n : ℕ) → Decoder → Decoder
+afterLoops zero d = d
+afterLoops (suc n) d = afterLoops n (nextLoop d)
+
+-- with 000 from there to the next loop: the loop law
+first-half : (d : Decoder) → d .initialised ≡ true → d .«time_base» ≡ d .«high_loops» * period3 + 16773120
+    → (step3 d (word3 8 0) ≡ nextLoop d) × (eventsOf (vector3 d (word3 8 0)) ≡ [])
+first-half d on at =
+    let w = word3 8 0 in
+    let by = started-word d w (type3 w) refl 8 (word-type3 8 0 (omega arith) (omega arith)) on in
+    let raw : time3 w * grain3 ≡ 0 = ap (λ (h : ℕ). h * grain3) (word-time3 8 0 (omega arith) (omega arith)) in
+    let q = tracks-next period3 threshold3 (d .«time_base») (d .«high_loops») 0 (suc (d .«high_loops») * period3) (omega arith) (omega arith) in
+    (by .0 ∙ rw (raw, q .0, q .1), ap eventsOf (by .1) ∙ no-event)
+
+-- what the decoder is then
+after-loops : (n : ℕ) (d : Decoder) → (afterLoops n d .«high_loops» ≡ d .«high_loops» + n) × (afterLoops n d .y ≡ d .y)
+after-loops zero d = (omega arith, refl)
+after-loops (suc n) d = let ih = after-loops n (nextLoop d) in (omega (arith, ih .0), ih .1)
+
+after-coarse : (n : ℕ) (d : Decoder) → let d′ = afterLoops (suc n) d in
+    (d′ .initialised ≡ true) × (d′ .«time_base» ≡ (d .«high_loops» + suc n) * period3) × (d′ .time ≡ d′ .«time_base»)
+after-coarse zero d = (refl, omega arith, refl)
+after-coarse (suc n) d = let ih = after-coarse n (nextLoop d) in (ih .0, omega (arith, ih .1), ih .2)
+
 module _ (t y p : ℕ) (xs : List ℕ) (v : Rising xs) (more : List Event) (r : Rises t (spread t y p xs ++ more)) where
-  fine : Sayable (limit Evt3) (event (firstX xs) y t p)
+  fine : Sayable (event (firstX xs) y t p)
   fine = first-fine t y p xs more (v .some) r
 
   said-vectors : (d : Decoder) → Fixed t y d → Reads t y d (vectors t y p xs) more
@@ -156,7 +228,7 @@ module _ (t y p : ℕ) (xs : List ℕ) (v : Rising xs) (more : List Event) (r : 
       (column-fits3 3 (p % 2) (x % 2048) (omega arith) p2 xm) (masks-notes t y p (maskCount xs) x xs (reach xs v))
       (fixed-ready t y d (spread t y p xs ++ more) f r)
       (said-masks t y p (maskCount xs) x xs (stepAs (kindOn 3) d w) more
-      (record { on = f .on; counted = f .counted; at-coarse = f .at-coarse; at-time = f .at-time; at-row = f .at-row })
+      (record { early = f .early; on = f .on; counted = f .counted; at-coarse = f .at-coarse; at-time = f .at-time; at-row = f .at-row })
       is-x (ap (λ (q : ℕ). number (eqb q 1)) is-p ∙ number-is p (fine .p<)) (omega (arith, fine .x<)) (reach xs v) r)
 
   said-body : (d : Decoder) → Fixed t y d → Reads t y d (body3 t y p xs) more
@@ -173,7 +245,8 @@ module _ (t y p : ℕ) (xs : List ℕ) (v : Rising xs) (more : List Event) (r : 
   here = body3 t y p xs
 
   said-row : (ro : Bool) (d : Decoder) → Fixed t (d .y) d → (ro ≡ true → d .y ≡ y) → Reads t y d (due ro (rowWord3 y) ++ here) more
-  said-row true d f h = said-body d (record { on = f .on; counted = f .counted; at-coarse = f .at-coarse; at-time = f .at-time; at-row = h refl })
+  said-row true d f h =
+      said-body d (record { early = f .early; on = f .on; counted = f .counted; at-coarse = f .at-coarse; at-time = f .at-time; at-row = h refl })
   said-row false d f h =
       let w = rowWord3 y in
       let y< : y % 2048 < 2048 = omega arith in
@@ -181,6 +254,7 @@ module _ (t y p : ℕ) (xs : List ℕ) (v : Rising xs) (more : List Event) (r : 
       said-word t y d (stepAs (kindOn 0) d w) w [] (spread t y p xs) here more (by .0) (ap eventsOf (by .1) ∙ no-event)
       (word-fits3 0 (y % 2048) (omega arith) (omega arith)) (body-notes t y p xs v) (fixed-ready t (d .y) d (spread t y p xs ++ more) f r)
       (said-body (stepAs (kindOn 0) d w) (record {
+        early = f .early;
         on = f .on;
         counted = f .counted;
         at-coarse = f .at-coarse;
@@ -190,7 +264,8 @@ module _ (t y p : ℕ) (xs : List ℕ) (v : Rising xs) (more : List Event) (r : 
 
   said-low : (lo ro : Bool) (d : Decoder) → d .initialised ≡ true → d .«time_base» ≡ t / grain3 * grain3 → Ready3 d (spread t y p xs ++ more)
       → (lo ≡ true → d .time ≡ t) → (ro ≡ true → d .y ≡ y) → Reads t y d (due lo (lowWord3 t) ++ (due ro (rowWord3 y) ++ here)) more
-  said-low true ro d o k rd ht hr = said-row ro d (record { on = o; counted = rd .counted; at-coarse = k; at-time = ht refl; at-row = refl }) hr
+  said-low true ro d o k rd ht hr =
+      said-row ro d (record { early = fine .t<; on = o; counted = omega (arith, rd .counted); at-coarse = k; at-time = ht refl; at-row = refl }) hr
   said-low false ro d o k rd ht hr =
       let w = lowWord3 t in
       let l< : t % grain3 < 4096 = omega arith in
@@ -198,50 +273,73 @@ module _ (t y p : ℕ) (xs : List ℕ) (v : Rising xs) (more : List Event) (r : 
       let is-t : d .«time_base» + time3 w ≡ t = rw (word-time3 6 (t % grain3) (omega arith) l<, k) (omega arith) in
       said-word t y d (stepAs (kindOn 6) d w) w [] (spread t y p xs) (due ro (rowWord3 y) ++ here) more (by .0) (ap eventsOf (by .1) ∙ no-event)
       (word-fits3 6 (t % grain3) (omega arith) l<) (due-notes ro (rowWord3 y) here ∙ body-notes t y p xs v) rd
-      (said-row ro (stepAs (kindOn 6) d w) (record { on = o; counted = rd .counted; at-coarse = k; at-time = is-t; at-row = refl }) hr)
+      (said-row ro (stepAs (kindOn 6) d w)
+      (record { early = fine .t<; on = o; counted = omega (arith, rd .counted); at-coarse = k; at-time = is-t; at-row = refl }) hr)
 
-  -- the first type 8, and each later one, takes the decoder to the coarse time of t
-  high-word : (on : Bool) (d : Decoder) → d .initialised ≡ on → d .«high_loops» * period3 ≤ t → d .«time_base» ≤ t
-      → (step3 d (highWord3 t) ≡ atCoarse d (t / grain3 * grain3) (d .«high_loops»)) × (eventsOf (vector3 d (highWord3 t)) ≡ [])
-  high-word on d o low le =
-      let w = highWord3 t in
-      let t< = fine .t< in
-      let q< : t / grain3 % 4096 < 4096 = omega arith in
-      let is-raw : time3 w * grain3 ≡ t / grain3 * grain3 = rw (word-time3 8 (t / grain3 % 4096) (omega arith) q<) (omega arith) in
-      go on o (word-type3 8 (t / grain3 % 4096) (omega arith) q<) is-raw
-    where
-      go : (on : Bool) → d .initialised ≡ on → type3 (highWord3 t) ≡ 8 → time3 (highWord3 t) * 4096 ≡ t / grain3 * grain3
-          → (step3 d (highWord3 t) ≡ atCoarse d (t / grain3 * grain3) (d .«high_loops»)) × (eventsOf (vector3 d (highWord3 t)) ≡ [])
-      go true o is-8 is-raw =
-          let w = highWord3 t in
-          let by = started-word d w (type3 w) refl 8 is-8 o in
-          let t< = fine .t< in
-          let q = tracks-same period3 threshold3 (d .«time_base») (d .«high_loops») (t / grain3 * grain3) (t / grain3 * grain3) (omega arith) (omega arith) in
-          (by .0 ∙ rw (is-raw, q .0, q .1), ap eventsOf (by .1) ∙ no-event)
-      go false o is-8 is-raw =
-          let w = highWord3 t in
-          let by = first-word d w (type3 w) refl is-8 o in
-          (by .0 ∙ rw is-raw, ap eventsOf (by .1) ∙ no-event)
-
-  said-high : (hi lo ro : Bool) (d : Decoder) → Ready3 d (spread t y p xs ++ more) → d .time ≤ t → (hi ≡ true → High3 d (t / grain3))
+  said-high : (hi lo ro : Bool) (d : Decoder) → Ready3 d (spread t y p xs ++ more) → d .time ≤ t → d .«high_loops» ≡ t / period3
+      → (d .initialised ≡ false → d .«high_loops» ≡ 0) → (hi ≡ true → High3 d (t / grain3))
       → (lo ≡ true → (hi ≡ true → d .time ≡ t) × (hi ≡ false → t % grain3 ≡ 0)) → (ro ≡ true → d .y ≡ y)
       → Reads t y d (due hi (highWord3 t) ++ (due lo (lowWord3 t) ++ (due ro (rowWord3 y) ++ here))) more
-  said-high true lo ro d rd le hh ht hr = said-low lo ro d (hh refl .0) (hh refl .1) rd (λ e. ht e .0 refl) hr
-  said-high false lo ro d rd le hh ht hr =
+  said-high true lo ro d rd le lp off hh ht hr = said-low lo ro d (hh refl .0) (hh refl .1) rd (λ e. ht e .0 refl) hr
+  said-high false lo ro d rd le lp off hh ht hr =
       let w = highWord3 t in
       let d′ = atCoarse d (t / grain3 * grain3) (d .«high_loops») in
-      let low : d .«high_loops» * period3 ≤ t = omega (arith, rd .counted, rd .past) in
-      let q = high-word (d .initialised) d refl low (omega (arith, rd .past)) in
+      let q = high-word t (d .initialised) d refl lp (omega (arith, rd .past)) off in
       said-word t y d d′ w [] (spread t y p xs) (due lo (lowWord3 t) ++ (due ro (rowWord3 y) ++ here)) more (q .0) (q .1)
       (word-fits3 8 (t / grain3 % 4096) (omega arith) (omega arith))
       (due-notes lo (lowWord3 t) (due ro (rowWord3 y) ++ here) ∙ due-notes ro (rowWord3 y) here ∙ body-notes t y p xs v) rd
       (said-low lo ro d′ refl refl
       (record {
         counted = omega arith;
+        below = omega (arith, fine .t<);
         past = omega arith;
-        rises = rise-from clock (sayable (limit Evt3)) (t / grain3 * grain3) t (spread t y p xs ++ more) (omega arith) r;
+        rises = rise-from clock sayable (t / grain3 * grain3) t (spread t y p xs ++ more) (omega arith) r;
       })
       (λ e. omega (arith, ht e .1 refl)) hr)
+
+  -- ---- the words into a later loop before those
+
+  abbrev all : List Event
+  all = spread t y p xs ++ more
+
+  module _ (rest : List (Note ℕ Event)) (noted : notes rest ≡ spread t y p xs) where
+    -- the word 000, to a decoder that has the last half of its loop
+    said-first : (n : ℕ) (d : Decoder) → d .initialised ≡ true → d .«time_base» ≡ d .«high_loops» * period3 + 16773120 → Ready3 d all
+        → d .«high_loops» + suc n ≡ t / period3
+        → (Ready3 (nextLoop d) all → Reads t y (nextLoop d) (passes3 n false ++ rest) more) → Reads t y d (quiet (word3 8 0) ∷ (passes3 n false ++ rest)) more
+    said-first n d on at rd to next =
+        let q = first-half d on at in
+        said-word t y d (nextLoop d) (word3 8 0) [] (spread t y p xs) (passes3 n false ++ rest) more (q .0) (q .1) (omega arith)
+        (notes-append (passes3 n false) rest ∙ rw (passes-notes n false) noted) rd
+        (next (record {
+          counted = omega arith;
+          below = omega (arith, fine .t<);
+          past = omega arith;
+          rises = rise-from clock sayable (suc (d .«high_loops») * period3) t all (omega arith) r;
+        }))
+
+    said-passes : (n : ℕ) (end : Bool) (d : Decoder) → Ready3 d all → d .«high_loops» + n ≡ t / period3 → (d .initialised ≡ false → d .«high_loops» ≡ 0)
+        → (end ≡ true → (d .initialised ≡ true) × (d .«time_base» ≡ d .«high_loops» * period3 + 16773120))
+        → Reads t y (afterLoops n d) rest more → Reads t y d (passes3 n end ++ rest) more
+    unfolding passes3
+    said-passes zero end d rd to off he next = next
+    said-passes (suc n) true d rd to off he next =
+        said-first n d (he refl .0) (he refl .1) rd to
+        (λ rd′. said-passes n false (nextLoop d) rd′ (omega arith) (λ e. absurd (true≢false e)) (λ e. absurd (true≢false (sym e))) next)
+    said-passes (suc n) false d rd to off he next =
+        let last = d .«high_loops» * period3 + 16773120 in
+        let d₁ = atCoarse d last (d .«high_loops») in
+        let q = last-half d (rd .counted) off in
+        said-word t y d d₁ (word3 8 4095) [] (spread t y p xs) (quiet (word3 8 0) ∷ (passes3 n false ++ rest)) more (q .0) (q .1) (omega arith)
+        (notes-append (passes3 n false) rest ∙ rw (passes-notes n false) noted) rd
+        (said-first n d₁ refl refl
+        (record {
+          counted = omega arith;
+          below = omega (arith, fine .t<);
+          past = omega arith;
+          rises = rise-from clock sayable last t all (omega arith) r;
+        }) to
+        (λ rd′. said-passes n false (nextLoop d) rd′ (omega arith) (λ e. absurd (true≢false e)) (λ e. absurd (true≢false (sym e))) next))
 
 -- ---- the law
 
@@ -254,28 +352,87 @@ low-sent : (b : Bool) (l : Sent) (q : ℕ) → sentIs (lowKept b l) q ≡ true �
 low-sent true l q e = ((λ f. e), (λ f. absurd (true≢false f)))
 low-sent false l q e = ((λ f. absurd (true≢false (sym f))), (λ f. sym (eqb-true 0 q e)))
 
-encode-is : (v : EncoderState) (r : Run)
-    → encode3 v r ≡ due (highSent3 v (r .t)) (highWord3 (r .t))
+-- a writer in the loop of the run
+led-is : (v : EncoderState) (r : Run)
+    → leads3 v (r .t) (r .y) ++ body3 (r .t) (r .y) (r .p) (r .xs) ≡ due (highSent3 v (r .t)) (highWord3 (r .t))
     ++ (due (lowSent3 v (r .t)) (lowWord3 (r .t)) ++ (due (rowSent3 v (r .y)) (rowWord3 (r .y)) ++ body3 (r .t) (r .y) (r .p) (r .xs)))
-unfolding encode3 leads3
-encode-is v r = simp append-assoc
+unfolding leads3
+led-is v r = simp append-assoc
 
-group3 : (v : EncoderState) (d : Decoder) (r : Run) (more : List Event) → Valid r → Agree3 v d → Ready3 d (given r ++ more)
-    → Good format3 d (encode3 v r) more × Agree3 (encoded3 v r) (run reader3 d (words (encode3 v r)))
-group3 v d r more va ag rd =
+-- a decoder that isn't started has counted no loop
+unstarted : (s : Sent) (d : Decoder) → IfSent s (High3 d) → d .«high_loops» ≡ loopOf s → d .initialised ≡ false → d .«high_loops» ≡ 0
+unstarted Nothing d h l off = l
+unstarted (Value q) d h l off = absurd (true≢false (sym (h .0) ∙ off))
+
+led3 : (v : EncoderState) (d : Decoder) (r : Run) (more : List Event) → Valid r → Agree3 v d → Ready3 d (given r ++ more) → d .«high_loops» ≡ r .t / period3
+    → Reads (r .t) (r .y) d (leads3 v (r .t) (r .y) ++ body3 (r .t) (r .y) (r .p) (r .xs)) more
+led3 v d r more va ag rd lp =
     let rr = rise-run (r .t) (r .y) (r .p) (d .time) (r .xs) more (va .some) (rd .rises) in
     let hi = highSent3 v (r .t) in
     let high-held = holds-sent (v .«time_high») (High3 d) (r .t / grain3) (ag .highs) in
-    let g = said-high (r .t) (r .y) (r .p) (r .xs) va more (rr .0) hi (lowSent3 v (r .t)) (rowSent3 v (r .y)) d rd (rr .1) high-held
+    rw (led-is v r)
+    (said-high (r .t) (r .y) (r .p) (r .xs) va more (rr .0) hi (lowSent3 v (r .t)) (rowSent3 v (r .y)) d rd (rr .1) lp
+    (unstarted (v .«time_high») d (ag .highs) (ag .loops)) high-held
     (λ e. let q = low-sent hi (v .«time_low») (r .t % grain3) e in
     ((λ f. omega (arith, high-held f .1, holds-sent (v .«time_low») (λ l. d .time ≡ d .«time_base» + l) (r .t % grain3) (ag .lows) (q .0 f))), q .1))
-    (holds-sent (v .y) (λ y. d .y ≡ y) (r .y) (ag .rows)) in
-    rw (encode-is v r) (g .0, record { highs = (g .1 .on, g .1 .at-coarse); lows = omega (arith, g .1 .at-coarse, g .1 .at-time); rows = g .1 .at-row })
+    (holds-sent (v .y) (λ y. d .y ≡ y) (r .y) (ag .rows)))
+
+-- what is held agrees after the loops too, and the decoder is ready
+agree-looped : (n : ℕ) (v : EncoderState) (d : Decoder) (t : ℕ) → Agree3 v d → d .«high_loops» + n ≡ t / period3 → Agree3 (loopedBy v t n) (afterLoops n d)
+agree-looped zero v d t ag to = ag
+agree-looped (suc n) v d t ag to =
+    let a = after-loops (suc n) d in
+    let b = after-coarse n d in
+    record { highs = (b .0, omega (arith, b .1)); lows = omega (arith, b .2); rows = rw (a .1) (ag .rows); loops = omega (arith, a .0) }
+
+ready-looped : (n : ℕ) (d : Decoder) (t : ℕ) (es : List Event) → Ready3 d es → Rises t es → t < limit → d .«high_loops» + n ≡ t / period3
+    → Ready3 (afterLoops n d) es
+ready-looped zero d t es rd r lt to = rd
+ready-looped (suc n) d t es rd r lt to =
+    let a = after-loops (suc n) d in
+    let b = after-coarse n d in
+    record {
+      counted = omega (arith, a .0, b .1);
+      below = omega (arith, b .1);
+      past = omega (arith, b .2);
+      rises = rw (b .2, b .1) (rise-from clock sayable ((d .«high_loops» + suc n) * period3) t es (omega arith) r);
+    }
+
+-- the last half of the decoder's loop, where the writer holds it
+at-end : (s : Sent) (d : Decoder) → IfSent s (High3 d) → d .«high_loops» ≡ loopOf s → atEnd s ≡ true
+    → (d .initialised ≡ true) × (d .«time_base» ≡ d .«high_loops» * period3 + 16773120)
+at-end Nothing d h l e = absurd (true≢false (sym e))
+at-end (Value q) d h l e = (h .0, omega (arith, h .1, eqb-true (q % 2 ^ 12) 4095 e))
+
+group3 : (v : EncoderState) (d : Decoder) (r : Run) (more : List Event) → Valid r → Agree3 v d → Ready3 d (given r ++ more)
+    → Good format3 d (encode3 v r) more × Agree3 (encoded3 v r) (run reader3 d (words (encode3 v r)))
+unfolding encode3
+group3 v d r more va ag rd =
+    let t = r .t in
+    let rr = rise-run t (r .y) (r .p) (d .time) (r .xs) more (va .some) (rd .rises) in
+    let fine = first-fine t (r .y) (r .p) (r .xs) more (va .some) (rr .0) in
+    let n = ahead3 v t in
+    let to : d .«high_loops» + n ≡ t / period3 = omega (arith, ag .loops, rd .counted, rd .past, rr .1) in
+    let body = body3 t (r .y) (r .p) (r .xs) in
+    let leads = leads3 (looped3 v t) t (r .y) in
+    let g = said-passes t (r .y) (r .p) (r .xs) va more (rr .0) (leads ++ body)
+    (notes-append leads body ∙ rw (leads-notes (looped3 v t) t (r .y)) (body-notes t (r .y) (r .p) (r .xs) va))
+    n (atEnd (v .«time_high»)) d rd to (unstarted (v .«time_high») d (ag .highs) (ag .loops)) (at-end (v .«time_high») d (ag .highs) (ag .loops))
+    (led3 (looped3 v t) (afterLoops n d) r more va (agree-looped n v d t ag to) (ready-looped n d t (given r ++ more) rd (rr .0) (fine .t<) to)
+    (after-loops n d .0 ∙ to)) in (
+      g .0,
+      record {
+        highs = (g .1 .on, g .1 .at-coarse);
+        lows = omega (arith, g .1 .at-coarse, g .1 .at-time);
+        rows = g .1 .at-row;
+        loops = g .1 .counted ∙ omega arith;
+      },
+    )
 
 pub lawful3 : Lawful format3
 lawful3 = record {
   sized = omega arith;
   noted = encode-notes3;
-  starts = λ d. record { highs = tt; lows = tt; rows = tt };
+  starts = record { highs = tt; lows = tt; rows = tt; loops = refl };
   group = group3;
 }

@@ -2,34 +2,31 @@
 use mathlib.Core.Path.{_≡_, sym, subst}
 use mathlib.Core.Bool.{Bool, true, _&&_, true≢false}
 use mathlib.Core.List.{List, [], _∷_}
-use Prim.Native.Nat.{ℕ, _*_, _≤_, _<_, min}
+use Prim.Native.Nat.{ℕ, _/_, _^_, _≤_, _<_, min}
 use native.Mathlib.Omega.{arith}
 use lib.Dec.{leb, ltb}
 use borrow.Author.Tests.{leb-true, ltb-true, eqb-true}
 use Rattle.laws_stream.specs.{Machine.Machine, Machine.Note, Machine.and-both, Format.Format, Mask.bits-zero, Mask.bits-one, Order.Rise}
-use Rattle.evt_types.specs.declared.{Encoding.Encoding, Encoding.the-variants.Evt2, Encoding.the-variants.Evt21, Encoding.the-variants.Evt3, Sent.Sent}
-use Rattle.evt_types.specs.{declared.Sent.the-variants.Nothing, declared.Sent.the-variants.Value, Event.Event, Event.eventsOf, Event.noEvents}
-use Rattle.evt2_decoder.specs.Evt2.{period2}
-use Rattle.evt3_decoder.specs.Evt3.{period3}
+use Rattle.evt_types.specs.{declared.Sent.Sent, declared.Sent.the-variants.Nothing, declared.Sent.the-variants.Value, Event.Event, Event.eventsOf}
+use Rattle.evt_types.specs.Event.{noEvents}
 use Rattle.evt_codec.specs.Reader.{Reader}
 use Rattle.read_columns.specs.Inside.{clock}
 use Rattle.write_buffer.specs.{declared.EncoderState.EncoderState, Columns.event, Sent.freshState, Sent.sentIs}
 
--- the times that a writer's words can say, those of the first loop: rule 7's bound is not above it
-abbrev pub limit : Encoding → ℕ
-limit Evt2 = period2
-limit Evt21 = period2
-limit Evt3 = period3
+-- the times that a writer's words can say: rule 7's bound is not above it
+abbrev pub limit : ℕ
+limit = 2 ^ 34
 
 -- the events that a writer's words can say
-abbrev pub sayable : (limit : ℕ) → Event → Bool
-sayable limit e = leb (e .x) 2047 && (leb (e .y) 2047 && (leb (e .p) 1 && ltb (e .t) limit))
+abbrev pub sayable : Event → Bool
+sayable e = leb (e .x) 2047 && (leb (e .y) 2047 && (leb (e .p) 1 && ltb (e .t) limit))
 
 -- a decoder with this clock, loops counted, can take these events next: they can be said, their times don't fall, and none is before the decoder's time
-pub record Ready (period limit coarse time loops : ℕ) (es : List Event) : Type 0 where
-  pub counted : loops * period ≤ coarse
+pub record Ready (period coarse time loops : ℕ) (es : List Event) : Type 0 where
+  pub counted : loops ≡ coarse / period
+  pub below : coarse < limit
   pub past : coarse ≤ time
-  pub rises : Rise clock (sayable limit) time es
+  pub rises : Rise clock sayable time es
 
 -- what the writer takes for sent, if anything, is as P says
 abbrev pub IfSent : Sent → (P : ℕ → Type 0) → Type 0
@@ -57,14 +54,14 @@ pub holds-sent : (o : Sent) (P : ℕ → Type 0) (q : ℕ) → IfSent o P → se
 holds-sent Nothing P q h e = absurd (true≢false (sym e))
 holds-sent (Value g) P q h e = subst P (eqb-true g q e) h
 
-pub record Sayable (limit : ℕ) (e : Event) : Type 0 where
+pub record Sayable (e : Event) : Type 0 where
   pub x< : e .x < 2048
   pub y< : e .y < 2048
   pub p< : e .p < 2
   pub t< : e .t < limit
 
-pub sayable-true : (limit : ℕ) (e : Event) → sayable limit e ≡ true → Sayable limit e
-sayable-true limit e h =
+pub sayable-true : (e : Event) → sayable e ≡ true → Sayable e
+sayable-true e h =
     let a = and-both (leb (e .x) 2047) (leb (e .y) 2047 && (leb (e .p) 1 && ltb (e .t) limit)) h in
     let b = and-both (leb (e .y) 2047) (leb (e .p) 1 && ltb (e .t) limit) (a .1) in
     let c = and-both (leb (e .p) 1) (ltb (e .t) limit) (b .1) in

@@ -11,8 +11,9 @@ use borrow.Author.Tests.{leb-true, leb-false}
 use Rattle.laws_stream.specs.Machine.{Note}
 use Rattle.evt_types.specs.{Event.Event, declared.Encoding.Encoding}
 use Rattle.write_rules.specs.Rules.{freshSink}
-use Rattle.laws_handover.specs.Handover.{Call, acceptedEvents, streamOf, streamWords, fresh, Front, bare, startOf, others, joined, numbered, Exact, Claim}
-use Rattle.laws_handover.specs.{Headed.frontOf, Proof.Sent, Proof.sent-by, Proof.fresh-sent, Proof.joinedWords, Proof.joined-sent}
+use Rattle.laws_handover.specs.Handover.{Call, acceptedEvents, streamOf, streamWords, fresh, Front, bare, startOf, others, joined, resuming, numbered}
+use Rattle.laws_handover.specs.Handover.{Exact, Claim}
+use Rattle.laws_handover.specs.{Headed.frontOf, Proof.Sent, Proof.sent-by, Proof.fresh-sent, Proof.joinedWords, Proof.resumed-sent}
 use Rattle.laws_handover.specs.Proof.{exact-whole, claim}
 
 -- ---- THE FULL LENGTH: a stream that isn't cut is read as all its accepted events
@@ -30,33 +31,38 @@ pub record Resumption : Type 0 where
 module _ (e : Encoding) (f : Front) where
   abbrev pub bytesAfter : List ℕ → List Resumption → List ℕ
   bytesAfter bytes [] = bytes
-  bytesAfter bytes (r ∷ rs) = bytesAfter (joined e f (r .cut) bytes (r .calls)) rs
+  bytesAfter bytes (r ∷ rs) = bytesAfter (joined e f (r .cut) bytes (resuming e f (r .cut) bytes) (r .calls)) rs
 
-  abbrev pub wordsAfter : List (Note ℕ Event) → List Resumption → List (Note ℕ Event)
-  wordsAfter ws [] = ws
-  wordsAfter ws (r ∷ rs) = wordsAfter (joinedWords e f (r .cut) ws (r .calls)) rs
+  abbrev pub wordsAfter : List ℕ → List (Note ℕ Event) → List Resumption → List (Note ℕ Event)
+  wordsAfter bytes ws [] = ws
+  wordsAfter bytes ws (r ∷ rs) =
+      let s = resuming e f (r .cut) bytes in wordsAfter (joined e f (r .cut) bytes s (r .calls)) (joinedWords e f (r .cut) ws s (r .calls)) rs
 
-  -- each cut stands at the front's end or behind it, and its writer is given the events that it left out
-  abbrev pub Owed : List (Note ℕ Event) → List Resumption → Type 0
-  Owed ws [] = Unit
-  Owed ws (r ∷ rs) =
-      (startOf e f ≤ r .cut) × (acceptedEvents (fresh e) (r .calls) ≡ others e f (r .cut) ws) × Owed (joinedWords e f (r .cut) ws (r .calls)) rs
+  -- each cut stands at the front's end or behind it, and the writer that resumes from what is left is given the events that the cut left out
+  abbrev pub Owed : List ℕ → List (Note ℕ Event) → List Resumption → Type 0
+  Owed bytes ws [] = Unit
+  Owed bytes ws (r ∷ rs) =
+      let s = resuming e f (r .cut) bytes in
+      (startOf e f ≤ r .cut) × (acceptedEvents s (r .calls) ≡ others e f (r .cut) ws)
+      × Owed (joined e f (r .cut) bytes s (r .calls)) (joinedWords e f (r .cut) ws s (r .calls)) rs
 
-  pub sent-after : (bytes : List ℕ) (ws : List (Note ℕ Event)) (es : List Event) → Sent e f bytes ws es → (rs : List Resumption) → Owed ws rs
-      → Sent e f (bytesAfter bytes rs) (wordsAfter ws rs) es
+  pub sent-after : (bytes : List ℕ) (ws : List (Note ℕ Event)) (es : List Event) → Sent e f bytes ws es → (rs : List Resumption) → Owed bytes ws rs
+      → Sent e f (bytesAfter bytes rs) (wordsAfter bytes ws rs) es
   sent-after bytes ws es s [] o = s
   sent-after bytes ws es s (r ∷ rs) o =
-      sent-after (joined e f (r .cut) bytes (r .calls)) (joinedWords e f (r .cut) ws (r .calls)) es
-      (joined-sent e f bytes ws es s (r .cut) (o .0) (r .calls) (o .1)) rs (o .2)
+      let w = resuming e f (r .cut) bytes in
+      sent-after (joined e f (r .cut) bytes w (r .calls)) (joinedWords e f (r .cut) ws w (r .calls)) es
+      (resumed-sent e f bytes ws es s (r .cut) (o .0) (r .calls) (o .1)) rs (o .2)
 
   -- of what a fresh writer, of a header or of none, sent behind this front
   pub claim-after : (header : Bool) (calls : List Call) (rs : List Resumption) → frontOf (freshSink e header) calls ≡ f
-      → Owed (streamWords (freshSink e header) calls) rs → (cut : ℕ) → startOf e f ≤ cut
-      → Claim e f (bytesAfter (streamOf (freshSink e header) calls) rs) (wordsAfter (streamWords (freshSink e header) calls) rs)
+      → Owed (streamOf (freshSink e header) calls) (streamWords (freshSink e header) calls) rs → (cut : ℕ) → startOf e f ≤ cut
+      → Claim e f (bytesAfter (streamOf (freshSink e header) calls) rs)
+      (wordsAfter (streamOf (freshSink e header) calls) (streamWords (freshSink e header) calls) rs)
       (acceptedEvents (freshSink e header) calls) cut
   claim-after header calls rs is o cut behind =
       let s = freshSink e header in
-      claim e f (bytesAfter (streamOf s calls) rs) (wordsAfter (streamWords s calls) rs) (acceptedEvents s calls)
+      claim e f (bytesAfter (streamOf s calls) rs) (wordsAfter (streamOf s calls) (streamWords s calls) rs) (acceptedEvents s calls)
       (sent-after (streamOf s calls) (streamWords s calls) (acceptedEvents s calls) (sent-by e header calls f is) rs o) cut behind
 
 -- ---- NUMBERS STAY: a slice that ends before the cut is the same of all events

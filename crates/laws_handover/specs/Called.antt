@@ -1,12 +1,17 @@
 -- DEMAND 3 OF CALLS THAT RAN, proved: what appends wrote is the stream of their calls, of which `demand-three` speaks.
-use mathlib.Core.Path.{_≡_, sym, ap, _∙_}
-use mathlib.Core.Bool.{Bool, false}
+use mathlib.Core.Path.{_≡_, refl, sym, ap, _∙_}
+use mathlib.Core.Bool.{Bool, true, false}
 use mathlib.Core.List.{List, _++_, map}
 use Prim.Native.Nat.{ℕ, _^_, _≤_}
+use borrow.Author.Tests.{le-ltb}
 use lib.IntN.{ℤ}
 use lib.ListN.{length, take, drop, length-map}
 use lib.Seq.{take-at}
-use Rattle.evt_types.specs.{Columns.colX, Columns.colY, Columns.colT, Columns.colP, Event.Event, declared.Encoding.Encoding}
+use Rattle.evt_types.specs.{Columns.colX, Columns.colY, Columns.colT, Columns.colP, Event.Event, declared.Encoding.Encoding, Num.mostBytes, Outcome.give}
+use Rattle.evt_types.specs.declared.Encoding.the-variants.{Evt2, Evt21, Evt3}
+use Rattle.evt_codec.specs.Codec.{freshC, inRangeC, codecAfter}
+use Rattle.read_after.specs.After.{afterOutcome}
+use Rattle.write_resume.specs.{declared.Resumed.Resumed, Resume.resumeOutcome, Resume.resumeWordsOutcome, Resume.Resumes}
 use Rattle.evt_types.specs.declared.{Limit.the-variants.Unlimited, SensorSize.SensorSize, SensorSize.the-variants.Unknown}
 use Rattle.read_rules.specs.Read as Outcomes
 use Rattle.read_rules.specs.{declared.ReadAnswer.ReadAnswer, Read.DecodesWords, Read.ReadsRaw, Read.shortest}
@@ -15,7 +20,8 @@ use Rattle.index_build.specs.Index.{Opens, OpensWords, OpensRaw}
 use Rattle.slice_rules.specs.declared.{SliceAnswer.SliceAnswer, SliceAnswer.the-variants.Sliced}
 use Rattle.write_rules.specs.{declared.RawEventSink.RawEventSink, Rules.freshSink}
 use Rattle.laws_handover.specs.Handover.{acceptedEvents, streamOf, streamWords, fresh, Front, bare, widest, Way, asWords, asRecording, Suits}
-use Rattle.laws_handover.specs.Handover.{readBy, openBy, optionsOf, Reads, Exact, Claim, openingAs, Indexed, Ran, Chained, callsOf, Columns}
+use Rattle.laws_handover.specs.Handover.{readBy, openBy, optionsOf, Reads, Exact, Claim, openingAs, Indexed, Ran, Chained, callsOf, Columns, allWritten}
+use Rattle.laws_handover.specs.Handover.{resuming, ResumedBy}
 use Rattle.laws_handover.specs.Handover.{HoldsEvents, Index, by-value, Alike, ReadBack, wholeRan}
 use Rattle.laws_handover.specs.Handover.{CutAndResumed, DemandThreeRan, numbered, duringTimes, NumberRan, TimeRan, room, ReadByValue, DemandThreeByValue}
 use Rattle.laws_handover.specs.{Proof.demand-three, Ran.ran-written}
@@ -112,18 +118,39 @@ module _ (e : Encoding) (f : Front) (header : Bool) (ran : List Ran) (cut : ℕ)
   abbrev ReadAs : (List ℕ → List Event → Type 0) → List Event → Type 0
   ReadAs Read es = (bytes : List ℕ) → length bytes ≤ 2 ^ 30 → Exact e f bytes es → Read bytes es
 
+  -- what resuming over what stands returned is the writer that resumes
+  abbrev pub Resumer : Type 0
+  Resumer = length (take cut (allWritten ran)) ≤ 2 ^ 30 → (r : Resumed) → ResumedBy e f (take cut (allWritten ran)) r
+      → r .sink ≡ resuming e f cut (streamOf writer (callsOf ran))
+
   pub ran-as : Chained writer ran
-      → Claim e f (streamOf writer (callsOf ran)) (streamWords writer (callsOf ran)) (acceptedEvents writer (callsOf ran)) cut
+      → Claim e f (streamOf writer (callsOf ran)) (streamWords writer (callsOf ran)) (acceptedEvents writer (callsOf ran)) cut → Resumer
       → (Read : List ℕ → List Event → Type 0) → ReadAs Read (wholeRan writer f ran cut) → ReadAs Read (acceptedEvents writer (callsOf ran))
       → CutAndResumed writer f ran cut Read
-  ran-as chained claim Read part all =
+  ran-as chained claim resumer Read part all =
       let written = ran-written writer ran chained in
       record {
         of-cut = λ few. part _ few (rw written (claim .of-cut));
-        of-joined = λ second chained₂ rest few.
+        of-joined = λ short r by second chained₂ rest few.
+            let is = resumer short r by in
+            let written₂ = ran-written (r .sink) second chained₂ in
+            all _ few (rw (written, written₂, is) (claim .of-joined (callsOf second) (rw is at rest)));
+        of-joined-first = λ first second chained₂ rest few.
             let written₂ = ran-written (fresh e) second chained₂ in
-            all _ few (rw (written, written₂) (claim .of-joined (callsOf second) rest));
+            all _ few (rw (written, written₂) (claim .of-joined-first first (callsOf second) rest));
       }
+
+fresh-fine : (e : Encoding) → inRangeC (freshC e) ≡ true
+fresh-fine Evt2 = refl
+fresh-fine Evt21 = refl
+fresh-fine Evt3 = refl
+
+-- `resume_words` over words from which can be resumed
+words-sink : (e : Encoding) (bytes : List ℕ) (s : RawEventSink) → length bytes ≤ 2 ^ 30 → resumeOutcome (codecAfter (freshC e) bytes) ≡ give s
+    → (r : Resumed) → Resumes e (resumeWordsOutcome bytes e) r → r .sink ≡ s
+unfolding afterOutcome
+words-sink e bytes s few given r by =
+    rw (le-ltb mostBytes (length bytes) few, fresh-fine e, given) at (by .is-sink)
 
 pub demand-three-ran : DemandThreeRan
 demand-three-ran e ran chained cut h =
@@ -131,7 +158,11 @@ demand-three-ran e ran chained cut h =
     let way = asWords e widest in
     let back : (es : List Event) → Suits widest es → (bytes : List ℕ) → length bytes ≤ 2 ^ 30 → Exact e bare bytes es → ReadBack way bytes es =
     λ es suits bytes few exact. read-back way bytes es (exact few widest suits) in
-    ran-as e bare false ran cut chained claim (ReadBack way) (back _ (claim .whole-suits)) (back _ (claim .all-suits))
+    let resumer : Resumer e bare false ran cut =
+    λ few r by. let written = ran-written (fresh e) ran chained in
+    words-sink e (take cut (allWritten ran)) (resuming e bare cut (streamOf (fresh e) (callsOf ran))) few
+    (rw written (claim .resumes (rw (← written) few))) r by in
+    ran-as e bare false ran cut chained claim resumer (ReadBack way) (back _ (claim .whole-suits)) (back _ (claim .all-suits))
 
 -- ---- BY VALUE
 
@@ -156,7 +187,8 @@ pub by-values : (way : Way) (s : RawEventSink) (f : Front) (ran : List Ran) (cut
     → CutAndResumed s f ran cut (ReadBack way) → CutAndResumed s f ran cut (ReadByValue way)
 by-values way s f ran cut read = record {
   of-cut = λ few. value-back way _ _ (read .of-cut few);
-  of-joined = λ second chained₂ rest few. value-back way _ _ (read .of-joined second chained₂ rest few);
+  of-joined = λ short r by second chained₂ rest few. value-back way _ _ (read .of-joined short r by second chained₂ rest few);
+  of-joined-first = λ first second chained₂ rest few. value-back way _ _ (read .of-joined-first first second chained₂ rest few);
 }
 
 pub demand-three-by-value : DemandThreeByValue

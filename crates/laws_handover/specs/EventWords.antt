@@ -7,14 +7,14 @@ use native.Mathlib.Omega.{arith}
 use borrow.Author.Tests.{le-leb}
 use Rattle.laws_stream.specs.{Machine.All, Machine.all-append, Machine.emits, Mask.mask}
 use Rattle.evt_types.specs.{Event.Event, Layout.upper-type, Layout.built-upper, Layout.event-type2, Layout.word-type3}
-use Rattle.evt_types.specs.Layout.{type2, type21, column-type3}
+use Rattle.evt_types.specs.Layout.{type2, type21, word3, column-type3}
 use Rattle.evt_types.specs.declared.{Encoding.Encoding, Encoding.the-variants.Evt2, Encoding.the-variants.Evt21, Encoding.the-variants.Evt3}
-use Rattle.write_buffer.specs.{declared.EncoderState.EncoderState, Columns.event, Sent.carries, Sent.due}
+use Rattle.write_buffer.specs.{declared.EncoderState.EncoderState, Columns.event, Sent.carries, Sent.quiet, Sent.due}
 use Rattle.evt2_encoder.specs.Evt2.{wordOf2, highWord2, highSent2, encode2, encoded2, writer2}
 use Rattle.evt3_run_rules.specs.Runs.{Run, runs, firstX, firstOf, given}
 use Rattle.evt21_encoder.specs.Evt21.{runs21, blockOf, maskOf, highWord21, wordOf21, encode21, encoded21, writer21}
 use Rattle.evt3_lead_words.specs.Evt3.{nearby, beyond, maskCount, vectored, singles, masks, vectors, body3, leads3, highWord3, lowWord3, rowWord3, highSent3}
-use Rattle.evt3_lead_words.specs.Evt3.{lowSent3, rowSent3, encode3, encoded3, writer3}
+use Rattle.evt3_lead_words.specs.Evt3.{lowSent3, rowSent3, passes3, ahead3, atEnd, looped3, encode3, encoded3, writer3}
 use Rattle.write_words.specs.Encode.{encodeNotes, encodeState}
 use Rattle.laws_formats.specs.Appends.{appendNotes}
 use Rattle.laws_handover.specs.Handover.{isEventWord, Typed}
@@ -86,13 +86,21 @@ leads-typed v t y =
     all-append (Typed Evt3) (due (highSent3 v t) (highWord3 t)) (low ++ row) (due-typed Evt3 (highSent3 v t) (highWord3 t))
     (all-append (Typed Evt3) low row (due-typed Evt3 (lowSent3 v t) (lowWord3 t)) (due-typed Evt3 (rowSent3 v y) (rowWord3 y)))
 
+passes-typed : (n : ℕ) (end : Bool) → All (Typed Evt3) (passes3 n end)
+unfolding passes3
+passes-typed zero end = tt
+passes-typed (suc n) end =
+    all-append (Typed Evt3) (due end (word3 8 4095)) (quiet (word3 8 0) ∷ passes3 n false) (due-typed Evt3 end (word3 8 4095))
+    ((λ h. absurd (omega arith)), passes-typed n false)
+
 typed3 : (v : EncoderState) (rs : List Run) → All (Typed Evt3) (emits writer3 v rs)
 unfolding encode3
 typed3 v [] = tt
 typed3 v (r ∷ rs) =
     all-append (Typed Evt3) (encode3 v r) (emits writer3 (encoded3 v r) rs)
-    (all-append (Typed Evt3) (leads3 v (r .t) (r .y)) (body3 (r .t) (r .y) (r .p) (r .xs)) (leads-typed v (r .t) (r .y))
-    (body-typed (r .t) (r .y) (r .p) (r .xs)))
+    (all-append (Typed Evt3) (passes3 (ahead3 v (r .t)) (atEnd (v .«time_high»))) _ (passes-typed (ahead3 v (r .t)) (atEnd (v .«time_high»)))
+    (all-append (Typed Evt3) (leads3 (looped3 v (r .t)) (r .t) (r .y)) (body3 (r .t) (r .y) (r .p) (r .xs)) (leads-typed (looped3 v (r .t)) (r .t) (r .y))
+    (body-typed (r .t) (r .y) (r .p) (r .xs))))
     (typed3 (encoded3 v r) rs)
 
 -- ---- each

@@ -9,10 +9,13 @@
 --   the stream                                                             `streamOf`; as it was written: `allWritten`
 --   the event word of each accepted event                                  `streamWords`, `Typed`, `GivenAt`
 --   a cut; whole before it                                                 `beforeCut`, `wholeBefore`
+--   the resuming writer, by decoding what is left                          `left`, `decoderLeft`, `resuming`; as it ran: `ResumedBy`
 --   the joined stream                                                      `joined`; of calls that ran: `joinedRan`
 --   decoding: reading in the writer's encoding, no header and no limit     `asWords`, `readBy`
 --   decoding what came before gives exactly the whole events               `DemandThreeRan`: `of-cut`, `decoded`
 --   the joined stream decodes to all                                       `DemandThreeRan`: `of-joined`
+--   so it does with a fresh second writer, where no loop was counted,
+--   as where all accepted events are of the first loop                     `of-joined-fresh`, `of-joined-first`, `InFirstLoop`
 --   a second list always exists                                            `SecondListExists`, `singles`
 --   slices by number and time, exact at every allowed spacing              `opened`, `by-number`, `by-time` of `ReadBack`
 --   by an index whose records are lent, or held by value in any room       `lent`, `by-value`; the latter in full: `DemandThreeByValue`
@@ -29,13 +32,17 @@ use lib.Dec.{leb, eqb}
 use lib.IntN.{ℤ, pos}
 use lib.ListN.{length, take, drop, replicate, length-replicate}
 use Rattle.laws_stream.specs.{Machine.Machine, Machine.Note, Machine.All, Machine.words, Machine.notes, Slice.sift, Words.stream}
-use Rattle.evt_types.specs.{Event.Event, Outcome.Outcome, Layout.type2, Layout.type21, Layout.type3, declared.SensorSize.SensorSize}
+use Rattle.evt_types.specs.{Event.Event, Outcome.Outcome, Outcome.give, Layout.type2, Layout.type21, Layout.type3, declared.SensorSize.SensorSize}
 use Rattle.evt_types.specs.declared.{SensorSize.the-variants.Known, SensorSize.the-variants.Unknown, Limit.the-variants.Unlimited}
-use Rattle.evt_codec.specs.Reader.{readerOf}
+use Rattle.evt_codec.specs.{declared.codec.Codec.Codec, Reader.readerOf, Codec.freshC, Codec.encodingOf, Codec.startedC, Codec.coarseC, Codec.loopsC}
+use Rattle.evt_codec.specs.Codec.{codecAfter}
 use Rattle.evt_types.specs.declared.{Encoding.Encoding, Encoding.the-variants.Evt2, Encoding.the-variants.Evt21, Encoding.the-variants.Evt3}
 use Rattle.write_buffer.specs.Columns.{eventsIn}
 use Rattle.write_words.specs.Encode.{encodeNotes, encodeSize, encodeMost}
-use Rattle.write_rules.specs.{declared.RawEventSink.RawEventSink, Rules.freshSink}
+use Rattle.write_rules.specs.{declared.RawEventSink.RawEventSink, Rules.freshSink, Rules.resumedSink}
+use Rattle.laws_formats.specs.Either.{firstLoop}
+use Rattle.write_resume.specs.{declared.Resumed.Resumed, Resume.resumeOutcome, Resume.resumeWordsOutcome, Resume.resumeRawOutcome}
+use Rattle.write_resume.specs.Resume.{rawEncoding, Resumes}
 use Rattle.write_append.specs.declared.{AppendAnswer.AppendAnswer, AppendAnswer.the-variants.Written}
 use Rattle.write_append.specs.declared.{AppendAnswer.the-variants.Refused as AppendRefused, Appended.Appended}
 use Rattle.write_append.specs.Append.{AppendedBytes, appendOutcome, accepts, handedOver, sinkAfter, AppendOwed}
@@ -102,6 +109,14 @@ streamWords s (c ∷ cs) = callWords s c ++ streamWords (next s c) cs
 -- a fresh writer that sends no header
 abbrev pub fresh : Encoding → RawEventSink
 fresh e = freshSink e false
+
+-- the writer that resumes behind a decoder
+abbrev pub resumedFrom : Codec → RawEventSink
+resumedFrom c = resumedSink (encodingOf c) (startedC c) (coarseC c)
+
+-- all of the encoding's first loop, below 2 ^ 24 in EVT3: in EVT2 and in EVT 2.1 every event that is accepted
+abbrev pub InFirstLoop : Encoding → List Event → Type 0
+InFirstLoop e es = All (λ a. a .t < firstLoop e) es
 
 -- ---- what stands before the words
 
@@ -171,9 +186,19 @@ module _ (e : Encoding) (f : Front) (cut : ℕ) where
   abbrev pub unbroken : List ℕ → List ℕ
   unbroken bytes = take (wholeEnd (encodeSize e) cut (startOf e f)) (beforeCut bytes)
 
-  -- then the stream of a second list, run in the same way by a fresh writer that sends no header
-  abbrev pub joined : List ℕ → (second : List Call) → List ℕ
-  joined bytes second = unbroken bytes ++ streamOf (fresh e) second
+  -- then the stream of a second list, run in the same way by a second writer
+  abbrev pub joined : List ℕ → RawEventSink → (second : List Call) → List ℕ
+  joined bytes s second = unbroken bytes ++ streamOf s second
+
+  -- the resuming writer takes loop and coarse time from decoding what is left: from a decoder that isn't started it is a fresh one
+  abbrev pub left : List ℕ → List ℕ
+  left bytes = drop (startOf e f) (beforeCut bytes)
+
+  abbrev pub decoderLeft : List ℕ → Codec
+  decoderLeft bytes = codecAfter (freshC e) (left bytes)
+
+  abbrev pub resuming : List ℕ → RawEventSink
+  resuming bytes = resumedFrom (decoderLeft bytes)
 
 -- ---- what is read of some bytes is exactly `es`
 
@@ -304,8 +329,16 @@ pub record Claim (e : Encoding) (f : Front) (bytes : List ℕ) (ws : List (Note 
   pub all-suits : Suits widest es
   -- what stands decodes, and is sliced, as the events that are whole
   pub of-cut : Exact e f (beforeCut e f cut bytes) (whole e f cut ws)
-  -- and the joined stream as all events, where the second list's accepted events are the others
-  pub of-joined : (second : List Call) → acceptedEvents (fresh e) second ≡ others e f cut ws → Exact e f (joined e f cut bytes second) es
+  -- the decoder after what is left can be resumed from
+  pub resumes : length (left e f cut bytes) ≤ 2 ^ 30 → resumeOutcome (decoderLeft e f cut bytes) ≡ give (resuming e f cut bytes)
+  -- and the joined stream decodes as all events, where the second list's accepted events are the others: by the resuming writer,
+  pub of-joined : (second : List Call) → acceptedEvents (resuming e f cut bytes) second ≡ others e f cut ws
+      → Exact e f (joined e f cut bytes (resuming e f cut bytes) second) es
+  -- and by a fresh one that sends no header, if what is left has counted no loop, or all events are of the first
+  pub of-joined-fresh : loopsC (decoderLeft e f cut bytes) ≡ 0 → (second : List Call) → acceptedEvents (fresh e) second ≡ others e f cut ws
+      → Exact e f (joined e f cut bytes (fresh e) second) es
+  pub of-joined-first : InFirstLoop e es → (second : List Call) → acceptedEvents (fresh e) second ≡ others e f cut ws
+      → Exact e f (joined e f cut bytes (fresh e) second) es
 
 -- for each encoding, every list and every cut
 abbrev pub DemandThree : Type 0
@@ -315,7 +348,7 @@ DemandThree = (e : Encoding) (calls : List Call) (cut : ℕ) → cut ≤ length 
 -- ---- a second list always exists: the others one by one, each with an output of the most bytes of an event
 
 abbrev pub single : Encoding → Event → Call
-single e a = record { width = 2048; height = 2048; xs = a .x ∷ []; ys = a .y ∷ []; ts = pos (a .t) ∷ []; ps = a .p ∷ []; room = encodeMost e 1 }
+single e a = record { width = 2048; height = 2048; xs = a .x ∷ []; ys = a .y ∷ []; ts = pos (a .t) ∷ []; ps = a .p ∷ []; room = encodeMost e 1 1023 }
 
 abbrev pub singles : Encoding → List Event → List Call
 singles e es = map (single e) es
@@ -324,17 +357,23 @@ module _ (e : Encoding) (f : Front) (s : RawEventSink) (calls : List Call) (cut 
   abbrev pub othersOf : List Event
   othersOf = others e f cut (streamWords s calls)
 
-  pub record Resumable : Type 0 where
+  -- by a second writer
+  pub record Resumable (second : RawEventSink) : Type 0 where
     -- all are accepted, up to the count that rule 10 allows a writer: more are never left where demand 3 speaks, of streams of at most 2 ^ 30 bytes
-    pub accepted : length othersOf ≤ 2 ^ 62 → acceptedEvents (fresh e) (singles e othersOf) ≡ othersOf
+    pub accepted : length othersOf ≤ 2 ^ 62 → acceptedEvents second (singles e othersOf) ≡ othersOf
     -- so what is joined is read as all events; here no count is asked, since each append writes a byte at least, and `Exact` is of at most 2 ^ 30
-    pub exact : Exact e f (joined e f cut (streamOf s calls) (singles e othersOf)) (acceptedEvents s calls)
+    pub exact : Exact e f (joined e f cut (streamOf s calls) second (singles e othersOf)) (acceptedEvents s calls)
+
+  -- by the resuming writer; by a fresh one where all events are of the first loop
+  pub record Resumables : Type 0 where
+    pub resumed : Resumable (resuming e f cut (streamOf s calls))
+    pub first : InFirstLoop e (acceptedEvents s calls) → Resumable (fresh e)
 
 abbrev pub SecondListExists : Type 0
-SecondListExists = (e : Encoding) (calls : List Call) (cut : ℕ) → Resumable e bare (fresh e) calls cut
+SecondListExists = (e : Encoding) (calls : List Call) (cut : ℕ) → Resumables e bare (fresh e) calls cut
 
--- ---- THE SAME OF CALLS THAT RAN, at a sensor of 2048 by 2048: by the contracts of `append`, `decode_words`, `open_words`, `slice_index` and `slice_time`
--- alone
+-- ---- THE SAME OF CALLS THAT RAN, at a sensor of 2048 by 2048: by the contracts of `append`, `resume_words`, `decode_words`, `open_words`, `slice_index` and
+-- `slice_time` alone
 
 -- an append that ran: its call, the output that it was lent, what it returned, and the output that it left
 pub record Ran : Type 0 where
@@ -465,6 +504,11 @@ pub record ReadBack (way : Way) (bytes : List ℕ) (es : List Event) : Type 0 wh
       → TimeRan x o t0 t1 r c₀ c → TimeRan y p t0 t1 q d₀ d → length (duringTimes es t0 t1) ≤ room c₀ → length (duringTimes es t0 t1) ≤ room d₀
       → Alike (length (duringTimes es t0 t1)) r q c d
 
+-- a resumption that ran: by `resume_words`, or by `resume_raw` behind a header
+abbrev pub ResumedBy : Encoding → Front → List ℕ → Resumed → Type 0
+ResumedBy e bare bytes r = Resumes e (resumeWordsOutcome bytes e) r
+ResumedBy e (headed w h) bytes r = Resumes (rawEncoding bytes) (resumeRawOutcome bytes) r
+
 -- of appends that ran from a writer on, cut at byte `cut` of what they wrote, behind a front
 module _ (s : RawEventSink) (f : Front) (ran : List Ran) (cut : ℕ) where
   abbrev version : Encoding
@@ -482,7 +526,13 @@ module _ (s : RawEventSink) (f : Front) (ran : List Ran) (cut : ℕ) where
   -- where `Read bytes es` says how some bytes are read as es
   pub record CutAndResumed (Read : List ℕ → List Event → Type 0) : Type 0 where
     pub of-cut : length (take cut (allWritten ran)) ≤ 2 ^ 30 → Read (take cut (allWritten ran)) wholeRan
-    pub of-joined : (second : List Ran) → Chained (fresh version) second → acceptedEvents (fresh version) (callsOf second) ≡ othersRan
+    -- by the writer that resuming over what stands returned
+    pub of-joined : length (take cut (allWritten ran)) ≤ 2 ^ 30 → (r : Resumed) → ResumedBy version f (take cut (allWritten ran)) r
+        → (second : List Ran) → Chained (r .sink) second → acceptedEvents (r .sink) (callsOf second) ≡ othersRan
+        → length (joinedRan second) ≤ 2 ^ 30 → Read (joinedRan second) (acceptedEvents s (callsOf ran))
+    -- by a fresh one, where all events are of the first loop
+    pub of-joined-first : InFirstLoop version (acceptedEvents s (callsOf ran)) → (second : List Ran) → Chained (fresh version) second
+        → acceptedEvents (fresh version) (callsOf second) ≡ othersRan
         → length (joinedRan second) ≤ 2 ^ 30 → Read (joinedRan second) (acceptedEvents s (callsOf ran))
 
 abbrev pub DemandThreeRan : Type 0

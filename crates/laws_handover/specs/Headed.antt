@@ -4,9 +4,9 @@
 -- sends a header, and reading, indexing and slicing are told nothing but the bytes: `read_raw` and `open` with no size. The header goes out with the first
 -- accepted append that has an event, and names that append's size. Then for every list of appends, refused ones among them, and every cut at the header's end
 -- or behind it: what stands is read as exactly the accepted events whose event word is whole before the cut; the header, the whole words behind it and the
--- words of a second writer, which sends no header, are read as all accepted events; and slices by number and by time over either are exact at every allowed
--- spacing. It asks that the size in the header covers all accepted events: reading would drop the others. Without an accepted event nothing is sent, not even
--- the header. A body may begin with the byte `%`, since the header's end line is its last line.
+-- words of the resuming writer, which takes loop and coarse time from the body that is left and sends no header, are read as all accepted events; and slices
+-- by number and by time over either are exact at every allowed spacing. It asks that the size in the header covers all accepted events: reading would drop the
+-- others. Without an accepted event nothing is sent, not even the header. A body may begin with the byte `%`, since the header's end line is its last line.
 --
 --   a fresh writer that sends a header                                     `due`
 --   the header that a list sends: with which append, of which size         `frontOf`
@@ -30,7 +30,7 @@ use Rattle.write_header.specs.Header.{headerText}
 use Rattle.write_rules.specs.{declared.RawEventSink.RawEventSink, Rules.freshSink}
 use Rattle.write_append.specs.Append.{headerDue}
 use Rattle.laws_handover.specs.Handover.{Call, isAccepted, next, acceptedEvents, streamOf, streamWords, Front, bare, headed, asRecording, Claim}
-use Rattle.laws_handover.specs.Handover.{Resumable, Ran, Chained, callsOf, allWritten, CutAndResumed, ReadBack, ReadByValue}
+use Rattle.laws_handover.specs.Handover.{Resumables, Ran, Chained, callsOf, allWritten, CutAndResumed, ReadBack, ReadByValue}
 
 -- a fresh writer that sends a header
 abbrev pub due : Encoding → RawEventSink
@@ -62,9 +62,9 @@ HeaderSent = (e : Encoding) (calls : List Call) → Sending (acceptedEvents (due
 
 abbrev pub SecondListExistsHeaded : Type 0
 SecondListExistsHeaded = (e : Encoding) (calls : List Call) (w h : ℕ) → frontOf (due e) calls ≡ headed w h
-    → (cut : ℕ) → length (headerText e w h) ≤ cut → Resumable e (headed w h) (due e) calls cut
+    → (cut : ℕ) → length (headerText e w h) ≤ cut → Resumables e (headed w h) (due e) calls cut
 
--- ---- THE SAME OF CALLS THAT RAN: by the contracts of `append`, `read_raw`, `open`, `slice_index` and `slice_time` alone
+-- ---- THE SAME OF CALLS THAT RAN: by the contracts of `append`, `resume_raw`, `read_raw`, `open`, `slice_index` and `slice_time` alone
 
 -- the header that these appends sent has sides below 2 ^ 64 that cover all accepted events, and the cut isn't before its end
 pub record Behind (e : Encoding) (calls : List Call) (w h cut : ℕ) : Type 0 where

@@ -1,29 +1,35 @@
--- DEMAND 3, proved: what a fresh writer sends is a stream that a fresh decoder understands, so is what is left of such a stream and resumed, and all such
--- streams are as claimed.
+-- DEMAND 3, proved: what a fresh writer sends is a stream that a fresh decoder understands, so is what is left of such a stream and resumed by a writer that
+-- agrees with the decoder there, as one does that took loop and coarse time from it, and all such streams are as claimed.
 use mathlib.Core.Path.{_≡_, refl, sym, ap, _∙_}
+use mathlib.Core.Logic.{_⊎_, inl, inr, ⊎-elim}
 use mathlib.Core.Bool.{Bool, true, false}
-use mathlib.Core.List.{List, [], _∷_, _++_, append-assoc}
-use Prim.Native.Nat.{ℕ, _+_, _-_, _*_, _/_, _≤_, _<_}
+use mathlib.Core.List.{List, [], _∷_, _++_, append-assoc, append-nil}
+use Prim.Native.Nat.{ℕ, _+_, _-_, _*_, _/_, _^_, _≤_, _<_}
 use native.Mathlib.Omega.{arith}
 use native.Mathlib.Nat.{div-add-mod'}
-use lib.ListN.{take, drop}
+use lib.ListN.{length, take, drop}
 use lib.Seq.{take-add, take-at, drop-at, take-take}
-use Rattle.laws_stream.specs.Machine.{Machine, Note, Says, All, all-append, all-append-left, all-take, notes, notes-append, notes-split}
-use Rattle.laws_stream.specs.{Order.Rise, Slice.sift-all}
-use Rattle.evt_types.specs.Event.{Event}
-use Rattle.evt_codec.specs.Codec.{eventsFrom}
-use Rattle.evt_types.specs.declared.Encoding.{Encoding}
-use Rattle.evt_codec.specs.Reader.{readerOf}
+use Rattle.laws_stream.specs.Machine.{Machine, Note, Says, All, all-append, all-append-left, all-take, run, words, notes, notes-append}
+use Rattle.laws_stream.specs.{Machine.notes-split, Slice.sift-all, Stream.after}
+use Rattle.evt_types.specs.{Event.Event, Outcome.give}
+use Rattle.evt_codec.specs.Codec.{freshC, inRangeC, coarseC, loopsC, eventsFrom, codecAfter}
+use Rattle.evt_types.specs.declared.{Encoding.Encoding, Encoding.the-variants.Evt2, Encoding.the-variants.Evt21, Encoding.the-variants.Evt3}
+use Rattle.evt_codec.specs.{Reader.readerOf, Sound.soundOf}
 use Rattle.header.specs.Header.{hasZero}
-use Rattle.read_columns.specs.Inside.{clock, inside}
+use Rattle.read_columns.specs.Inside.{inside}
 use Rattle.read_window.specs.declared.Window.{Window}
 use Rattle.read_select.specs.Uses.{PastOver}
-use Rattle.write_words.specs.Encode.{encodeSize}
-use Rattle.write_rules.specs.{declared.RawEventSink.RawEventSink, Rules.freshSink}
-use Rattle.laws_formats.specs.{Ready.limit, Ready.sayable, Either.codecOf, Either.freshOf, Either.lawfulOf}
-use Rattle.laws_formats.specs.Appends.{noteBytes, rise-inside, Understood, resumed-understood, resumed-bytes, whole-events, whole-past, cut-events, cut-past}
+use Rattle.write_buffer.specs.{declared.EncoderState.EncoderState, Sent.freshState}
+use Rattle.write_words.specs.Encode.{encodeNotes, encodeState, encodeSize}
+use Rattle.write_rules.specs.{declared.RawEventSink.RawEventSink, declared.LastTime.the-variants.Never, Rules.freshSink, Rules.heldState, Rules.resumedSink}
+use Rattle.write_append.specs.Rising.{Rises}
+use Rattle.write_resume.specs.{Resume.resumeOutcome, Laws.resume-given}
+use Rattle.laws_formats.specs.Either.{StateOf, codecOf, freshOf, lawfulOf, ReadyOf, AgreeOf, held-agrees, fresh-agrees, ready-first, ready-coarse, regular-run}
+use Rattle.laws_formats.specs.Appends.{flat, appendNotes, noteBytes, rise-inside, Understood, resumed-understood, resumed-none, resumed-bytes, ready-left}
+use Rattle.laws_formats.specs.Appends.{after-left, whole-events, whole-past, cut-events, cut-past}
 use Rattle.laws_handover.specs.Handover.{Call, acceptedEvents, streamOf, streamWords, fresh, Front, bare, frontBytes, startOf, beforeCut, whole, others}
-use Rattle.laws_handover.specs.Handover.{joined, Typed, givenAlong, GivenAt, Suits, widest, Exact, Claim, DemandThree}
+use Rattle.laws_handover.specs.Handover.{joined, left, decoderLeft, resuming, resumedFrom, InFirstLoop, Typed, givenAlong, GivenAt, Suits, widest, Exact}
+use Rattle.laws_handover.specs.Handover.{Claim, DemandThree}
 use Rattle.laws_handover.specs.{Headed.frontOf, Cut.whole-is, Cut.broken-is, Cut.cut-parts, Reading.exact, Fronts.front-bare, Fronts.stream-words}
 use Rattle.laws_handover.specs.Calls.{stream-notes, stream-typed, groupsOf, groups-events, groups-words, fresh-rise, stream-understood}
 
@@ -32,7 +38,7 @@ pub record Sent (e : Encoding) (f : Front) (bytes : List ℕ) (ws : List (Note �
   pub worded : bytes ≡ frontBytes e f ++ noteBytes e ws
   pub noted : notes ws ≡ es
   pub typed : All (Typed e) ws
-  pub rises : Rise clock (sayable (limit e)) 0 es
+  pub rises : Rises 0 es
   pub understood : Understood e (freshOf e) ws
 
 suits-inside : (es : List Event) → All (λ a. inside 2048 2048 a ≡ true) es → Suits widest es
@@ -47,6 +53,48 @@ given-along M Fit Ready d (w ∷ ws) more p = (p .says, given-along M Fit Ready 
 
 given-at : (e : Encoding) (ws : List (Note ℕ Event)) → Understood e (freshOf e) ws → GivenAt e ws
 given-at e ws u = given-along (readerOf e .machine) _ _ (readerOf e .fresh) ws [] u
+
+all-append-right : {A : Type 0} (P : A → Type 0) (a b : List A) → All P (a ++ b) → All P b
+all-append-right P [] b h = h
+all-append-right P (x ∷ a) b h = all-append-right P a b (h .1)
+
+-- ---- a decoder of an encoding, in the words of a codec
+
+codec-after : (e : Encoding) (l : List ℕ) → codecAfter (freshC e) l ≡ codecOf e (after (encodeSize e) (readerOf e .machine) (freshOf e) l)
+codec-after Evt2 l = refl
+codec-after Evt21 l = refl
+codec-after Evt3 l = refl
+
+resumed-is : (e : Encoding) (d : StateOf e) → resumedFrom (codecOf e d) ≡ resumedSink e (readerOf e .started d) (readerOf e .coarse d)
+resumed-is Evt2 d = refl
+resumed-is Evt21 d = refl
+resumed-is Evt3 d = refl
+
+loops-is : (e : Encoding) (d : StateOf e) → loopsC (codecOf e d) ≡ readerOf e .loops d
+loops-is Evt2 d = refl
+loops-is Evt21 d = refl
+loops-is Evt3 d = refl
+
+coarse-is : (e : Encoding) (d : StateOf e) → coarseC (codecOf e d) ≡ readerOf e .coarse d
+coarse-is Evt2 d = refl
+coarse-is Evt21 d = refl
+coarse-is Evt3 d = refl
+
+fresh-in-range : (e : Encoding) (l : List ℕ) → length l ≤ 2 ^ 30 → inRangeC (codecAfter (freshC e) l) ≡ true
+fresh-in-range Evt2 l h = soundOf Evt2 .fresh-stays l h
+fresh-in-range Evt21 l h = soundOf Evt21 .fresh-stays l h
+fresh-in-range Evt3 l h = soundOf Evt3 .fresh-stays l h
+
+-- appends without an event send nothing
+none-notes : (e : Encoding) (v : EncoderState) → encodeNotes e v [] ≡ []
+none-notes Evt2 v = refl
+none-notes Evt21 v = refl
+none-notes Evt3 v = refl
+
+none-sent : (e : Encoding) (v : EncoderState) (gs : List (List Event)) → flat gs ≡ [] → appendNotes e v gs ≡ []
+none-sent e v [] h = refl
+none-sent e v ([] ∷ gs) h = rw (none-notes e v) (none-sent e (encodeState e v []) gs h)
+none-sent e v ((a ∷ g) ∷ gs) h = absurd (omega (arith, ap length h))
 
 module _ (e : Encoding) where
   sized : 0 < encodeSize e
@@ -83,9 +131,17 @@ module _ (e : Encoding) where
         ap (λ (k : ℕ). take k (front ++ body)) (sym is) ∙ take-add start (n - start) (front ++ body)
         ∙ (λ i. take-at front body start refl i ++ take (n - start) (drop-at front body start refl i))
 
+    -- so what stands is the front and what is left
+    pub front-left : (bytes body : List ℕ) → bytes ≡ front ++ body → (cut : ℕ) → start ≤ cut
+        → (take cut bytes ≡ front ++ left e f cut bytes) × (left e f cut bytes ≡ take (cut - start) body)
+    front-left bytes body is cut h =
+        let kept = ap (take cut) is ∙ stands cut body h in
+        let rest : left e f cut bytes ≡ take (cut - start) body = ap (drop start) kept ∙ drop-at front (take (cut - start) body) start refl in
+        (kept ∙ ap (λ (l : List ℕ). front ++ l) (sym rest), rest)
+
     -- the words of a joined stream
-    abbrev pub joinedWords : (cut : ℕ) → List (Note ℕ Event) → (second : List Call) → List (Note ℕ Event)
-    joinedWords cut ws second = take ((cut - start) / encodeSize e) ws ++ streamWords (fresh e) second
+    abbrev pub joinedWords : (cut : ℕ) → List (Note ℕ Event) → RawEventSink → (second : List Call) → List (Note ℕ Event)
+    joinedWords cut ws s second = take ((cut - start) / encodeSize e) ws ++ streamWords s second
 
     read : (body : List ℕ) (es : List Event) → eventsFrom (codecOf e (freshOf e)) body ≡ es
         → ((win : Window) → PastOver win (codecOf e (freshOf e)) body) → Exact e f (front ++ body) es
@@ -106,48 +162,122 @@ module _ (e : Encoding) where
           (cut-past e (freshOf e) ws (s .understood) n))
 
     module _ (bytes : List ℕ) (ws : List (Note ℕ Event)) (es : List Event) (sent : Sent e f bytes ws es) (cut : ℕ) (behind : start ≤ cut) where
-      -- resumed by a fresh writer
-      pub joined-sent : (second : List Call) → acceptedEvents (fresh e) second ≡ others e f cut ws
-          → Sent e f (joined e f cut bytes second) (joinedWords cut ws second) es
-      joined-sent second rest =
-          let size = encodeSize e in
-          let n = cut - start in
-          let k = n / size in
-          let end = start + k * size in
-          let ms = streamWords (fresh e) second in
-          let added = fresh-sent second in
-          let le : end ≤ cut = omega (arith, div-add-mod' n size) in
-          let back : end - start ≡ k * size = omega arith in
-          let kept : take end (take cut bytes) ≡ front ++ take (k * size) (noteBytes e ws) =
-          take-take end cut bytes le ∙ ap (take end) (sent .worded) ∙ stands end (noteBytes e ws) (omega arith) ∙ rw back in
-          let rest-is : acceptedEvents (fresh e) second ≡ notes (drop k ws) = rest ∙ broken-is size cut start sized ws in
-          record {
-            worded =
-                ap (λ (l : List ℕ). l ++ streamOf (fresh e) second) kept
-                ∙ append-assoc front (take (k * size) (noteBytes e ws)) (streamOf (fresh e) second)
-                ∙ ap (λ (l : List ℕ). front ++ l)
-                (ap (λ (l : List ℕ). take (k * size) (noteBytes e ws) ++ l) (added .worded) ∙ resumed-bytes e n ws ms);
-            noted = rw (notes-append (take k ws) ms, stream-notes (fresh e) second, rest-is) (notes-split k ws ∙ sent .noted);
-            typed = all-append (Typed e) (take k ws) ms (all-take (Typed e) k ws (sent .typed)) (stream-typed (fresh e) second);
-            rises = sent .rises;
-            understood = rw (groups-words (fresh e) second)
-                (resumed-understood e (freshOf e) k ws (groupsOf (fresh e) second) (sent .understood) (groups-events (fresh e) second ∙ rest-is));
-          }
+      -- how many words are whole
+      abbrev count : ℕ
+      count = (cut - start) / encodeSize e
+
+      -- the decoder after them
+      abbrev pub there : StateOf e
+      there = run (readerOf e .machine) (freshOf e) (words (take count ws))
+
+      rest-notes : others e f cut ws ≡ notes (drop count ws)
+      rest-notes = broken-is (encodeSize e) cut start sized ws
+
+      pub rest-ready : ReadyOf e there (others e f cut ws)
+      rest-ready = rw rest-notes (ready-left e (freshOf e) count ws (sent .understood))
+
+      -- it is that after what is left
+      there-is : decoderLeft e f cut bytes ≡ codecOf e there
+      there-is =
+          let is = front-left bytes (noteBytes e ws) (sent .worded) cut behind .1 in
+          codec-after e (left e f cut bytes)
+          ∙ ap (codecOf e) (ap (after (encodeSize e) (readerOf e .machine) (freshOf e)) is ∙ after-left e (freshOf e) (cut - start) ws (sent .understood))
+
+      pub resuming-is : resuming e f cut bytes ≡ resumedSink e (readerOf e .started there) (readerOf e .coarse there)
+      resuming-is = ap resumedFrom there-is ∙ resumed-is e there
+
+      -- resumed by a writer that sends no header and agrees with the decoder, or is given nothing
+      module _ (v : EncoderState) (ag : AgreeOf e v there ⊎ (others e f cut ws ≡ [])) where
+        abbrev writer₂ : RawEventSink
+        writer₂ = record { version = e; «header_written» = true; «n_events» = 0; «last_t» = Never; state = v }
+
+        module _ (second : List Call) (rest : acceptedEvents writer₂ second ≡ others e f cut ws) where
+          understood₂ : Understood e (freshOf e) (joinedWords cut ws writer₂ second)
+          understood₂ =
+              let gs = groupsOf writer₂ second in
+              let given = groups-events writer₂ second ∙ rest in
+              rw (groups-words writer₂ second)
+              (⊎-elim
+              (λ ag. resumed-understood e (freshOf e) count ws v gs (sent .understood) (given ∙ rest-notes) ag)
+              (λ none. rw (none-sent e v gs (given ∙ none), append-nil)
+              (resumed-none e (freshOf e) count ws (sent .understood) (sym rest-notes ∙ none)))
+              ag)
+
+          pub joined-sent : Sent e f (joined e f cut bytes writer₂ second) (joinedWords cut ws writer₂ second) es
+          joined-sent =
+              let size = encodeSize e in
+              let n = cut - start in
+              let end = start + count * size in
+              let ms = streamWords writer₂ second in
+              let added : streamOf writer₂ second ≡ noteBytes e ms = rw (front-bare writer₂ second refl) at (stream-words writer₂ second) in
+              let le : end ≤ cut = omega (arith, div-add-mod' n size) in
+              let back : end - start ≡ count * size = omega arith in
+              let kept : take end (take cut bytes) ≡ front ++ take (count * size) (noteBytes e ws) =
+              take-take end cut bytes le ∙ ap (take end) (sent .worded) ∙ stands end (noteBytes e ws) (omega arith) ∙ rw back in
+              record {
+                worded =
+                    ap (λ (l : List ℕ). l ++ streamOf writer₂ second) kept
+                    ∙ append-assoc front (take (count * size) (noteBytes e ws)) (streamOf writer₂ second)
+                    ∙ ap (λ (l : List ℕ). front ++ l)
+                    (ap (λ (l : List ℕ). take (count * size) (noteBytes e ws) ++ l) added ∙ resumed-bytes e n ws ms);
+                noted = rw (notes-append (take count ws) ms, stream-notes writer₂ second, rest ∙ rest-notes) (notes-split count ws ∙ sent .noted);
+                typed = all-append (Typed e) (take count ws) ms (all-take (Typed e) count ws (sent .typed)) (stream-typed writer₂ second);
+                rises = sent .rises;
+                understood = understood₂;
+              }
+
+          exact-joined : Exact e f (joined e f cut bytes writer₂ second) es
+          exact-joined = exact-whole (joined e f cut bytes writer₂ second) (joinedWords cut ws writer₂ second) es joined-sent
+
+      -- by the writer that took loop and coarse time from the decoder
+      abbrev held : EncoderState
+      held = heldState e (readerOf e .started there) (readerOf e .coarse there)
+
+      pub held-agreed : AgreeOf e held there ⊎ (others e f cut ws ≡ [])
+      held-agreed = inl (held-agrees e there (regular-run e (words (take count ws))))
+
+      pub resumed-sent : (second : List Call) → acceptedEvents (resuming e f cut bytes) second ≡ others e f cut ws
+          → Sent e f (joined e f cut bytes (resuming e f cut bytes) second) (joinedWords cut ws (resuming e f cut bytes) second) es
+      resumed-sent second rest = rw resuming-is (joined-sent held held-agreed second (rw resuming-is at rest))
+
+      -- by a fresh one, where no loop was counted
+      fresh-agreed : loopsC (decoderLeft e f cut bytes) ≡ 0 → AgreeOf e freshState there ⊎ (others e f cut ws ≡ [])
+      fresh-agreed z = inl (fresh-agrees e there (sym (loops-is e there) ∙ ap loopsC (sym there-is) ∙ z))
+
+      -- none was, where the others are of the first
+      first-agreed : (rest : List Event) → ReadyOf e there rest → InFirstLoop e rest → AgreeOf e freshState there ⊎ (rest ≡ [])
+      first-agreed [] rd first = inr refl
+      first-agreed (a ∷ rest) rd first = inl (fresh-agrees e there (ready-first e there a rest rd (first .0)))
+
+      pub parts : whole e f cut ws ++ others e f cut ws ≡ es
+      parts = cut-parts (encodeSize e) cut start sized ws ∙ sent .noted
+
+      pub first-writer : InFirstLoop e es → AgreeOf e freshState there ⊎ (others e f cut ws ≡ [])
+      first-writer first = first-agreed (others e f cut ws) rest-ready (all-append-right _ (whole e f cut ws) (others e f cut ws) (rw parts first))
+
+      resumes : length (left e f cut bytes) ≤ 2 ^ 30 → resumeOutcome (decoderLeft e f cut bytes) ≡ give (resuming e f cut bytes)
+      resumes few =
+          resume-given (decoderLeft e f cut bytes) (fresh-in-range e (left e f cut bytes) few)
+          (rw there-is (rw (coarse-is e there) (ready-coarse e there (others e f cut ws) rest-ready .0)))
 
       pub claim : Claim e f bytes ws es cut
       claim =
-          let parted : whole e f cut ws ++ others e f cut ws ≡ es = cut-parts (encodeSize e) cut start sized ws ∙ sent .noted in
           let all = rise-inside e 0 es (sent .rises) in
           record {
             worded = sent .worded;
             noted = sent .noted;
             typed = sent .typed;
             given = given-at e ws (sent .understood);
-            parted = parted;
-            whole-suits = suits-inside (whole e f cut ws) (all-append-left _ (whole e f cut ws) (others e f cut ws) (rw parted all));
+            parted = parts;
+            whole-suits = suits-inside (whole e f cut ws) (all-append-left _ (whole e f cut ws) (others e f cut ws) (rw parts all));
             all-suits = suits-inside es all;
             of-cut = exact-before bytes ws es sent cut behind;
-            of-joined = λ second rest. exact-whole (joined e f cut bytes second) (joinedWords cut ws second) es (joined-sent second rest);
+            resumes = resumes;
+            of-joined = λ second rest.
+                let s = resuming e f cut bytes in
+                exact-whole (joined e f cut bytes s second) (joinedWords cut ws s second) es (resumed-sent second rest);
+            of-joined-fresh = λ none second rest. exact-joined freshState (fresh-agreed none) second rest;
+            of-joined-first = λ first second rest. exact-joined freshState (first-writer first) second rest;
           }
 
 pub demand-three : DemandThree

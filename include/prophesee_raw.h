@@ -2,8 +2,8 @@
  *
  * `rt staticlib prophesee_raw_c` proves the library and writes target/staticlib/libprophesee_raw_c.a
  * (x86-64 Linux). Every function is proved to return and to write exactly what its contract says
- * (crates/prophesee_raw_c/src cites it, the specs of the crates c_values, c_decoder, c_triggers, c_index
- * and c_writer define it), whatever numbers it is given.
+ * (crates/prophesee_raw_c/src cites it, the specs of the crates c_values, c_decoder, c_triggers, c_index,
+ * c_writer and c_resume define it), whatever numbers it is given.
  *
  * There is no global state and no memory is kept: all that a later call needs is in the values that
  * an earlier one returned and in the buffers of the caller. Calls on different buffers may run at the
@@ -122,15 +122,16 @@ static inline size_t prophesee_most_records(size_t bytes, size_t spacing)
 }
 
 /* The most bytes of an append of `events` events by a writer whose header isn't due, and of one whose
- * header is, in any encoding: 16 for an event of EVT2.1, and no more than 8 for one of EVT2 and EVT3. */
+ * header is, in any encoding: 16 for an event of EVT2.1, no more than 8 for one of EVT2 and EVT3, and in
+ * EVT3 4 for each loop that is passed, of which there are at most 1,023. */
 static inline size_t prophesee_most_bytes(size_t events)
 {
-    return events * 16;
+    return events * 16 + 4 * 1023;
 }
 
 static inline size_t prophesee_most_bytes_with_header(size_t events)
 {
-    return events * 16 + 96;
+    return prophesee_most_bytes(events) + 96;
 }
 
 /* ---- reading */
@@ -306,7 +307,9 @@ prophesee_slice prophesee_slice_time(
 /* ---- writing */
 
 /* A writer. The last time, the halves of the time and the row that were sent are 0 where their flag
- * `has_..` is 0. Each flag is 0 or 1. 10 for a writer out of range (docs/RULES.md, T-4 and T-5). */
+ * `has_..` is 0. Each flag is 0 or 1. `time_high` is the time divided by 64, in EVT3 by 4,096, with its
+ * loops; a resumed writer holds it without a last time. 10 for a writer out of range (docs/RULES.md, T-4
+ * and T-5). */
 typedef struct {
     size_t n_events;
     int64_t last_t;
@@ -336,12 +339,30 @@ typedef struct {
 
 /* Appends events: 10, 12, 4, 6, 7, 11. Width and height are those that a header due tells: with a size
  * that covers all events a recording that breaks off behind its header is read whole up to there, with
- * no size given, and goes on with the words of a second writer that sends no header. */
+ * no size given, and goes on with the words of the writer that is resumed from what is left. */
 prophesee_appended prophesee_append(
     prophesee_sink sink, size_t width, size_t height,
     const uint16_t *xs, size_t xs_len, const uint16_t *ys, size_t ys_len,
     const int64_t *ts, size_t ts_len, const uint8_t *ps, size_t ps_len,
     uint8_t *output, size_t output_len);
+
+/* A writer that goes on behind what is left of a stream, by the decoder after its whole words: it holds
+ * the coarse time, with its loops, has sent no low half and no row, has no last time and a count of 0, and
+ * sends no header. Where no word has told a time it is a fresh writer that sends no header. A broken last
+ * word has to go before its words follow. Until it has a last time, an event below the coarse time gets 6;
+ * one before the last event that is left may be accepted, so append just those that are missing. Refused,
+ * `sink` is a fresh writer of that encoding that sends no header, also of an unknown one. 10 here: a coarse
+ * time of 2^34 or more. `prophesee_resume` takes a decoder that the caller has. */
+typedef struct {
+    prophesee_sink sink;
+    uint32_t refusal;
+} prophesee_resumed;
+
+/* Words without a header, of an encoding that the caller names: 4, 2 for an unknown one, 10. */
+prophesee_resumed prophesee_resume_words(const uint8_t *words, size_t words_len, uint32_t encoding);
+
+/* A recording, with its header: 4, 3, 2, 10; after 4, 3 or 2 `sink` is of EVT2. No size is asked for. */
+prophesee_resumed prophesee_resume_raw(const uint8_t *recording, size_t recording_len);
 
 /* ---- single words */
 
@@ -405,6 +426,14 @@ prophesee_next prophesee_next_event(prophesee_vector events);
 /* The decoder after all whole words of `words`: 4, 10; refused, the one that was given. */
 prophesee_stepped prophesee_decoder_after(prophesee_decoder decoder, const uint8_t *words, size_t words_len);
 
+/* The decoder after all whole words of a recording's body, from a fresh one of the header's encoding: 4, 3,
+ * 2; refused, a fresh one of EVT2. No size is asked for. */
+prophesee_stepped prophesee_decoder_after_raw(const uint8_t *recording, size_t recording_len);
+
+/* The writer that goes on behind the words of a decoder (`prophesee_resumed`): 10 for a decoder out of range
+ * too, which may be one of an unknown encoding. */
+prophesee_resumed prophesee_resume(prophesee_decoder decoder);
+
 /* `some` 1: the trigger of a word. 0: the word has none. */
 typedef struct {
     int64_t t;
@@ -433,6 +462,7 @@ PROPHESEE_ASSERT(sizeof(prophesee_record) == 80 && offsetof(prophesee_record, po
 PROPHESEE_ASSERT(sizeof(prophesee_slice) == 24 && offsetof(prophesee_slice, refusal) == 16);
 PROPHESEE_ASSERT(sizeof(prophesee_sink) == 56 && offsetof(prophesee_sink, has_y) == 48);
 PROPHESEE_ASSERT(sizeof(prophesee_appended) == 80 && offsetof(prophesee_appended, refusal) == 72);
+PROPHESEE_ASSERT(sizeof(prophesee_resumed) == 64 && offsetof(prophesee_resumed, refusal) == 56);
 PROPHESEE_ASSERT(sizeof(prophesee_decoder) == 40 && offsetof(prophesee_decoder, polarity) == 33);
 PROPHESEE_ASSERT(sizeof(prophesee_vector) == 24 && offsetof(prophesee_vector, p) == 16);
 PROPHESEE_ASSERT(sizeof(prophesee_decoded) == 72 && offsetof(prophesee_decoded, refusal) == 64);

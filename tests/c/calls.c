@@ -834,6 +834,61 @@ static void bounds(void)
     printf("most bytes: %zu, with a header %zu\n", prophesee_most_bytes(3), prophesee_most_bytes_with_header(3));
 }
 
+/* ---- resuming */
+
+static void print_resumed(const char *what, prophesee_resumed r)
+{
+    printf("%s: refusal %u\n", what, r.refusal);
+    print_sink(r.sink);
+}
+
+static void resuming_decoders(void)
+{
+    prophesee_decoder d = prophesee_new_decoder(PROPHESEE_EVT3);
+    print_resumed("resume, not started", prophesee_resume(d));
+    d.initialised = 1, d.high_loops = 2, d.time_base = 2 * 16777216 + 4096, d.time = d.time_base + 5;
+    print_resumed("resume, loop 2", prophesee_resume(d));
+    d.time = d.time_base + 4096;
+    print_resumed("resume, a time past its half", prophesee_resume(d));
+    d.high_loops = 1024, d.time_base = d.time = (uint64_t)1 << 34;
+    print_resumed("resume, 2^34", prophesee_resume(d));
+    d.encoding = PROPHESEE_EVT2, d.high_loops = 0, d.time_base = ((uint64_t)1 << 34) - 64, d.time = d.time_base + 63;
+    print_resumed("resume, EVT2, the last half", prophesee_resume(d));
+    d.encoding = 7;
+    print_resumed("resume, encoding 7", prophesee_resume(d));
+    d.encoding = PROPHESEE_EVT3, d.initialised = 2;
+    print_resumed("resume, initialised 2", prophesee_resume(d));
+}
+
+/* 8FFF 8000 and a broken word: what is left of a stream that passed a loop. Its events begin at 2^24. */
+static void resuming_words(void)
+{
+    static const uint8_t left[] = {0xff, 0x8f, 0x00, 0x80, 0x07};
+    static const int64_t below[] = {16777215}, at[] = {16777216};
+    prophesee_resumed r = prophesee_resume_words(left, sizeof left, PROPHESEE_EVT3);
+    print_resumed("resume_words", r);
+    print_appended("append, below the coarse time", prophesee_append(r.sink, 64, 48, cx, 1, cy, 1, below, 1, one, 1, output, sizeof output));
+    print_appended("append, at it", prophesee_append(r.sink, 64, 48, cx, 1, cy, 1, at, 1, one, 1, output, sizeof output));
+    print_resumed("resume_words, FFF alone", prophesee_resume_words(left, 3, PROPHESEE_EVT3));
+    print_resumed("resume_words, nothing", prophesee_resume_words(NULL, 0, PROPHESEE_EVT21));
+    print_resumed("resume_words, encoding 7", prophesee_resume_words(left, sizeof left, 7));
+}
+
+static void resuming_recordings(void)
+{
+    static const uint8_t wide[] = "% format EVT3\n% geometry 0x0\n", high[] = {'%', 0x80}, none[] = "% format other\n";
+    print_resumed("resume_raw", prophesee_resume_raw(recording, sizeof recording));
+    print_resumed("resume_raw, a size of 0 by 0", prophesee_resume_raw(wide, sizeof wide - 1));
+    print_resumed("resume_raw, a byte 80", prophesee_resume_raw(high, sizeof high));
+    print_resumed("resume_raw, no encoding", prophesee_resume_raw(none, sizeof none - 1));
+    prophesee_stepped s = prophesee_decoder_after_raw(recording, sizeof recording);
+    printf("decoder_after_raw: refusal %u\n", s.refusal);
+    print_decoder(s.decoder);
+    s = prophesee_decoder_after_raw(none, sizeof none - 1);
+    printf("decoder_after_raw, no encoding: refusal %u\n", s.refusal);
+    print_decoder(s.decoder);
+}
+
 int main(void)
 {
     memcpy(recording, header, sizeof header - 1);
@@ -860,6 +915,9 @@ int main(void)
     writing21();
     written_and_cut(PROPHESEE_EVT21);
     words21();
+    resuming_decoders();
+    resuming_words();
+    resuming_recordings();
     longest();
     longest_append();
     return 0;

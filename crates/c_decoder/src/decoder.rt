@@ -1,6 +1,7 @@
 // A decoder, the events of a word and one of them, in numbers.
 ghost use mathlib.Core.Path.{_≡_};
 ghost use Rattle.evt_types.specs.Outcome.{refuse};
+ghost use Rattle.read_after.specs.After.{afterRawOutcome};
 ghost use Rattle.c_decoder.specs.{Decoder.numbersIn, Decoder.isDecoder, Decoder.codecIn, Decoder.decoderOf, Decoder.newDecoder, Decoder.vectorOf};
 ghost use Rattle.c_decoder.specs.{Decoder.vectorIn, Decoder.noVector, Decoder.eventOf, Decoder.nextNumbers, Decoder.decodedOf, Decoder.steppedOf};
 ghost use Rattle.c_decoder.specs.{Stepping.wordBy, Stepping.codecBy};
@@ -306,4 +307,12 @@ pub fn stepped_of(given: PropheseeDecoder, answer: AfterAnswer) -> PropheseeStep
         }
         AfterAnswer::Refused(r) => refused_stepped(given, r),
     }
+}
+
+// The decoder after a recording's body; refused, a fresh one of EVT2.
+pub fn after_recording(recording: &[u8]) -> PropheseeStepped
+    ensures { λ r. ⌜ r ≡ steppedOf (newDecoder 2) (afterRawOutcome (now (recording .entry))) ⌝ }
+{
+    let answer = read_after::decoder_after_raw(recording);
+    stepped_of(new_decoder(2), answer)
 }

@@ -1,6 +1,6 @@
--- DEMAND 3 OF THE C INTERFACE, of calls that ran: by the contracts of `prophesee_writer`, `prophesee_append`, `prophesee_decode_words`,
--- `prophesee_open_words`, `prophesee_slice_index` and `prophesee_slice_time` alone, at a sensor of 2048 by 2048 (`DemandThreeC`); and behind a written
--- header by those of `prophesee_read_raw` and `prophesee_open` with no size (`DemandThreeHeadedC`).
+-- DEMAND 3 OF THE C INTERFACE, of calls that ran: by the contracts of `prophesee_writer`, `prophesee_append`, `prophesee_resume_words`,
+-- `prophesee_decode_words`, `prophesee_open_words`, `prophesee_slice_index` and `prophesee_slice_time` alone, at a sensor of 2048 by 2048 (`DemandThreeC`); and
+-- behind a written header by those of `prophesee_resume_raw`, `prophesee_read_raw` and `prophesee_open` with no size (`DemandThreeHeadedC`).
 use mathlib.Core.Path.{_≡_}
 use mathlib.Core.Bool.{Bool, true, false}
 use mathlib.Core.List.{List, [], _∷_, _++_, map}
@@ -13,7 +13,7 @@ use Rattle.read_rules.specs.Read.{widthOf, heightOf}
 use Rattle.index_build.specs.Index.{recordCount, spacingOk}
 use Rattle.write_rules.specs.Rules.{freshSink}
 use Rattle.laws_handover.specs.Handover.{Columns, room, HoldsEvents, numbered, duringTimes, Call, fresh, acceptedEvents, streamWords, Front, bare, headed}
-use Rattle.laws_handover.specs.Handover.{whole, others, unbroken, Way, asWords, asRecording, encodingBy, sizeBy, startBy, widest}
+use Rattle.laws_handover.specs.Handover.{whole, others, unbroken, InFirstLoop, Way, asWords, asRecording, encodingBy, sizeBy, startBy, widest}
 use Rattle.laws_handover.specs.Headed.{Behind}
 use Rattle.c_values.specs.{declared.options.PropheseeOptions.PropheseeOptions, declared.reading.PropheseeReading.PropheseeReading, Reading.DecodesWordsC}
 use Rattle.c_values.specs.{Reading.ReadsRawC, Flags.bit}
@@ -21,6 +21,9 @@ use Rattle.c_index.specs.{declared.slices.PropheseeSlice.PropheseeSlice, declar
 use Rattle.c_index.specs.{declared.opening.PropheseeOpening.PropheseeOpening, declared.opening.PropheseeSource.PropheseeSource, Opening.OpensWordsC}
 use Rattle.c_index.specs.{Opening.OpensRawC, Slicing.SlicesIndexC, Slicing.SlicesTimeC}
 use Rattle.c_writer.specs.{declared.writer.PropheseeAppended.PropheseeAppended, declared.writer.PropheseeSink.PropheseeSink, Writer.writerOf}
+use Rattle.c_writer.specs.Writer.{sinkOf, flatSink}
+use Rattle.c_resume.specs.{declared.resume.PropheseeResumed.PropheseeResumed, Resume.resumedOf, Resume.resumeWordsOutcomeC}
+use Rattle.write_resume.specs.Resume.{resumeRawOutcome, rawEncoding}
 use Rattle.c_writer.specs.{Writer.AppendOwedC}
 
 -- ---- what is read
@@ -120,6 +123,11 @@ abbrev pub allWrittenC : List RanC → List ℕ
 allWrittenC [] = []
 allWrittenC (a ∷ ran) = take (a .result .written) (a .out) ++ allWrittenC ran
 
+-- a resumption that ran: by `prophesee_resume_words`, or by `prophesee_resume_raw` behind a header
+abbrev pub ResumedByC : Encoding → Front → List ℕ → PropheseeResumed → Type 0
+ResumedByC e bare bytes r = r ≡ resumedOf (writerOf (encodingNumber e) 0) (resumeWordsOutcomeC bytes (encodingNumber e))
+ResumedByC e (headed w h) bytes r = r ≡ resumedOf (flatSink (freshSink (rawEncoding bytes) false)) (resumeRawOutcome bytes)
+
 -- ---- THE CLAIM, of appends that ran from a fresh writer on, cut at byte `cut` of what they wrote, behind a front
 
 module _ (e : Encoding) (header : Bool) (f : Front) (ran : List RanC) (cut : ℕ) where
@@ -129,11 +137,19 @@ module _ (e : Encoding) (header : Bool) (f : Front) (ran : List RanC) (cut : ℕ
   abbrev pub joinedC : (second : List RanC) → List ℕ
   joinedC second = unbroken e f cut (allWrittenC ran) ++ allWrittenC second
 
-  -- where these are read in this way; the second writer sends no header
+  abbrev pub othersC : List Event
+  othersC = others e f cut (streamWords (freshSink e header) (callsC ran))
+
+  -- where these are read in this way
   pub record CutAndResumedC (way : Way) : Type 0 where
     pub of-cut : length (take cut (allWrittenC ran)) ≤ 2 ^ 30 → ReadBackC way (take cut (allWrittenC ran)) wordsC
-    pub of-joined : (second : List RanC) → ChainedC (freshNumbers e false) second
-        → acceptedEvents (fresh e) (callsC second) ≡ others e f cut (streamWords (freshSink e header) (callsC ran))
+    -- by the writer that resuming over what stands returned
+    pub of-joined : length (take cut (allWrittenC ran)) ≤ 2 ^ 30 → (r : PropheseeResumed) → ResumedByC e f (take cut (allWrittenC ran)) r
+        → (second : List RanC) → ChainedC (r .sink) second → acceptedEvents (sinkOf (r .sink)) (callsC second) ≡ othersC
+        → length (joinedC second) ≤ 2 ^ 30 → ReadBackC way (joinedC second) (acceptedEvents (freshSink e header) (callsC ran))
+    -- by a fresh one, where all events are of the first loop
+    pub of-joined-first : InFirstLoop e (acceptedEvents (freshSink e header) (callsC ran)) → (second : List RanC) → ChainedC (freshNumbers e false) second
+        → acceptedEvents (fresh e) (callsC second) ≡ othersC
         → length (joinedC second) ≤ 2 ^ 30 → ReadBackC way (joinedC second) (acceptedEvents (freshSink e header) (callsC ran))
 
 abbrev pub DemandThreeC : Type 0

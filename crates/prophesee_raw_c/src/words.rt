@@ -1,6 +1,7 @@
-// Single words: decoders, the events of a word one by one, and the decoder after words.
+// Single words: decoders, the events of a word one by one, and the decoder after words or a recording.
 ghost use mathlib.Core.Path.{_≡_};
 ghost use Rattle.evt_types.specs.Event.{nextOf};
+ghost use Rattle.read_after.specs.After.{afterRawOutcome};
 ghost use Rattle.c_decoder.specs.{Decoder.newDecoder, Decoder.vectorIn, Decoder.nextNumbers, Decoder.wordOutcomeC, Decoder.decodedOf, Decoder.afterOutcomeC};
 ghost use Rattle.c_decoder.specs.{Decoder.steppedOf};
 use c_decoder::decoder::PropheseeDecoded;
@@ -8,6 +9,7 @@ use c_decoder::decoder::PropheseeDecoder;
 use c_decoder::decoder::PropheseeNext;
 use c_decoder::decoder::PropheseeStepped;
 use c_decoder::decoder::PropheseeVector;
+use c_decoder::decoder::after_recording;
 use c_decoder::decoder::codec_in;
 use c_decoder::decoder::decoded_of;
 use c_decoder::decoder::is_decoder;
@@ -62,4 +64,12 @@ pub extern "C" fn prophesee_decoder_after(
     }
     let refusal = behind_too_long(words.len(), Refusal::StateOutOfRange);
     refused_stepped(decoder, refusal)
+}
+
+// The decoder after a recording's body; refused, a fresh one of EVT2.
+#[no_mangle]
+pub extern "C" fn prophesee_decoder_after_raw(recording: &[u8]) -> PropheseeStepped
+    ensures { λ r. ⌜ r ≡ steppedOf (newDecoder 2) (afterRawOutcome (now (recording .entry))) ⌝ }
+{
+    after_recording(recording)
 }

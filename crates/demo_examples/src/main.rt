@@ -1,7 +1,7 @@
 // The examples that the comment of `prophesee_raw` names, run: reading, with triggers too, indexing and
-// slicing, writing, streams that are cut and resumed, single words, and refusals. Every call is one of
-// `prophesee_raw`; `test_text` only prints, an event as `t,x,y,p` and bytes in hex. Each line begins
-// with the name of its example.
+// slicing, writing, streams that are cut and resumed, a long show, single words, and refusals. Every
+// call is one of `prophesee_raw`; `test_text` only prints, an event as `t,x,y,p` and bytes in hex. Each
+// line begins with the name of its example.
 mod decoding;
 mod given;
 mod print;
@@ -25,6 +25,9 @@ fn main() {
     writing::write_evt21();
     resuming::cut_and_resume();
     resuming::cut_recording();
+    resuming::resume_stream();
+    resuming::resume_recording();
+    writing::long_show();
     decoding::decode_singly();
     decoding::decode_after();
     triggers::trigger_of_word();

@@ -154,6 +154,12 @@ pub fn append(name: &[u8], appended: Appended, output: &[u8]) -> RawEventSink {
     appended.sink
 }
 
+pub fn bytes(name: &[u8], s: &[u8]) {
+    show::text(name);
+    show::hex(s);
+    end();
+}
+
 // The first event of a word, if it has one.
 pub fn first(name: &[u8], answer: DecodeAnswer) {
     show::text(name);

@@ -55,3 +55,25 @@ pub fn write_evt21() {
     let appended = prophesee_raw::append(writer, 64, 48, &xs, &ys, &ts, &ps, &mut output);
     print::append(b"write_evt21: ", appended, &output);
 }
+
+// EVT3 counts 2^24 microseconds and starts anew: for each such loop that passes the writer sends
+// 8FFF 8000. An event at 2^24 from a fresh writer has the words 8FFF 8000 0009 2814, and reads as it
+// was written.
+pub fn long_show() {
+    let xs = [20];
+    let ys = [9];
+    let ts = [16777216];
+    let ps = [1];
+    let mut output = [0; 32];
+    let writer = RawEventSink::to_writer(Encoding::Evt3, false);
+    let appended = prophesee_raw::append(writer, 64, 48, &xs, &ys, &ts, &ps, &mut output);
+    print::append(b"long_show: ", appended, &output);
+    let answer = appended.answer;
+    if let AppendAnswer::Written(n) = answer {
+        reading::decode(
+            b"long_show, read: ",
+            text::part(&output, 0, n),
+            Encoding::Evt3,
+        );
+    }
+}

@@ -11,8 +11,8 @@ use prophesee_raw::OpenAnswer;
 use prophesee_raw::Opening;
 use test_text::show;
 
-// Where the second slice by time ends.
-const LATE: i64 = 16777216;
+// Where the second slice by time ends: no event may have this time (7).
+const LATE: i64 = 17179869184;
 
 pub fn both(a: bool, b: bool) -> bool {
     if a { b } else { false }

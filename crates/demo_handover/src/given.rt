@@ -5,15 +5,17 @@
 ghost use mathlib.Core.Path.{_≡_};
 ghost use Prim.Native.Nat.{_≤_};
 ghost use lib.ListN.{length, take};
-ghost use Rattle.demo_handover.specs.Given.{givenXs, givenYs, givenTs, givenPs, wordEnds, upTo, earlierThan};
+ghost use Rattle.demo_handover.specs.Given.{givenXs, givenYs, givenTs, givenPs, wordEnds, endsOf, upTo, earlierThan};
 use prophesee_raw::Encoding;
 
 // Later events are just so much later, 231 times 64 in EVT2 or 37 times 4,096 in EVT3, that the first
-// time word begins with hex 25, `%`; where the words end stays the same.
+// time word begins with hex 25, `%`; where the words end stays the same. A long show, of EVT3, passes
+// one of its loops, 2^24 microseconds, before number 7, and two before number 14.
 pub enum When {
     Early,
     Later2,
     Later3,
+    Long,
 }
 
 // What is written, and read back: words alone, or behind a header.
@@ -31,6 +33,7 @@ pub fn total(when: When) -> usize
         When::Early => 16,
         When::Later2 => 8,
         When::Later3 => 8,
+        When::Long => 16,
     }
 }
 
@@ -40,6 +43,7 @@ pub fn middle(when: When) -> i64 {
         When::Early => 4100,
         When::Later2 => 18879,
         When::Later3 => 155647,
+        When::Long => 16781316,
     }
 }
 
@@ -130,6 +134,25 @@ const LATER3: [i64; 16] = [
     159752,
 ];
 
+const LONG: [i64; 16] = [
+    4030,
+    4030,
+    4095,
+    4095,
+    4095,
+    4095,
+    4095,
+    16781312,
+    16781316,
+    16781316,
+    16781316,
+    16781316,
+    16781316,
+    16781316,
+    50335749,
+    50339848,
+];
+
 pub fn times(when: When) -> [i64; 16]
     ensures { λ r. ⌜ (r ≡ givenTs when) × (16 ≡ length r) ⌝ }
 {
@@ -137,6 +160,7 @@ pub fn times(when: When) -> [i64; 16]
         When::Early => EARLY,
         When::Later2 => LATER2,
         When::Later3 => LATER3,
+        When::Long => LONG,
     }
 }
 
@@ -157,7 +181,8 @@ pub fn spacing(encoding: Encoding) -> usize
     }
 }
 
-// Where the event word of each event ends in the stream, counted from the body's start.
+// Where the event word of each event ends in the stream, counted from the body's start, if no loop is
+// passed.
 fn word_ends(encoding: Encoding) -> [usize; 16]
     ensures { λ r. ⌜ (r ≡ wordEnds encoding) × (16 ≡ length r) ⌝ }
 {
@@ -219,6 +244,35 @@ fn word_ends(encoding: Encoding) -> [usize; 16]
     }
 }
 
+// The same for any show: in a long one the words of the loops come in between.
+fn ends(when: When, encoding: Encoding) -> [usize; 16]
+    ensures { λ r. ⌜ (r ≡ endsOf when encoding) × (16 ≡ length r) ⌝ }
+{
+    match when {
+        When::Early => word_ends(encoding),
+        When::Later2 => word_ends(encoding),
+        When::Later3 => word_ends(encoding),
+        When::Long => [
+            8,
+            10,
+            16,
+            16,
+            16,
+            16,
+            20,
+            28,
+            36,
+            36,
+            36,
+            38,
+            38,
+            40,
+            54,
+            62,
+        ],
+    }
+}
+
 fn count_to(ends: &[usize], cut: usize) -> usize
     ensures { λ r. ⌜ (r ≡ upTo cut (now (ends .entry))) × (r ≤ length (now (ends .entry))) ⌝ }
 {
@@ -234,10 +288,10 @@ fn count_to(ends: &[usize], cut: usize) -> usize
 }
 
 // How many events have their event word whole before a cut of the body.
-pub fn whole_before(encoding: Encoding, cut: usize) -> usize
-    ensures { λ r. ⌜ (r ≡ upTo cut (wordEnds encoding)) × (r ≤ 16) ⌝ }
+pub fn whole_before(when: When, encoding: Encoding, cut: usize) -> usize
+    ensures { λ r. ⌜ (r ≡ upTo cut (endsOf when encoding)) × (r ≤ 16) ⌝ }
 {
-    let ends = word_ends(encoding);
+    let ends = ends(when, encoding);
     count_to(&ends, cut)
 }
 

@@ -1,12 +1,13 @@
 // Demand 3, run: a few appends to a fresh writer of each encoding, cut at every byte. The bytes
-// before a cut are decoded, a second writer appends the events that are missing, and the joined
-// stream is decoded; both are indexed at two spacings and sliced by number and by time. A line for
-// each cut says how many events were whole before it, how long the joined stream is, and `exact`, or
-// what differs. First that is done without a header. Then the first writer sends one: the cuts are
-// those at and behind its end, the second writer sends none, and reading is told no size and finds it
-// in the header. Then come later events behind a header, whose body begins with `%`, but not of
-// EVT2.1: its time words, and so its streams, begin with a byte 0. The last line reads a recording
-// that lost its opening before. src/given.rt has the appends, and what each cut owes.
+// before a cut are decoded, the writer that resumes behind them appends the events that are missing,
+// and the joined stream is decoded; both are indexed at two spacings and sliced by number and by time.
+// A line for each cut says how many events were whole before it, how long the joined stream is, and
+// `exact`, or what differs. First that is done without a header. Then the first writer sends one: the
+// cuts are those at and behind its end, the second writer sends none, and reading is told no size and
+// finds it in the header. Then come later events behind a header, whose body begins with `%`, but not
+// of EVT2.1: its time words, and so its streams, begin with a byte 0. A long show of EVT3 passes its
+// loops. The last line reads a recording that lost its opening before. src/given.rt has the appends,
+// and what each cut owes.
 ghost use Prim.Native.Nat.{_≤_, _<_};
 ghost use lib.ListN.{length};
 use crate::given::Case;
@@ -29,21 +30,22 @@ fn word_size(encoding: Encoding) -> usize
     codec.word_size()
 }
 
-// The stream, cut, and then joined with what a second writer makes of the events that are missing.
-// Whole words are counted from the body's start.
+// The stream, cut, and then joined with what the writer behind the cut makes of the events that are
+// missing. Whole words are counted from the body's start.
 fn check_cut(case: Case, stream: &[u8], start: usize, cut: usize) -> bool
     requires { ⌜ (start ≤ cut) × (cut ≤ length (now stream)) × (length (now stream) ≤ 256) ⌝ }
 {
     let encoding = case.encoding;
     let body = cut - start;
-    let whole = given::whole_before(encoding, body);
+    let when = case.when;
+    let whole = given::whole_before(when, encoding, body);
     let kept = cut - body % word_size(encoding);
     let mut joined = write::room();
     write::copy(&stream[..kept], &mut joined);
-    let end = write::resume(case, whole, &mut joined, kept);
+    let left = &stream[..cut];
+    let end = write::resume(case, left, whole, &mut joined, kept);
     print::cut(cut, whole, end);
-    let first = exact::reads(case, &stream[..cut], whole, b" before the cut");
-    let when = case.when;
+    let first = exact::reads(case, left, whole, b" before the cut");
     let second = exact::reads(case, &joined[..end], given::total(when), b" joined");
     let exact = exact::both(first, second);
     print::end(exact);
@@ -77,20 +79,7 @@ fn show(case: Case) {
     print::all(case, exact);
 }
 
-fn show_encoding(encoding: Encoding) {
-    show(Case {
-        encoding,
-        headed: false,
-        when: When::Early,
-    });
-    show(Case {
-        encoding,
-        headed: true,
-        when: When::Early,
-    });
-}
-
-fn show_later(encoding: Encoding, when: When) {
+fn show_headed(encoding: Encoding, when: When) {
     show(Case {
         encoding,
         headed: true,
@@ -98,11 +87,22 @@ fn show_later(encoding: Encoding, when: When) {
     });
 }
 
+// Without a header, and behind one.
+fn show_both(encoding: Encoding, when: When) {
+    show(Case {
+        encoding,
+        headed: false,
+        when,
+    });
+    show_headed(encoding, when);
+}
+
 fn main() {
-    show_encoding(Encoding::Evt2);
-    show_later(Encoding::Evt2, When::Later2);
-    show_encoding(Encoding::Evt21);
-    show_encoding(Encoding::Evt3);
-    show_later(Encoding::Evt3, When::Later3);
+    show_both(Encoding::Evt2, When::Early);
+    show_headed(Encoding::Evt2, When::Later2);
+    show_both(Encoding::Evt21, When::Early);
+    show_both(Encoding::Evt3, When::Early);
+    show_headed(Encoding::Evt3, When::Later3);
+    show_both(Encoding::Evt3, When::Long);
     opening::tell();
 }

@@ -4,6 +4,7 @@ use crate::given::Case;
 use crate::given::When;
 use libc::STDOUT_FILENO;
 use prophesee_raw::AppendAnswer;
+use prophesee_raw::ResumeAnswer;
 use prophesee_raw::refusal_number;
 use test_text::show;
 
@@ -79,6 +80,14 @@ pub fn append(tell: bool, n: u64, a: AppendAnswer) {
     }
 }
 
+// Before a cut's line: why no writer resumes there, or nothing where one does.
+pub fn resumed(a: ResumeAnswer) {
+    if let ResumeAnswer::Refused(why) = a {
+        told(b"not resumed, ", refusal_number(why) as u64);
+        show::text(b": ");
+    }
+}
+
 pub fn cut(cut: usize, whole: usize, end: usize) {
     told(b"cut ", cut as u64);
     told(b": ", whole as u64);
@@ -101,10 +110,11 @@ pub fn case(c: Case) {
         show::text(b" behind a header");
     }
     let when = c.when;
-    if let When::Early = when {
-        return;
+    match when {
+        When::Early => {}
+        When::Long => show::text(b", past the first loop"),
+        _ => show::text(b", the body begins with %"),
     }
-    show::text(b", the body begins with %");
 }
 
 pub fn all(c: Case, exact: bool) {

@@ -8,8 +8,8 @@ use crate::given::Case;
 use crate::given::When;
 use crate::print;
 use prophesee_raw::AppendAnswer;
-use prophesee_raw::Encoding;
 use prophesee_raw::RawEventSink;
+use prophesee_raw::Resumed;
 use test_text::columns;
 use test_text::text;
 
@@ -25,17 +25,6 @@ pub fn room() -> [u8; 256]
     ensures { λ r. ⌜ 256 ≡ length r ⌝ }
 {
     [0; 256]
-}
-
-// A fresh writer, with a header due or none, and `at` bytes that stand already.
-fn fresh(encoding: Encoding, headed: bool, at: usize, told: bool) -> Progress
-    ensures { λ r. ⌜ r .at ≡ at ⌝ }
-{
-    Progress {
-        sink: RawEventSink::to_writer(encoding, headed),
-        at,
-        told,
-    }
 }
 
 fn written(answer: AppendAnswer) -> usize {
@@ -111,22 +100,42 @@ pub fn appends(case: Case, out: &mut [u8]) -> usize
 {
     let when = case.when;
     let encoding = case.encoding;
-    let writer = fresh(encoding, case.headed, 0, true);
+    let sink = RawEventSink::to_writer(encoding, case.headed);
+    let writer = Progress {
+        sink,
+        at: 0,
+        told: true,
+    };
     let first = append_given(writer, when, 0, 7, &mut *out);
     let second = append_falling(first, &mut *out);
     let third = append_given(second, when, 7, given::total(when), &mut *out);
     third.at
 }
 
-// A fresh writer, which sends no header, resumes at `at` with the given events from number `from` on.
-// Answers where it ends.
-pub fn resume(case: Case, from: usize, out: &mut [u8], at: usize) -> usize
+// The writer behind what is left of a stream.
+fn behind_left(case: Case, left: &[u8]) -> Resumed {
+    if case.headed {
+        return prophesee_raw::resume_raw(left);
+    }
+    let encoding = case.encoding;
+    prophesee_raw::resume_words(left, encoding)
+}
+
+// That writer goes on at `at` with the given events from number `from` on. Answers where it ends.
+pub fn resume(case: Case, left: &[u8], from: usize, out: &mut [u8], at: usize) -> usize
     requires { ⌜ at ≤ length (now out) ⌝ }
     ensures { λ r. ⌜ r ≤ length (now (out .entry)) ⌝ }
 {
     let when = case.when;
-    let encoding = case.encoding;
-    let writer = fresh(encoding, false, at, false);
+    let resumed = behind_left(case, left);
+    let answer = resumed.answer;
+    print::resumed(answer);
+    let sink = resumed.sink;
+    let writer = Progress {
+        sink,
+        at,
+        told: false,
+    };
     let w = append_given(writer, when, from, given::total(when), &mut *out);
     w.at
 }

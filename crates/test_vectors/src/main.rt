@@ -1,9 +1,11 @@
 // Replays cases: a case on each line of standard input, an answer line for each on standard output.
 // A case is `ID COMMAND WORDS`, its answer `ID` and what the command answers. docs/VECTORS.md says
 // where the cases and the expected answers come from. A command has a module of its own.
+mod given;
 mod hdr;
 mod lengths;
 mod reading;
+mod resuming;
 mod step;
 mod write;
 mod writer;
@@ -13,13 +15,19 @@ use test_text::room;
 use test_text::show;
 use test_text::text;
 
-// `word`, `words` and `write` differ in their fifth byte.
+// `read` and the resumes differ in their third byte, `word`, `words` and `write` in their fifth.
 fn run(case: &[u8], command: &[u8]) {
     match text::at(command, 0) {
         b's' => step::answer(case, true),
         b'h' => hdr::answer(case),
         b'l' => lengths::answer(case),
-        b'r' => reading::answer(case, false),
+        b'a' => resuming::after(case),
+        b'r' => {
+            if text::at(command, 2) == b's' {
+                return resuming::answer(case, text::at(command, 6));
+            }
+            reading::answer(case, false)
+        }
         _ => {
             match text::at(command, 4) {
                 b's' => reading::answer(case, true),

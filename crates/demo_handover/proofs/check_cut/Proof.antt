@@ -22,9 +22,8 @@ copy-requires c κs =
     let long : length (take n stream) ≡ n = length-take-le n stream (omega arith) in
     omega arith
 
-slice-aggregate-reads : tie.Need-slice-aggregate-reads
-slice-aggregate-reads c =
-    sym (length-take-le _ _ (c .before .before .before .before .before .before .before .before .before .before .before .before .before .pre .1))
+slice-aggregate-left : tie.Need-slice-aggregate-left
+slice-aggregate-left c = sym (length-take-le _ _ (c .before .before .before .before .before .before .before .before .before .pre .1))
 
 pub check-cut-spec : {M : Type 1} → statement M
 check-cut-spec =
@@ -32,6 +31,6 @@ check-cut-spec =
     (tie.spec
     (λ c. search needs) (λ c κs. search needs) (λ c κs. search needs) (λ c. search needs) sub-kept
     (λ c κs. search needs) (λ c. sym (length-take-le _ _ (omega arith))) (λ c. search needs) copy-requires
-    (λ c. search needs) (λ c κs. search needs) (λ c κs. search needs) slice-aggregate-reads
-    (λ c. search needs) (λ c κs. search needs) (λ c. search needs) (λ c. sym (length-take-le _ _ (search needs)))
+    slice-aggregate-left (λ c. search needs) (λ c κs. search needs) (λ c κs. search needs) (λ c. search needs) (λ c κs. search needs)
+    (λ c. search needs) (λ c. sym (length-take-le _ _ (search needs)))
     (λ c κs. search needs) (λ c. search needs) (λ c κs. search needs) (λ c κs. search needs) (λ c κs. search needs) (λ c. search needs))

@@ -17,5 +17,10 @@ returns-3 : tie.Need-returns-3
 unfolding givenTs
 returns-3 c = (rw (c .enum-told3 .given .1), refl)
 
+returns-4 : tie.Need-returns-4
+unfolding givenTs
+returns-4 c = (rw (c .enum-told4 .given .1), refl)
+
 pub times-spec : {M : Type 1} → statement M
-times-spec = tie.close (tie.spec (λ c. search needs) (λ c. search needs) (λ c. search needs) returns returns-2 returns-3)
+times-spec =
+    tie.close (tie.spec (λ c. search needs) (λ c. search needs) (λ c. search needs) (λ c. search needs) returns returns-2 returns-3 returns-4)

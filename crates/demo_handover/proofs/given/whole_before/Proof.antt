@@ -10,7 +10,7 @@ use Rattle.demo_handover.proofs.given.whole_before.Tie as tie
 
 returns : tie.Need-returns
 returns c =
-    (c .count-to .ensures .0 ∙ ap (λ (l : List ℕ). upTo (c .before .before .before .args .cut) l) (c .before .before .word-ends .ensures .0), omega arith)
+    (c .count-to .ensures .0 ∙ ap (λ (l : List ℕ). upTo (c .before .before .before .args .cut) l) (c .before .before .ends .ensures .0), omega arith)
 
 pub whole-before-spec : {M : Type 1} → statement M
 whole-before-spec =

@@ -83,7 +83,7 @@ class Claims:
             self.check_line(number, line)
         for crate, label in sorted(self.edits - self.named):
             faults.append(f'docs/CLAIMS.md: edit {label} of {crate} is not named')
-        exported = re.findall(r'^(?!typedef|static)[\w \*]*?\b(prophesee_\w+)\(', read('include/prophesee_raw.h'), re.M)
+        exported = re.findall(r'^(?!typedef|static|\s)[\w \*]*?\b(prophesee_\w+)\(', read('include/prophesee_raw.h'), re.M)
         passed_on = [n for n in re.findall(r'^pub use [\w:]+::([a-z]\w*);', read('crates/prophesee_raw/src/lib.rt'), re.M)]
         for name in exported + passed_on:
             if not re.search(r'^\|[^|]*`' + name + r'`', text, re.M):

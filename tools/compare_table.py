@@ -4,7 +4,7 @@ import sys
 
 LINE = re.compile(r'(.+?): (\d+) cases, (\d+) calls: (\d+) accepted \((\d+) not empty\)(.*?); (\d+) (\w+)(.*); 0 mismatches')
 COUNTED = [r'(\d+) by the rules', r'(\d+) cases without a call, opening', r'(\d+) cases with an end', r'(\d+) cases without a call, a %',
-           r'(\d+) cases without a call, the header']
+           r'(\d+) cases without a call, the header', r'(\d+) appends not compared']
 
 
 def row(name, cases, calls, accepted, filled, refused, count, what, rest):
@@ -15,7 +15,7 @@ def row(name, cases, calls, accepted, filled, refused, count, what, rest):
 
 
 HEAD = ['calls of', 'cases', 'calls', 'accepted (not empty)', 'refused, by number', 'handed over', 'by rule', 'no call', 'with an end line',
-        'not compared: a % behind it', 'EVT2.1']
+        'not compared: a % behind it', 'EVT2.1', "past EVT3's first loop"]
 print(f'| {" | ".join(HEAD)} |')
 print('|---' * len(HEAD) + '|')
 for line in sys.stdin:

@@ -2,9 +2,10 @@
 """vectors.py ORACLE [PROGRAM]: makes stdin and stdout of crates/test_vectors and crates/test_vectors_index anew, or those of one.
 
 ORACLE is the program tools/original/src/oracle.rs, built from the Rust original: tools/vectors.sh builds it and runs this.
-The cases are made here, in vectors_index.py and in vectors21.py, always the same ones.
+The cases are made here, in vectors_index.py, in vectors21.py and in vectors_long.py, always the same ones.
 An expected answer is the oracle's, except where the table of refusals (docs/RULES.md) has a number that the Rust lacks, and except for
-recordings with a `%` behind the header's end line and everything of EVT 2.1, where it is the model's (tools/model).
+recordings with a `%` behind the header's end line, everything of EVT 2.1, writers of EVT3 past its first loop and writers that resume, where it is
+the model's (tools/model).
 A layer of the library is a function that yields cases; LAYERS at the end lists those of crates/test_vectors.
 """
 import itertools, random, subprocess, sys
@@ -12,7 +13,9 @@ from pathlib import Path
 
 sys.path.append(str(Path(__file__).resolve().parent / 'model'))
 import answers as model
+import writer as model_writer
 from header import header_lines, names_evt21, percent_behind_end
+from refusal import Refused
 
 CRATES = Path(__file__).resolve().parent.parent / 'crates'
 
@@ -707,7 +710,7 @@ def reading():
 # ---- the writer: `write SINK APPEND ..`
 
 OUTPUT = 4096       # the bytes of the program's output
-BOUND, MOST = {2: 2**34, 3: 2**24}, 2**62
+BOUND, MOST = 2**34, 2**62      # of times; the Rust is asked for those of EVT3's first loop alone
 NEW = {2: '2:1,0,-,-,-,-', 3: '3:1,0,-,-,-,-'}
 SIZED = (64, 48)
 
@@ -738,8 +741,8 @@ def writer_in_range(sink):
     """docs/RULES.md, rule 10, for a writer."""
     enc, sent, count, last, high, low, row = fields(sink)
     if last is None:
-        return (count, high, low, row) == (0, None, None, None)
-    if not (0 <= last < BOUND[enc] and count <= MOST and high in (None, last // GRAIN[enc])):
+        return (count, low, row) == (0, None, None) and (high is None or high * GRAIN[enc] < BOUND)
+    if not (0 <= last < BOUND and count <= MOST and high in (None, last // GRAIN[enc])):
         return False
     return low in (None, last % 4096) and (row is None or row <= 2047) if enc == 3 else (low, row) == (None, None)
 
@@ -753,7 +756,7 @@ def number_of(enc, usable, last, a):
         return 12
     if any(t < s for s, t in zip(([] if last is None else [last]) + ts, ts if last is not None else ts[1:])):
         return 6
-    good = all(x <= 2047 for x in xs + ys) and all(p <= 1 for p in ps) and all(0 <= t < BOUND[enc] for t in ts)
+    good = all(x <= 2047 for x in xs + ys) and all(p <= 1 for p in ps) and all(0 <= t < BOUND for t in ts)
     return 0 if good else 7
 
 
@@ -774,6 +777,7 @@ class Writing(Case):
                 extra.append(begin + ';'.join(b.asked() for b in kept + [a]))
             elif n in (0, 6):
                 kept.append(a)
+            assert enc == 2 or n not in (0, 11) or all(t < PERIOD[3] for t in a.columns[2]), 'the Rust is no reference past the first loop'
             if n == 0 and a.columns[2]:
                 last, count = a.columns[2][-1], count + len(a.columns[2])
                 usable = count <= MOST
@@ -807,6 +811,29 @@ class Writing(Case):
         for e, r in zip(self.expect, said):
             assert e is None or (r + ' ').startswith(e + ' '), (self.words, e, r)
         return ' | '.join(['ok'] + said)
+
+
+def modelled(group, sink, appends, expect=()):
+    """A list of appends to a writer for which the Rust is no reference: the model says how many bytes each needs, and gives the answers."""
+    held, parts = model.sink_of(sink), []
+    for a in appends:
+        try:
+            out, after = model_writer.append(held, a.size, a.columns, 2**40)
+            room = max(len(out) + a.more, 0) if a.room is None else a.room
+            held = after if len(out) <= room else held
+        except Refused:
+            room = 40 if a.room is None else a.room
+        assert room <= OUTPUT
+        parts.append(f'{shown(a.size)}:{room}:' + ':'.join(','.join(map(str, c)) for c in a.columns))
+    line = ' '.join(['write', sink] + parts)
+
+    def judge(_):
+        answer = model.answer(line)
+        for e, told in zip(expect, answer.split(' | ')[1:]):
+            assert e is None or (told + ' ').startswith(e + ' '), (line, e, told)
+        return answer
+
+    return Case(group, line, [], judge)
 
 
 def hexed(enc, words):
@@ -850,21 +877,21 @@ def writer_states():
            '2:1,1,100,1,36,-', '2:1,1,100,1,0,-', '2:1,1,100,-,36,-', '2:1,1,100,1,-,7', '2:1,1,100,1,-,0', '2:1,1,100,-,-,0',
            f'2:1,1,{2**34},{2**28},-,-', f'2:1,1,{2**34},-,-,-', f'2:1,1,{2**63 - 1},-,-,-', '2:1,1,-1,-,-,-', '2:1,1,-1,0,-,-',
            f'2:1,1,{-2**63},-,-,-', '2:1,1,-64,-,-,-',
-           '2:1,0,-,0,-,-', '2:1,0,-,-,0,-', '2:1,0,-,-,-,0', '2:1,1,-,-,-,-', '2:0,1,-,-,-,-', '2:1,3,-,1,-,-', f'2:1,{2**64 - 1},-,-,-,-',
+           f'2:1,0,-,{2**28},-,-', '2:1,0,-,-,0,-', '2:1,0,-,-,-,0', '2:1,1,-,-,-,-', '2:0,1,-,-,-,-', '2:1,3,-,1,-,-', f'2:1,{2**64 - 1},-,-,-,-',
            f'2:1,{MOST + 1},100,1,-,-', f'2:1,{2**64 - 1},100,1,-,-',
            '3:1,1,4097,0,1,7', '3:1,1,4097,2,1,7', '3:1,1,4097,4097,1,7', '3:1,1,4095,1,4095,7', '3:1,1,4096,0,0,7', f'3:1,1,4097,{2**64 - 1},1,7',
            '3:1,1,4097,1,0,7', '3:1,1,4097,1,2,7', '3:1,1,4097,1,4097,7', '3:1,1,4097,-,0,7', f'3:1,1,4097,1,{2**64 - 1},7', '3:1,1,4096,1,4096,7',
            '3:1,1,4097,1,1,2048', '3:1,1,4097,-,-,2048', '3:1,1,4097,1,1,65535', '3:1,1,4097,1,1,65543', f'3:1,1,4097,1,1,{2**64 - 1}',
-           f'3:1,1,{2**24},4096,0,7', f'3:1,1,{2**24},-,-,-', f'3:1,1,{2**34 - 1},-,-,-', f'3:1,1,{2**63 - 1},-,-,-', '3:1,1,-1,-,-,-',
+           f'3:1,1,{2**34},{2**22},0,7', f'3:1,1,{2**34},-,-,-', f'3:1,1,{2**35 - 1},-,-,-', f'3:1,1,{2**63 - 1},-,-,-', '3:1,1,-1,-,-,-',
            '3:1,1,-1,0,0,0', f'3:1,1,{-2**63},-,-,-',
-           '3:1,0,-,0,-,-', '3:1,0,-,-,0,-', '3:1,0,-,-,-,0', '3:1,0,-,-,-,2047', '3:1,1,-,-,-,-', '3:0,1,-,-,-,-', '3:1,3,-,1,1,7',
+           f'3:1,0,-,{2**22},-,-', '3:1,0,-,-,0,-', '3:1,0,-,-,-,0', '3:1,0,-,-,-,2047', '3:1,1,-,-,-,-', '3:0,1,-,-,-,-', '3:1,3,-,1,1,7',
            f'3:1,{2**64 - 1},-,-,-,-', f'3:1,{MOST + 1},4097,1,1,7', f'3:1,{2**64 - 1},4097,1,1,7']
     for sink in good + bad:
         assert writer_in_range(sink) == (sink in good), sink
         enc, _, _, last, *_ = fields(sink)
-        t = max(0, min(BOUND[enc] - 1, last or 0))
+        t = max(0, min(PERIOD[enc] - 1, last or 0))
         expect = None if sink in good else 'refused 10'
-        for list_ in [Append(one_event(t))], [Append(), Append(one_event(min(t + 5000, BOUND[enc] - 1), 2047, 2047, 0), room=OUTPUT)]:
+        for list_ in [Append(one_event(t))], [Append(), Append(one_event(min(t + 5000, PERIOD[enc] - 1), 2047, 2047, 0), room=OUTPUT)]:
             yield Writing(f'wstate{enc}', sink, list_, [expect] * len(list_))
     for enc, state in (2, f'2:1,{MOST},100,1,-,-'), (3, f'3:1,{MOST},4097,1,1,7'):
         yield Writing('wleave', state, [Append(), Append(one_event(9000)), Append(one_event(9000)), Append()], [None, None, 'refused 10', 'refused 10'])
@@ -884,7 +911,7 @@ def writer_order():
             if is6:
                 ts = [[t + 9, t], [t - 1, t + 9], [t + 9, -1], [t - 1, t - 1]][k]
             if is7:
-                (xs, ys, ps, ts)[k][1] = [2048, 2048, 2, BOUND[enc] if ts[0] >= t else -1][k]
+                (xs, ys, ps, ts)[k][1] = [2048, 2048, 2, BOUND if ts[0] >= t else -1][k]
             if is12:
                 (xs, ys, ts, ps)[k].append((xs, ys, ts, ps)[k][1])
             expect = 'refused 10' if is10 else 'refused 12' if is12 else 'refused 6' if is6 else 'refused 7' if is7 else 'refused 11' if is11 else None
@@ -911,14 +938,16 @@ def writer_columns():
             columns = [[1, 2, 3], [7, 8, 7], [t, t, t], [0, 0, 0]]
             columns[k][place] = v
             yield Writing(f'wrange{enc}', f'{enc}n', [Append(columns=columns), Append(row_of([4, 5], t))], [None if ok else 'refused 7'])
-        for t0, ok in (0, 1), (-1, 0), (-2**63, 0), (BOUND[enc] - 1, 1), (BOUND[enc], 0), (2**63 - 1, 0), (BOUND[enc] + 4097, 0), (2**32, enc == 2):
-            yield Writing(f'wrange{enc}', f'{enc}n', [Append(one_event(t0)), Append(one_event(BOUND[enc] - 1))], [None if ok else 'refused 7'])
+        top = PERIOD[enc] - 1
+        for t0 in 0, -1, -2**63, top, top + 1, 2**63 - 1, top + 4098, 2**32:
+            expect, make = [None if 0 <= t0 < BOUND else 'refused 7'], modelled if enc == 3 and top < t0 < BOUND else Writing
+            yield make(f'wrange{enc}', f'{enc}n', [Append(one_event(t0)), Append(one_event(top))], expect)
             times = sorted([t0, t, t + 1])
-            yield Writing(f'wrange{enc}', f'{enc}n', [Append([(t, 1, 1, 1) for t in times]), Append(one_event(6000))], [None if ok else 'refused 7'])
-        for times in [5, 4], [5, 5, 4], [5, 4, 5], [0, -1], [4097, 4096], [4096, 4095], [64, 63], [BOUND[enc] - 1, 0], [1, 2, 3, 4, 3], [-1, -2], \
-                [2**63 - 1, -2**63], [BOUND[enc] + 1, BOUND[enc]]:
+            yield make(f'wrange{enc}', f'{enc}n', [Append([(t, 1, 1, 1) for t in times]), Append(one_event(6000))], expect)
+        for times in [5, 4], [5, 5, 4], [5, 4, 5], [0, -1], [4097, 4096], [4096, 4095], [64, 63], [top, 0], [1, 2, 3, 4, 3], [-1, -2], \
+                [2**63 - 1, -2**63], [top + 2, top + 1]:
             yield Writing(f'wfall{enc}', f'{enc}n', [Append([(t, 1, 1, 1) for t in times])], ['refused 6'])
-        for last, t in (5, 4), (5, 5), (5, 6), (64, 63), (4096, 4095), (4096, 0), (BOUND[enc] - 1, BOUND[enc] - 2), (BOUND[enc] - 1, BOUND[enc] - 1), \
+        for last, t in (5, 4), (5, 5), (5, 6), (64, 63), (4096, 4095), (4096, 0), (top, top - 1), (top, top), \
                 (5, -1), (0, -1), (0, 0):
             yield Writing(f'wfall{enc}', f'{enc}n', [Append(one_event(last)), Append(one_event(t)), Append(),
                                                      Append(one_event(last) + one_event(last))], [None, 'refused 6' if t < last else None])
@@ -955,7 +984,7 @@ def writer_words():
     """Times around each half; in EVT3 runs: which end one, dense ones, gaps of 12, 24 and 25 columns, first and last columns and rows,
     both sides of the rule for vectors."""
     for enc in 2, 3:
-        g, top = GRAIN[enc], BOUND[enc] - 1
+        g, top = GRAIN[enc], PERIOD[enc] - 1
         for times in [0], [1], [g - 1], [g], [g + 1], [top], [top - g], [0, 0], [0, 1], [0, g - 1], [0, g], [g - 1, g], [g, g + 1], [g + 1, 2 * g], \
                 [g + 1, 2 * g + 1], [0, top], [top, top], [0, g, 2 * g, 3 * g], [5, 5, 6, 6], \
                 [top - g, top], [1, g + 1, 2 * g + 1], [2**23, 2**23 + 5], [g * 4095 % (top + 1), top]:
@@ -994,7 +1023,7 @@ def writer_drawn():
     def events(enc, last):
         t, out = last, []
         for _ in range(r.choice([0, 1, 1, 2, 3, 4])):
-            t = min(BOUND[enc] - 1, t + r.choice([0, 0, 0, 1, r.randrange(64), r.randrange(5000), r.randrange(BOUND[enc] // 4)]))
+            t = min(PERIOD[enc] - 1, t + r.choice([0, 0, 0, 1, r.randrange(64), r.randrange(5000), r.randrange(PERIOD[enc] // 4)]))
             y, p, x = r.choice([0, 7, 2047, r.randrange(2048)]), r.randrange(2), r.choice([0, r.randrange(64), r.randrange(2048), 2047])
             out.append((t, x, y, p))
             for _ in range(r.choice([0, 0, 1, 3, 6, 14])):
@@ -1034,7 +1063,7 @@ def writer_drawn():
             sink = f"{enc}{r.choice('nnh')}"
             yield Writing(f'wlist{enc}', sink, some(enc, sink, 0))
         for _ in range(count // 2):
-            last = r.choice([0, 1, GRAIN[enc], r.randrange(BOUND[enc]), r.randrange(20000), BOUND[enc] - 1])
+            last = r.choice([0, 1, GRAIN[enc], r.randrange(PERIOD[enc]), r.randrange(20000), PERIOD[enc] - 1])
             or_none = lambda v: r.choice([v, v, v, '-'])
             low, row = (or_none(last % 4096), or_none(r.choice([0, 7, 2047]))) if enc == 3 else ('-', '-')
             sink = f'{enc}:{r.choice([1, 1, 0])},{r.choice([0, 1, r.randrange(10**6), r.randrange(MOST)])},{last},{or_none(last // GRAIN[enc])},{low},{row}'
@@ -1092,12 +1121,13 @@ def write(program, oracle, cases):
 
 
 def main():
-    import vectors21, vectors_index
+    import vectors21, vectors_index, vectors_long
     if len(sys.argv) not in (2, 3):
         sys.exit(__doc__)
     oracle, programs = sys.argv[1], sys.argv[2:] or ['test_vectors', 'test_vectors_index']
     if 'test_vectors' in programs:
-        write('test_vectors', oracle, [c for layer in LAYERS + [vectors21.decoding, vectors21.reading, vectors21.writing] for c in layer()])
+        layers = LAYERS + [vectors21.decoding, vectors21.reading, vectors21.writing, vectors_long.writing, vectors_long.resuming]
+        write('test_vectors', oracle, [c for layer in layers for c in layer()])
     if 'test_vectors_index' in programs:
         write('test_vectors_index', oracle, list(vectors_index.cases(oracle)) + list(vectors21.indexes()))
 

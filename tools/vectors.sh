@@ -1,5 +1,5 @@
 #!/bin/sh
-# Makes stdin and stdout of crates/test_vectors and crates/test_vectors_index anew, by the Rust original, those of EVT 2.1 by the model
+# Makes stdin and stdout of crates/test_vectors and crates/test_vectors_index anew, by the Rust original, those that it doesn't know by the model
 # (docs/VECTORS.md).
 #   tools/vectors.sh CHECKOUT [PROGRAM]    CHECKOUT as tools/original.sh says; PROGRAM: one of the two alone
 [ $# -ge 1 ] || { echo "usage: tools/vectors.sh CHECKOUT [PROGRAM]"; exit 2; }

@@ -4,7 +4,7 @@ The Rust original doesn't know EVT 2.1, so the answers are the model's (tools/mo
 hand, the model has to give them. The high half of a word is an EVT2 word, the low half its mask.
 """
 import itertools, random
-from vectors import Case, COLUMNS, OUTPUT, SIZED, WIDE, END_LINES, NEAR_ENDS, expected, model, range2, shown, text
+from vectors import Append, Case, COLUMNS, OUTPUT, SIZED, WIDE, END_LINES, NEAR_ENDS, expected, model, modelled, range2, shown, text
 import cases21, writer
 from refusal import Refused
 
@@ -309,36 +309,6 @@ def event_row(columns, t=100, y=7, p=1):
     return [(t, x, y, p) for x in columns]
 
 
-class Output:
-    """The output lent to an append: `room` bytes, or what is needed and `more`."""
-    def __init__(self, events=(), more=0, room=None, size=SIZED, columns=None):
-        self.columns = columns or tuple(tuple(e[k] for e in events) for k in (1, 2, 0, 3))
-        self.more, self.room, self.size = more, room, size
-
-
-def write(group, sink, outputs, expect=()):
-    """The model's writer says how many bytes an append needs."""
-    held, parts = model.sink_of(sink), []
-    for o in outputs:
-        try:
-            out, after = writer.append(held, o.size, o.columns, 2**40)
-            room = max(len(out) + o.more, 0) if o.room is None else o.room
-            held = after if len(out) <= room else held
-        except Refused:
-            room = 40 if o.room is None else o.room
-        assert room <= OUTPUT
-        parts.append(f'{shown(o.size)}:{room}:' + ':'.join(','.join(map(str, c)) for c in o.columns))
-    line = ' '.join(['write', sink] + parts)
-
-    def judge(_):
-        answer = model.answer(line)
-        for e, told in zip(expect, answer.split(' | ')[1:]):
-            assert e is None or (told + ' ').startswith(e + ' '), (line, e, told)
-        return answer
-
-    return Case(group, line, [], judge)
-
-
 def listed_appends():
     for sink, events, room, answer in cases21.APPENDS:
         events = [tuple(map(int, event.split(','))) for event in events.split()]
@@ -347,7 +317,7 @@ def listed_appends():
         head, body = (cases21.HEAD, answer[len(cases21.HEAD):]) if answer.startswith(cases21.HEAD) else ('', answer)
         *told, after = body.split()
         wanted = body if answer.startswith('refused') else f'{(head.encode() + numbers(" ".join(told))).hex() or "-"} {after}'
-        yield write('wlist21', sink, [Output(events, room=room)], [wanted])
+        yield modelled('wlist21', sink, [Append(events, room=room)], [wanted])
 
 
 def writer_states():
@@ -357,14 +327,14 @@ def writer_states():
             '21:1,1,0,0,-,-', f'21:1,{2**62},100,1,-,-']
     bad = ['21:1,1,100,0,-,-', '21:1,1,100,2,-,-', f'21:1,1,100,{2**64 - 1},-,-', '21:1,1,64,0,-,-', '21:1,1,63,1,-,-', '21:1,1,100,1,36,-', '21:1,1,100,1,0,-',
            '21:1,1,100,1,-,7', '21:1,1,100,-,-,0', f'21:1,1,{2**34},{2**28},-,-', f'21:1,1,{2**34},-,-,-', '21:1,1,-1,-,-,-', f'21:1,1,{-2**63},-,-,-',
-           '21:1,0,-,0,-,-', '21:1,0,-,-,0,-', '21:1,0,-,-,-,0', '21:1,1,-,-,-,-', f'21:1,{2**62 + 1},100,1,-,-', f'21:1,{2**64 - 1},100,1,-,-']
+           f'21:1,0,-,{2**28},-,-', '21:1,0,-,-,0,-', '21:1,0,-,-,-,0', '21:1,1,-,-,-,-', f'21:1,{2**62 + 1},100,1,-,-', f'21:1,{2**64 - 1},100,1,-,-']
     for sink in good + bad:
         last = model.sink_of(sink).last or 0
         t = max(0, min(top, last))
-        for list_ in [Output(event_row([5], t))], [Output(), Output(event_row([2047], min(t + 5000, top), 2047, 0), room=OUTPUT)]:
-            yield write('wstate21', sink, list_, [None if sink in good else 'refused 10'] * len(list_))
-    list_ = [Output(), Output(event_row([5])), Output(event_row([5])), Output()]
-    yield write('wleave21', f'21:1,{2**62},100,1,-,-', list_, [None, None, 'refused 10', 'refused 10'])
+        for list_ in [Append(event_row([5], t))], [Append(), Append(event_row([2047], min(t + 5000, top), 2047, 0), room=OUTPUT)]:
+            yield modelled('wstate21', sink, list_, [None if sink in good else 'refused 10'] * len(list_))
+    list_ = [Append(), Append(event_row([5])), Append(event_row([5])), Append()]
+    yield modelled('wleave21', f'21:1,{2**62},100,1,-,-', list_, [None, None, 'refused 10', 'refused 10'])
 
 
 def writer_order():
@@ -379,7 +349,7 @@ def writer_order():
             if is12:
                 (xs, ys, ts, ps)[k].append((xs, ys, ts, ps)[k][1])
             expect = 'refused 10' if is10 else 'refused 12' if is12 else 'refused 6' if is6 else 'refused 7' if is7 else 'refused 11' if is11 else None
-            yield write('wmeet21', '21:1,1,100,1,-,0' if is10 else '21:1,1,100,1,-,-', [Output(columns=(xs, ys, ts, ps), room=0 if is11 else 40)], [expect])
+            yield modelled('wmeet21', '21:1,1,100,1,-,0' if is10 else '21:1,1,100,1,-,-', [Append(columns=(xs, ys, ts, ps), room=0 if is11 else 40)], [expect])
 
 
 def writer_bounds():
@@ -388,56 +358,56 @@ def writer_bounds():
     for k, n in itertools.product(range(4), (0, 1, 2, 4)):
         columns = [[1, 2, 3], [7, 7, 7], [500] * 3, [0, 0, 0]]
         columns[k] = (columns[k] * 2)[:n]
-        yield write('wlength21', '21h', [Output(columns=columns, room=200), Output(event_row([9]))], ['refused 12'])
+        yield modelled('wlength21', '21h', [Append(columns=columns, room=200), Append(event_row([9]))], ['refused 12'])
     values = [(0, 2047, 1), (0, 2048, 0), (0, 65535, 0), (1, 2047, 1), (1, 2048, 0), (3, 1, 1), (3, 2, 0), (3, 255, 0), (2, 2**34 - 1, None), (2, -1, 0)]
     for (k, v, ok), place in itertools.product(values, range(3)):
         columns = [[1, 2, 3], [7, 8, 7], [500] * 3, [0, 0, 0]]
         columns[k][place] = v
-        yield write('wrange21', '21n', [Output(columns=columns)], [None if ok in (1, None) else 'refused 6' if k == 2 and place else 'refused 7'])
+        yield modelled('wrange21', '21n', [Append(columns=columns)], [None if ok in (1, None) else 'refused 6' if k == 2 and place else 'refused 7'])
     for t, ok in (0, 1), (-1, 0), (-2**63, 0), (2**34 - 1, 1), (2**34, 0), (2**63 - 1, 0), (2**24, 1):
-        yield write('wrange21', '21n', [Output(event_row([5], t)), Output(event_row([5], 2**34 - 1))], [None if ok else 'refused 7'])
+        yield modelled('wrange21', '21n', [Append(event_row([5], t)), Append(event_row([5], 2**34 - 1))], [None if ok else 'refused 7'])
     for times in [5, 4], [5, 5, 4], [5, 4, 5], [0, -1], [64, 63], [2**34 - 1, 0], [2**63 - 1, -2**63]:
-        yield write('wfall21', '21n', [Output([(t, 1, 1, 1) for t in times])], ['refused 6'])
+        yield modelled('wfall21', '21n', [Append([(t, 1, 1, 1) for t in times])], ['refused 6'])
     for last, t in (5, 4), (5, 5), (64, 63), (64, 64), (2**34 - 1, 2**34 - 2), (0, -1):
-        yield write('wfall21', '21n', [Output(event_row([5], last)), Output(event_row([5], t)), Output()], [None, 'refused 6' if t < last else None])
+        yield modelled('wfall21', '21n', [Append(event_row([5], last)), Append(event_row([5], t)), Append()], [None, 'refused 6' if t < last else None])
     events = event_row([10, 11, 13]) + event_row([40], 101) + event_row([6], 700, 8, 0)
     for more in range(-48, 3):
-        yield write('wroom21', '21n', [Output(events, more)], ['refused 11' if more < 0 else None])
+        yield modelled('wroom21', '21n', [Append(events, more)], ['refused 11' if more < 0 else None])
     for more in [-len(cases21.HEAD) - 16, -len(cases21.HEAD), -17, -16, -15, -8, -1, 0, 1]:
-        yield write('wroom21', '21h', [Output(event_row([5]), more), Output(event_row([6]))], ['refused 11' if more < 0 else None])
+        yield modelled('wroom21', '21h', [Append(event_row([5]), more), Append(event_row([6]))], ['refused 11' if more < 0 else None])
     for n in 1, 2, 7:
         for room in 96 + 16 * n - 1, 96 + 16 * n, 96 + 16 * n + 1:
             apart = [(t * 100, t, t, t % 2) for t in range(n)]
-            yield write('wroom21', '21h', [Output(apart, room=room, size=(WIDE, WIDE)), Output(apart[-1:], room=room)])
+            yield modelled('wroom21', '21h', [Append(apart, room=room, size=(WIDE, WIDE)), Append(apart[-1:], room=room)])
     for room in 0, 1, 95, 96, OUTPUT:
-        yield write('wempty21', '21n', [Output(room=room)], ['- 21:1,0,-,-,-,-'])
-        yield write('wempty21', '21h', [Output(room=room), Output(event_row([5])), Output(room=room)], ['- 21:0,0,-,-,-,-'])
+        yield modelled('wempty21', '21n', [Append(room=room)], ['- 21:1,0,-,-,-,-'])
+        yield modelled('wempty21', '21h', [Append(room=room), Append(event_row([5])), Append(room=room)], ['- 21:0,0,-,-,-,-'])
     for size in (64, 48), (0, 0), (7, 0), (1280, 720), (2**32, 2**32 - 1), (WIDE, WIDE), (2**63, 12345678901234567890):
-        yield write('whead21', '21h', [Output(event_row([5]), size=size), Output(event_row([6]), size=(3, 3))])
-        yield write('whead21', '21h', [Output(event_row([5]), -1, size=size), Output(event_row([5], p=2), size=size), Output(size=(8, 8)),
-                                       Output(event_row([6]), size=size)], ['refused 11', 'refused 7'])
+        yield modelled('whead21', '21h', [Append(event_row([5]), size=size), Append(event_row([6]), size=(3, 3))])
+        yield modelled('whead21', '21h', [Append(event_row([5]), -1, size=size), Append(event_row([5], p=2), size=size), Append(size=(8, 8)),
+                                       Append(event_row([6]), size=size)], ['refused 11', 'refused 7'])
 
 
 def writer_words():
     """Times around the coarse half; runs: each border of a block, dense ones, gaps, repeats, falling columns; whatever ends a run."""
     for times in [0], [1], [63], [64], [65], [2**34 - 1], [0, 0], [0, 1], [0, 63], [0, 64], [63, 64], [64, 65], [0, 2**34 - 1], [0, 64, 128, 192], [5, 5, 6, 6]:
         events = [(t, 3, 4, i % 2) for i, t in enumerate(times)]
-        yield write('wtime21', '21n', [Output(events)])
-        yield write('wtime21', '21n', [Output([e]) for e in events])
+        yield modelled('wtime21', '21n', [Append(events)])
+        yield modelled('wtime21', '21n', [Append([e]) for e in events])
     for x, y, p in itertools.product((0, 1, 31, 32, 2047), (0, 1, 2047), (0, 1)):
-        yield write('wfield21', '21n', [Output(event_row([x], 100, y, p))])
+        yield modelled('wfield21', '21n', [Append(event_row([x], 100, y, p))])
     runs = [[0, 1], [30, 31, 32, 33], [31, 32], [31, 33], [0, 31], [0, 32], [0, 31, 32, 63, 64], list(range(32)), list(range(33)), list(range(1, 64)),
             list(range(0, 64, 2)), list(range(0, 128, 31)), list(range(0, 128, 32)), list(range(0, 128, 33)), [2015, 2016], [2016, 2047],
             list(range(2012, 2048)), [5, 5], [5, 5, 5], [2, 3, 3, 4], [3, 4, 5, 4, 5, 6], [9, 8, 7],
             [31, 32, 31, 32], [40, 8], [63, 32], [32, 31], [0, 2047], [31, 31, 32, 32]]
     for xs in runs:
         for p, y in (0, 7), (1, 2047):
-            yield write('wrun21', '21n', [Output(event_row(xs, 100, y, p))])
-        yield write('wrun21', '21n', [Output(event_row(xs[:1])), Output(event_row(xs[1:]), 3), Output(event_row(xs))])
+            yield modelled('wrun21', '21n', [Append(event_row(xs, 100, y, p))])
+        yield modelled('wrun21', '21n', [Append(event_row(xs[:1])), Append(event_row(xs[1:]), 3), Append(event_row(xs))])
     a, b = event_row([1, 2, 3]), event_row([5, 6])
     for end in [b, [(101, *e[1:]) for e in b], [(128, *e[1:]) for e in b], [(*e[:2], 8, e[3]) for e in b], [(*e[:3], 0) for e in b], a, event_row([3, 9])]:
-        yield write('wrunend21', '21n', [Output(a + end)])
-        yield write('wrunend21', '21n', [Output(a), Output(end)])
+        yield modelled('wrunend21', '21n', [Append(a + end)])
+        yield modelled('wrunend21', '21n', [Append(a), Append(end)])
 
 
 def writer_drawn():
@@ -460,7 +430,7 @@ def writer_drawn():
             es = events(held.last or 0)
             if es and r.random() < .2:
                 es[r.randrange(len(es))] = (es[0][0] - r.choice([0, 1]), r.choice([2048, 3]), r.choice([2048, 5]), r.choice([2, 0]))
-            o = Output(es, r.choice([0, 0, 0, 1, 200, -1, -8]), size=r.choice([SIZED, (7, 9)]))
+            o = Append(es, r.choice([0, 0, 0, 1, 200, -1, -8]), size=r.choice([SIZED, (7, 9)]))
             list_.append(o)
             try:
                 held = writer.append(held, o.size, o.columns, 2**40)[1] if o.more >= 0 else held
@@ -470,11 +440,11 @@ def writer_drawn():
 
     for _ in range(60):
         sink = r.choice(['21n', '21n', '21h'])
-        yield write('wlist21', sink, some(sink))
+        yield modelled('wlist21', sink, some(sink))
     for _ in range(30):
         last = r.choice([0, 1, 64, r.randrange(2**34), r.randrange(20000), 2**34 - 1])
         sink = f'21:{r.randrange(2)},{r.choice([0, 1, r.randrange(10**6)])},{last},{r.choice([last // 64, "-"])},-,-'
-        yield write('wresume21', sink, some(sink))
+        yield modelled('wresume21', sink, some(sink))
 
 
 def writing():

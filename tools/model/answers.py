@@ -141,6 +141,33 @@ def appends(sink, *texts):
     return ' | '.join(parts)
 
 
+def resumed_text(answer):
+    """The writer that is told, behind the refusal if there is one."""
+    number, sink = answer
+    return (f'refused {number} ' if number else 'ok ') + sink_text(sink)
+
+
+def resume(state):
+    return resumed_text(writer.resumed(lambda: writer.resume(fields_of(state)), encoded(state)[0]))
+
+
+def resume_words(encoding, text):
+    return resumed_text(writer.resumed(lambda: writer.resume_words(int(encoding), bytes_of(text)), int(encoding)))
+
+
+def resume_raw(text):
+    data = bytes_of(text)
+    return resumed_text(writer.resumed(lambda: writer.resume_raw(data), writer.encoding_left(data)))
+
+
+def after_raw(text):
+    """Refused, a fresh decoder of EVT2 is told."""
+    try:
+        return 'ok ' + state_text(words.decoder_after_raw(bytes_of(text)).fields())
+    except Refused as refused:
+        return f'{refusal_text(refused)} {state_text(words.DECODERS[2]().fields())}'
+
+
 def lengths(text):
     writer.check_lengths(list(map(int, text.split(','))))
     return 'ok'
@@ -171,8 +198,12 @@ COMMANDS = {
     'slice': slices,
     'write': appends,
     'lengths': lengths,
+    'resume': resume,
+    'resumew': resume_words,
+    'resumer': resume_raw,
+    'after': after_raw,
 }
-WITH_HEADER = 'hdr', 'read', 'open'
+WITH_HEADER = 'hdr', 'read', 'open', 'resumer', 'after'
 
 
 def answer(words_of_case):

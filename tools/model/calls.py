@@ -14,10 +14,10 @@ from refusal import Refused
 
 NAMES = ['parse_header', 'read_raw', 'decode_words', 'read_raw_triggers', 'decode_words_triggers', 'decode', 'decoder_after', 'word_trigger',
          'open, slice_index', 'open, slice_time', 'open_words, slice_index', 'open_words, slice_time', 'slice_index', 'slice_time', 'append', 'writer',
-         'new_decoder']
+         'new_decoder', 'resume', 'resume_words', 'resume_raw', 'decoder_after_raw']
 (PARSE_HEADER, READ_RAW, DECODE_WORDS, READ_RAW_TRIGGERS, DECODE_WORDS_TRIGGERS, DECODE, DECODER_AFTER, WORD_TRIGGER,
  OPEN_SLICE_INDEX, OPEN_SLICE_TIME, OPEN_WORDS_SLICE_INDEX, OPEN_WORDS_SLICE_TIME, SLICE_INDEX, SLICE_TIME, APPEND, WRITER,
- NEW_DECODER) = range(len(NAMES))
+ NEW_DECODER, RESUME, RESUME_WORDS, RESUME_RAW, DECODER_AFTER_RAW) = range(len(NAMES))
 TRIGGER_CALLS = READ_RAW_TRIGGERS, DECODE_WORDS_TRIGGERS, WORD_TRIGGER
 READINGS = READ_RAW, DECODE_WORDS, READ_RAW_TRIGGERS, DECODE_WORDS_TRIGGERS
 RAW_READINGS = READ_RAW, READ_RAW_TRIGGERS
@@ -25,7 +25,9 @@ RAW_OPENINGS = OPEN_SLICE_INDEX, OPEN_SLICE_TIME
 OPENINGS = *RAW_OPENINGS, OPEN_WORDS_SLICE_INDEX, OPEN_WORDS_SLICE_TIME
 SLICES = SLICE_INDEX, SLICE_TIME    # of an index that is given
 BY_TIME = OPEN_SLICE_TIME, OPEN_WORDS_SLICE_TIME, SLICE_TIME
-WITH_HEADER = PARSE_HEADER, *RAW_READINGS, *RAW_OPENINGS
+RESUMES = RESUME, RESUME_WORDS, RESUME_RAW
+WITH_HEADER = PARSE_HEADER, *RAW_READINGS, *RAW_OPENINGS, RESUME_RAW, DECODER_AFTER_RAW
+WITH_DECODER = DECODE, DECODER_AFTER, WORD_TRIGGER, RESUME
 
 # `rooms`: places lent of x, y, t, p, trigger time, id and value. `decoder`: the numbers of `words.Decoder.fields`. `zeros`: bytes 0 behind
 # `data`. `sized` and `limited` are flags, true if not 0. `fill` is what every byte of a column holds beforehand.
@@ -47,6 +49,7 @@ SOURCE = struct.Struct('<7QI4x')    # records, spacing, start, length, width, he
 RECORD = struct.Struct('<10Q')
 SINK = struct.Struct('<Qq3QI5B')    # events, last time, high half, low half, row, encoding; flags: header sent, has each of the four
 SINK_PADDING = bytes(7)
+FRESH_EVT2 = words.DECODERS[2]().fields()
 COLUMNS = 'HHqBqBB'
 WIDTHS = [struct.calcsize('<' + letter) for letter in COLUMNS]
 
@@ -142,6 +145,15 @@ def expected_word(c):
     if c.call == WORD_TRIGGER:
         return TRIGGER.pack(0, trigger is not None, *(trigger or (0, 0, 0))) + UNALTERED
     return struct.pack('<I', 0) + DECODER.pack(*decoder.fields()) + b''.join(EVENT.pack(*event) for event in events) + UNALTERED
+
+
+def expected_decoder_after_raw(c):
+    """Refused, a fresh decoder of EVT2 is told."""
+    try:
+        number, fields = 0, words.decoder_after_raw(c.data, c.zeros).fields()
+    except Refused as refused:
+        number, fields = refused.number, FRESH_EVT2
+    return struct.pack('<I', number) + DECODER.pack(*fields) + UNALTERED
 
 
 def signed(number):
@@ -250,6 +262,20 @@ def expected_append(c):
     return numbers + UNALTERED + filled(c, [*c.columns, (), tuple(out), ()])
 
 
+def model_resumed(c):
+    """The number of the refusal, and the writer that is told."""
+    if c.call == RESUME:
+        return writer.resumed(lambda: writer.resume(c.decoder), c.decoder[3])
+    if c.call == RESUME_WORDS:
+        return writer.resumed(lambda: writer.resume_words(c.encoding, c.data, c.zeros), c.encoding)
+    return writer.resumed(lambda: writer.resume_raw(c.data, c.zeros), writer.encoding_left(c.data, c.zeros))
+
+
+def expected_resumed(c):
+    number, sink = model_resumed(c)
+    return struct.pack('<I', number) + SINK.pack(*sink_numbers(sink)) + UNALTERED
+
+
 def expected(c):
     if c.call in READINGS:
         return expected_reading(c)
@@ -263,6 +289,10 @@ def expected(c):
         return SINK.pack(*sink_numbers(writer.fresh(c.encoding, c.sized))) + UNALTERED
     if c.call == NEW_DECODER:
         return DECODER.pack(0, 0, 0, c.encoding, 0, 0, 0, 0) + UNALTERED
+    if c.call in RESUMES:
+        return expected_resumed(c)
+    if c.call == DECODER_AFTER_RAW:
+        return expected_decoder_after_raw(c)
     return expected_header(c) if c.call == PARSE_HEADER else expected_word(c)
 
 
@@ -285,6 +315,10 @@ def encoding_of(c, answer):
         return c.source[-1]
     if c.call == APPEND:
         return c.sink[5]
+    if c.call in RESUMES:
+        return SINK.unpack_from(answer, 4)[5]
+    if c.call == DECODER_AFTER_RAW:
+        return DECODER.unpack_from(answer, 4)[3]
     return c.encoding if c.call in (WRITER, NEW_DECODER) else c.decoder[3]
 
 
@@ -311,7 +345,7 @@ def call_text(c):
         lines.append('  columns x {}; y {}; t {}; p {}'.format(*map(list, c.columns)))
     elif c.call == WRITER:
         lines.append(f'  header {c.sized}')
-    elif c.call in (DECODE, DECODER_AFTER, WORD_TRIGGER):
+    elif c.call in WITH_DECODER:
         lines.append('  decoder coarse %d, time %d, loops %d, encoding %d, row %d, base column %d, started %d, polarity %d' % c.decoder)
     return '\n'.join(lines + [f'  columns held {c.fill:02x} before'])
 
@@ -350,6 +384,8 @@ def answer_text(c, answer):
             numbers, at, rest = f'writer {SINK.unpack_from(answer)}', SINK.size, ''
         elif c.call == NEW_DECODER:
             numbers, at, rest = f'decoder {DECODER.unpack_from(answer)}', DECODER.size, ''
+        elif c.call in RESUMES:
+            numbers, at, rest = f'refusal {answer[0]}, writer {SINK.unpack_from(answer, 4)}', 4 + SINK.size, ''
         elif c.call == PARSE_HEADER:
             numbers, at, rest = 'refusal %d, encoding %d, body at %d, size %dx%d, sized %d' % HEADER.unpack_from(answer), HEADER.size, ''
         elif c.call == WORD_TRIGGER:

@@ -5,13 +5,14 @@ The answers were written by hand from the rules and not by the model. `ok ENCODI
 event as t,x,y,p and a trigger as t,id,value, or `refused NUMBER`, and behind a 5 or a 13 the count that it tells. Readings stand in three
 lists: LISTED, one by one, and asked as words and behind a header; MEETINGS, what is refused, alone and two at a time; LENGTHS, columns of
 each length. cases21.py has those of EVT 2.1 alone, with header names, indexes and writers; and every case of EVT2 is asked of EVT 2.1 too, where
-its words are the high halves.
+its words are the high halves. cases_long.py has writers past sixteen seconds, and those that resume.
 """
 from collections import Counter, namedtuple
 
 import answers
 import calls
 import cases21
+import cases_long
 import header
 import words
 from refusal import Refused
@@ -467,17 +468,50 @@ def given_slices():
                          fill=0xEE), answer
 
 
-def appends():
-    for sink, events, room, answer in cases21.APPENDS:
-        events = [tuple(map(int, event.split(','))) for event in events.split()]
-        columns = calls.columns_of([(x, y, t, p) for t, x, y, p in events], 4)
-        yield calls.Call(calls.APPEND, width=64, height=48, sink=calls.sink_numbers(answers.sink_of(sink)), columns=tuple(columns),
-                         rooms=(0,) * 5 + (room, 0), fill=0xEE), answer
+def columns_of(events):
+    """The columns of events as t,x,y,p."""
+    events = [tuple(map(int, event.split(','))) for event in events.split()]
+    return tuple(calls.columns_of([(x, y, t, p) for t, x, y, p in events], 4))
+
+
+def append_call(sink, columns, room):
+    return calls.Call(calls.APPEND, width=64, height=48, sink=calls.sink_numbers(answers.sink_of(sink)), columns=columns, rooms=(0,) * 5 + (room, 0), fill=0xEE)
+
+
+def appends(entries):
+    for sink, events, room, answer in entries:
+        yield append_call(sink, columns_of(events), room), answer
+
+
+def meetings():
+    for sink, columns, room, answer in cases_long.BY_COLUMNS:
+        yield append_call(sink, columns, room), answer
+
+
+def decoder_resumes():
+    for decoder, answer in cases_long.DECODERS:
+        yield calls.Call(calls.RESUME, decoder=decoder), answer
+
+
+def words_resumes():
+    for encoding, body, answer, zeros in cases_long.WORDS:
+        yield calls.Call(calls.RESUME_WORDS, body_bytes(body, word_size(body)), encoding, zeros=zeros), answer
+
+
+def raw_resumes():
+    """The writer and the decoder behind a recording; a header that is refused leaves those of EVT2."""
+    for head, body, decoder, answer, zeros in cases_long.RAWS:
+        call = calls.Call(calls.RESUME_RAW, head.encode('latin-1') + body_bytes(body, word_size(body)), zeros=zeros)
+        headless = answer in ('refused 4', 'refused 3', 'refused 2')
+        yield call, f'{answer} {cases_long.NEW[2]}' if headless else answer
+        yield call._replace(call=calls.DECODER_AFTER_RAW), f'{answer} {commas(decoder)}' if headless else commas(decoder)
 
 
 def further():
     """The name, the call and the answer of each."""
-    for name, entries in ('name21', names()), ('open21', openings()), ('slice21', given_slices()), ('append21', appends()):
+    lists = {'name21': names(), 'open21': openings(), 'slice21': given_slices(), 'append21': appends(cases21.APPENDS),
+             'long': appends(cases_long.APPENDS), 'meet': meetings(), 'resume': decoder_resumes(), 'resume words': words_resumes(), 'resume raw': raw_resumes()}
+    for name, entries in lists.items():
         for number, (call, answer) in enumerate(entries, 1):
             yield f'{name}.{number}', call, answer
 
@@ -498,13 +532,25 @@ def append_text(call):
         out, after = calls.model_append(call)
     except Refused as refused:
         return f'{answers.refusal_text(refused)} {answers.sink_text(sink)}'
-    start = header.header_lines(out)[1]
-    parts = [out[at:at + 8][::-1].hex().upper() for at in range(start, len(out), 8)]
+    start, size = header.header_lines(out)[1], words.DECODERS[sink.encoding].SIZE
+    parts = [out[at:at + size][::-1].hex().upper() for at in range(start, len(out), size)]
     return out[:start].decode() + ' '.join(parts + [answers.sink_text(after)])
 
 
+def resumed_text(call):
+    return answers.resumed_text(calls.model_resumed(call)).removeprefix('ok ')
+
+
+def after_raw_text(call):
+    try:
+        return commas(words.decoder_after_raw(call.data, call.zeros).fields())
+    except Refused as refused:
+        return f'{answers.refusal_text(refused)} {commas(calls.FRESH_EVT2)}'
+
+
 FURTHER_TEXT = {calls.PARSE_HEADER: header_text, calls.APPEND: append_text, **dict.fromkeys(calls.OPENINGS, opening_text),
-                **dict.fromkeys(calls.SLICES, lambda call: answers.slice_events(calls.given_slice(call)))}
+                **dict.fromkeys(calls.SLICES, lambda call: answers.slice_events(calls.given_slice(call))),
+                **dict.fromkeys(calls.RESUMES, resumed_text), calls.DECODER_AFTER_RAW: after_raw_text}
 
 
 def numbered(entries):
@@ -570,7 +616,8 @@ def check():
 
 
 def told():
-    return f'{len(CASES)} listed readings, {len(WORDS)} words, {len(AFTERS)} lists of words and {len(list(further()))} headers, indexes and appends'
+    return (f'{len(CASES)} listed readings, {len(WORDS)} words, {len(AFTERS)} lists of words and {len(list(further()))} headers, indexes, appends and'
+            ' writers that resume')
 
 
 if __name__ == '__main__':

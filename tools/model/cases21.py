@@ -203,9 +203,9 @@ APPENDS = [
     (NEW, row(2047, t=2**34 - 1, y=2047), 16, '8FFFFFFF00000000 1FFF07FF80000000 21:1,1,17179869183,268435455,-,-'),
     (NEW, row(5, t=2**34), 16, f'refused 7 {NEW}'), (NEW, row(5, t=-1), 16, f'refused 7 {NEW}'), (NEW, row(2048), 16, f'refused 7 {NEW}'),
     (NEW, row(5, y=2048), 16, f'refused 7 {NEW}'), (NEW, row(5, p=2), 16, f'refused 7 {NEW}'), (NEW, row(5, t=9) + ' ' + row(2048, t=8), 0, f'refused 6 {NEW}'),
-    # 10: a low half or a row, a half of another time, a half without a time, a time past the bound, an unknown encoding
+    # 10: a low half or a row, a half of another time, a half past the bound without a time, a time past the bound, an unknown encoding
     *[(sink, row(5, t=2**34 - 1), 0, f'refused 10 {sink}') for sink in (
-        '21:1,1,100,1,36,-', '21:1,1,100,1,-,7', '21:1,1,100,0,-,-', '21:1,1,100,2,-,-', '21:1,0,-,1,-,-', '21:1,1,-,-,-,-', f'21:1,1,{2**34},-,-,-',
+        '21:1,1,100,1,36,-', '21:1,1,100,1,-,7', '21:1,1,100,0,-,-', '21:1,1,100,2,-,-', f'21:1,0,-,{2**28},-,-', '21:1,1,-,-,-,-', f'21:1,1,{2**34},-,-,-',
         f'21:1,{2**62 + 1},100,1,-,-', '20:1,0,-,-,-,-', '22:1,0,-,-,-,-')],
     (f'21:1,{2**62},100,1,-,-', row(6), 8, f'1900000700000040 21:1,{2**62 + 1},100,1,-,-'),
 ]

@@ -134,8 +134,8 @@ def meets_13(call, number):
 
 class Tally:
     def __init__(self):
-        self.calls, self.refused, self.events, self.triggers, self.with_triggers, self.meetings, self.headers, self.encodings = (
-            Counter() for _ in range(8))
+        self.calls, self.refused, self.events, self.triggers, self.with_triggers, self.meetings, self.headers, self.encodings, self.writers = (
+            Counter() for _ in range(9))
 
     def add(self, call, expected):
         name, number = calls.NAMES[call.call], calls.refusal_of(call, expected)
@@ -144,6 +144,8 @@ class Tally:
             self.headers['end'] += header.has_end_line(call.data)
             self.headers['percent'] += header.percent_behind_end(call.data)
             self.headers['evt21'] += header.names_evt21(call.data)
+        if call.call == calls.APPEND:
+            self.add_writer(call, number)
         if number:
             self.refused[name, number] += 1
             if number in (1, 5) and call.call in (calls.READ_RAW_TRIGGERS, calls.DECODE_WORDS_TRIGGERS) and meets_13(call, number):
@@ -167,6 +169,15 @@ class Tally:
             self.triggers[name] += expected[4]
             self.with_triggers[name] += expected[4]
 
+    def add_writer(self, call, number):
+        """Writers that hold a coarse time and no last time, and appends of EVT3 that go past its first loop."""
+        has_last, has_high = call.sink[7:9]
+        resumed = not has_last and has_high and number != 10
+        self.writers['resumed'] += resumed and not number
+        self.writers['below'] += resumed and number == 6 and len(call.columns[2]) > 0 and call.columns[2][0] < making.start_of(call.sink)
+        if call.sink[5] == 3 and number in (0, 11) and call.columns[2] and call.columns[2][-1] >= making.LOOP:
+            self.writers['long', number] += 1
+
     def show(self):
         print('| calls of | calls | accepted (with a trigger) | of EVT2, EVT3, EVT2.1 | refused, by number | events | triggers |\n|' + '---|' * 7)
         for name in calls.NAMES:
@@ -180,6 +191,8 @@ class Tally:
         print(f'refusal 5 where 13 applies as well: {self.meetings[5]:,}; refusal 1 where it does: {self.meetings[1]:,}')
         print(f'calls with an end line in the header: {self.headers["end"]:,}, with a % behind it: {self.headers["percent"]:,};'
               f' with a header that names EVT2.1: {self.headers["evt21"]:,}')
+        print(f'appends by a writer that holds a coarse time and no last time: {self.writers["resumed"]:,} accepted, {self.writers["below"]:,} with 6 for'
+              f' an event below it; of EVT3 from 2^24 on: {self.writers["long", 0]:,} accepted, {self.writers["long", 11]:,} with 11')
 
 
 def framed(answers):

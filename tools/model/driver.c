@@ -30,7 +30,11 @@ enum {
     SLICE_TIME,
     APPEND,
     WRITER,
-    NEW_DECODER
+    NEW_DECODER,
+    RESUME,
+    RESUME_WORDS,
+    RESUME_RAW,
+    DECODER_AFTER_RAW
 };
 
 #define COLUMNS 7
@@ -232,6 +236,12 @@ static void put_decoder_after(const struct request *r)
     PUT(a.refusal), put_decoder(a.decoder);
 }
 
+static void put_decoder_after_raw(void)
+{
+    prophesee_stepped a = prophesee_decoder_after_raw(recording, recording_len);
+    PUT(a.refusal), put_decoder(a.decoder);
+}
+
 static prophesee_slice slice(const struct request *r, prophesee_source source, int by_time)
 {
     const prophesee_record *records = lent_columns[4];
@@ -286,6 +296,11 @@ static void put_appended(const struct request *r, const uint8_t *more)
     PUT(a.refusal), PUT(a.told), PUT(a.written), put_sink(a.sink);
 }
 
+static void put_resumed(prophesee_resumed a)
+{
+    PUT(a.refusal), put_sink(a.sink);
+}
+
 static void call(const struct request *r, const uint8_t *more)
 {
     prophesee_options options = {r->width, r->height, r->max_events, r->sized, r->limited};
@@ -307,6 +322,10 @@ static void call(const struct request *r, const uint8_t *more)
     case APPEND: put_appended(r, more); break;
     case WRITER: put_sink(prophesee_writer(r->encoding, r->sized)); break;
     case NEW_DECODER: put_decoder(prophesee_new_decoder(r->encoding)); break;
+    case RESUME: put_resumed(prophesee_resume(r->decoder)); break;
+    case RESUME_WORDS: put_resumed(prophesee_resume_words(recording, recording_len, r->encoding)); break;
+    case RESUME_RAW: put_resumed(prophesee_resume_raw(recording, recording_len)); break;
+    case DECODER_AFTER_RAW: put_decoder_after_raw(); break;
     default: stop("no such call");
     }
 }

@@ -103,8 +103,8 @@ def check_size(size):
         raise Refused(1)
 
 
-def parse_header(data, given=None, zeros=0):
-    """4, 3, 2, 1 for a zero size. `given` is the caller's size, which overrides the header's."""
+def known_header(data, zeros=0):
+    """4, 3, 2. No size is asked for: the header's is told as it stands, with a zero too."""
     check_length(data, zeros)
     lines, body = header_lines(data)
     if any(byte >= 128 for byte in data[:body]):
@@ -112,6 +112,12 @@ def parse_header(data, given=None, zeros=0):
     encoding, size = header_values(lines)
     if encoding is None:
         raise Refused(2)
-    size = size if given is None else given
-    check_size(size)
     return Header(encoding, body, size)
+
+
+def parse_header(data, given=None, zeros=0):
+    """4, 3, 2, 1 for a zero size. `given` is the caller's size, which overrides the header's."""
+    header = known_header(data, zeros)
+    size = header.size if given is None else given
+    check_size(size)
+    return header._replace(size=size)

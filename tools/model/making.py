@@ -7,7 +7,7 @@ import index
 import reading
 import writer
 from refusal import Refused
-from words import DECODERS
+from words import DECODERS, decoder_after_words
 
 HUGE = 2**64 - 1
 KINDS = {
@@ -377,11 +377,28 @@ def altered_case(rng):
 
 # ---- writers
 
-def some_events(rng, encoding, last):
+LOOP = 2**24    # of EVT3
+
+
+def far(rng, t):
+    """Around the border of a loop of EVT3, this one's or a later one's, mostly a few on; seldom at the bound."""
+    loop = t // LOOP + rng.choice([0, 0, 1, 1, 1, 1, 2, 3, rng.randrange(20), rng.choice([rng.randrange(20), rng.randrange(1024)])])
+    beside = loop * LOOP + rng.choice([-4097, -4096, -1, 0, 0, 1, 4095, 4096, 4097, rng.randrange(LOOP), rng.randrange(LOOP)])
+    return max(t, beside if chance(rng, 97) else writer.BOUND - 1)
+
+
+def later(rng, t):
+    """A time that stands, goes on a little, or far; below the bound."""
+    if chance(rng, 15):
+        return min(writer.BOUND - 1, far(rng, t))
+    return min(writer.BOUND - 1, t + rng.choice([0, 0, 0, 1, 63, 64, 4095, 4096, rng.randrange(64), rng.randrange(5000), rng.randrange(LOOP // 4)]))
+
+
+def some_events(rng, last):
     """Runs along a row, across borders of 12 and 32 columns, repeats, times that stand, go on a little or far."""
-    bound, t, out = writer.LAST_TIME[encoding], last, []
+    t, out = last, []
     for _ in range(rng.choice([0, 1, 1, 2, 3, 4, 6])):
-        t = min(bound - 1, t + rng.choice([0, 0, 0, 1, 63, 64, rng.randrange(64), rng.randrange(5000), rng.randrange(bound // 4)]))
+        t = later(rng, t)
         y, p, x = rng.choice([0, 7, 2047, rng.randrange(2048)]), rng.randrange(2), rng.choice([0, 31, 32, rng.randrange(64), rng.randrange(2048), 2047])
         out.append((x, y, t, p))
         for _ in range(rng.choice([0, 0, 1, 3, 6, 14, 40])):
@@ -390,21 +407,37 @@ def some_events(rng, encoding, last):
     return out
 
 
-def spoiled_events(rng, encoding, events):
+def spoiled_events(rng, events):
     """An event that is out of range, or a time that falls."""
     x, y, t, p = events[rng.randrange(len(events))]
-    at = rng.randrange(len(events))
-    events[at] = rng.choice([(2048, y, t, p), (65535, y, t, p), (x, 2048, t, p), (x, y, t, 2), (x, y, t, 255), (x, y, writer.LAST_TIME[encoding], p),
-                             (x, y, -1, p), (x, y, max(t - 1, 0), p), (x, y, -2**63, p), (x, y, 2**63 - 1, p)])
+    at = rng.choice([0, len(events) - 1, rng.randrange(len(events))])
+    events[at] = rng.choice([(2048, y, t, p), (65535, y, t, p), (x, 2048, t, p), (x, y, t, 2), (x, y, t, 255), (x, y, writer.BOUND, p),
+                             (x, y, writer.BOUND + rng.randrange(2**40), p), (x, y, t + LOOP, p), (x, y, t - LOOP, p), (x, y, -1, p), (x, y, t - 1, p),
+                             (x, y, -2**63, p), (x, y, 2**63 - 1, p)])
     return events
 
 
-def append_call(rng, sink, last):
-    """An append to a writer, given by its numbers; `last`: its last time, or what is taken for it."""
-    encoding = sink[5] if sink[5] in DECODERS else 21
-    events = some_events(rng, encoding, last)
+def start_of(sink):
+    """Where the events of a writer begin that is given by its numbers: its last time or coarse time, if that is one."""
+    _, last, high, _, _, encoding, _, has_last, has_high, *_ = sink
+    start = last if has_last else high * DECODERS[encoding].UNIT if has_high and encoding in DECODERS else 0
+    return start if 0 <= start < writer.BOUND else 0
+
+
+def lengths_of_output(rng, encoding, need, events, passed):
+    """Exact, one more and one short; what surely suffices, for the loops passed and without them, and for any."""
+    most = 96 + {2: 8, 3: 8, 21: 16}[encoding] * events
+    return rng.choice([need, need, need, need + 1, need + 9, max(need - 1, 0), max(need - 1, 0), max(need - 8, 0), 0, most, most - 1,
+                       most + 4 * passed, most + 4 * passed - 1, 16 * events + 4 * 1023])
+
+
+def append_call(rng, sink):
+    """An append to a writer, given by its numbers."""
+    encoding, start = sink[5] if sink[5] in DECODERS else 21, start_of(sink)
+    below = rng.choice([1, 1, 64, 4096, LOOP]) if chance(rng, 4) else 0
+    events = some_events(rng, start - below)
     if events and chance(rng, 12):
-        events = spoiled_events(rng, encoding, events)
+        events = spoiled_events(rng, events)
     columns = list(map(tuple, calls.columns_of(events, 4)))
     if chance(rng, 4):
         at = rng.randrange(4)
@@ -416,16 +449,15 @@ def append_call(rng, sink, last):
         need = len(calls.model_append(call)[0])
     except Refused:
         need = rng.randrange(40)
-    most = 96 + {2: 8, 3: 8, 21: 16}[encoding] * len(events)
-    room = rng.choice([need, need, need, need + 1, need + 9, most, most - 1, max(need - 1, 0), max(need - 8, 0), 0])
-    return call._replace(rooms=(0,) * 5 + (room, 0))
+    passed = (max([start] + [t for _, _, t, _ in events if t < writer.BOUND]) - start) // LOOP if encoding == 3 else 0
+    return call._replace(rooms=(0,) * 5 + (lengths_of_output(rng, encoding, need, len(events), passed), 0))
 
 
 def listed(rng, sink, count):
     """Appends to one writer: the calls, and the bytes that they hand over."""
     made, stream = [], b''
     for _ in range(count):
-        call = append_call(rng, sink, max(sink[1], 0))
+        call = append_call(rng, sink)
         made.append(call)
         try:
             out, after = calls.model_append(call)
@@ -435,16 +467,46 @@ def listed(rng, sink, count):
     return made, stream
 
 
+def held_half(rng, encoding):
+    """Of a coarse time below the bound, at it, or so large that times 64 or 4096 it passes 2^64; in EVT3 in any loop, near its first and last."""
+    most = writer.BOUND // DECODERS[encoding].UNIT
+    draw = rng.randrange(10)
+    if draw < 2:
+        return most + rng.choice([-1, -1, 0, 1])
+    if draw == 2:
+        return rng.choice([2 * most, 2**52, 2**52 + 1, 2**58, 2**58 + 1, 2**64 - 1])
+    if encoding != 3:
+        return rng.choice([0, 1, 2**18 - 1, 2**18, rng.randrange(2**20), rng.randrange(most)])
+    return rng.choice([0, 0, 0, 1, 2, 1022, 1023, rng.randrange(1024)]) * 4096 + rng.choice([0, 0, 1, 0xFFE, 0xFFF, 0xFFF, rng.randrange(4096)])
+
+
+def held_sink(rng, encoding):
+    """A writer as resumed, with a coarse time and no last time; seldom with what it can't have beside that."""
+    sink = writer.Sink(encoding, rng.choice([1, 1, 1, 0]), 0, None, held_half(rng, encoding))
+    if chance(rng, 8):
+        sink = sink._replace(**{rng.choice(['count', 'low', 'row']): rng.choice([0, 1, 7])})
+    return sink
+
+
+def written_sink(rng, encoding):
+    """A writer with a last time, with and without the halves that belong to it."""
+    bound, unit = writer.BOUND, DECODERS[encoding].UNIT
+    last = rng.choice([0, 1, unit, rng.randrange(20000), rng.randrange(LOOP), LOOP - 1, LOOP, far(rng, 0), far(rng, 0), rng.randrange(bound), bound - 1, bound])
+    sink = writer.Sink(encoding, rng.choice([0, 1]), rng.choice([0, 1, 17, 2**62 - 1, 2**62]), last, rng.choice([None, last // unit, last // unit]))
+    return sink._replace(low=rng.choice([None, last % unit]), row=rng.choice([None, 0, 7, 2047])) if encoding == 3 else sink
+
+
+def writers_encoding(rng):
+    """EVT3 more often: it alone passes loops."""
+    return rng.choice([2, 3, 3, 21])
+
+
 def any_sink(rng):
     """A writer in range, or just outside."""
-    encoding = any_encoding(rng)
-    bound, unit = writer.LAST_TIME[encoding], DECODERS[encoding].UNIT
-    last = rng.choice([0, 1, unit, rng.randrange(20000), rng.randrange(bound), bound - 1])
-    sink = writer.Sink(encoding, rng.choice([0, 1]), rng.choice([0, 1, 17, 2**62 - 1, 2**62]), last, rng.choice([None, last // unit]))
-    if encoding == 3:
-        sink = sink._replace(low=rng.choice([None, last % unit]), row=rng.choice([None, 0, 7, 2047]))
-    numbers = list(calls.sink_numbers(sink if chance(rng, 90) else writer.fresh(encoding, 1)))
-    if chance(rng, 20):
+    encoding, draw = writers_encoding(rng), rng.randrange(10)
+    sink = writer.fresh(encoding, 1) if draw == 0 else held_sink(rng, encoding) if draw < 5 else written_sink(rng, encoding)
+    numbers = list(calls.sink_numbers(sink))
+    if chance(rng, 15):
         at = rng.randrange(len(numbers))
         limit = [2**64, 2**63, 2**64, 2**64, 2**64, 2**32][at] if at < 6 else 256
         numbers[at] = rng.choice([numbers[at] + 1, numbers[at] - 1, 0, 1, 2, 3, 21, 2048, rng.getrandbits(64)]) % limit
@@ -457,19 +519,93 @@ def writer_case(rng):
     return made + [calls.Call(calls.WRITER, encoding=number, sized=rng.choice([0, 1, 255])), calls.Call(calls.NEW_DECODER, encoding=number)]
 
 
-def resumed_case(rng):
-    """A stream cut anywhere behind its header, then the words of a fresh writer that sends none: read, opened and sliced."""
-    encoding, headed_ = any_encoding(rng), chance(rng, 50)
+def cut_stream(rng, encoding, headed_):
+    """The calls that write a stream, what is left of it when it is cut anywhere behind its header, and where its words begin."""
     made, stream = listed(rng, calls.sink_numbers(writer.fresh(encoding, headed_)), rng.choice([1, 2, 4]))
-    start = header.header_lines(stream)[1] if headed_ and stream else 0
-    left = stream[:rng.randrange(start, len(stream) + 1)]
-    left = left[:len(left) - (len(left) - start) % DECODERS[encoding].SIZE]
-    more, behind = listed(rng, calls.sink_numbers(writer.fresh(encoding, 0)), rng.choice([0, 1, 2]))
-    joined = left + behind
-    if headed_ and stream:
-        return made + more + headed(rng, joined) + openings(rng, joined)
+    start = header.header_lines(stream)[1] if headed_ else 0
+    return made, stream[:rng.randrange(start, len(stream) + 1)], start
+
+
+def resumed_case(rng):
+    """A stream that is cut, then the words of the writer resumed from what is left, or of a fresh one that sends no header: read, opened and sliced."""
+    encoding, headed_ = writers_encoding(rng), chance(rng, 50)
+    made, left, start = cut_stream(rng, encoding, headed_)
+    whole = left[:len(left) - (len(left) - start) % DECODERS[encoding].SIZE]
+    _, sink = writer.resumed(lambda: writer.resume_words(encoding, whole[start:]), encoding)
+    more, behind = listed(rng, calls.sink_numbers(sink if chance(rng, 80) else writer.fresh(encoding, 0)), rng.choice([0, 1, 2]))
+    made, joined = made + more, whole + behind
+    if start:
+        return made + raw_resumes(rng, left) + headed(rng, joined) + openings(rng, joined)
     kinds = calls.DECODE_WORDS, calls.DECODE_WORDS_TRIGGERS
-    return made + more + list(readings(rng, joined, encoding, joined, None, kinds, encoding)) + openings(rng, joined, encoding)
+    made += words_resumes(rng, encoding, left)
+    return made + list(readings(rng, joined, encoding, joined, None, kinds, encoding)) + openings(rng, joined, encoding)
+
+
+# ---- resuming
+
+def too_long(rng, data):
+    """Seldom how many bytes 0 make a recording too long."""
+    return 2**30 + 1 - len(data) + rng.choice([0, 0, 4096]) if chance(rng, 0.5) else 0
+
+
+def raw_resumes(rng, data):
+    """The writer and the decoder behind a recording."""
+    return [calls.Call(kind, data, zeros=too_long(rng, data), fill=rng.randrange(2)) for kind in (calls.RESUME_RAW, calls.DECODER_AFTER_RAW)]
+
+
+def words_resumes(rng, encoding, data):
+    """The writer behind words without a header, and by their decoder."""
+    named = encoding if chance(rng, 97) else rng.choice([0, 1, 2, 3, 4, 20, 21, 22, 2**32 - 1])
+    return [calls.Call(calls.RESUME_WORDS, data, named, zeros=too_long(rng, data), fill=rng.randrange(2)),
+            calls.Call(calls.RESUME, decoder=decoder_after_words(encoding, data).fields())]
+
+
+def resumable_fields(rng, encoding):
+    """A decoder with a coarse time below the bound, just at it, or past it."""
+    decoder = DECODERS[encoding]
+    half = rng.choice([held_half(rng, encoding), rng.randrange(writer.BOUND // decoder.UNIT)])
+    coarse = half * decoder.UNIT if half < 2**40 else writer.BOUND
+    time = coarse + rng.choice([0, 1, decoder.UNIT - 1, rng.randrange(decoder.UNIT)])
+    place = [rng.choice([0, 7, 2047]), rng.choice([0, 10, 65535])] if encoding == 3 else [0, 0]
+    return [coarse, time, coarse // decoder.PERIOD, encoding, *place, 1, rng.randrange(2) if encoding == 3 else 0]
+
+
+def forged_case(rng):
+    """Decoders that are given: any, at the bound, with a number altered, of an unknown encoding; then appends to what they leave."""
+    made = []
+    for _ in range(4):
+        encoding = writers_encoding(rng)
+        fields = decoder_fields(rng, encoding) if chance(rng, 40) else resumable_fields(rng, encoding)
+        if chance(rng, 20):
+            fields = spoiled(rng, fields)
+        if chance(rng, 3):
+            fields[3] = rng.choice([0, 1, 2, 3, 4, 7, 20, 21, 22, 2**32 - 1])
+        made.append(calls.Call(calls.RESUME, decoder=tuple(fields), fill=rng.randrange(2)))
+        made += listed(rng, calls.sink_numbers(calls.model_resumed(made[-1])[1]), rng.choice([0, 1, 1, 2]))[0]
+    return made
+
+
+def past_bound(rng, encoding, data):
+    """Words behind a stream that bring its coarse time to the bound, or nearly: loops of EVT3, one of the others."""
+    decoder, words = DECODERS[encoding], []
+    top, type_8 = decoder.PERIOD // decoder.UNIT - 1, 8 << decoder.SIZE * 8 - 4
+    loops = 1024 - decoder_after_words(encoding, data).loops - rng.choice([0, 0, 1]) if encoding == 3 else 1
+    for _ in range(max(loops, 0)):
+        words += [type_8 | top << (32 if encoding == 21 else 0), type_8]
+    return data + b''.join(word.to_bytes(decoder.SIZE, 'little') for word in words[:len(words) - rng.randrange(2)])
+
+
+def left_case(rng):
+    """What is left of streams, garbage, and recordings with odd and damaged headers: the writer and the decoder behind them."""
+    encoding = writers_encoding(rng)
+    front = header_bytes(rng, encoding) if chance(rng, 30) else writer.header(encoding, rng.choice([(64, 48), (0, 48), (0, 0)]))
+    body = body_bytes(rng, encoding) if chance(rng, 50) else cut_stream(rng, encoding, False)[1]
+    body = past_bound(rng, encoding, body) if chance(rng, 15) else body
+    recording = recording_bytes(rng) if chance(rng, 20) else front + body
+    if chance(rng, 20):
+        recording = damaged(rng, recording) if chance(rng, 30) else recording[:rng.randrange(len(recording) + 1)]
+    made = raw_resumes(rng, recording) + words_resumes(rng, encoding, body)
+    return made + listed(rng, calls.sink_numbers(calls.model_resumed(made[-1])[1]), rng.choice([0, 1, 2]))[0]
 
 
 # ---- headers alone, and words without one
@@ -534,8 +670,8 @@ def single_case(rng):
     return made
 
 
-CASES = [raw_case] * 9 + [words_case] * 6 + [single_case] * 3 + [header_case] * 2 + [index_case] * 5 + [altered_case] * 4 + [writer_case] * 3 + [
-    resumed_case] * 3
+CASES = [raw_case] * 9 + [words_case] * 6 + [single_case] * 3 + [header_case] * 2 + [index_case] * 5 + [altered_case] * 4 + [writer_case] * 6 + [
+    resumed_case] * 4 + [forged_case] * 3 + [left_case] * 4
 
 
 def case(seed, number):

@@ -2,6 +2,7 @@
 
 An event is (x, y, t, p), a trigger is (t, id, value). An encoding is a class here and an entry of DECODERS, by its number.
 """
+from header import known_header
 from refusal import Refused, check_length
 
 NO_EVENTS = ()
@@ -119,7 +120,7 @@ def whole_words(data, size):
         yield int.from_bytes(data[at:at + size], 'little')
 
 
-# ---- single words, with a decoder that the caller gives by its numbers (as `fields`)
+# ---- single words and lists of them, with a decoder that the caller gives by its numbers (as `fields`) or with a fresh one
 
 def decoder_of(fields):
     """10 for a decoder out of range, and for numbers that are no decoder's."""
@@ -151,3 +152,17 @@ def decoder_after(fields, data, zeros=0):
     for word in whole_words(data, decoder.SIZE):
         decoder.step(word)
     return decoder
+
+
+def decoder_after_words(encoding, data, zeros=0):
+    """A fresh decoder after all whole words: 4, 2 for an unknown encoding."""
+    check_length(data, zeros)
+    if encoding not in DECODERS:
+        raise Refused(2)
+    return decoder_after(DECODERS[encoding]().fields(), data)
+
+
+def decoder_after_raw(data, zeros=0):
+    """A fresh decoder after all whole words of a recording's body: 4, 3, 2."""
+    header = known_header(data, zeros)
+    return decoder_after_words(header.encoding, data[header.body:])

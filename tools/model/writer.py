@@ -1,14 +1,16 @@
-"""The writer: what an append writes, and its refusals in their order: 10, 12, 4, 6, 7, 11."""
+"""The writer: what an append writes, and its refusals in their order: 10, 12, 4, 6, 7, 11; and the writer that goes on behind what is left."""
 from collections import namedtuple
 
+from header import known_header
 from refusal import Refused
-from words import DECODERS
+from words import DECODERS, decoder_after_raw, decoder_after_words, decoder_of
 
 MOST_EVENTS, MOST_COUNT = 2**28, 2**62
-LAST_TIME = {2: 2**34, 3: 2**24, 21: 2**34}     # times are below
+BOUND = 2**34   # times are below, in every encoding
+TOP = 0xFFF     # the last coarse half of a loop of EVT3
 
 # A writer: whether its header was sent, or isn't due, how many events it wrote, its last time, and the halves and the row that it has sent,
-# each None where there is none.
+# each None where there is none. The high half is t // 64, in EVT3 t // 4096: its loop and, in the low 12 bits, what a word carries.
 Sink = namedtuple('Sink', 'encoding sent count last high low row', defaults=(0, None, None, None, None))
 
 
@@ -18,14 +20,21 @@ def fresh(encoding, header):
 
 def in_range(sink):
     """10: an unknown encoding; halves that don't belong to the last time; a low half or row in any encoding but EVT3; a last time or row outside
-    7's bounds; a half, a row or a count other than 0 without a last time; a count over 2^62."""
+    7's bounds; a low half, a row, a count other than 0 or a coarse time outside 7's bounds without a last time; a count over 2^62."""
     if sink.encoding not in DECODERS or sink.count > MOST_COUNT or (sink.encoding != 3 and (sink.low, sink.row) != (None, None)):
         return False
+    unit = DECODERS[sink.encoding].UNIT
     if sink.last is None:
-        return (sink.count, sink.high, sink.low, sink.row) == (0, None, None, None)
-    high, low = divmod(sink.last, DECODERS[sink.encoding].UNIT)
-    return (0 <= sink.last < LAST_TIME[sink.encoding] and sink.high in (None, high) and sink.low in (None, low)
-            and (sink.row is None or sink.row <= 2047))
+        return (sink.count, sink.low, sink.row) == (0, None, None) and (sink.high is None or sink.high * unit < BOUND)
+    high, low = divmod(sink.last, unit)
+    return 0 <= sink.last < BOUND and sink.high in (None, high) and sink.low in (None, low) and (sink.row is None or sink.row <= 2047)
+
+
+def earliest(sink):
+    """The last time, or without one the coarse time that is held: an event below it gets 6. None: there is neither."""
+    if sink.last is None and sink.high is not None:
+        return sink.high * DECODERS[sink.encoding].UNIT
+    return sink.last
 
 
 def check_lengths(lengths):
@@ -38,10 +47,11 @@ def check_lengths(lengths):
 
 def check_events(sink, events):
     """6, 7."""
-    times = ([] if sink.last is None else [sink.last]) + [t for _, _, t, _ in events]
+    start = earliest(sink)
+    times = ([] if start is None else [start]) + [t for _, _, t, _ in events]
     if any(later < earlier for earlier, later in zip(times, times[1:])):
         raise Refused(6)
-    if not all(x <= 2047 and y <= 2047 and p <= 1 and 0 <= t < LAST_TIME[sink.encoding] for x, y, t, p in events):
+    if not all(x <= 2047 and y <= 2047 and p <= 1 and 0 <= t < BOUND for x, y, t, p in events):
         raise Refused(7)
 
 
@@ -61,11 +71,21 @@ def evt2_words(sink, events):
     return due + [p << 28 | t % 64 << 22 | x << 11 | y], 1, sink._replace(high=t // 64)
 
 
+def evt3_halves(held, half):
+    """What the type 8 words carry on the way from the half that is held, or from loop 0 if none is, to another: for each loop passed FFF, unless
+    that is held, then 000; then the half itself, unless that is held now."""
+    carried, loop = [], 0 if held is None else held >> 12
+    while loop < half >> 12:
+        carried += [0] if held is not None and held & TOP == TOP else [TOP, 0]
+        loop += 1
+        held = loop << 12
+    return carried + [half & TOP] * (held != half)
+
+
 def evt3_words(sink, events):
     x, y, t, p = events[0]
-    due = []
-    if sink.high != t // 4096:
-        due.append(8 << 12 | t // 4096)
+    due = [8 << 12 | half for half in evt3_halves(sink.high, t // 4096)]
+    if due:
         sink = sink._replace(high=t // 4096, low=0)
     if sink.low != t % 4096:
         due.append(6 << 12 | t % 4096)
@@ -117,3 +137,40 @@ def append(sink, size, columns, room):
     if len(out) > room:
         raise Refused(11, len(out))
     return out, after._replace(sent=1, count=sink.count + len(events), last=events[-1][2])
+
+
+# ---- the writer that goes on behind what is left of a stream
+
+def resume(fields):
+    """By the decoder after it, given by its numbers: 10 for one out of range or with a coarse time past 7's bounds. A started one leaves its coarse time
+    held and nothing else, an unstarted one a fresh writer; neither sends a header."""
+    decoder = decoder_of(fields)
+    if decoder.coarse >= BOUND:
+        raise Refused(10)
+    return fresh(decoder.NUMBER, False)._replace(high=decoder.coarse // decoder.UNIT if decoder.started else None)
+
+
+def resume_words(encoding, data, zeros=0):
+    """Words without a header: 4, 2 for an unknown encoding, 10."""
+    return resume(decoder_after_words(encoding, data, zeros).fields())
+
+
+def resume_raw(data, zeros=0):
+    """A recording, with its header: 4, 3, 2, 10."""
+    return resume(decoder_after_raw(data, zeros).fields())
+
+
+def encoding_left(data, zeros=0):
+    """The encoding of the writer that a recording is answered with: EVT2 where the header gets 4, 3 or 2."""
+    try:
+        return known_header(data, zeros).encoding
+    except Refused:
+        return 2
+
+
+def resumed(answered, encoding):
+    """The number of the refusal, and the writer; refused, a fresh one of the encoding that sends no header."""
+    try:
+        return 0, answered()
+    except Refused as refused:
+        return refused.number, fresh(encoding, False)

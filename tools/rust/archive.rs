@@ -32,7 +32,8 @@ pub fn most_of_word(encoding: u32) -> usize {
 
 /// Bytes of an append of n events surely need no more, with a header.
 pub fn most_bytes(encoding: u32, n: usize) -> usize {
-    96 + if encoding == EVT21 { 16 } else { 8 } * n
+    let loops = if encoding == 3 { 4 * 1023 } else { 0 };
+    96 + if encoding == EVT21 { 16 } else { 8 } * n + loops
 }
 
 #[repr(C)]
@@ -148,6 +149,13 @@ pub struct Appended {
 
 #[repr(C)]
 #[derive(Clone, Copy, Debug, Default, PartialEq, Eq)]
+pub struct Resumed {
+    pub sink: Sink,
+    pub refusal: u32,
+}
+
+#[repr(C)]
+#[derive(Clone, Copy, Debug, Default, PartialEq, Eq)]
 pub struct Decoder {
     pub time_base: u64,
     pub time: u64,
@@ -223,6 +231,7 @@ const _: () = {
     assert!(size_of::<Slice>() == 24 && offset_of!(Slice, refusal) == 16);
     assert!(size_of::<Sink>() == 56 && offset_of!(Sink, has_y) == 48);
     assert!(size_of::<Appended>() == 80 && offset_of!(Appended, refusal) == 72);
+    assert!(size_of::<Resumed>() == 64 && offset_of!(Resumed, refusal) == 56);
     assert!(size_of::<Decoder>() == 40 && offset_of!(Decoder, polarity) == 33);
     assert!(size_of::<Vector>() == 24 && offset_of!(Vector, p) == 16);
     assert!(size_of::<Decoded>() == 72 && offset_of!(Decoded, refusal) == 64);
@@ -333,6 +342,10 @@ mod raw {
         pub fn prophesee_decode(decoder: Decoder, bytes: *const u8, n: usize) -> Decoded;
         pub fn prophesee_next_event(events: Vector) -> Next;
         pub fn prophesee_decoder_after(decoder: Decoder, words: *const u8, n: usize) -> Stepped;
+        pub fn prophesee_decoder_after_raw(recording: *const u8, n: usize) -> Stepped;
+        pub fn prophesee_resume(decoder: Decoder) -> Resumed;
+        pub fn prophesee_resume_words(words: *const u8, n: usize, encoding: u32) -> Resumed;
+        pub fn prophesee_resume_raw(recording: *const u8, n: usize) -> Resumed;
     }
 }
 
@@ -434,4 +447,20 @@ pub fn next_event(events: Vector) -> Next {
 
 pub fn decoder_after(d: Decoder, words: &[u8]) -> Stepped {
     unsafe { raw::prophesee_decoder_after(d, words.as_ptr(), words.len()) }
+}
+
+pub fn decoder_after_raw(recording: &[u8]) -> Stepped {
+    unsafe { raw::prophesee_decoder_after_raw(recording.as_ptr(), recording.len()) }
+}
+
+pub fn resume(d: Decoder) -> Resumed {
+    unsafe { raw::prophesee_resume(d) }
+}
+
+pub fn resume_words(words: &[u8], encoding: u32) -> Resumed {
+    unsafe { raw::prophesee_resume_words(words.as_ptr(), words.len(), encoding) }
+}
+
+pub fn resume_raw(recording: &[u8]) -> Resumed {
+    unsafe { raw::prophesee_resume_raw(recording.as_ptr(), recording.len()) }
 }

@@ -3,7 +3,8 @@
 //!   compare CASES [SEED]         all cases from 0 on
 //!   compare CASES SEED CASE      this one alone
 //! Recordings with a `%` behind the header's end line, which the original takes for one more header line, and recordings whose header names
-//! EVT2.1, which it takes for EVT2, are not compared, only counted.
+//! EVT2.1, which it takes for EVT2, are not compared, only counted; so are the words of appends past EVT3's first loop, which it writes
+//! without loops.
 //! A line for each kind of call; exit status 1 at the first difference, with the smallest case found that shows one.
 #[path = "compare/appending.rs"]
 mod appending;
@@ -126,6 +127,9 @@ fn line(name: &str, c: &Count) -> String {
     if c.evt21 > 0 {
         out.push_str(&format!("; {} cases without a call, the header naming EVT2.1", c.evt21));
     }
+    if c.looped > 0 {
+        out.push_str(&format!("; {} appends not compared, past EVT3's first loop", c.looped));
+    }
     format!("{out}; 0 mismatches")
 }
 
@@ -136,7 +140,8 @@ fn report(counts: &[Count], seed: u64, cases: u64) {
     let sum = |f: fn(&Count) -> u64| counts.iter().map(f).sum::<u64>();
     let [calls, percent, evt21] = [sum(|c| c.calls), sum(|c| c.percent), sum(|c| c.evt21)];
     let left = format!("{} of them not compared ({percent} with a % behind the end line, {evt21} others that name EVT2.1)", percent + evt21);
-    println!("seed {seed}: {cases} cases, {left}, {calls} calls, 0 mismatches");
+    let looped = format!("{} more appends not compared, past EVT3's first loop", sum(|c| c.looped));
+    println!("seed {seed}: {cases} cases, {left}, {calls} calls, {looped}, 0 mismatches");
 }
 
 fn differs(seed: u64, number: u64, case: Case, how: String, env: &mut Env) -> ! {

@@ -307,19 +307,25 @@ fn words21(rng: &mut Rng, n: usize) -> Vec<u8> {
     high.chunks_exact(4).flat_map(|h| [mask(rng).to_le_bytes(), [h[0], h[1], h[2], h[3]]].concat()).collect()
 }
 
-pub fn time_bound(encoding: u32) -> i64 {
-    1 << if encoding == 3 { 24 } else { 34 }
+/// What times are below: in EVT3 mostly the first loop, to which the original's writer keeps.
+pub fn time_bound(rng: &mut Rng, encoding: u32) -> i64 {
+    if encoding == 3 && rng.chance(85) {
+        table::FIRST_LOOP
+    } else {
+        table::TIMES
+    }
 }
 
 /// n events that a writer takes after time `from`: runs along a row, gaps, times that stand or go on.
 pub fn events(rng: &mut Rng, encoding: u32, from: i64, n: usize) -> Columns {
     let mut c = Columns::default();
-    let bound = time_bound(encoding);
+    let bound = if from < table::FIRST_LOOP { time_bound(rng, encoding) } else { table::TIMES };
+    let far = if encoding == 3 && bound == table::TIMES { table::FIRST_LOOP } else { bound / 16 };
     let mut t = from.clamp(0, bound - 1);
     let (mut y, busy) = (rng.below(2048), rng.pick(&[2, 20, 60]));
     while c.xs.len() < n {
         if rng.chance(busy) {
-            let later = rng.pick(&[1, 2, 5, 63, 64, 65, 1000, 4095, 4096, 4097, 100_000, bound / 16]);
+            let later = rng.pick(&[1, 2, 5, 63, 64, 65, 1000, 4095, 4096, 4097, 100_000, far, bound / 16]);
             t = (t + later).min(bound - 1);
         }
         if rng.chance(busy) {
@@ -345,7 +351,8 @@ pub fn events(rng: &mut Rng, encoding: u32, from: i64, n: usize) -> Columns {
 
 /// About n words that the library's writer made.
 fn written(rng: &mut Rng, encoding: u32, n: usize) -> Vec<u8> {
-    let from = if rng.chance(50) { 0 } else { rng.below(time_bound(encoding) as usize) as i64 };
+    let bound = time_bound(rng, encoding);
+    let from = if rng.chance(50) { 0 } else { rng.below(bound as usize) as i64 };
     let c = events(rng, encoding, from, n);
     let mut bytes = vec![0; most_bytes(encoding, c.xs.len())];
     let a = archive::append(archive::writer(encoding, 0), 0, 0, &c, &mut bytes);

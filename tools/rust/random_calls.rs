@@ -42,9 +42,13 @@ enum Name {
     WordTrigger,
     NextEvent,
     DecoderAfter,
+    DecoderAfterRaw,
+    Resume,
+    ResumeWords,
+    ResumeRaw,
 }
 
-const NAMES: [&str; 17] = [
+const NAMES: [&str; 21] = [
     "version",
     "parse_header",
     "read_raw",
@@ -62,6 +66,10 @@ const NAMES: [&str; 17] = [
     "word_trigger",
     "next_event",
     "decoder_after",
+    "decoder_after_raw",
+    "resume",
+    "resume_words",
+    "resume_raw",
 ];
 
 /// Calls of each function by answer.
@@ -220,7 +228,8 @@ impl Env {
             5..=24 => self.reading(),
             25..=41 => self.opening(),
             42..=64 => self.slicing(),
-            65..=84 => self.appending(),
+            65..=79 => self.appending(),
+            80..=84 => self.resuming(),
             85..=97 => self.decoding(),
             _ => self.fresh(),
         }

@@ -4,6 +4,10 @@ use crate::archive::{Decoder, Record, Sink, Source, EVT21};
 
 pub const LONGEST: usize = 1 << 30;
 pub const MOST_EVENTS: usize = 1 << 28;
+/// Rule 7's bound of times, in every encoding.
+pub const TIMES: i64 = 1 << 34;
+/// EVT3: the times of the first loop, past which a writer sends words that the original doesn't.
+pub const FIRST_LOOP: i64 = 1 << 24;
 
 /// Where the header lines end, and whether an end line, which is always the last one, is among them.
 fn header_lines(bytes: &[u8]) -> (usize, bool) {
@@ -229,8 +233,13 @@ pub fn slice_refusal(lent: usize, source: &Source, records: &[Record]) -> u32 {
     }
 }
 
-fn time_bound(evt3: bool) -> i64 {
-    1 << if evt3 { 24 } else { 34 }
+/// The unit of a writer's high half.
+pub fn grain(encoding: u32) -> u64 {
+    if encoding == 3 {
+        4096
+    } else {
+        64
+    }
 }
 
 /// A flag, and a number that is 0 where the flag is.
@@ -251,30 +260,57 @@ pub fn sink_ok(s: &Sink) -> bool {
     if !is_sink(s) || s.n_events > 1 << 62 || (!evt3 && (low || row)) {
         return false;
     }
+    let step = grain(s.encoding);
     if s.has_last_t == 0 {
-        return s.n_events == 0 && !high && !low && !row;
+        return s.n_events == 0 && (s.time_high as u128 * step as u128) < TIMES as u128 && !low && !row;
     }
-    if s.last_t < 0 || s.last_t >= time_bound(evt3) {
+    if !(0..TIMES).contains(&s.last_t) {
         return false;
     }
-    let step = if evt3 { 4096 } else { 64 };
     let t = s.last_t as u64;
     (!high || s.time_high == t / step) && (!low || s.time_low == t % step) && (!row || s.y <= 2047)
 }
 
+/// What no time may be below: the last time, or else the coarse time that is held.
+pub fn not_before(s: &Sink) -> Option<i64> {
+    if s.has_last_t != 0 {
+        Some(s.last_t)
+    } else {
+        (s.has_time_high != 0).then(|| s.time_high.saturating_mul(grain(s.encoding)).min(i64::MAX as u64) as i64)
+    }
+}
+
+/// Whether a time is below the one before it.
+pub fn falls(before: Option<i64>, ts: &[i64]) -> bool {
+    ts.first().is_some_and(|t| before.is_some_and(|b| *t < b)) || ts.windows(2).any(|t| t[1] < t[0])
+}
+
+/// Whether an append lies past the first loop of EVT3, or its writer does: its words have no reference in the original.
+pub fn past_first_loop(s: &Sink, ts: &[i64]) -> bool {
+    s.encoding == 3 && (s.time_high > 4095 || ts.iter().any(|t| *t >= FIRST_LOOP))
+}
+
+/// The writer that resumes behind a decoder, and 10 or 0.
+pub fn resumed(d: &Decoder) -> (Sink, u32) {
+    let fresh = Sink { encoding: d.encoding, header_written: 1, ..Sink::default() };
+    if !decoder_ok(d) || d.time_base >= TIMES as u64 {
+        return (fresh, 10);
+    }
+    (Sink { has_time_high: d.initialised, time_high: d.time_base / grain(d.encoding), ..fresh }, 0)
+}
+
 /// 10, 12, 4, 6 and 7 of an append, the first that applies; 0 for none.
 pub fn append_refusal(s: &Sink, xs: &[u16], ys: &[u16], ts: &[i64], ps: &[u8]) -> u32 {
-    let before = if s.has_last_t != 0 { s.last_t } else { i64::MIN };
     if !sink_ok(s) {
         10
     } else if ys.len() != xs.len() || ts.len() != xs.len() || ps.len() != xs.len() {
         12
     } else if xs.len() > MOST_EVENTS {
         4
-    } else if ts.first().is_some_and(|t| *t < before) || ts.windows(2).any(|t| t[1] < t[0]) {
+    } else if falls(not_before(s), ts) {
         6
     } else {
-        let times = ts.iter().all(|t| (0..time_bound(s.encoding == 3)).contains(t));
+        let times = ts.iter().all(|t| (0..TIMES).contains(t));
         let places = xs.iter().chain(ys).all(|n| *n <= 2047) && ps.iter().all(|p| *p <= 1);
         if times && places {
             0

@@ -265,7 +265,7 @@ fn slice_time_exact(r: &Recording, s: &Setup, c: &mut Lent) -> Times {
 
 // ---- appending
 
-/// The first events that one writer can take, in lists of `APPEND`.
+/// The first events that both writers write alike (EVT3: those of the first loop), in lists of `APPEND`.
 pub fn lists(r: &Recording, c: &mut Lent) -> Vec<Columns> {
     let limited = Options { limited: 1, max_events: APPENDED, ..Options::default() };
     let n = archive::read_raw(r.bytes(), limited, c).count;

@@ -23,6 +23,8 @@ pub struct Count {
     pub percent: u64,
     /// The others for which it is none: the header names EVT2.1.
     pub evt21: u64,
+    /// Appends whose words have no reference in the original: past EVT3's first loop. No call is counted for them.
+    pub looped: u64,
     /// Cases of a recording with an end line that were compared.
     pub ended: u64,
 }

@@ -17,7 +17,7 @@ fn wild_decoder(rng: &mut Rng) -> Decoder {
 }
 
 /// A fresh decoder, one that has decoded words, one with a number altered, or any numbers at all.
-fn any_decoder(rng: &mut Rng) -> Decoder {
+pub fn any_decoder(rng: &mut Rng) -> Decoder {
     if rng.chance(15) {
         return wild_decoder(rng);
     }
@@ -42,6 +42,13 @@ fn any_decoder(rng: &mut Rng) -> Decoder {
             d.high_loops += more;
             d.time_base += more * step;
             d.time += more * step;
+        }
+        // the last loop whose times a writer takes, and the next one
+        12 | 13 if d.initialised == 1 => {
+            let loops = (table::TIMES as u64 / step) - rng.below(2) as u64;
+            d.time_base = d.time_base % step + loops * step;
+            d.time = d.time % step + loops * step;
+            d.high_loops = loops;
         }
         _ => {}
     }

@@ -1,5 +1,5 @@
-//! Writers and appends.
-use crate::archive::{self, Appended, Columns, Sink};
+//! Writers, those that resume, and appends.
+use crate::archive::{self, Appended, Columns, Decoder, Resumed, Sink, Stepped};
 use crate::lent::{untouched, Rng};
 use crate::*;
 
@@ -41,17 +41,18 @@ fn wild_sink(rng: &mut Rng) -> Sink {
     }
 }
 
-/// A fresh writer, one that wrote, one with a number altered, or any numbers at all.
+/// A fresh writer, one that wrote, one that resumes, one with a number altered, or any numbers at all.
 fn any_sink(rng: &mut Rng) -> Sink {
     if rng.chance(15) {
         return wild_sink(rng);
     }
     let encoding = rng.pick(&making::KNOWN);
-    let mut s = archive::writer(encoding, flag(rng));
-    if rng.chance(70) {
-        let from = rng.below(making::time_bound(encoding) as usize) as i64;
-        let c = making::events(rng, encoding, from, 5);
-        s = archive::append(s, 1, 1, &c, &mut [0; 200]).sink;
+    let mut s = if rng.chance(20) { archive::resume(words::any_decoder(rng)).sink } else { archive::writer(encoding, flag(rng)) };
+    if rng.chance(60) {
+        let bound = making::time_bound(rng, s.encoding);
+        let from = table::not_before(&s).unwrap_or(rng.below(bound as usize) as i64);
+        let c = making::events(rng, s.encoding, from, 5);
+        s = archive::append(s, 1, 1, &c, &mut [0; 5000]).sink;
     }
     let (wild, flag) = (rng.wild(), flag(rng));
     match rng.below(30) {
@@ -98,7 +99,7 @@ impl Env {
         let rng = &mut self.rng;
         let sink = any_sink(rng);
         let (size, last) = ((number(rng), number(rng)), rng.chance(70));
-        let from = if rng.chance(80) { sink.last_t } else { 0 };
+        let from = if rng.chance(80) { table::not_before(&sink).unwrap_or(0) } else { 0 };
         let n = if rng.chance(90) { rng.below(20) } else { rng.below(3000) };
         let mut c = making::events(rng, sink.encoding, from, n);
         if rng.chance(30) {
@@ -111,6 +112,7 @@ impl Env {
         let output = output + rng.below(8);
         let got = self.append(sink, size, &c, output, last)?;
         if got.refusal == 11 {
+            ensure(got.told <= archive::most_bytes(sink.encoding, c.xs.len()), "11 tells more bytes than the events can need")?;
             let again = self.append(sink, size, &c, got.told, last)?;
             ensure(again.refusal == 0 && again.written == got.told, "the count that 11 told isn't taken")?;
         }
@@ -131,6 +133,58 @@ impl Env {
         ensure(answers[0] == answers[1], "two answers to one call")?;
         self.count(Name::Append, answers[0].0.refusal)?;
         Ok(answers[0].0)
+    }
+
+    /// Behind a decoder, behind words, and behind a recording: all that is answered follows from the decoder there.
+    pub fn resuming(&mut self) -> Checked {
+        let d = words::any_decoder(&mut self.rng);
+        let (sink, refusal) = table::resumed(&d);
+        self.resumed(Name::Resume, || archive::resume(d), sink, refusal)?;
+        let encoding = making::encoding(&mut self.rng);
+        let given = making::words(&mut self.rng, encoding);
+        let given = Bytes::of(&mut self.rng, given);
+        self.resume_words(encoding, &given)?;
+        let given = Bytes::make(&mut self.rng);
+        self.resume_raw(&given)
+    }
+
+    fn resumed(&mut self, name: Name, call: impl Fn() -> Resumed, sink: Sink, refusal: u32) -> Checked {
+        for _ in 0..2 {
+            same(call(), Resumed { sink, refusal })?;
+        }
+        self.count(name, refusal)
+    }
+
+    fn resume_words(&mut self, encoding: u32, given: &Bytes) -> Checked {
+        let words = given.lend(&mut self.bytes, &mut self.long);
+        let early = table::words_refusal(words, encoding, None);
+        let behind = archive::decoder_after(archive::new_decoder(encoding), words).decoder;
+        let got = archive::resume_words(words, encoding);
+        let fresh = Sink { encoding, header_written: 1, ..Sink::default() };
+        let (sink, refusal) = if early > 0 { (fresh, early) } else { table::resumed(&behind) };
+        ensure(archive::resume_words(words, encoding) == got, "two answers to one call")?;
+        given.unaltered(words)?;
+        self.resumed(Name::ResumeWords, || got, sink, refusal)
+    }
+
+    /// After 4, 3 and 2 a writer and a decoder of EVT2.
+    fn resume_raw(&mut self, given: &Bytes) -> Checked {
+        let recording = given.lend(&mut self.bytes, &mut self.long);
+        let early = table::header_refusal(recording, Some((1, 1)));
+        let behind = if early > 0 {
+            Decoder { encoding: 2, ..Decoder::default() }
+        } else {
+            let head = table::head(recording);
+            archive::decoder_after(archive::new_decoder(head.encoding), &recording[head.start..]).decoder
+        };
+        let (after, got) = (archive::decoder_after_raw(recording), archive::resume_raw(recording));
+        let again = (archive::decoder_after_raw(recording), archive::resume_raw(recording));
+        ensure((after, got) == again, "two answers to one call")?;
+        same(after, Stepped { decoder: behind, refusal: early })?;
+        given.unaltered(recording)?;
+        self.count(Name::DecoderAfterRaw, early)?;
+        let (sink, refusal) = table::resumed(&behind);
+        self.resumed(Name::ResumeRaw, || got, sink, if early > 0 { early } else { refusal })
     }
 
     /// Over 2^28 events, and columns of such lengths that differ.

@@ -1,5 +1,5 @@
 // EVT3: the words of time and row that lead a run, stored, or in a dry run only counted: `put_leads`
-// is proved to store those that are due, `loops::put_loops` those that pass into a later loop.
+// is proved to store those that are due, `loops::put_passes` those that pass into a later loop.
 // specs/Evt3.antt says which words a writer sends of a run, each with a note of the events that it
 // carries, specs/Leads.antt which bytes its leading words have, specs/Loops.antt those of the loops.
 ghost use mathlib.Core.Path.{_≡_};

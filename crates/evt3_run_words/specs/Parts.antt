@@ -92,6 +92,11 @@ bytes-parts v r =
     let leads = leads3 (looped3 v (r .t)) (r .t) (r .y) in
     rw (words-append loops, stream-append wordSize3 (words loops), words-append leads, stream-append wordSize3 (words leads), words-body)
 
+-- where no loop is passed
+pub bytes-still : (v : EncoderState) (r : Run) → ahead3 v (r .t) ≡ 0 → bytes3 v r ≡ leadBytes v (r .t) (r .y) ++ bodyBytes (r .p) (r .xs)
+unfolding passesBytes passes3
+bytes-still v r h = bytes-parts v r ∙ rw h
+
 pub few3 : (v : EncoderState) (r : Run) → 1 ≤ length (r .xs) → length (bytes3 v r) ≤ 8 * length (r .xs) + 4 * ahead3 v (r .t)
 few3 v r h =
     let l = aheadBytes v (r .t) in

@@ -18,7 +18,7 @@ use Rattle.write_buffer.specs.{Storing.Roomy, Storing.roomy-rest, Storing.store
 use Rattle.evt2_encoder.specs.Pass2.{Fitting2}
 use Rattle.evt3_lead_words.specs.Evt3.{loopOf}
 use Rattle.write_words.specs.{Laws.encode-few, Laws.most-le, Laws.ahead-times, Encode.encodeState, Encode.encodeMost, Encode.passed, Encode.Fitting}
-use Rattle.write_words.specs.Encode.{lastLoop}
+use Rattle.write_words.specs.Encode.{lastLoop, Paced}
 use Rattle.write_header.specs.Header.{headerText, header-few}
 use Rattle.write_rules.specs.declared.{Check.the-variants.Passed, Check.the-variants.Failed, LastTime.LastTime, LastTime.the-variants.At}
 use Rattle.write_rules.specs.{declared.RawEventSink.RawEventSink, Range.eventsInRange, Rules.checkOutcome, Rules.checkOf, Checks.event-fine}
@@ -174,8 +174,9 @@ module _ (s : RawEventSink) (width height : ℕ) (xs ys : List ℕ) (ts : List �
   abbrev pub ahead : ℕ
   ahead = lastLoop (loopOf (s .state .«time_high»)) ts - loopOf (s .state .«time_high»)
 
-  -- what surely suffices, a header having at most 96 bytes, and no place wraps
+  -- no event is in a loop before that of the one before; what surely suffices, a header having at most 96 bytes, and no place wraps
   pub record Suffices : Type 0 where
+    pub paced : Paced (s .version) (s .state) (eventsIn xs ys ts ps)
     pub loops : ahead ≤ 1023
     pub most : length (sends s width height xs ys ts ps) ≤ 96 + encodeMost (s .version) (length xs) ahead
     pub few : length (sends s width height xs ys ts ps) ≤ 2 ^ 34
@@ -195,7 +196,7 @@ module _ (s : RawEventSink) (width height : ℕ) (xs ys : List ℕ) (ts : List �
         rw is at (encode-few (s .version) (s .state) (eventsIn xs ys ts ps) (paced .0)),
         ap (λ (n : ℕ). encodeMost (s .version) n ahead) (events-length xs ys ts ps (k .sized) 0),
       ) in
-      record { loops = loops; most = most; few = omega (arith, most, k .sized .few, most-le (s .version) (length xs) ahead, loops) }
+      record { paced = paced .0; loops = loops; most = most; few = omega (arith, most, k .sized .few, most-le (s .version) (length xs) ahead, loops) }
 
 -- what is missing, or 0
 pub short-fits : (n room : ℕ) → n ≤ room → 0 ≡ cond (leb n room) 0 n

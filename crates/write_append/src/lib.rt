@@ -125,7 +125,7 @@ fn shortfall(
     let version = sink.version;
     let state = sink.state;
     let held = state.time_high;
-    let loops = write_words::loops_ahead(held, ts);
+    let loops = write_words::evt3::loops_ahead(held, ts);
     if 96 + write_words::most_bytes(version, xs.len(), loops) <= room {
         return 0;
     }

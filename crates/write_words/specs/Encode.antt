@@ -1,6 +1,6 @@
 -- The words of events in each encoding: what the writer's contracts cite.
 use mathlib.Core.Bool.{true}
-use mathlib.Core.List.{List, [], _∷_}
+use mathlib.Core.List.{List}
 use Prim.Native.Nat.{ℕ, _+_, _-_, _*_, _/_}
 use lib.IntN.{ℤ}
 use lib.ListN.{length}
@@ -14,9 +14,12 @@ use Rattle.evt21_encoder.specs.Evt21.{runs21, writer21}
 use Rattle.evt3_run_rules.specs.Runs.{runs}
 use Rattle.evt3_lead_words.specs.Evt3.{loopOf, writer3}
 
--- the loop of an event's time
+-- the loop of an event's time, and of a time of a column
 abbrev pub loopClock : Event → ℕ
 loopClock e = e .t / period3
+
+abbrev pub loopTime : ℤ → ℕ
+loopTime t = natural t / period3
 
 -- the words of events, each with a note of those that it carries
 abbrev pub encodeNotes : Encoding → EncoderState → List Event → List (Note ℕ Event)
@@ -45,11 +48,14 @@ encodeMost Evt2 n loops = 8 * n
 encodeMost Evt21 n loops = 16 * n
 encodeMost Evt3 n loops = 8 * n + 4 * loops
 
--- in EVT3 no event is in a loop before that of the one before, the first in none before that of the half that is held
+-- in EVT3: no event is in a loop before that of the one before, the first in none before that of the half that is held
+abbrev pub Paced3 : EncoderState → List Event → Type 0
+Paced3 v es = Rise loopClock (λ e. true) (loopOf (v .«time_high»)) es
+
 abbrev pub Paced : Encoding → EncoderState → List Event → Type 0
 Paced Evt2 v es = Unit
 Paced Evt21 v es = Unit
-Paced Evt3 v es = Rise loopClock (λ e. true) (loopOf (v .«time_high»)) es
+Paced Evt3 v es = Paced3 v es
 
 -- the loops that such events pass
 abbrev pub loopsAhead : EncoderState → List Event → ℕ
@@ -57,8 +63,7 @@ loopsAhead v es = lastOf loopClock (λ e. true) (loopOf (v .«time_high»)) es -
 
 -- by the times alone: of the last of them, or of none
 abbrev pub lastLoop : (held : ℕ) → List ℤ → ℕ
-lastLoop held [] = held
-lastLoop held (t ∷ ts) = lastLoop (natural t / period3) ts
+lastLoop = lastOf loopTime (λ t. true)
 
 -- after a pass whose words go from `at` on
 abbrev pub passed : Encoding → EncoderState → List Event → (at : ℕ) → Put

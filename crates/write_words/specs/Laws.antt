@@ -10,7 +10,7 @@ use lib.IntN.{ℤ, pos}
 use Rattle.laws_stream.specs.Machine.{Note, All, all-of, all-append, words, words-append, notes, notes-append}
 use Rattle.laws_stream.specs.{Mask.Inc, Mask.mask, Order.Rise, Order.lastOf, Order.rise-last, Words.Fits}
 use Rattle.evt3_decoder.specs.Evt3.{period3}
-use Rattle.evt_types.specs.{Event.Event, Num.natural, Layout.wordSize2, Layout.wordSize21, Layout.wordSize3, Layout.grain3, Layout.word3}
+use Rattle.evt_types.specs.{Event.Event, Layout.wordSize2, Layout.wordSize21, Layout.wordSize3, Layout.grain3, Layout.word3}
 use Rattle.evt_types.specs.declared.{Encoding.Encoding, Encoding.the-variants.Evt2, Encoding.the-variants.Evt21, Encoding.the-variants.Evt3}
 use Rattle.write_buffer.specs.{declared.EncoderState.EncoderState, Columns.event, Sent.due, Emits.events-single, Emits.emits-fit, Emits.emits-notes}
 use Rattle.write_buffer.specs.{Columns.Sized, Columns.eventsIn, Emits.emits-few, Storing.bytesFrom, Storing.bytes-cons}
@@ -21,7 +21,7 @@ use Rattle.evt3_run_rules.specs.Runs.{goes, goes-true, firstOf, single, prepend
 use Rattle.evt3_lead_words.specs.Evt3.{highWord3, lowWord3, rowWord3, highSent3, lowSent3, rowSent3, leads3, nearby}
 use Rattle.evt3_lead_words.specs.Evt3.{beyond, maskCount, vectored, singles, masks, vectors, body3, encode3, encoded3, writer3}
 use Rattle.evt3_lead_words.specs.Evt3.{loopOf, atEnd, passes3, ahead3, looped3}
-use Rattle.write_words.specs.Encode.{encodeNotes, encodeSize, encodeBytes, encodeMost, loopClock, Paced, loopsAhead, lastLoop}
+use Rattle.write_words.specs.Encode.{encodeNotes, encodeSize, encodeBytes, encodeMost, loopClock, loopTime, Paced, loopsAhead, lastLoop}
 use Rattle.evt3_run_words.specs.{Parts.bytes3, Parts.few3, Masks.near-inc, Masks.inc-to}
 
 -- ---- the masks of a run hold all of it
@@ -237,14 +237,14 @@ encode-few Evt3 v es p =
     omega (arith, few-runs v (runs es) (r .0) (q .0), ap length (r .1), q .1)
 
 -- the last loop, by the columns
-last-loop : (held : ℕ) (xs ys : List ℕ) (ts : List ℤ) (ps : List ℕ) → length ys ≡ length xs → length ts ≡ length xs → length ps ≡ length xs
+pub last-loop : (held : ℕ) (xs ys : List ℕ) (ts : List ℤ) (ps : List ℕ) → length ys ≡ length xs → length ts ≡ length xs → length ps ≡ length xs
     → lastOf loopClock (λ e. true) held (eventsIn xs ys ts ps) ≡ lastLoop held ts
 last-loop held [] ys [] ps a b c = refl
 last-loop held [] ys (t ∷ ts) ps a b c = absurd (omega arith)
 last-loop held (x ∷ xs) [] ts ps a b c = absurd (omega arith)
 last-loop held (x ∷ xs) (y ∷ ys) [] ps a b c = absurd (omega arith)
 last-loop held (x ∷ xs) (y ∷ ys) (t ∷ ts) [] a b c = absurd (omega arith)
-last-loop held (x ∷ xs) (y ∷ ys) (t ∷ ts) (p ∷ ps) a b c = last-loop (natural t / period3) xs ys ts ps (omega arith) (omega arith) (omega arith)
+last-loop held (x ∷ xs) (y ∷ ys) (t ∷ ts) (p ∷ ps) a b c = last-loop (loopTime t) xs ys ts ps (omega arith) (omega arith) (omega arith)
 
 pub ahead-times : (v : EncoderState) (xs ys : List ℕ) (ts : List ℤ) (ps : List ℕ) → Sized xs ys ts ps
     → loopsAhead v (eventsIn xs ys ts ps) ≡ lastLoop (loopOf (v .«time_high»)) ts - loopOf (v .«time_high»)
@@ -254,10 +254,10 @@ pub last-loop-none : (held : ℕ) (ts : List ℤ) → length ts ≤ 0 → lastLo
 last-loop-none held [] h = refl
 last-loop-none held (t ∷ ts) h = absurd (omega arith)
 
-last-loop-is : (held : ℕ) (t : ℤ) (ts : List ℤ) → lastLoop held (t ∷ ts) ≡ natural (getD (t ∷ ts) (length ts) (pos 0)) / period3
+last-loop-is : (held : ℕ) (t : ℤ) (ts : List ℤ) → lastLoop held (t ∷ ts) ≡ loopTime (getD (t ∷ ts) (length ts) (pos 0))
 last-loop-is held t [] = refl
-last-loop-is held t (u ∷ ts) = last-loop-is (natural t / period3) u ts
+last-loop-is held t (u ∷ ts) = last-loop-is (loopTime t) u ts
 
-pub last-loop-some : (held : ℕ) (ts : List ℤ) → 0 < length ts → lastLoop held ts ≡ natural (getD ts (length ts - 1) (pos 0)) / period3
+pub last-loop-some : (held : ℕ) (ts : List ℤ) → 0 < length ts → lastLoop held ts ≡ loopTime (getD ts (length ts - 1) (pos 0))
 last-loop-some held [] h = absurd (omega arith)
 last-loop-some held (t ∷ ts) h = let n : suc (length ts) - 1 ≡ length ts = omega arith in last-loop-is held t ts ∙ rw n

@@ -1,23 +1,22 @@
 -- EVT3: the loop over the runs.
 use mathlib.Core.Path.{_≡_, refl, sym, ap, _∙_}
 use mathlib.Core.List.{List, [], _∷_, _++_, map}
-use Prim.Native.Nat.{ℕ, zero, suc, _+_, _-_, _*_, _/_, _%_, _^_, _≤_, _<_}
+use Prim.Native.Nat.{ℕ, zero, suc, _+_, _-_, _/_, _%_, _^_, _≤_, _<_}
 use native.Mathlib.Omega.{arith}
-use lib.ListN.{length, take, drop, length-drop, length-append}
+use lib.ListN.{length, getD, take, drop, length-drop}
 use lib.Seq.{sets}
-use lib.IntN.{ℤ}
+use lib.IntN.{ℤ, pos}
 use Rattle.laws_stream.specs.{Part.between, Part.between-at, Machine.run}
 use Rattle.evt3_decoder.specs.Evt3.{period3}
 use Rattle.evt_types.specs.{Event.Event, Layout.wordSize3, Layout.grain3, Columns.colX}
 use Rattle.write_buffer.specs.{Sent.stateAt, Sent.state-some, Sent.sentNumber, declared.EncoderState.EncoderState, declared.Put.Put}
 use Rattle.write_buffer.specs.Columns.{Sized, eventsIn, eventsPast, eventOf, events-at, events-end, events-x, events-drop, events-length}
-use Rattle.write_buffer.specs.Storing.{Roomy, roomy-rest, stored-both, bytesFrom, bytes-cons, Going, going-start, going-iteration, going-room, going-end}
+use Rattle.write_buffer.specs.Storing.{Roomy, bytesFrom, Going, going-start, going-iteration, going-room, going-end}
 use Rattle.evt3_run_rules.specs.Runs.{Run, Rising, runs, runs-are, runOf, runs-at, follow-le}
-use Rattle.evt3_lead_words.specs.{Evt3.stateOf3, Evt3.writer3, Evt3.loopOf, Evt3.looped3, Leads.leadsBytes, Leads.leads-number}
-use Rattle.evt3_lead_words.specs.declared.loops.Looped.{Looped}
-use Rattle.evt3_lead_words.specs.Loops.{loopBytes, loopedTo, loops-number, looped-number, looped-row}
-use Rattle.evt3_run_words.specs.Parts.{bytes3, bytes-parts, bodyBytes, Part}
+use Rattle.evt3_lead_words.specs.{Evt3.stateOf3, Evt3.writer3, Evt3.loopOf, Leads.leadsBytes, Leads.leads-number}
+use Rattle.evt3_run_words.specs.Parts.{bytes3, bytes-still, bodyBytes, Part}
 use Rattle.evt3_run_rules.specs.Marks.{goOn, Marked, marks-start}
+use Rattle.write_words.specs.Encode.{loopTime}
 
 abbrev pub stream3 : EncoderState → List Event → List ℕ
 stream3 v es = bytesFrom wordSize3 writer3 v (runs es)
@@ -34,44 +33,20 @@ map-take f (suc n) (x ∷ l) = ap (λ (r : List _). f x ∷ r) (map-take f n l)
 abbrev pub stateAt3 : EncoderState → ℕ → (high low row : ℕ) → EncoderState
 stateAt3 v i high low row = stateAt i v (stateOf3 high low row)
 
--- the words of a run by the numbers of what was sent: into its loop, of time and row, of its columns
-abbrev pub nextBytes : (loops high low row t y p : ℕ) (part : List ℕ) → List ℕ
-nextBytes loops high low row t y p part =
-    let led = loopedTo loops high low t 0 in
-    loopBytes loops high t ++ (leadsBytes (led .high) (led .low) row t y ++ bodyBytes p part)
+-- the loop of the first time
+abbrev pub firstLoop : List ℤ → ℕ
+firstLoop ts = loopTime (getD ts 0 (pos 0))
 
--- one after the other: the bounds and the room of all are those of each
-module _ (loops high low row t y p : ℕ) (xs : List ℕ) (i e at : ℕ) where
-  abbrev loopPart : List ℕ
-  loopPart = loopBytes loops high t
-
-  abbrev runPart : List ℕ
-  runPart =
-      let led = loopedTo loops high low t 0 in
-      leadsBytes (led .high) (led .low) row t y ++ bodyBytes p (between xs i e)
-
-  pub next-room : (out : List ℕ) → Roomy out at (length (loopPart ++ runPart)) → Roomy out at (length loopPart)
-  next-room out r h = omega (arith, r h, length-append loopPart runPart)
-
-  module _ {led : Looped} (is : led ≡ loopedTo loops high low t at) where
-    pub next-part : Part xs i e (at + length (loopPart ++ runPart) + 8) → Part xs i e (led .at + 8)
-    next-part q = record { low = q .low; high = q .high; few = q .few; place = rw is (omega (arith, q .place, length-append loopPart runPart)) }
-
-    pub next-rest : (out o : List ℕ) → length o ≡ length out → Roomy out at (length (loopPart ++ runPart))
-        → Roomy o (led .at) (length (leadsBytes (led .high) (led .low) row t y ++ bodyBytes p (between xs i e)))
-    next-rest out o n r = rw is (roomy-rest out o at loopPart runPart refl n r)
-
-    pub next-stored : (out : List ℕ) {o₁ o₂ : List ℕ} {r : ℕ} → o₁ ≡ sets out at loopPart
-        → r ≡ led .at + length (leadsBytes (led .high) (led .low) row t y ++ bodyBytes p (between xs i e))
-        → o₂ ≡ sets o₁ (led .at) (leadsBytes (led .high) (led .low) row t y ++ bodyBytes p (between xs i e))
-        → (r ≡ at + length (loopPart ++ runPart)) × (o₂ ≡ sets out at (loopPart ++ runPart))
-    next-stored out a b c = stored-both out at loopPart runPart refl a (rw is at b) (rw is at c)
+-- all times are of one loop, and that is no later than the one that is held
+pub record Still (v : EncoderState) (ts : List ℤ) : Type 0 where
+  pub same : (j : ℕ) → j < length ts → loopTime (getD ts j (pos 0)) ≡ firstLoop ts
+  pub held : firstLoop ts ≤ loopOf (v .«time_high»)
 
 -- at index i
 pub record Under3 (v₀ : EncoderState) (xs ys : List ℕ) (ts : List ℤ) (ps : List ℕ) (at₀ : ℕ) (out₀ out : List ℕ)
-    (loops high low row at i mask : ℕ) : Type 0 where
+    (high low row at i mask : ℕ) : Type 0 where
   pub within : i ≤ length xs
-  pub is-loops : loops ≡ loopOf (stateAt3 v₀ i high low row .«time_high»)
+  pub held : firstLoop ts ≤ loopOf (stateAt3 v₀ i high low row .«time_high»)
   pub is-high : high ≡ sentNumber (stateAt3 v₀ i high low row .«time_high»)
   pub is-low : low ≡ sentNumber (stateAt3 v₀ i high low row .«time_low»)
   pub is-row : row ≡ sentNumber (stateAt3 v₀ i high low row .y)
@@ -102,12 +77,13 @@ module _ {xs ys : List ℕ} {ts : List ℤ} {ps : List ℕ} (sized : Sized xs ys
       let left : drop n es ≡ eventsPast xs ys ts ps e = events-drop xs ys ts ps sized (i + 1) n ∙ ap (eventsPast xs ys ts ps) (sym q) in
       ap runs (events-at xs ys ts ps sized i h) ∙ runs-at a es ∙ rw (part, left)
 
-  module _ {v₀ : EncoderState} {at₀ : ℕ} {out₀ : List ℕ} (near : at₀ ≤ 2 ^ 32) (few : length (stream3 v₀ (eventsIn xs ys ts ps)) ≤ 2 ^ 36) where
-    pub under-start3 : (loops high low row : ℕ) → loops ≡ loopOf (v₀ .«time_high») → high ≡ sentNumber (v₀ .«time_high»)
-        → low ≡ sentNumber (v₀ .«time_low») → row ≡ sentNumber (v₀ .y) → Under3 v₀ xs ys ts ps at₀ out₀ out₀ loops high low row at₀ 0 0
-    under-start3 loops high low row k h l r = record {
+  module _ {v₀ : EncoderState} {at₀ : ℕ} {out₀ : List ℕ} (near : at₀ ≤ 2 ^ 37) (still : Still v₀ ts)
+      (few : length (stream3 v₀ (eventsIn xs ys ts ps)) ≤ 2 ^ 37) where
+    pub under-start3 : (high low row : ℕ) → high ≡ sentNumber (v₀ .«time_high»)
+        → low ≡ sentNumber (v₀ .«time_low») → row ≡ sentNumber (v₀ .y) → Under3 v₀ xs ys ts ps at₀ out₀ out₀ high low row at₀ 0 0
+    under-start3 high low row h l r = record {
       within = omega arith;
-      is-loops = k;
+      held = still .held;
       is-high = h;
       is-low = l;
       is-row = r;
@@ -115,16 +91,14 @@ module _ {xs ys : List ℕ} {ts : List ℤ} {ps : List ℕ} (sized : Sized xs ys
       going = going-start wordSize3 writer3;
     }
 
-    module _ {out : List ℕ} {loops high low row at i mask : ℕ} (u : Under3 v₀ xs ys ts ps at₀ out₀ out loops high low row at i mask) where
+    module _ {out : List ℕ} {high low row at i mask : ℕ} (u : Under3 v₀ xs ys ts ps at₀ out₀ out high low row at i mask) where
       -- by the numbers of what was sent, or by the state
-      words-are : (t y p : ℕ) (part : List ℕ) → t < 2 ^ 64 → y < 2 ^ 16
-          → nextBytes loops high low row t y p part ≡ bytes3 (stateAt3 v₀ i high low row) (runOf t y p part)
-      words-are t y p part t< y< =
+      words-are : (t y p : ℕ) (part : List ℕ) → t / period3 ≡ firstLoop ts → t < 2 ^ 64 → y < 2 ^ 16
+          → leadsBytes high low row t y ++ bodyBytes p part ≡ bytes3 (stateAt3 v₀ i high low row) (runOf t y p part)
+      words-are t y p part here t< y< =
           let v = stateAt3 v₀ i high low row in
-          let led = looped-number v loops high low t 0 (u .is-loops) (u .is-high) (u .is-low) in
-          let leads = leads-number (looped3 v t) _ _ row t y t< y< (led .0) (led .1) (u .is-row ∙ sym (ap sentNumber (looped-row v t))) in
-          (λ j. loops-number v loops high low t 0 (u .is-loops) (u .is-high) (u .is-low) j ++ (leads j ++ bodyBytes p part))
-          ∙ sym (bytes-parts v (runOf t y p part))
+          ap (λ (l : List ℕ). l ++ bodyBytes p part) (leads-number v high low row t y t< y< (u .is-high) (u .is-low) (u .is-row))
+          ∙ sym (bytes-still v (runOf t y p part) (omega (arith, u .held)))
 
       pub under-rising3 : (e : ℕ) → i < length xs → e ≡ i + 1 + goOn xs ys ts ps i → Rising (between xs i e)
       under-rising3 e h q = (rw (run-first i e h q) at (runs-are (eventsPast xs ys ts ps i) .0)) .0
@@ -136,7 +110,10 @@ module _ {xs ys : List ℕ} {ts : List ℤ} {ps : List ℕ} (sized : Sized xs ys
         here = runOf t y p (between xs i e)
 
         abbrev runBytes : List ℕ
-        runBytes = nextBytes loops high low row t y p (between xs i e)
+        runBytes = leadsBytes high low row t y ++ bodyBytes p (between xs i e)
+
+        words-here : runBytes ≡ bytes3 (stateAt3 v₀ i high low row) here
+        words-here = words-are t y p (between xs i e) (ap (λ (k : ℕ). k / period3) et ∙ still .same i (omega (arith, sized .same-t))) t< y<
 
         abbrev later : List Run
         later = runs (eventsPast xs ys ts ps e)
@@ -145,35 +122,33 @@ module _ {xs ys : List ℕ} {ts : List ℤ} {ps : List ℕ} (sized : Sized xs ys
         going-here = rw (et, ey, ep) (rw (run-first i e h q) at (u .going))
 
         -- all before the run's end lies before the end of all
-        pub under-part3 : Part xs i e (at + length runBytes + 8)
+        pub under-part3 : Part xs i e (at + 8)
         under-part3 =
             let s = going-here .storing in
-            let v = stateAt3 v₀ i high low row in
-            let n = ap length (bytes-cons wordSize3 writer3 v here later) ∙ length-append (bytes3 v here) _ in
             record {
               low = omega arith;
               high = end-within i e h q;
               few = sized .few;
-              place = omega (arith, s .count, n, ap length (words-are t y p (between xs i e) t< y<));
+              place = omega (arith, s .count);
             }
 
         pub under-room3 : Roomy out₀ at₀ (length (stream3 v₀ (eventsIn xs ys ts ps))) → Roomy out at (length runBytes)
-        under-room3 r = rw (words-are t y p (between xs i e) t< y<) (going-room wordSize3 writer3 here later going-here r)
+        under-room3 r = rw words-here (going-room wordSize3 writer3 here later going-here r)
 
         pub under-iteration3 : (m : ℕ) → Marked xs ys ts ps e m → (r : ℕ) (out′ : List ℕ) → r ≡ at + length runBytes → out′ ≡ sets out at runBytes
-            → Under3 v₀ xs ys ts ps at₀ out₀ out′ (t / period3) (t / grain3) (t % grain3) y r e m
+            → Under3 v₀ xs ys ts ps at₀ out₀ out′ (t / grain3) (t % grain3) y r e m
         under-iteration3 m marked r out′ is-at is-out =
             let in-e = end-within i e h q in
             let some = state-some e v₀ (stateOf3 (t / grain3) (t % grain3) y) (omega arith) in
-            let all = words-are t y p (between xs i e) t< y< in
+            let loop = still .same i (omega (arith, sized .same-t)) in
             record {
               within = in-e;
-              is-loops = rw some (omega arith);
+              held = rw some (omega (arith, loop));
               is-high = rw some;
               is-low = rw some;
               is-row = rw some;
               marked = marked;
-              going = rw (some, is-at, all) (going-iteration wordSize3 writer3 here later (is-out ∙ ap (sets out at) all) going-here);
+              going = rw (some, is-at, words-here) (going-iteration wordSize3 writer3 here later (is-out ∙ ap (sets out at) words-here) going-here);
             }
 
       pub under-end3 : length xs ≤ i → (v : EncoderState) → v ≡ stateAt3 v₀ (length xs) high low row

@@ -4,36 +4,17 @@
 // and crates/evt3_lead_words/specs/Evt3.antt; specs/Encode.antt says which bytes they have, for each
 // encoding.
 ghost use mathlib.Core.Path.{_≡_};
-ghost use Prim.Native.Nat.{_-_, _^_, _≤_, _<_};
+ghost use Prim.Native.Nat.{_^_, _≤_, _<_};
 ghost use lib.ListN.{length};
 ghost use lib.Seq.{sets};
 ghost use Rattle.write_buffer.specs.Columns.{Sized, Whole, eventsIn};
 ghost use Rattle.write_buffer.specs.Storing.{Roomy};
-ghost use Rattle.evt3_lead_words.specs.Evt3.{loopOf};
-ghost use Rattle.write_words.specs.Encode.{encodeBytes, encodeMost, lastLoop, passed, Fitting};
+ghost use Rattle.write_words.specs.Encode.{encodeBytes, encodeMost, passed, Fitting, Paced};
 use evt_types::Encoding;
-use evt_types::Sent;
-use evt_types::num::saturating_sub;
-use evt3_decoder::Decoder;
 use write_buffer::EncoderState;
 use write_buffer::Put;
-use write_buffer::time_at;
 
 pub mod evt3;
-
-// The loops from the half that is held to the last time.
-pub fn loops_ahead(held: Sent, ts: &[i64]) -> u64
-    requires { ⌜ (length (now ts) ≤ 2 ^ 28) × Whole (now ts) ⌝ }
-    ensures { λ r. ⌜ r ≡ lastLoop (loopOf held) (now (ts .entry)) - loopOf held ⌝ }
-{
-    let n = ts.len();
-    if 0 < n {
-        let last = time_at(ts, n - 1);
-        saturating_sub(last / Decoder::PERIOD, evt3::loop_of(held))
-    } else {
-        0
-    }
-}
 
 // The most bytes that n events need which pass so many loops.
 pub fn most_bytes(version: Encoding, n: usize, loops: u64) -> usize
@@ -62,7 +43,8 @@ pub fn pass(
     requires { ⌜ Sized (now xs) (now ys) (now ts) (now ps) × (start ≤ 2 ^ 32) × Whole (now ts)
         × (length (encodeBytes version state (eventsIn (now xs) (now ys) (now ts) (now ps))) ≤ 2 ^ 36)
         × Roomy (now out) start (length (encodeBytes version state (eventsIn (now xs) (now ys) (now ts) (now ps))))
-        × Fitting version (now xs) (now ys) (now ts) (now ps) ⌝ }
+        × Fitting version (now xs) (now ys) (now ts) (now ps)
+        × Paced version state (eventsIn (now xs) (now ys) (now ts) (now ps)) ⌝ }
     ensures { λ r. ⌜ r ≡ passed version state (eventsIn (now (xs .entry)) (now (ys .entry)) (now (ts .entry)) (now (ps .entry))) start ⌝
         ∗ ⌜ now (out .exit) ≡ sets (now (out .entry)) start (encodeBytes version state (eventsIn
         (now (xs .entry)) (now (ys .entry)) (now (ts .entry)) (now (ps .entry)))) ⌝ }

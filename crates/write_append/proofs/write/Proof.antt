@@ -26,6 +26,7 @@ pass-requires c κs =
           (c .before .before .before .put-due .last .1 .1 .1 .1 .0) (header-due .ensures) (c .before .before .before .put-due .ensures .0)
           (c .before .before .out .given) (s .pre .3),
       s .pre .4,
+      s .pre .2 .paced,
     )
 
 returns : tie.Need-returns

@@ -21,7 +21,8 @@ pass3-requires c κs =
     let s = c .before .before .before .before .before .before .before in
     let few = rw (c .before .enum-told3 .given .1) at (s .pre .3) in
     let room = rw (c .before .enum-told3 .given .1) at (s .pre .4) in
-    (s .pre .0, s .pre .1, s .pre .2, unfold encodeBytes bytesFrom in few, unfold encodeBytes bytesFrom in room)
+    let paced = rw (c .before .enum-told3 .given .1) at (s .pre .6) in
+    (s .pre .0, s .pre .1, s .pre .2, unfold encodeBytes bytesFrom in few, unfold encodeBytes bytesFrom in room, paced)
 
 returns : tie.Need-returns
 returns c = rw (c .before .before .before .before .enum-told .given .1) (unfold encodeBytes bytesFrom in c .before .before .pass .ensures)

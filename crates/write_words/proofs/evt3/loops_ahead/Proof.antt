@@ -4,8 +4,8 @@ use denote.Ref.{now}
 use Rattle.write_words.specs.Laws.{last-loop-none, last-loop-some}
 use Rattle.evt3_lead_words.specs.Evt3.{loopOf}
 use borrow.Author.Needs.{needs}
-use Rattle.write_words.proofs.loops_ahead.Statement.{statement}
-use Rattle.write_words.proofs.loops_ahead.Tie as tie
+use Rattle.write_words.proofs.evt3.loops_ahead.Statement.{statement}
+use Rattle.write_words.proofs.evt3.loops_ahead.Tie as tie
 
 returns : tie.Need-returns
 returns c =

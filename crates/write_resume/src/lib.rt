@@ -20,9 +20,7 @@ use read_after::AfterAnswer;
 use write_buffer::EncoderState;
 use write_rules::LastTime;
 use write_rules::RawEventSink;
-
-// A coarse time from here on is none that an event may have (7).
-const TIMES: u64 = 17179869184;
+use write_rules::TIMES;
 
 pub enum ResumeAnswer {
     Ready,

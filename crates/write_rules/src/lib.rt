@@ -12,6 +12,9 @@ use write_buffer::EncoderState;
 mod columns;
 mod range;
 
+// Rule 7's bound, of every encoding: no event has this time or a later one.
+pub const TIMES: u64 = 17179869184;
+
 pub enum LastTime {
     Never,
     At(i64),

@@ -5,6 +5,7 @@ ghost use Rattle.write_rules.specs.declared.LastTime.the-variants.{Never
 ghost use Rattle.write_rules.specs.Range.{timeInRange, isNothing, belongs, sentAtMost, highInRange, sentInRange, lastInRange};
 ghost use Rattle.write_rules.specs.Range.{grainOf, notBefore, heldInRange};
 use crate::LastTime;
+use crate::TIMES;
 use evt_types::Encoding;
 use evt_types::Sent;
 use evt_types::num::and2;
@@ -13,9 +14,6 @@ use evt_types::num::natural_time;
 use evt2_decoder::Evt2Decoder;
 use evt3_decoder::Decoder;
 use write_buffer::EncoderState;
-
-// Rule 7's bound, of every encoding.
-const TIMES: u64 = 17179869184;
 
 fn is_nothing(s: Sent) -> bool
     ensures { λ r. ⌜ r ≡ isNothing s ⌝ }

@@ -161,10 +161,11 @@ fn pass_across(
         ∗ ⌜ now (out .exit) ≡ sets (now (out .entry)) start (stream3 before (eventsIn
         (now (xs .entry)) (now (ys .entry)) (now (ts .entry)) (now (ps .entry)))) ⌝ }
 {
+    let n = xs.len();
     let mut state = before;
     let mut at = start;
     let mut i: usize = 0;
-    while i < xs.len() {
+    while i < n {
         let led = enter(state, time_at(ts, i), &mut *out, at);
         let end = loop_end(ts, i);
         let put = pass_still(

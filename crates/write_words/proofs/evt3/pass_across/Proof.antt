@@ -6,10 +6,10 @@ use Rattle.write_words.proofs.evt3.pass_across.Statement.{statement}
 use Rattle.write_words.proofs.evt3.pass_across.Tie as tie
 
 abbrev Inv-loop : tie.InvT-loop
-Inv-loop xs ys ts ps out₀ start state₀ at₀ i₀ out state at i = Across3 state₀ xs ys ts ps start out₀ out state at i
+Inv-loop xs ys ts ps out₀ start n state₀ at₀ i₀ out state at i = Across3 state₀ xs ys ts ps start out₀ out state at i
 
 abbrev μ-loop : tie.MeasureT-loop
-μ-loop xs ys ts ps out₀ start state₀ at₀ i₀ out state at i = length xs - i
+μ-loop xs ys ts ps out₀ start n state₀ at₀ i₀ out state at i = length xs - i
 
 time-at-requires : tie.Need-time-at-requires Inv-loop μ-loop
 time-at-requires c κs = let p = c .before .before .before .before .before .before .pre in (omega arith, omega arith, p .2)

@@ -4,6 +4,7 @@ import index
 import reading
 import words
 import writer
+from number import read_number
 from refusal import Refused
 
 
@@ -168,6 +169,10 @@ def after_raw(text):
         return f'{refusal_text(refused)} {state_text(words.DECODERS[2]().fields())}'
 
 
+def number_text(number):
+    return f'value {number.value}' if number.place is None else f'place {number.place}'
+
+
 def lengths(text):
     writer.check_lengths(list(map(int, text.split(','))))
     return 'ok'
@@ -202,6 +207,7 @@ COMMANDS = {
     'resumew': resume_words,
     'resumer': resume_raw,
     'after': after_raw,
+    'number': lambda text: number_text(read_number(bytes_of(text))),
 }
 WITH_HEADER = 'hdr', 'read', 'open', 'resumer', 'after'
 

@@ -10,14 +10,15 @@ import index
 import reading
 import words
 import writer
+from number import read_number
 from refusal import Refused
 
 NAMES = ['parse_header', 'read_raw', 'decode_words', 'read_raw_triggers', 'decode_words_triggers', 'decode', 'decoder_after', 'word_trigger',
          'open, slice_index', 'open, slice_time', 'open_words, slice_index', 'open_words, slice_time', 'slice_index', 'slice_time', 'append', 'writer',
-         'new_decoder', 'resume', 'resume_words', 'resume_raw', 'decoder_after_raw']
+         'new_decoder', 'resume', 'resume_words', 'resume_raw', 'decoder_after_raw', 'read_number']
 (PARSE_HEADER, READ_RAW, DECODE_WORDS, READ_RAW_TRIGGERS, DECODE_WORDS_TRIGGERS, DECODE, DECODER_AFTER, WORD_TRIGGER,
  OPEN_SLICE_INDEX, OPEN_SLICE_TIME, OPEN_WORDS_SLICE_INDEX, OPEN_WORDS_SLICE_TIME, SLICE_INDEX, SLICE_TIME, APPEND, WRITER,
- NEW_DECODER, RESUME, RESUME_WORDS, RESUME_RAW, DECODER_AFTER_RAW) = range(len(NAMES))
+ NEW_DECODER, RESUME, RESUME_WORDS, RESUME_RAW, DECODER_AFTER_RAW, READ_NUMBER) = range(len(NAMES))
 TRIGGER_CALLS = READ_RAW_TRIGGERS, DECODE_WORDS_TRIGGERS, WORD_TRIGGER
 READINGS = READ_RAW, DECODE_WORDS, READ_RAW_TRIGGERS, DECODE_WORDS_TRIGGERS
 RAW_READINGS = READ_RAW, READ_RAW_TRIGGERS
@@ -33,7 +34,8 @@ WITH_DECODER = DECODE, DECODER_AFTER, WORD_TRIGGER, RESUME
 # `data`. `sized` and `limited` are flags, true if not 0. `fill` is what every byte of a column holds beforehand.
 # An opening has its spacing in `max_events`; a slice its ends as the first two numbers of `decoder`; both their records, 10 places each, in the
 # fifth column. `source` and `records` are those of a slice, `sink` and `columns` those of an append, all as the C interface's numbers; an
-# append's columns are lent as the first four, its output as the sixth. A fresh writer has its flag for the header in `sized`.
+# append's columns are lent as the first four, its output as the sixth. A fresh writer has its flag for the header in `sized`. A number's text is `data`
+# and the sixth column too.
 Call = namedtuple('Call', 'call data encoding sized width height limited max_events rooms decoder zeros fill source records sink columns',
                   defaults=(b'', 0, 0, 0, 0, 0, 0, (0,) * 7, (0,) * 8, 0, 0, (), (), (), ()))
 REQUEST = struct.Struct('<4Q3QI2H2B6x7I3I4B4x')
@@ -49,6 +51,7 @@ SOURCE = struct.Struct('<7QI4x')    # records, spacing, start, length, width, he
 RECORD = struct.Struct('<10Q')
 SINK = struct.Struct('<Qq3QI5B')    # events, last time, high half, low half, row, encoding; flags: header sent, has each of the four
 SINK_PADDING = bytes(7)
+NUMBER = struct.Struct('<2QB')
 FRESH_EVT2 = words.DECODERS[2]().fields()
 COLUMNS = 'HHqBqBB'
 WIDTHS = [struct.calcsize('<' + letter) for letter in COLUMNS]
@@ -66,9 +69,11 @@ def more_of(c):
 
 
 def rooms_of(c):
-    """A slice lends the records that it is given, an append its columns."""
+    """A slice lends the records that it is given, an append its columns, a number's reader its text."""
     if c.call in SLICES:
         return c.rooms[:4] + (10 * len(c.records), 0, 0)
+    if c.call == READ_NUMBER:
+        return (0,) * 5 + (len(c.data), 0)
     return tuple(map(len, c.columns)) + (0, c.rooms[5], 0) if c.call == APPEND else c.rooms
 
 
@@ -276,6 +281,23 @@ def expected_resumed(c):
     return struct.pack('<I', number) + SINK.pack(*sink_numbers(sink)) + UNALTERED
 
 
+# ---- numbers
+
+# in which ways the driver lends the text, each with its answer
+HOW_LENT = 'before a page', 'between marks', 'of the heap', 'to the place'
+TEXTS = len(HOW_LENT)
+
+
+def model_number(c):
+    """Of bytes 0 behind the text the first is the place, if there is none before; the others don't count."""
+    return read_number(c.data + bytes(min(c.zeros, 1)))
+
+
+def expected_number(c):
+    value, place = model_number(c)
+    return NUMBER.pack(value or 0, place or 0, place is None) * TEXTS + UNALTERED + filled(c, [()] * 5 + [tuple(c.data), ()])
+
+
 def expected(c):
     if c.call in READINGS:
         return expected_reading(c)
@@ -293,18 +315,24 @@ def expected(c):
         return expected_resumed(c)
     if c.call == DECODER_AFTER_RAW:
         return expected_decoder_after_raw(c)
+    if c.call == READ_NUMBER:
+        return expected_number(c)
     return expected_header(c) if c.call == PARSE_HEADER else expected_word(c)
 
 
 def refusal_of(c, answer):
-    """The number of an expected answer, 0 for an acceptance."""
+    """The number of an expected answer, 0 for an acceptance; of a number `place` if there is one."""
     if c.call in (WRITER, NEW_DECODER):
         return 0
+    if c.call == READ_NUMBER:
+        return 0 if NUMBER.unpack_from(answer)[2] else 'place'
     return answer[0] or (answer[OPENING.size] if c.call in OPENINGS else 0)
 
 
 def encoding_of(c, answer):
-    """The encoding of a call that was accepted."""
+    """The encoding of a call that was accepted; a number has none."""
+    if c.call == READ_NUMBER:
+        return None
     if c.call == PARSE_HEADER:
         return HEADER.unpack_from(answer)[1]
     if c.call in READINGS:
@@ -326,6 +354,8 @@ def encoding_of(c, answer):
 
 def call_text(c):
     lines = [f'{NAMES[c.call]}', f'  bytes {c.data.hex(" ") or "none"}' + (f' and {c.zeros} bytes 0' if c.zeros else '')]
+    if c.call == READ_NUMBER:
+        return '\n'.join(lines + [f'  {c.data!r}'])
     if c.call not in WITH_HEADER:
         lines.append(f'  encoding {c.encoding}')
     if c.call in READINGS or c.call in OPENINGS or c.call == PARSE_HEADER:
@@ -386,6 +416,10 @@ def answer_text(c, answer):
             numbers, at, rest = f'decoder {DECODER.unpack_from(answer)}', DECODER.size, ''
         elif c.call in RESUMES:
             numbers, at, rest = f'refusal {answer[0]}, writer {SINK.unpack_from(answer, 4)}', 4 + SINK.size, ''
+        elif c.call == READ_NUMBER:
+            texts = [NUMBER.unpack_from(answer, at) for at in range(0, TEXTS * NUMBER.size, NUMBER.size)]
+            numbers, at = '; '.join(f'{how}: value %d, place %d, valid %d' % text for how, text in zip(HOW_LENT, texts)), TEXTS * NUMBER.size
+            rest = '' if answer[at + 1:] == c.data else f'; the text between marks {answer[at + 1:].hex(" ")}'
         elif c.call == PARSE_HEADER:
             numbers, at, rest = 'refusal %d, encoding %d, body at %d, size %dx%d, sized %d' % HEADER.unpack_from(answer), HEADER.size, ''
         elif c.call == WORD_TRIGGER:

@@ -5,7 +5,7 @@ The answers were written by hand from the rules and not by the model. `ok ENCODI
 event as t,x,y,p and a trigger as t,id,value, or `refused NUMBER`, and behind a 5 or a 13 the count that it tells. Readings stand in three
 lists: LISTED, one by one, and asked as words and behind a header; MEETINGS, what is refused, alone and two at a time; LENGTHS, columns of
 each length. cases21.py has those of EVT 2.1 alone, with header names, indexes and writers; and every case of EVT2 is asked of EVT 2.1 too, where
-its words are the high halves. cases_long.py has writers past sixteen seconds, and those that resume.
+its words are the high halves. cases_long.py has writers past sixteen seconds, and those that resume; cases_number.py has numbers.
 """
 from collections import Counter, namedtuple
 
@@ -13,6 +13,7 @@ import answers
 import calls
 import cases21
 import cases_long
+import cases_number
 import header
 import words
 from refusal import Refused
@@ -507,10 +508,20 @@ def raw_resumes():
         yield call._replace(call=calls.DECODER_AFTER_RAW), f'{answer} {commas(decoder)}' if headless else commas(decoder)
 
 
+def number_call(text, zeros=0, fill=1):
+    return calls.Call(calls.READ_NUMBER, text.encode('latin-1'), zeros=zeros, fill=fill)
+
+
+def numbers():
+    for text, zeros, answer in cases_number.listed():
+        yield number_call(text, zeros), answer
+
+
 def further():
     """The name, the call and the answer of each."""
     lists = {'name21': names(), 'open21': openings(), 'slice21': given_slices(), 'append21': appends(cases21.APPENDS),
-             'long': appends(cases_long.APPENDS), 'meet': meetings(), 'resume': decoder_resumes(), 'resume words': words_resumes(), 'resume raw': raw_resumes()}
+             'long': appends(cases_long.APPENDS), 'meet': meetings(), 'resume': decoder_resumes(), 'resume words': words_resumes(), 'resume raw': raw_resumes(),
+             'number': numbers()}
     for name, entries in lists.items():
         for number, (call, answer) in enumerate(entries, 1):
             yield f'{name}.{number}', call, answer
@@ -550,7 +561,8 @@ def after_raw_text(call):
 
 FURTHER_TEXT = {calls.PARSE_HEADER: header_text, calls.APPEND: append_text, **dict.fromkeys(calls.OPENINGS, opening_text),
                 **dict.fromkeys(calls.SLICES, lambda call: answers.slice_events(calls.given_slice(call))),
-                **dict.fromkeys(calls.RESUMES, resumed_text), calls.DECODER_AFTER_RAW: after_raw_text}
+                **dict.fromkeys(calls.RESUMES, resumed_text), calls.DECODER_AFTER_RAW: after_raw_text,
+                calls.READ_NUMBER: lambda call: answers.number_text(calls.model_number(call))}
 
 
 def numbered(entries):
@@ -562,7 +574,7 @@ def numbered(entries):
 
 
 def all_calls():
-    """The calls of all lists with their names: of each reading without triggers too, of each word its decoding too."""
+    """The calls of all lists with their names: of each reading without triggers too, of each word its decoding too; and short texts for numbers."""
     for name, case in numbered(CASES):
         call = call_of(case)
         yield name, call
@@ -580,6 +592,8 @@ def all_calls():
         yield f'fresh {encoding}', calls.Call(calls.NEW_DECODER, encoding=encoding)
         for flag in 0, 1, 255:
             yield f'fresh {encoding}', calls.Call(calls.WRITER, encoding=encoding, sized=flag)
+    for text in cases_number.short_texts():
+        yield f'short text {text!r}', number_call(text, fill=0)
 
 
 def commas(values):
@@ -616,8 +630,9 @@ def check():
 
 
 def told():
-    return (f'{len(CASES)} listed readings, {len(WORDS)} words, {len(AFTERS)} lists of words and {len(list(further()))} headers, indexes, appends and'
-            ' writers that resume')
+    numbers_ = len(cases_number.listed())
+    return (f'{len(CASES)} listed readings, {len(WORDS)} words, {len(AFTERS)} lists of words, {len(list(further())) - numbers_} headers, indexes, appends and'
+            f' writers that resume, {numbers_:,} numbers and {len(cases_number.short_texts()):,} short texts')
 
 
 if __name__ == '__main__':

@@ -134,8 +134,8 @@ def meets_13(call, number):
 
 class Tally:
     def __init__(self):
-        self.calls, self.refused, self.events, self.triggers, self.with_triggers, self.meetings, self.headers, self.encodings, self.writers = (
-            Counter() for _ in range(9))
+        self.calls, self.refused, self.events, self.triggers, self.with_triggers, self.meetings, self.headers, self.encodings, self.writers, self.places = (
+            Counter() for _ in range(10))
 
     def add(self, call, expected):
         name, number = calls.NAMES[call.call], calls.refusal_of(call, expected)
@@ -146,6 +146,8 @@ class Tally:
             self.headers['evt21'] += header.names_evt21(call.data)
         if call.call == calls.APPEND:
             self.add_writer(call, number)
+        if number == 'place':
+            self.add_place(call)
         if number:
             self.refused[name, number] += 1
             if number in (1, 5) and call.call in (calls.READ_RAW_TRIGGERS, calls.DECODE_WORDS_TRIGGERS) and meets_13(call, number):
@@ -178,6 +180,11 @@ class Tally:
         if call.sink[5] == 3 and number in (0, 11) and call.columns[2] and call.columns[2][-1] >= making.LOOP:
             self.writers['long', number] += 1
 
+    def add_place(self, call):
+        """Where a text ends without a digit, at a digit, or at another byte."""
+        at = calls.model_number(call).place
+        self.places['end' if at == len(call.data) + call.zeros else 'digit' if call.data[at:at + 1].isdigit() else 'byte'] += 1
+
     def show(self):
         print('| calls of | calls | accepted (with a trigger) | of EVT2, EVT3, EVT2.1 | refused, by number | events | triggers |\n|' + '---|' * 7)
         for name in calls.NAMES:
@@ -193,6 +200,8 @@ class Tally:
               f' with a header that names EVT2.1: {self.headers["evt21"]:,}')
         print(f'appends by a writer that holds a coarse time and no last time: {self.writers["resumed"]:,} accepted, {self.writers["below"]:,} with 6 for'
               f' an event below it; of EVT3 from 2^24 on: {self.writers["long", 0]:,} accepted, {self.writers["long", 11]:,} with 11')
+        print(f'places of texts that are no numbers: {self.places["byte"]:,} at a byte that can\'t belong, {self.places["digit"]:,} at the digit that passes'
+              f' 2^64 - 1, {self.places["end"]:,} at the end')
 
 
 def framed(answers):

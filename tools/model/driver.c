@@ -1,7 +1,7 @@
 /* Makes the calls that it is told on standard input and tells what they gave on standard output, for
  * tools/model/compare.py. Both are in batches: the number of bytes that follow, in 32 bits, then these bytes. A batch
- * in is requests, each a `struct request`, the bytes of the recording, and what else the call is given: of a slice its
- * source and records, of an append its writer and columns. A batch out is an answer for each, its length in 32 bits and
+ * in is requests, each a `struct request`, the bytes of the recording or text, and what else the call is given: of a
+ * slice its source and records, of an append its writer and columns. A batch out is an answer for each, its length in 32 bits and
  * then its numbers without padding, in the order of the `put` below. A column is told in full, as long as it was lent.
  * tools/model/calls.py has the same layouts. The encodings are numbers here like any others. */
 #define _DEFAULT_SOURCE
@@ -34,7 +34,8 @@ enum {
     RESUME,
     RESUME_WORDS,
     RESUME_RAW,
-    DECODER_AFTER_RAW
+    DECODER_AFTER_RAW,
+    READ_NUMBER
 };
 
 #define COLUMNS 7
@@ -50,7 +51,7 @@ struct request {
     uint64_t zeros; /* bytes 0 behind those given */
     prophesee_decoder decoder; /* of a slice: its ends in place of the first two numbers */
     /* places lent: x, y, t, p, trigger time, id, value; of an index the fifth is records, 10 places each; of an append the
-     * first four are what it appends, and the sixth is its output */
+     * first four are what it appends, and the sixth is its output; of a number the sixth is its text */
     uint32_t rooms[COLUMNS];
     uint32_t encoding;
     uint32_t given; /* bytes of the recording that follow */
@@ -91,6 +92,7 @@ static void put(const void *from, size_t n)
 /* ---- lent memory */
 
 static uint8_t *recording_end; /* a page that can't be touched follows */
+static uint8_t *seen_end; /* likewise */
 static uint8_t *long_recording; /* all 0, longer than any that is read */
 static const uint8_t *recording;
 static size_t recording_len;
@@ -106,11 +108,19 @@ static void *mapped(size_t n)
     return at;
 }
 
+/* The end of as many bytes as a recording has at most. */
+static uint8_t *mapped_before_page(void)
+{
+    uint8_t *end = (uint8_t *)mapped(RECORDING + 4096) + RECORDING;
+    if (mprotect(end, 4096, PROT_NONE))
+        stop("no page that can't be touched");
+    return end;
+}
+
 static void map_memory(void)
 {
-    recording_end = (uint8_t *)mapped(RECORDING + 4096) + RECORDING;
-    if (mprotect(recording_end, 4096, PROT_NONE))
-        stop("no page that can't be touched");
+    recording_end = mapped_before_page();
+    seen_end = mapped_before_page();
     long_recording = mapped(LONGEST + RECORDING);
 }
 
@@ -301,6 +311,34 @@ static void put_resumed(prophesee_resumed a)
     PUT(a.refusal), put_sink(a.sink);
 }
 
+static prophesee_number put_number(const uint8_t *text, size_t len)
+{
+    prophesee_number a = prophesee_read_number(text, len);
+    PUT(a.value), PUT(a.place), PUT(a.valid);
+    return a;
+}
+
+/* The text before a page that can't be touched, between marks, and in heap memory of just its length, where valgrind
+ * sees what is read behind it (with bytes 0 behind it: as it stands); at last with a page that can't be touched behind
+ * its place, and told as long as before: no byte there may be read. */
+static void put_numbers(const struct request *r)
+{
+    prophesee_number a = put_number(recording, recording_len);
+    size_t seen = a.valid || a.place >= recording_len ? recording_len : a.place + 1;
+    uint8_t *copy = malloc(r->given);
+    if (seen > RECORDING || r->rooms[5] != r->given || (r->given && !copy))
+        stop("no room for a text");
+    if (recording_len) {
+        memcpy(columns[5], recording, r->given);
+        memcpy(copy, recording, r->given);
+        memcpy(seen_end - seen, recording, seen);
+    }
+    put_number(r->zeros ? recording : lent_columns[5], recording_len);
+    put_number(r->zeros ? recording : copy, recording_len);
+    put_number(seen_end - seen, recording_len);
+    free(copy);
+}
+
 static void call(const struct request *r, const uint8_t *more)
 {
     prophesee_options options = {r->width, r->height, r->max_events, r->sized, r->limited};
@@ -326,6 +364,7 @@ static void call(const struct request *r, const uint8_t *more)
     case RESUME_WORDS: put_resumed(prophesee_resume_words(recording, recording_len, r->encoding)); break;
     case RESUME_RAW: put_resumed(prophesee_resume_raw(recording, recording_len)); break;
     case DECODER_AFTER_RAW: put_decoder_after_raw(); break;
+    case READ_NUMBER: put_numbers(r); break;
     default: stop("no such call");
     }
 }

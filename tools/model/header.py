@@ -1,10 +1,10 @@
 """The header of a recording: its lines, its encoding and its size, and the refusals 4, 3, 2 and 1."""
 from collections import namedtuple
 
+from number import number_value
 from refusal import Refused, check_length
 
 BLANKS = bytes([9, 10, 11, 12, 13, 32])
-DIGITS = b'0123456789'
 
 # `size` is (width, height), or None where no size is known.
 Header = namedtuple('Header', 'encoding body size')
@@ -47,19 +47,6 @@ def key_and_value(line):
     return line[:end].lower(), line[end:].strip(BLANKS)
 
 
-def number(text):
-    """An optional `+` and one or more decimal digits, below 2^64; None for any other text."""
-    digits = text[1:] if text[:1] == b'+' else text
-    if not digits or any(byte not in DIGITS for byte in digits):
-        return None
-    value = 0
-    for byte in digits:
-        value = value * 10 + byte - DIGITS[0]
-        if value >= 2**64:
-            return None
-    return value
-
-
 def geometry(value, size):
     """The size after a geometry line. It parts at its first `x`, or if it has none at its first `X`; without either it changes nothing."""
     at = value.find(b'x')
@@ -67,7 +54,7 @@ def geometry(value, size):
         at = value.find(b'X')
     if at < 0:
         return size
-    width, height = number(value[:at].strip(BLANKS)), number(value[at + 1:].strip(BLANKS))
+    width, height = (number_value(half.strip(BLANKS)) for half in (value[:at], value[at + 1:]))
     return None if width is None or height is None else (width, height)
 
 

@@ -4,7 +4,9 @@
 Random lists of events of each encoding, written by a few appends, with a header and without. Read back: the same events. Cut at every byte (long ones
 at some): those whose word is whole. Resumed with the others, by the writer that decoding what is left gives and, where no loop of EVT3 is passed, by a
 fresh one: all of them. Slices: what a plain filter gives. A show of an hour in EVT3, cut at every byte around each of its loops and resumed. And a
-recording of EVT2 is, word for word, one of EVT 2.1 with masks of one bit. Exit status 1 at the first that doesn't hold.
+recording of EVT2 is, word for word, one of EVT 2.1 with masks of one bit. Numbers: what is put together of a sign, zeros and a value has that value, and its
+beginnings have no place before their end; what stands before a place begins a number, and with the byte there whatever follows has this place.
+Exit status 1 at the first that doesn't hold.
 """
 import random
 import sys
@@ -15,11 +17,13 @@ import making
 import reading
 import words
 import writer
+from number import MOST, number_value, read_number
 from words import DECODERS, bits, decoder_of, whole_words
 
 ENOUGH = (10**9,)
 LOOP, HOUR = making.LOOP, 3600 * 10**6
 WIDE = 2048, 2048
+NUMBERS = 50    # to a list of events
 
 
 def accepted(rng):
@@ -174,6 +178,22 @@ def check_wide(rng):
     assert reading.decoded(2, data) == reading.decoded(21, wide)
 
 
+def check_number(rng):
+    value = rng.choice([0, rng.randrange(3000), rng.getrandbits(64), MOST - rng.randrange(20), MOST // 10 ** rng.randrange(20)])
+    text = f'{rng.choice(["", "+"])}{"0" * rng.choice([0, 1, rng.randrange(40)])}{value}'.encode()
+    assert read_number(text) == (value, None)
+    assert all(read_number(text[:k]).place in (None, k) for k in range(len(text)))
+
+
+def check_place(rng):
+    text = making.number_text(rng)
+    place = read_number(text).place
+    if place is not None:
+        assert any(number_value(text[:place] + more) is not None for more in (b'', b'0'))
+    if place is not None and place < len(text):
+        assert all(read_number(text[:place + 1] + more) == (None, place) for more in (b'', b'0', b'9', b'+', b'x', making.number_text(rng)))
+
+
 def main():
     count, seed = [int(a) for a in sys.argv[1:]] + [100, 1][len(sys.argv) - 1:]
     shows = [check_hour(random.Random(f'hour {seed} {headed}'), headed) for headed in (False, True)]
@@ -183,8 +203,12 @@ def main():
             for headed in False, True:
                 check_list(rng, encoding, headed)
         check_wide(rng)
+        for _ in range(NUMBERS):
+            check_number(rng)
+            check_place(rng)
     print(f'{count} lists of each encoding, with a header and without: read, cut, resumed and sliced as they should be; two shows of an hour with'
-          f' {" and ".join(f"{n:,}" for n, _ in shows)} events, resumed behind {" and ".join(f"{n:,}" for _, n in shows)} cuts')
+          f' {" and ".join(f"{n:,}" for n, _ in shows)} events, resumed behind {" and ".join(f"{n:,}" for _, n in shows)} cuts;'
+          f' {count * NUMBERS:,} numbers and as many texts')
 
 
 if __name__ == '__main__':

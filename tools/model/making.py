@@ -1,4 +1,4 @@
-"""Random cases: recordings with headers and without, good and damaged ones, indexes, writers, and single words; the calls that each case makes."""
+"""Random cases: recordings with headers and without, good and damaged ones, indexes, writers, single words, and numbers; the calls that each case makes."""
 import random
 
 import calls
@@ -46,7 +46,7 @@ def chance(rng, percent):
 # ---- headers
 
 def geometry(rng):
-    numbers = NUMBERS[:10] if chance(rng, 70) else NUMBERS
+    numbers = NUMBERS[:10] if chance(rng, 70) else NUMBERS if chance(rng, 70) else [number_text(rng).decode('latin-1').replace('\n', '') for _ in range(2)]
     return rng.choice(numbers) + rng.choice(BETWEEN) + rng.choice(numbers) + (rng.choice(['x3', 'X3', ' 5', 'x']) if chance(rng, 4) else '')
 
 
@@ -614,7 +614,7 @@ def header_case(rng):
     """Headers alone: some lines, any of them odd."""
     made = []
     for _ in range(6):
-        data = header_bytes(rng, any_encoding(rng)) + ''.join(header_line(rng) for _ in range(rng.randrange(4))).encode()
+        data = header_bytes(rng, any_encoding(rng)) + ''.join(header_line(rng) for _ in range(rng.randrange(4))).encode('latin-1')
         sized, width, height = size_fields(rng, []) if chance(rng, 20) else (0, 0, 0)
         made.append(calls.Call(calls.PARSE_HEADER, data[:-1] if chance(rng, 10) else data, sized=sized, width=width, height=height, fill=rng.randrange(2)))
     return made
@@ -670,8 +670,48 @@ def single_case(rng):
     return made
 
 
+# ---- numbers
+
+TOP = str(HUGE)     # 2^64 - 1
+SPOILING = b'+-/: xX\t\r\n._,aeAE09\x00\x1f\x7f\x80\xb1\xff'
+
+
+def digits(rng):
+    """Of small values, of any of 64 bits, around 2^64, that leave 2^64 - 1 at one of its digits, and of more digits than it has."""
+    draw = rng.randrange(12)
+    if draw < 3:
+        return str(rng.choice([0, 1, 9, rng.randrange(100), rng.randrange(100), 64, 1280, 720, 65536]))
+    if draw < 5:
+        return str(rng.getrandbits(rng.choice([16, 32, 63, 64])))
+    if draw < 7:
+        return str(2**64 + rng.choice([-2, -1, 0, 1, -rng.randrange(10**rng.randrange(19)), rng.randrange(10**rng.randrange(20))]))
+    if draw < 10:
+        at = rng.randrange(len(TOP))
+        return TOP[:at] + ''.join(rng.choice('0123456789') for _ in range(len(TOP) - at + rng.choice([-1, 0, 0, 0, 1])))
+    return ''.join(rng.choice('0123456789') for _ in range(rng.choice([19, 20, 20, 21, 22, rng.randrange(60), rng.randrange(400)])))
+
+
+def number_text(rng):
+    """Mostly digits, behind zeros or a sign; a byte altered or put in anywhere; more bytes behind; cut; seldom any bytes at all."""
+    if chance(rng, 4):
+        return bytes(rng.getrandbits(8) for _ in range(rng.randrange(rng.choice([3, 30, 300]))))
+    zeros = rng.choice([0, 0, 0, 0, 1, 2, rng.randrange(25), rng.randrange(25), rng.randrange(400) if chance(rng, 30) else 0])
+    text = (rng.choice([''] * 6 + ['+'] * 4 + ['++', '-']) + '0' * zeros + digits(rng)).encode()
+    if chance(rng, 40):
+        at = rng.choice([0, len(text), rng.randrange(len(text) + 1), rng.randrange(len(text) + 1), rng.randrange(len(text) + 1)])
+        byte = bytes([rng.choice(SPOILING) if chance(rng, 80) else rng.getrandbits(8)])
+        text = text[:at] + byte + text[at + rng.randrange(2):]
+    if chance(rng, 20):
+        text += rng.choice([digits(rng).encode(), b'x' + digits(rng).encode(), b'+', b' ', bytes([rng.getrandbits(8)]) * rng.randrange(100)])
+    return text[:rng.randrange(len(text) + 1)] if chance(rng, 10) else text
+
+
+def number_case(rng):
+    return [calls.Call(calls.READ_NUMBER, number_text(rng), fill=rng.randrange(2), zeros=rng.choice([1, 9, 2**30]) if chance(rng, 1) else 0) for _ in range(12)]
+
+
 CASES = [raw_case] * 9 + [words_case] * 6 + [single_case] * 3 + [header_case] * 2 + [index_case] * 5 + [altered_case] * 4 + [writer_case] * 6 + [
-    resumed_case] * 4 + [forged_case] * 3 + [left_case] * 4
+    resumed_case] * 4 + [forged_case] * 3 + [left_case] * 4 + [number_case] * 3
 
 
 def case(seed, number):

@@ -2,10 +2,10 @@
 """vectors.py ORACLE [PROGRAM]: makes stdin and stdout of crates/test_vectors and crates/test_vectors_index anew, or those of one.
 
 ORACLE is the program tools/original/src/oracle.rs, built from the Rust original: tools/vectors.sh builds it and runs this.
-The cases are made here, in vectors_index.py, in vectors21.py and in vectors_long.py, always the same ones.
+The cases are made here, in vectors_index.py, vectors21.py, vectors_long.py and vectors_number.py, always the same ones.
 An expected answer is the oracle's, except where the table of refusals (docs/RULES.md) has a number that the Rust lacks, and except for
-recordings with a `%` behind the header's end line, everything of EVT 2.1, writers of EVT3 past its first loop and writers that resume, where it is
-the model's (tools/model).
+recordings with a `%` behind the header's end line, everything of EVT 2.1, writers of EVT3 past its first loop, writers that resume and numbers, where it
+is the model's (tools/model).
 A layer of the library is a function that yields cases; LAYERS at the end lists those of crates/test_vectors.
 """
 import itertools, random, subprocess, sys
@@ -1121,12 +1121,12 @@ def write(program, oracle, cases):
 
 
 def main():
-    import vectors21, vectors_index, vectors_long
+    import vectors21, vectors_index, vectors_long, vectors_number
     if len(sys.argv) not in (2, 3):
         sys.exit(__doc__)
     oracle, programs = sys.argv[1], sys.argv[2:] or ['test_vectors', 'test_vectors_index']
     if 'test_vectors' in programs:
-        layers = LAYERS + [vectors21.decoding, vectors21.reading, vectors21.writing, vectors_long.writing, vectors_long.resuming]
+        layers = LAYERS + [vectors21.decoding, vectors21.reading, vectors21.writing, vectors_long.writing, vectors_long.resuming, vectors_number.numbers]
         write('test_vectors', oracle, [c for layer in layers for c in layer()])
     if 'test_vectors_index' in programs:
         write('test_vectors_index', oracle, list(vectors_index.cases(oracle)) + list(vectors21.indexes()))

@@ -1,8 +1,8 @@
 #!/usr/bin/env python3
 """Holds the model to the vectors of crates/test_vectors and crates/test_vectors_index (docs/VECTORS.md).
 
-Their answers are the Rust original's, but for files with a `%` behind the header's end line, everything of EVT 2.1, writers past the first loop of EVT3
-and those that resume: those came from the model, and are counted apart. Exit status 0: the model gives every answer; 1: it doesn't, and the cases are
+Their answers are the Rust original's, but for files with a `%` behind the header's end line, everything of EVT 2.1, writers past the first loop of EVT3,
+those that resume, and numbers: those came from the model, and are counted apart. Exit status 0: the model gives every answer; 1: it doesn't, and the cases are
 printed. Commands that the model doesn't know are counted apart.
 """
 import sys
@@ -32,6 +32,8 @@ def made_by_model(command, arguments, expected):
     """Why the model made the answer, if it did."""
     if command in RESUMING:
         return 'long'
+    if command == 'number':
+        return 'number'
     if command in answers.WITH_HEADER:
         data = answers.bytes_of(arguments[-1])
         return 'percent' if header.percent_behind_end(data) else 'evt21' if header.names_evt21(data) else None
@@ -58,8 +60,8 @@ def main():
                 wrong += 1
                 print(f'{line}\n  expected: {expected}\n  model:    {name} {answers.answer(case)}')
     print(f'{sum(count.values()):,} vectors ({", ".join(f"{c} {n:,}" for c, n in count.items())}), {wrong} answered otherwise by the model;'
-          f' it made the answers of {own["percent"]:,} with a % behind the end line, of {own["evt21"]:,} of EVT 2.1 and of {own["long"]:,} past a loop or'
-          f' resumed;'
+          f' it made the answers of {own["percent"]:,} with a % behind the end line, of {own["evt21"]:,} of EVT 2.1, of {own["long"]:,} past a loop or'
+          f' resumed and of {own["number"]:,} numbers;'
           f' left out: {", ".join(f"{c} {n:,}" for c, n in left.items()) or "none"}')
     sys.exit(wrong > 0)
 

@@ -5,6 +5,7 @@ ghost use mathlib.Core.Path.{_≡_};
 ghost use lib.ListN.{length};
 
 pub mod columns;
+pub mod given;
 pub mod options;
 pub mod show;
 pub mod state;

@@ -4,11 +4,11 @@
 // `ID after BYTES`: `read_after::decoder_after_raw`, the decoder behind a recording's body.
 // The first three answer `ok SINK`, or `refused N SINK` with the fresh writer that is told; the last
 // answers `ok STATE`, or `refused N STATE` with an unstarted decoder of EVT2.
-use crate::given;
 use crate::writer;
 use evt_codec::Codec;
 use evt_types::Encoding;
 use read_after::AfterAnswer;
+use test_text::given;
 use test_text::options;
 use test_text::show;
 use test_text::state;

@@ -2,7 +2,6 @@
 // each on standard output. A case is `ID COMMAND WORDS`, its answer `ID` and what the command answers.
 // docs/VECTORS.md says where the cases and the expected answers come from. The library is called
 // through index_fixed, which lends the records.
-mod given;
 mod opening;
 mod record;
 mod slicing;

@@ -3,7 +3,6 @@
 // ROOM is how many records are lent. Both answer `ok SOURCE N : records` or `refused N`, with the
 // count that 9 tells; and ` dirty` behind it if a record behind those changed, or any one by a
 // refused call.
-use crate::given;
 use crate::record;
 use crate::source;
 use prophesee_raw::Encoding;
@@ -13,6 +12,7 @@ use prophesee_raw::SensorSize;
 use prophesee_raw::WordsOptions;
 use prophesee_raw::fixed::FixedIndex;
 use test_text::columns;
+use test_text::given;
 use test_text::options;
 use test_text::room;
 use test_text::show;

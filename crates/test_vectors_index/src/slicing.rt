@@ -2,13 +2,13 @@
 // `slice::slice_time` for `t:T0:T1`, one after another. Answers `ok` and for each ` | ok N : events`
 // or ` | refused N`, with the count that 5 tells; and ` dirty` behind it if an entry behind the
 // events changed, or any one by a refused call.
-use crate::given;
 use crate::record;
 use crate::record::Records;
 use crate::source;
 use prophesee_raw::RawSliceSource;
 use prophesee_raw::SliceAnswer;
 use test_text::columns;
+use test_text::given;
 use test_text::room;
 use test_text::show;
 use test_text::text;

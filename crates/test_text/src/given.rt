@@ -1,5 +1,5 @@
 // A case's bytes: `HEX`, or `HEX*K*N`, where the last K bytes come again and again until there are N.
-use test_text::text;
+use crate::text;
 
 // Byte i becomes the one k before it.
 fn copy(into: &mut [u8], i: usize, k: usize) {

@@ -1,10 +1,10 @@
--- `test_vectors::given::read` is safe and ends. The lent slice keeps its length.
+-- `test_text::given::read` is safe and ends. The lent slice keeps its length.
 use Prim.Native.Nat.{_-_}
 use mathlib.Core.Path.{_≡_}
 use lib.ListN.{length}
 use borrow.Author.Needs.{needs}
-use Rattle.test_vectors.proofs.given.read.Statement.{statement}
-use Rattle.test_vectors.proofs.given.read.Tie as tie
+use Rattle.test_text.proofs.given.read.Statement.{statement}
+use Rattle.test_text.proofs.given.read.Tie as tie
 
 abbrev Inv-loop : tie.InvT-loop
 Inv-loop s into₀ n₀ k end into n = length into ≡ length into₀

@@ -38,6 +38,14 @@ pub fn most_bytes(encoding: u32, n: usize) -> usize {
 
 #[repr(C)]
 #[derive(Clone, Copy, Debug, Default, PartialEq, Eq)]
+pub struct Number {
+    pub value: usize,
+    pub place: usize,
+    pub valid: u8,
+}
+
+#[repr(C)]
+#[derive(Clone, Copy, Debug, Default, PartialEq, Eq)]
 pub struct Header {
     pub refusal: u32,
     pub encoding: u32,
@@ -328,6 +336,7 @@ mod raw {
     }
     extern "C" {
         pub fn prophesee_version() -> u32;
+        pub fn prophesee_read_number(text: *const u8, n: usize) -> Number;
         pub fn prophesee_word_trigger(decoder: Decoder, bytes: *const u8, n: usize) -> Trigger;
         pub fn prophesee_parse_header(recording: *const u8, n: usize, sized: u8, width: usize, height: usize) -> Header;
         pub fn prophesee_open(recording: *const u8, n: usize, records: *mut Record, rn: usize, options: OpenOptions) -> Opening;
@@ -360,6 +369,10 @@ macro_rules! with_columns {
 
 pub fn version() -> u32 {
     unsafe { raw::prophesee_version() }
+}
+
+pub fn read_number(text: &[u8]) -> Number {
+    unsafe { raw::prophesee_read_number(text.as_ptr(), text.len()) }
 }
 
 pub fn parse_header(recording: &[u8], sized: u8, width: usize, height: usize) -> Header {

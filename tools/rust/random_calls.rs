@@ -8,6 +8,8 @@ mod archive;
 mod indexes;
 mod lent;
 mod making;
+#[path = "random_calls/numbers.rs"]
+mod numbers;
 #[path = "random_calls/reading.rs"]
 mod reading;
 mod table;
@@ -26,6 +28,7 @@ type Size = Option<(usize, usize)>;
 #[derive(Clone, Copy)]
 enum Name {
     Version,
+    ReadNumber,
     ParseHeader,
     ReadRaw,
     DecodeWords,
@@ -48,8 +51,9 @@ enum Name {
     ResumeRaw,
 }
 
-const NAMES: [&str; 21] = [
+const NAMES: [&str; 22] = [
     "version",
+    "read_number",
     "parse_header",
     "read_raw",
     "decode_words",
@@ -224,7 +228,8 @@ impl Env {
 
     fn call(&mut self) -> Checked {
         match self.rng.below(100) {
-            0..=4 => self.header(),
+            0..=3 => self.header(),
+            4 => self.number(),
             5..=24 => self.reading(),
             25..=41 => self.opening(),
             42..=64 => self.slicing(),

@@ -7,7 +7,8 @@ use Rattle.evt_types.specs.declared.Encoding.the-variants.{Evt2, Evt21, Evt3}
 use Rattle.evt_types.specs.declared.SensorSize.the-variants.{Unknown, Known}
 use Rattle.evt_types.specs.Told.{accepted, refused}
 use Rattle.header_text.specs.Text.{isBlank, upTo, from, any, restOf, trimStart, trimEnd, trimOf, lowerOf, begins, same}
-use Rattle.header_text.specs.Size.{isDigit, allDigits, digitsValue, numberFrom, digitsOf, numberOf, both, sizeAt, geometryOf}
+use Rattle.header_text.specs.Number.{isDigit, allDigits, digitsValue, numberFrom, digitsOf, numberOf}
+use Rattle.header_text.specs.Size.{both, sizeAt, geometryOf}
 use Rattle.header.specs.declared.Named.the-variants.{As}
 use Rattle.header.specs.Lines.{isEnd, joined, linesOf, startsPercent, leading, throughEnd, headerLines, joinedLines, headerBytes, bodyStart}
 use Rattle.header.specs.Lines.{bodyOf, keyOf, valueOf}

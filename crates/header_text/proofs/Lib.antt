@@ -1,2 +1,4 @@
 pub mod TextLaws
+pub mod NumberLaws
 pub mod SizeLaws
+pub mod Examples

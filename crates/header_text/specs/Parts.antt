@@ -5,7 +5,7 @@ use mathlib.Core.Bool.{Bool}
 use lib.ListN.{take, drop}
 use Rattle.evt_types.specs.declared.SensorSize.{SensorSize}
 use Rattle.header_text.specs.{declared.text.ByteClass.ByteClass, Text.isBlank, Text.notBlank, Text.notPercent, Text.notAscii, Text.isByte}
-use Rattle.header_text.specs.{Text.trimOf, Size.numberOf, Size.both}
+use Rattle.header_text.specs.{Text.trimOf, Number.numberOf, Size.both}
 use Rattle.header_text.specs.declared.text.ByteClass.the-variants.{Blank, NotBlank, NotPercent, NotAscii, Byte}
 
 abbrev pub isIn : ByteClass → ℕ → Bool

@@ -2,6 +2,7 @@
 use mathlib.Core.Path.{_≡_, refl, _∙_, ap}
 use mathlib.Core.Bool.{Bool, true, false}
 use mathlib.Core.List.{List, [], _∷_, _++_, append-nil}
+use mathlib.Core.Option.{some}
 use Prim.Native.Nat.{ℕ, zero, suc, _+_, _-_, _*_, _/_, _%_, _^_, _≤_, _<_}
 use native.Mathlib.Omega.{arith}
 use lib.Dec.{ltb}
@@ -9,8 +10,7 @@ use lib.ListN.{length, length-append}
 use borrow.Author.Tests.{lt-ltb, ltb-true, ltb-false, le-leb, lt-leb, leb-true, ne-eqb}
 use Rattle.laws_stream.specs.Machine.{and-both}
 use Rattle.header_text.specs.{Cases.by-bool, Text.isBlank, Text.from, Text.any, Text.trimStart, Text.trimEnd, Text.trimOf}
-use Rattle.header_text.specs.{declared.size.Number.the-variants.Value, Size.isDigit, Size.allDigits, Size.digitsValue, Size.numberFrom, Size.digitsOf}
-use Rattle.header_text.specs.{Size.numberOf}
+use Rattle.header_text.specs.Number.{isDigit, allDigits, digitsValue, numberFrom, digitsOf, numberOf}
 use Rattle.write_text.specs.Text.{digit, decimal, decimal-one, decimal-more}
 use Rattle.laws_header.specs.Texts.{ends-dark}
 
@@ -47,18 +47,18 @@ digits-none p others (b ∷ s) h =
     rw (others b (r .0) (r .1)) (digits-none p others s (k .1))
 
 -- digits are the number of their value
-digits-number : (s : List ℕ) → allDigits s ≡ true → 0 < length s → digitsValue 0 s < 2 ^ 64 → numberOf s ≡ Value (digitsValue 0 s)
+digits-number : (s : List ℕ) → allDigits s ≡ true → 0 < length s → digitsValue 0 s < 2 ^ 64 → numberOf s ≡ some (digitsValue 0 s)
 unfolding numberOf digitsOf numberFrom
-digits-number [] h some fits = absurd (omega arith)
-digits-number (b ∷ s) h some fits =
+digits-number [] h long fits = absurd (omega arith)
+digits-number (b ∷ s) h long fits =
     let r = digit-range b (all-cons b s h .0) in
     rw (ne-eqb b 43 (λ e. omega arith), h, lt-ltb (digitsValue 0 (b ∷ s)) (2 ^ 64) fits)
 
 -- and begin with no blank
 digits-start : (s t : List ℕ) → allDigits s ≡ true → 0 < length s → trimStart (s ++ t) ≡ s ++ t
 unfolding trimStart from
-digits-start [] t h some = absurd (omega arith)
-digits-start (b ∷ s) t h some = rw (digit-dark b (all-cons b s h .0))
+digits-start [] t h long = absurd (omega arith)
+digits-start (b ∷ s) t h long = rw (digit-dark b (all-cons b s h .0))
 
 value-last : (n : ℕ) (s : List ℕ) (b : ℕ) → digitsValue n (s ++ (b ∷ [])) ≡ digitsValue n s * 10 + (b - 48)
 unfolding digitsValue
@@ -111,10 +111,10 @@ module _ (n : ℕ) where
   decimal-none p others = digits-none p others (decimal n) (is-decimal n .all)
 
   -- a number of 64 bits that is written is read back
-  pub number-decimal : n < 2 ^ 64 → numberOf (decimal n) ≡ Value n
+  pub number-decimal : n < 2 ^ 64 → numberOf (decimal n) ≡ some n
   number-decimal fits =
       let d = is-decimal n in
-      digits-number (decimal n) (d .all) decimal-some (rw (d .value) fits) ∙ ap Value (d .value)
+      digits-number (decimal n) (d .all) decimal-some (rw (d .value) fits) ∙ ap some (d .value)
 
   -- it has no blank at its ends, whatever follows or goes before
   pub decimal-start : (t : List ℕ) → trimStart (decimal n ++ t) ≡ decimal n ++ t

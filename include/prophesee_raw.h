@@ -1,4 +1,4 @@
-/* Prophesee RAW recordings (EVT2, EVT2.1 and EVT3): reading, triggers, indexes, slices, writing, single words.
+/* Prophesee RAW recordings (EVT2, EVT2.1 and EVT3): numbers, reading, triggers, indexes, slices, writing, single words.
  *
  * `rt staticlib prophesee_raw_c` proves the library and writes target/staticlib/libprophesee_raw_c.a
  * (x86-64 Linux). Every function is proved to return and to write exactly what its contract says
@@ -133,6 +133,21 @@ static inline size_t prophesee_most_bytes_with_header(size_t events)
 {
     return prophesee_most_bytes(events) + 96;
 }
+
+/* ---- numbers */
+
+/* A decimal number, as the halves of a header's `geometry` are once blanks are trimmed: a `+` or none, then
+ * one or more digits, with a value below 2^64. `valid` 1: the text is one. 0: it is none, and `place` is
+ * that of the first byte that can't belong, or of the digit with which the value passes 2^64 - 1, or the
+ * length where the text ends without a digit. What stands before the place begins some number, and with
+ * the byte there none; bytes behind it aren't read. */
+typedef struct {
+    size_t value;  /* of a number */
+    size_t place;  /* counted from the text's first byte */
+    uint8_t valid; /* 1 or 0 */
+} prophesee_number;
+
+prophesee_number prophesee_read_number(const uint8_t *text, size_t text_len);
 
 /* ---- reading */
 
@@ -451,6 +466,7 @@ prophesee_trigger prophesee_word_trigger(prophesee_decoder decoder, const uint8_
 /* ---- what this file takes for granted */
 
 PROPHESEE_ASSERT(sizeof(size_t) == 8);
+PROPHESEE_ASSERT(sizeof(prophesee_number) == 24 && offsetof(prophesee_number, valid) == 16);
 PROPHESEE_ASSERT(sizeof(prophesee_header) == 40 && offsetof(prophesee_header, sized) == 32);
 PROPHESEE_ASSERT(sizeof(prophesee_options) == 32 && offsetof(prophesee_options, limited) == 25);
 PROPHESEE_ASSERT(sizeof(prophesee_reading) == 40 && offsetof(prophesee_reading, count) == 32);

@@ -54,6 +54,43 @@ static void print_events(size_t count)
     clear();
 }
 
+/* ---- numbers */
+
+static void read_number(const char *what, const char *text, size_t len)
+{
+    prophesee_number n = prophesee_read_number((const uint8_t *)text, len);
+    printf("read_number, %s: valid %u value %zu place %zu\n", what, n.valid, n.value, n.place);
+}
+
+#define NUMBER(text) read_number(#text, text, sizeof text - 1)
+
+static void numbers(void)
+{
+    static char zeros[100000];
+    memset(zeros, '0', sizeof zeros);
+    read_number("nothing", NULL, 0);
+    NUMBER("+");
+    NUMBER("0");
+    NUMBER("+007");
+    NUMBER("12a");
+    NUMBER("12a9x");
+    NUMBER("++1");
+    NUMBER("-1");
+    NUMBER("1+");
+    NUMBER(" 1");
+    NUMBER("640 ");
+    NUMBER("18446744073709551615");
+    NUMBER("18446744073709551616");
+    NUMBER("+18446744073709551616");
+    NUMBER("184467440737095516150");
+    NUMBER("99999999999999999999999999x");
+    read_number("100000 zeros", zeros, sizeof zeros);
+    zeros[99999] = 'x';
+    read_number("99999 zeros and x", zeros, sizeof zeros);
+    memcpy(zeros + 99979, "18446744073709551616x", 21);
+    read_number("99979 zeros and 2^64", zeros, sizeof zeros);
+}
+
 /* ---- headers and reading */
 
 /* 4097: columns 10, 11 and 13 of row 7. */
@@ -898,6 +935,7 @@ int main(void)
     clear();
     printf("version %u, %u\n", prophesee_version(), PROPHESEE_RAW_VERSION);
     bounds();
+    numbers();
     headers();
     reading();
     triggers();

@@ -338,6 +338,7 @@ mod raw {
         pub fn prophesee_version() -> u32;
         pub fn prophesee_read_number(text: *const u8, n: usize) -> Number;
         pub fn prophesee_word_trigger(decoder: Decoder, bytes: *const u8, n: usize) -> Trigger;
+        pub fn prophesee_read_number(text: *const u8, n: usize) -> Number;
         pub fn prophesee_parse_header(recording: *const u8, n: usize, sized: u8, width: usize, height: usize) -> Header;
         pub fn prophesee_open(recording: *const u8, n: usize, records: *mut Record, rn: usize, options: OpenOptions) -> Opening;
         pub fn prophesee_open_words(

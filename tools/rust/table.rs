@@ -73,6 +73,15 @@ pub fn number(s: &[u8]) -> Option<usize> {
     digits.iter().try_fold(0usize, |n, d| if d.is_ascii_digit() { n.checked_mul(10)?.checked_add((d - b'0') as usize) } else { None })
 }
 
+/// The value of a text, or its place: that of the byte with which it no longer begins a number, or its length.
+pub fn number_place(text: &[u8]) -> Result<usize, usize> {
+    let sign = text.starts_with(b"+") as usize;
+    match (sign + 1..=text.len()).find(|k| number(&text[..*k]).is_none()) {
+        Some(k) => Err(k - 1),
+        None => number(text).ok_or(text.len()),
+    }
+}
+
 /// The size after a `geometry` line with this value.
 fn geometry(value: &[u8], before: Option<(usize, usize)>) -> Option<(usize, usize)> {
     let Some(at) = value.iter().position(|b| *b == b'x').or(value.iter().position(|b| *b == b'X')) else {

@@ -4,4 +4,5 @@ pub mod Options
 pub mod Encoding
 pub mod Codec
 pub mod Reading
+pub mod Number
 pub mod Promises

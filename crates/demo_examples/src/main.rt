@@ -18,6 +18,7 @@ fn main() {
     reading::read_limited();
     reading::read_words();
     reading::read_evt21();
+    reading::bad_number();
     triggers::read_pulses();
     slicing::slice_recording();
     writing::write_words();

@@ -3,6 +3,7 @@ use prophesee_raw::AppendAnswer;
 use prophesee_raw::Appended;
 use prophesee_raw::DecodeAnswer;
 use prophesee_raw::NextEvent;
+use prophesee_raw::Number;
 use prophesee_raw::OpenAnswer;
 use prophesee_raw::RawEventSink;
 use prophesee_raw::ReadAnswer;
@@ -152,6 +153,19 @@ pub fn append(name: &[u8], appended: Appended, output: &[u8]) -> RawEventSink {
     }
     show::text(b"\n");
     appended.sink
+}
+
+// The value, or the place.
+pub fn number(name: &[u8], answer: Number) {
+    show::text(name);
+    match answer {
+        Number::Value(n) => show::number(n as u64),
+        Number::Bad(k) => {
+            show::text(b"bad at");
+            show::next(b' ', k as u64);
+        }
+    }
+    end();
 }
 
 pub fn bytes(name: &[u8], s: &[u8]) {

@@ -92,3 +92,9 @@ pub fn read_evt21() {
         whole(),
     );
 }
+
+// `64o` for `640`: the place is that of the `o`.
+pub fn bad_number() {
+    print::number(b"bad_number: ", prophesee_raw::read_number(b"64o"));
+    print::number(b"bad_number, mended: ", prophesee_raw::read_number(b"640"));
+}

@@ -12,6 +12,12 @@
 // with. `parse_header` reads the header alone. Examples: `read_recording`, `read_past_end_line`,
 // `read_limited`, `read_words`, `read_evt21`.
 //
+// Numbers. `read_number` reads a decimal number, as the halves of a header's `geometry` are: `Value`, or
+// `Bad` with the place that spoils it, counted in the text that it is given: the first byte that can't
+// belong, or the digit with which the value passes 2^64 - 1, or the length where the text ends without a
+// digit. What stands before the place begins some number, and with the byte there none. To tell what is
+// wrong with a size, trim each half and read it. Example: `bad_number`.
+//
 // Triggers. `read_raw_triggers` and `decode_words_triggers` read the same, and beside the events the
 // pulses on the camera's trigger input, into three further columns: time in microseconds, channel,
 // value 0 or 1. They stand in the order of their words, have no event's number, and no size drops one.
@@ -92,6 +98,8 @@ pub use evt21_decoder::Evt21Decoder;
 pub use header::Header;
 pub use header::HeaderAnswer;
 pub use header::parse_header;
+pub use header_text::number::Number;
+pub use header_text::number::read_number;
 pub use index_build::Checkpoint;
 pub use index_build::OpenAnswer;
 pub use index_build::OpenOptions;

@@ -1,10 +1,13 @@
-// Reading a header, a recording, or headerless words into four lent columns.
+// Reading a number, a header, a recording, or headerless words into four lent columns.
 ghost use mathlib.Core.Path.{_≡_};
 ghost use Rattle.header.specs.Header.{headerVerdict};
-ghost use Rattle.c_values.specs.{Options.sizeOf, Reading.parsedOf, Reading.DecodesWordsC, Reading.ReadsRawC};
+ghost use Rattle.header_text.specs.Number.{readOf};
+ghost use Rattle.c_values.specs.{Number.answerOf, Options.sizeOf, Reading.parsedOf, Reading.DecodesWordsC, Reading.ReadsRawC};
 use c_values::encoding::behind_too_long;
 use c_values::encoding::encoding_of;
 use c_values::encoding::is_known;
+use c_values::number::PropheseeNumber;
+use c_values::number::answer_of;
 use c_values::options::PropheseeOptions;
 use c_values::options::options_of;
 use c_values::options::size_of;
@@ -14,6 +17,14 @@ use c_values::reading::parsed_of;
 use c_values::reading::reading_of;
 use evt_types::Refusal;
 use read::ReadAnswer;
+
+// A decimal number, or the place where a text is none.
+#[no_mangle]
+pub extern "C" fn prophesee_read_number(text: &[u8]) -> PropheseeNumber
+    ensures { λ r. ⌜ r ≡ answerOf (readOf (now (text .entry))) ⌝ }
+{
+    answer_of(header_text::number::read_number(text))
+}
 
 #[no_mangle]
 pub extern "C" fn prophesee_parse_header(

@@ -3,6 +3,7 @@
 // where the cases and the expected answers come from. A command has a module of its own.
 mod hdr;
 mod lengths;
+mod number;
 mod reading;
 mod resuming;
 mod step;
@@ -20,6 +21,7 @@ fn run(case: &[u8], command: &[u8]) {
         b's' => step::answer(case, true),
         b'h' => hdr::answer(case),
         b'l' => lengths::answer(case),
+        b'n' => number::answer(case),
         b'a' => resuming::after(case),
         b'r' => {
             if text::at(command, 2) == b's' {

@@ -1,5 +1,5 @@
-//! parse_header, read_raw and decode_words, the last two with triggers too.
-use crate::archive::{self, Columns, Header, Lent, Options, Reading, TriggerReading, Triggers};
+//! read_number, parse_header, read_raw and decode_words, the last two with triggers too.
+use crate::archive::{self, Columns, Header, Lent, Number, Options, Reading, TriggerReading, Triggers};
 use crate::lent::{columns_untouched, Rng};
 use crate::*;
 
@@ -29,7 +29,34 @@ fn reading_allowed(r: &Reading, early: u32, size: Size, limit: usize, c: &Lent) 
     }
 }
 
+/// Digits with a sign, zeros before them and other bytes among them, now and then; or any bytes.
+fn any_text(rng: &mut Rng) -> Vec<u8> {
+    if rng.chance(10) {
+        return (0..rng.below(40)).map(|_| rng.next() as u8).collect();
+    }
+    let (zeros, digits, odd) = (rng.below(30) * rng.below(2), rng.below(25), rng.below(8));
+    let mut text = if rng.chance(30) { vec![b'+'] } else { Vec::new() };
+    text.extend(std::iter::repeat(b'0').take(zeros));
+    text.extend((0..digits).map(|_| if rng.chance(odd) { rng.pick(b"+-/:x \0\xff") } else { rng.pick(b"0123456789") }));
+    text
+}
+
 impl Env {
+    /// All that a text tells is the model's.
+    pub fn number(&mut self) -> Checked {
+        let (text, last) = (any_text(&mut self.rng), self.rng.chance(70));
+        let lent = self.bytes.copy(&text, last);
+        let want = match table::number_place(&text) {
+            Ok(value) => Number { value, place: 0, valid: 1 },
+            Err(place) => Number { value: 0, place, valid: 0 },
+        };
+        for _ in 0..2 {
+            same(archive::read_number(lent), want)?;
+        }
+        ensure(lent == &text[..], "the text was altered")?;
+        self.count(Name::ReadNumber, 0)
+    }
+
     /// All that a header tells follows from its text.
     pub fn header(&mut self) -> Checked {
         let (o, recording) = (any_options(&mut self.rng), Bytes::make(&mut self.rng));

@@ -336,7 +336,6 @@ mod raw {
     }
     extern "C" {
         pub fn prophesee_version() -> u32;
-        pub fn prophesee_read_number(text: *const u8, n: usize) -> Number;
         pub fn prophesee_word_trigger(decoder: Decoder, bytes: *const u8, n: usize) -> Trigger;
         pub fn prophesee_read_number(text: *const u8, n: usize) -> Number;
         pub fn prophesee_parse_header(recording: *const u8, n: usize, sized: u8, width: usize, height: usize) -> Header;

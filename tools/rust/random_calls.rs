@@ -8,8 +8,6 @@ mod archive;
 mod indexes;
 mod lent;
 mod making;
-#[path = "random_calls/numbers.rs"]
-mod numbers;
 #[path = "random_calls/reading.rs"]
 mod reading;
 mod table;

@@ -65,7 +65,7 @@ fn trimmed(s: &[u8]) -> &[u8] {
     &s[from..to]
 }
 
-pub fn number(s: &[u8]) -> Option<usize> {
+fn number(s: &[u8]) -> Option<usize> {
     let digits = s.strip_prefix(b"+").unwrap_or(s);
     if digits.is_empty() {
         return None;

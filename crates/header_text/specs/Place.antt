@@ -66,6 +66,7 @@ module _ (n b : ℕ) where
 
 -- ---- numbers and answers
 
+-- an answer without its place
 known : Number → Option ℕ
 known (Value n) = some n
 known (Bad k) = none
@@ -87,6 +88,7 @@ unfolding known readOf numberOf
 read-known [] = refl
 read-known (b ∷ s) = by-bool (eqb b 43) (λ e. rw e (at-known 1 s)) (λ e. rw e (at-known 0 (b ∷ s)))
 
+-- the reader gives a value exactly of numbers, and theirs
 module _ (s : List ℕ) where
   pub value-number : (n : ℕ) → readOf s ≡ Value n → numberOf s ≡ some n
   unfolding known
@@ -119,6 +121,7 @@ zero-first b s = refl
 
 -- ---- digits: the byte at which the reader stops
 
+-- behind digits of value n, count bytes on: what stands before is a number, and with the byte there none begins so
 record Stops (place n : ℕ) (s : List ℕ) (k : ℕ) : Type 0 where
   count : ℕ
   at : k ≡ place + count
@@ -155,7 +158,7 @@ unfolding digitsOf numberFrom allDigits isDigit digitsValue
 digits-begin [] n e = record { rest = 48 ∷ []; value = 0; number = refl }
 digits-begin (b ∷ s) n e = record { rest = []; value = n; number = ap digitsOf (append-nil (b ∷ s)) ∙ e }
 
--- the same for one or more digits, also at the end
+-- the same of one or more digits, also where they end
 record DigitsPlace (place : ℕ) (s : List ℕ) (k : ℕ) : Type 0 where
   count : ℕ
   at : k ≡ place + count
@@ -222,6 +225,7 @@ module _ (b : ℕ) (s : List ℕ) (k : ℕ) where
         ended = λ l. rw e (r .ended l);
       })
 
+-- the place that the reader tells is one
 pub bad-place : (s : List ℕ) (k : ℕ) → readOf s ≡ Bad k → Place s k
 unfolding readOf numberOf
 bad-place [] k e =
@@ -244,6 +248,7 @@ module _ (s : List ℕ) where
   places-order : (j k : ℕ) → Place s j → Place s k → j < k → ⊥
   places-order j k p q h = p .here (omega (arith, q .within)) (begins-less (suc j) k h (q .before))
 
+  -- and any other would be that one
   pub place-bad : (k : ℕ) → Place s k → readOf s ≡ Bad k
   place-bad k p = go (readOf s) refl
     where

@@ -1,9 +1,9 @@
--- Where a text stops to begin a number: the place that the reader tells is that one, and there is no other.
+-- From where on a text begins no number: the place that the reader tells is that one, and there is no other.
 use Prim.Native.Nat.{ℕ, zero, suc, _+_, _*_, _-_, _^_, _<_, _≤_}
 use mathlib.Core.Path.{_≡_, refl, sym, _∙_, ap}
 use mathlib.Core.List.{List, [], _∷_, _++_, append-nil, append-assoc}
 use mathlib.Core.Option.{Option, none, some}
-use mathlib.Core.Bool.{Bool, true, false, _&&_, and-false}
+use mathlib.Core.Bool.{true, false, and-false}
 use native.Mathlib.Omega.{arith}
 use lib.ListN.{length, take, drop, take-append-drop, length-take}
 use lib.Seq.{take-take}
@@ -25,10 +25,6 @@ pub record Place (s : List ℕ) (k : ℕ) : Type 0 where
   pub before : Begins (take k s)
   pub here : k < length s → Begins (take (suc k) s) → ⊥
   pub ended : k ≡ length s → numberOf s ≡ none
-
-and-both : (a b : Bool) → (a && b) ≡ true → (a ≡ true) × (b ≡ true)
-and-both true b h = (refl, h)
-and-both false b h = (h, cc)
 
 -- ---- a byte behind digits of value n: the reader goes on there, or stops
 
@@ -55,7 +51,7 @@ module _ (n b : ℕ) where
   module _ (e : goesOn n b ≡ true) where
     go-both : (isDigit b ≡ true) × (ltb next (2 ^ 64) ≡ true)
     unfolding goesOn
-    go-both = and-both _ _ e
+    go-both = by-bool (isDigit b) (λ d. (d, rw d at e)) (λ d. let no : false ≡ true = rw d at e in (d ∙ no, cc))
 
     go-number : (s : List ℕ) → numberFrom n (b ∷ s) ≡ numberFrom next s
     unfolding numberFrom allDigits digitsValue

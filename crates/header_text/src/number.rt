@@ -1,4 +1,4 @@
-// Decimal numbers: the value, or the place where a text stops to begin one.
+// Decimal numbers: the value, or the place from which on a text begins none.
 ghost use mathlib.Core.Path.{_≡_};
 ghost use Prim.Native.Nat.{_≤_};
 ghost use lib.ListN.{length, drop};

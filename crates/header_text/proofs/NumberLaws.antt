@@ -1,12 +1,13 @@
 -- The loop over digits, and the sign before them.
 use Prim.Native.Nat.{ℕ, _+_, _*_, _-_, _^_, _<_, _≤_}
-use mathlib.Core.Path.{_≡_, refl}
+use mathlib.Core.Path.{_≡_, refl, sym, _∙_}
 use mathlib.Core.List.{List, [], _∷_}
-use mathlib.Core.Bool.{false, and-false}
+use mathlib.Core.Bool.{Bool, true, false, and-false}
 use mathlib.Core.Logic.{_⊎_, ⊎-elim}
 use native.Mathlib.Omega.{arith}
 use lib.ListN.{length, getD, drop}
-use borrow.Author.Tests.{lt-ltb, le-ltb, le-leb, lt-leb, eq-eqb, ne-eqb}
+use lib.Dec.{leb}
+use borrow.Author.Tests.{lt-ltb, le-ltb, le-leb, lt-leb, leb-true, leb-false, eq-eqb, ne-eqb}
 use Rattle.header_text.specs.declared.number.Number.{Number}
 use Rattle.header_text.specs.declared.number.Number.the-variants.{Value, Bad}
 use Rattle.header_text.specs.Number.{isDigit, goesOn, digitsFrom, digitsAt, readOf}
@@ -23,6 +24,14 @@ digits-some s i h = rw (at-drop s i h)
 not-digit : (b : ℕ) → (b < 48) ⊎ (57 < b) → isDigit b ≡ false
 unfolding isDigit
 not-digit b h = ⊎-elim (λ l. rw (lt-leb 48 b l)) (λ l. rw (lt-leb b 57 l, and-false)) h
+
+-- by whether a value is found to pass 2^64 - 1
+module _ {r : Bool} {m : ℕ} (is : r ≡ leb (2 ^ 64) m) where
+  pub value-fits : r ≡ false → m < 2 ^ 64
+  value-fits e = leb-false (2 ^ 64) m (sym is ∙ e)
+
+  pub value-passes : r ≡ true → 2 ^ 64 ≤ m
+  value-passes e = leb-true (2 ^ 64) m (sym is ∙ e)
 
 -- the digits before the byte i are read, and their value is n
 module _ (s : List ℕ) (n i : ℕ) (all : Number) (inv : digitsFrom i n (drop i s) ≡ all) where

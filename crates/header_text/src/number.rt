@@ -1,6 +1,7 @@
 // Decimal numbers: the value, or the place from which on a text begins none.
 ghost use mathlib.Core.Path.{_≡_};
-ghost use Prim.Native.Nat.{_≤_};
+ghost use Prim.Native.Nat.{_+_, _*_, _^_, _≤_};
+ghost use lib.Dec.{leb};
 ghost use lib.ListN.{length, drop};
 ghost use Rattle.header_text.specs.Number.{digitsAt, readOf};
 
@@ -8,6 +9,18 @@ pub enum Number {
     Value(usize),
     // the first byte that can't belong, or with which the value passes 2^64 - 1, or the length
     Bad(usize),
+}
+
+// Whether the digit d behind digits of value n passes 2^64 - 1. The first test, which holds of up to
+// 18 digits, spares a division.
+fn passes(n: usize, d: usize) -> bool
+    requires { ⌜ d ≤ 9 ⌝ }
+    ensures { λ r. ⌜ r ≡ leb (2 ^ 64) (n * 10 + d) ⌝ }
+{
+    if n <= 1844674407370955160 {
+        return false;
+    }
+    (18446744073709551615 - d) / 10 < n
 }
 
 // One or more digits, from the byte `start` on.
@@ -28,8 +41,8 @@ fn digits(s: &[u8], start: usize) -> Number
             return Number::Bad(i);
         }
         let d = (s[i] - 48) as usize;
-        if (18446744073709551615 - d) / 10 < n {
-            return Number::Bad(i); // n * 10 + d would pass 2^64 - 1
+        if passes(n, d) {
+            return Number::Bad(i); // digits behind it only raise the value
         }
         n = n * 10 + d;
         i += 1;

@@ -1,10 +1,10 @@
 -- `header_text::number::digits` meets its contract.
-use Prim.Native.Nat.{_-_, _^_, _<_, _≤_}
+use Prim.Native.Nat.{_+_, _*_, _-_, _^_, _<_, _≤_}
 use mathlib.Core.Path.{_≡_}
 use mathlib.Core.Logic.{inl, inr}
 use native.Mathlib.Omega.{arith}
 use borrow.Author.Needs.{needs}
-use lib.ListN.{length, drop}
+use lib.ListN.{length, getD, drop}
 use Rattle.header_text.specs.Number.{digitsFrom, digitsAt}
 use Rattle.header_text.proofs.NumberLaws as laws
 use Rattle.header_text.proofs.number.digits.Statement.{statement}
@@ -32,28 +32,36 @@ returns-3 c =
 
 returns-4 : tie.Need-returns-4 Inv-loop μ-loop
 returns-4 c =
-    let b = c .before .before .before .before in
-    laws.digits-big _ _ _ _ (b .before .before .before .loop .inv .1 .1) (b .before .before .loop-test .taken) (b .if2 .left)
-    (c .before .before .if3 .left) (omega arith)
+    let b = c .before .before .before .before .before .before in
+    laws.digits-big _ _ _ _ (b .before .before .loop .inv .1 .1) (b .before .loop-test .taken) (c .before .before .before .before .before .if2 .left)
+    (c .before .before .before .if3 .left) (laws.value-passes (c .before .passes .ensures) (c .if4 .taken))
 
 loop-again : tie.Need-loop-again Inv-loop μ-loop
 loop-again c =
-    let b = c .before .before .before .before in (
-      omega arith,
-      (
-        omega arith,
-        laws.digits-next _ _ _ _ (b .before .before .before .loop .inv .1 .1) (b .before .before .loop-test .taken) (b .if2 .left)
-            (c .before .before .if3 .left) (omega arith),
-      ),
-    )
+    let b = c .before .before .before .before .before .before in
+    let fits = laws.value-fits (c .before .passes .ensures) (c .if4 .left) in
+    let next =
+    laws.digits-next _ _ _ _ (b .before .before .loop .inv .1 .1) (b .before .loop-test .taken) (c .before .before .before .before .before .if2 .left)
+    (c .before .before .before .if3 .left) fits in
+    (omega arith, (fits, next))
 
 returns-5 : tie.Need-returns-5 Inv-loop μ-loop
 returns-5 c = laws.digits-end _ _ _ _ (c .before .loop .inv .1 .1) (c .loop-test .left)
+
+add-n : tie.Need-add-n Inv-loop μ-loop
+add-n c =
+    let l = c .before .before .before .before .before .before .before .before .loop in
+    let s = c .before .before .before .before .before .before .before .before .before .before .before .args .s .now in
+    let fits : l .n * 10 + (getD s (l .i) 0 - 48) < 2 ^ 64 = laws.value-fits (c .before .passes .ensures) (c .if4 .left) in
+    omega (arith, fits)
+
+mul-n : tie.Need-mul-n Inv-loop μ-loop
+mul-n c = omega (arith, add-n c)
 
 pub digits-spec : {M : Type 1} → statement M
 digits-spec =
     tie.close
     (tie.spec
     Inv-loop μ-loop returns loop-holds (λ c. search needs) returns-2 (λ c. search needs) returns-3
-    (λ c. search needs) (λ c. search needs) (λ c. search needs) (λ c. search needs) returns-4
-    (λ c. search needs) (λ c. search needs) (λ c. search needs) (λ c. search needs) loop-again returns-5)
+    (λ c. search needs) (λ c. search needs) (λ c. search needs) (λ c. omega arith) returns-4
+    mul-n add-n (λ c. search needs) (λ c. search needs) loop-again returns-5)

@@ -8,6 +8,8 @@ mod evt21;
 mod generating;
 #[path = "bench/memory.rs"]
 mod memory;
+#[path = "bench/numbers.rs"]
+mod numbers;
 #[path = "bench/operations.rs"]
 mod operations;
 #[path = "bench/plain.rs"]
@@ -54,7 +56,7 @@ fn asked() -> Asked {
             _ => panic!("unknown: {word}"),
         }
     }
-    a.only.iter().for_each(|o| assert!(o == "memory" || o == "triggers" || OPERATIONS.iter().any(|k| k.0 == o), "no operation: {o}"));
+    a.only.iter().for_each(|o| assert!(["memory", "triggers", "numbers"].contains(&o.as_str()) || OPERATIONS.iter().any(|k| k.0 == o), "no operation: {o}"));
     a.files.iter().for_each(|f| assert!(RECORDINGS.iter().any(|k| k.0 == f), "no recording: {f}"));
     a
 }
@@ -158,6 +160,14 @@ fn main() {
         let last = a.mib.unwrap_or(1024).ilog2() as usize;
         let points: Vec<_> = (0..=last).map(|k| point(&a, k)).collect();
         std::fs::write(path, plot::svg(&points)).unwrap();
+        return;
+    }
+    if wanted(&a.only, "numbers") {
+        for (says, t) in numbers::measure(a.runs.unwrap_or(999)) {
+            println!("numbers           ours {:>7.2} ns  parse {:>7.2} ns  ratio {:.2}  {says}", t.ours * 1e9, t.original * 1e9, t.ours / t.original);
+        }
+    }
+    if a.only == ["numbers"] {
         return;
     }
     let files: Vec<_> = RECORDINGS.iter().filter(|f| wanted(&a.files, f.0)).collect();

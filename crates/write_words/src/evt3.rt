@@ -95,6 +95,7 @@ fn pass_still(
     Put { state: after, at }
 }
 
+// FFF is held: only 000 is due to count a loop.
 fn at_end(held: Sent) -> bool
     ensures { λ r. ⌜ r ≡ atEnd held ⌝ }
 {

@@ -5,7 +5,7 @@ use mathlib.Core.List.{List, [], _∷_, _++_, append-nil, append-assoc}
 use mathlib.Core.Option.{Option, none, some}
 use mathlib.Core.Bool.{true, false, and-false}
 use native.Mathlib.Omega.{arith}
-use lib.ListN.{length, take, drop, take-append-drop, length-take}
+use lib.ListN.{length, take, drop, replicate, take-append-drop, length-take}
 use lib.Seq.{take-take}
 use lib.Dec.{ltb, eqb}
 use borrow.Author.Tests.{lt-ltb, le-ltb, ltb-true, ltb-false}
@@ -110,10 +110,25 @@ by-order j k l g = omega arith
 never : {A : Type 0} {o : Option ℕ} {n : ℕ} → o ≡ none → o ≡ some n → A
 never e h = absurd (let z : _≡_ {A = ℕ} 0 1 = cc in omega arith)
 
--- a `0` before digits changes nothing
-pub zero-first : (b : ℕ) (s : List ℕ) → digitsOf (48 ∷ b ∷ s) ≡ digitsOf (b ∷ s)
+zero-first : (b : ℕ) (s : List ℕ) → digitsOf (48 ∷ b ∷ s) ≡ digitsOf (b ∷ s)
 unfolding digitsOf numberFrom allDigits digitsValue isDigit
 zero-first b s = refl
+
+-- zeros before digits change nothing, however many
+pub zeros-first : (k b : ℕ) (s : List ℕ) → digitsOf (replicate k 48 ++ (b ∷ s)) ≡ digitsOf (b ∷ s)
+zeros-first zero b s = refl
+zeros-first (suc zero) b s = zero-first b s
+zeros-first (suc (suc k)) b s = zero-first 48 (replicate k 48 ++ (b ∷ s)) ∙ zeros-first (suc k) b s
+
+zeros-digits : (k : ℕ) → digitsOf (48 ∷ replicate k 48) ≡ some 0
+unfolding digitsOf numberFrom allDigits digitsValue isDigit
+zeros-digits zero = refl
+zeros-digits (suc k) = zero-first 48 (replicate k 48) ∙ zeros-digits k
+
+-- and alone they are the number 0
+pub zeros-value : (k : ℕ) → readOf (replicate (suc k) 48) ≡ Value 0
+unfolding numberOf
+zeros-value k = number-value (48 ∷ replicate k 48) 0 (zeros-digits k)
 
 -- ---- digits: the byte at which the reader stops
 

@@ -3,6 +3,8 @@
 // (specs/Clock.antt), the events of a word (specs/Event.antt), triggers (specs/Trigger.antt), and the
 // number and the values of every refusal (specs/Told.antt).
 
+#![tactic(auto)]
+
 ghost use Rattle.std.specs.Prelude.{◌≡◌};
 ghost use Rattle.evt_types.specs.Num.{encoding_number};
 ghost use Rattle.evt_types.specs.Told.{told};

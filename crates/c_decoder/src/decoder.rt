@@ -19,7 +19,7 @@ use read_after::AfterAnswer;
 
 // `initialised` and `polarity` are 0 or 1. `y`, `base_x` and `polarity` are EVT3's.
 #[repr(C)]
-#[derive(Drop)]
+#[derive(Clone, Copy)]
 pub struct PropheseeDecoder {
     pub time_base: u64,
     pub time: u64,
@@ -32,7 +32,7 @@ pub struct PropheseeDecoder {
 }
 
 #[repr(C)]
-#[derive(Drop)]
+#[derive(Clone, Copy)]
 pub struct PropheseeVector {
     pub t: i64,
     pub mask: u32,
@@ -44,7 +44,7 @@ pub struct PropheseeVector {
 // `refusal` 0: the decoder after the word, and its events. Else the table's number, and the decoder
 // is as it was.
 #[repr(C)]
-#[derive(Drop)]
+#[derive(Clone, Copy)]
 pub struct PropheseeDecoded {
     pub decoder: PropheseeDecoder,
     pub events: PropheseeVector,
@@ -52,14 +52,14 @@ pub struct PropheseeDecoded {
 }
 
 #[repr(C)]
-#[derive(Drop)]
+#[derive(Clone, Copy)]
 pub struct PropheseeStepped {
     pub decoder: PropheseeDecoder,
     pub refusal: u32,
 }
 
 #[repr(C)]
-#[derive(Drop)]
+#[derive(Clone, Copy)]
 pub struct PropheseeEvent {
     pub t: i64,
     pub x: u16,
@@ -69,7 +69,7 @@ pub struct PropheseeEvent {
 
 // `some` 1: the first event, and the vector without it.
 #[repr(C)]
-#[derive(Drop)]
+#[derive(Clone, Copy)]
 pub struct PropheseeNext {
     pub rest: PropheseeVector,
     pub event: PropheseeEvent,

@@ -4,3 +4,6 @@
 // specs/Statement.antt is the statement, of calls that ran, by their contracts alone; specs/Made.antt has
 // that the records of an index are read back from their numbers, specs/Reading.antt what is read by C,
 // specs/Writing.antt what is written, specs/Proof.antt that it follows from the theorem of `laws_handover`.
+
+#![tactic(auto)]
+

@@ -14,7 +14,7 @@ use index_build::{Builder, OpenAnswer, OpenOptions, Opening, Prepared, WordsOpti
 
 // `sized` 0: the size is unknown; else it is `width` by `height`.
 #[repr(C)]
-#[derive(Drop)]
+#[derive(Clone, Copy)]
 pub struct PropheseeOpenOptions {
     pub width: usize,
     pub height: usize,
@@ -24,7 +24,7 @@ pub struct PropheseeOpenOptions {
 
 // An index but for its records, with how many they are.
 #[repr(C)]
-#[derive(Drop)]
+#[derive(Clone, Copy)]
 pub struct PropheseeSource {
     pub records: usize,
     pub spacing: usize,
@@ -39,7 +39,7 @@ pub struct PropheseeSource {
 // `refusal` 0: opened, and `source` tells what. Else the table's number, `told` being the count that
 // a 9 tells.
 #[repr(C)]
-#[derive(Drop)]
+#[derive(Clone, Copy)]
 pub struct PropheseeOpening {
     pub source: PropheseeSource,
     pub told: usize,

@@ -9,7 +9,7 @@ use evt_types::num::natural_time;
 use index_build::Checkpoint;
 
 // Where it stands, the events counted before it, their maximum time, and the decoder there.
-#[derive(Drop)]
+#[derive(Clone, Copy)]
 pub struct PropheseeRecord {
     pub byte_offset: u64,
     pub event_index: u64,

@@ -18,7 +18,7 @@ use slice_rules::SliceAnswer;
 // `refusal` 0: `count` events stand at the front of the columns. Else the table's number, `told`
 // being the count that a 5 tells.
 #[repr(C)]
-#[derive(Drop)]
+#[derive(Clone, Copy)]
 pub struct PropheseeSlice {
     pub told: usize,
     pub count: usize,

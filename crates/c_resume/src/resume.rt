@@ -14,7 +14,7 @@ use write_resume::{ResumeAnswer, Resumed};
 
 // `refusal` 0: the writer that resumes. Else the table's number, and a fresh writer that sends no header.
 #[repr(C)]
-#[derive(Drop)]
+#[derive(Clone, Copy)]
 pub struct PropheseeResumed {
     pub sink: PropheseeSink,
     pub refusal: u32,

@@ -10,7 +10,7 @@ use trigger_rules::{TriggerReadAnswer, TriggerReading};
 // `refusal` 0: read, and `encoding` (2 or 3), `width`, `height`, `count` (of events) and `triggers` tell
 // what. Else the table's number, `told` being the count that a 5 or a 13 tells.
 #[repr(C)]
-#[derive(Drop)]
+#[derive(Clone, Copy)]
 pub struct PropheseeTriggerReading {
     pub refusal: u32,
     pub encoding: u32,

@@ -7,7 +7,7 @@ use evt_types::{RawTrigger, Refusal, TriggerAnswer, refusal_number};
 
 // `refusal` 0: `some` 1 with the word's trigger, or 0 where it has none. Else the table's number.
 #[repr(C)]
-#[derive(Drop)]
+#[derive(Clone, Copy)]
 pub struct PropheseeTrigger {
     pub t: i64,
     pub refusal: u32,

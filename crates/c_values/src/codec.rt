@@ -11,7 +11,7 @@ use evt3_decoder::Decoder;
 use evt21_decoder::Evt21Decoder;
 
 // `initialised` and `polarity` are 0 or 1. `y`, `base_x` and `polarity` are EVT3's.
-#[derive(Drop)]
+#[derive(Clone, Copy)]
 pub struct DecoderNumbers {
     pub initialised: u64,
     pub time_base: u64,

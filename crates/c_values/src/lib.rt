@@ -3,6 +3,9 @@
 // of an option and of an encoding mean, specs/Reading.antt and Number.antt which numbers reading and the
 // number reader return and what reading promises, specs/Codec.antt how a decoder is held in numbers;
 // specs/Flags.antt and Promises.antt are for the proofs.
+
+#![tactic(auto)]
+
 pub mod codec;
 pub mod encoding;
 pub mod flags;

@@ -6,7 +6,7 @@ use header_text::number::Number;
 
 // `valid` 1: the text is a number, of this value. 0: it is none, and `place` tells where.
 #[repr(C)]
-#[derive(Drop)]
+#[derive(Clone, Copy)]
 pub struct PropheseeNumber {
     pub value: usize,
     pub place: usize,

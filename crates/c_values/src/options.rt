@@ -9,7 +9,7 @@ use read::LoadOptions;
 // `sized` 0: the size is unknown; else it is `width` by `height`. `limited` 0: there is no limit; else
 // it is `max_events`.
 #[repr(C)]
-#[derive(Drop)]
+#[derive(Clone, Copy)]
 pub struct PropheseeOptions {
     pub width: usize,
     pub height: usize,

@@ -12,7 +12,7 @@ use read::{ReadAnswer, Reading};
 // `refusal` 0: parsed, and the others tell what; `sized` 1: the size is known. Else the table's
 // number.
 #[repr(C)]
-#[derive(Drop)]
+#[derive(Clone, Copy)]
 pub struct PropheseeHeader {
     pub refusal: u32,
     pub encoding: u32,
@@ -25,7 +25,7 @@ pub struct PropheseeHeader {
 // `refusal` 0: read, and `encoding` (2 or 3), `width`, `height` and `count` tell what. Else document
 // 01's number, `told` being the count that a 5 tells.
 #[repr(C)]
-#[derive(Drop)]
+#[derive(Clone, Copy)]
 pub struct PropheseeReading {
     pub refusal: u32,
     pub encoding: u32,

@@ -15,7 +15,7 @@ use write_buffer::EncoderState;
 
 // A writer. `last_t`, `time_high`, `time_low` and `y` are 0 where the flag `has_..` beside is.
 #[repr(C)]
-#[derive(Drop)]
+#[derive(Clone, Copy)]
 pub struct PropheseeSink {
     pub n_events: usize,
     pub last_t: i64,
@@ -33,7 +33,7 @@ pub struct PropheseeSink {
 // `refusal` 0: `written` bytes were written. Else the table's number, `told` being the count that an
 // 11 tells, and the sink is as it was.
 #[repr(C)]
-#[derive(Drop)]
+#[derive(Clone, Copy)]
 pub struct PropheseeAppended {
     pub sink: PropheseeSink,
     pub told: usize,

@@ -2,6 +2,9 @@
 // slicing, writing, streams that are cut and resumed, a long show, single words, and refusals. Every
 // call is one of `prophesee_raw`; `test_text` only prints, an event as `t,x,y,p` and bytes in hex. Each
 // line begins with the name of its example.
+
+#![tactic(auto)]
+
 mod decoding;
 mod given;
 mod print;

@@ -53,7 +53,7 @@ pub fn reading(name: &[u8], answer: ReadAnswer) -> usize {
 }
 
 // How many events and triggers were read.
-#[derive(Drop)]
+#[derive(Clone, Copy)]
 pub struct Counts {
     pub events: usize,
     pub triggers: usize,

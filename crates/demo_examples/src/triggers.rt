@@ -9,7 +9,7 @@ fn words() -> [u8; 12] {
 }
 
 // How many triggers were read, their times and their channels.
-#[derive(Drop)]
+#[derive(Clone, Copy)]
 struct Pulses {
     count: usize,
     times: [i64; 2],

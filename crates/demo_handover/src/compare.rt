@@ -6,7 +6,7 @@ use crate::given;
 use crate::given::When;
 
 // What a call handed over: the number of its refusal (0 if there was none), the count, the columns.
-#[derive(Drop)]
+#[derive(Clone, Copy)]
 pub struct Got {
     pub refused: u64,
     pub count: usize,
@@ -59,7 +59,7 @@ fn same_bytes(got: [u8; 16], given: [u8; 16], from: usize, n: usize) -> bool
     true
 }
 
-#[derive(Drop)]
+#[derive(Clone, Copy)]
 pub enum Difference {
     Nothing,
     Refusal(u64),

@@ -10,7 +10,7 @@ use prophesee_raw::Encoding;
 // Later events are just so much later, 231 times 64 in EVT2 or 37 times 4,096 in EVT3, that the first
 // time word begins with hex 25, `%`; where the words end stays the same. A long show, of EVT3, passes
 // one of its loops, 2^24 microseconds, before number 7, and two before number 14.
-#[derive(Drop)]
+#[derive(Clone, Copy)]
 pub enum When {
     Early,
     Later2,
@@ -19,7 +19,7 @@ pub enum When {
 }
 
 // What is written, and read back: words alone, or behind a header.
-#[derive(Drop)]
+#[derive(Clone, Copy)]
 pub struct Case {
     pub encoding: Encoding,
     pub headed: bool,

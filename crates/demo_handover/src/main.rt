@@ -8,6 +8,9 @@
 // of EVT2.1: its time words, and so its streams, begin with a byte 0. A long show of EVT3 passes its
 // loops. The last line reads a recording that lost its opening before. src/given.rt has the appends,
 // and what each cut owes.
+
+#![tactic(auto)]
+
 ghost use Rattle.std.specs.Prelude.{◌≤◌, ◌<◌, length};
 
 use crate::given::{Case, When};

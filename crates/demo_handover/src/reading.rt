@@ -14,7 +14,7 @@ use prophesee_raw::{
 use test_text::columns;
 
 // A refusal's number, or 0, and a count.
-#[derive(Drop)]
+#[derive(Clone, Copy)]
 struct Outcome {
     refused: u64,
     count: usize,

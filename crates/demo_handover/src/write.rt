@@ -7,7 +7,7 @@ use prophesee_raw::{AppendAnswer, RawEventSink, Resumed};
 use test_text::{columns, text};
 
 // A writer, how many bytes of the output are written, and whether the answers are told.
-#[derive(Drop)]
+#[derive(Clone, Copy)]
 struct Progress {
     sink: RawEventSink,
     at: usize,

@@ -1,5 +1,8 @@
 // EVT 2.1: words of 64 bits. The upper half is a word of EVT 2.0, and the lower half of an event word
 // is a mask in which bit i stands for an event at column x + i.
+
+#![tactic(auto)]
+
 ghost use Rattle.std.specs.Prelude.{◌≡◌};
 ghost use Rattle.evt2_decoder.specs.Evt2.{step2, vector2, Sane2};
 ghost use Rattle.evt21_decoder.specs.Evt21.{as2, of2, wide, fresh21, step21, vector21, in_range21};
@@ -13,7 +16,7 @@ use evt_types::fields::bits;
 use evt_types::{DecodeAnswer, Refusal, TriggerAnswer, vector};
 use evt2_decoder::{Evt2Decoder, Evt2Step};
 
-#[derive(Drop)]
+#[derive(Clone, Copy)]
 pub struct Evt21Decoder {
     pub initialised: bool,
     pub time_high: u64,
@@ -22,7 +25,7 @@ pub struct Evt21Decoder {
 }
 
 // What `step` leaves: the next decoder, and the answer.
-#[derive(Drop)]
+#[derive(Clone, Copy)]
 pub struct Evt21Decoded {
     pub next: Evt21Decoder,
     pub answer: DecodeAnswer,

@@ -1,6 +1,9 @@
 // EVT 2.1: the words of events, stored, or in a dry run only counted. `pass` is proved to store the
 // bytes of the words that specs/Evt21.antt defines, each with a note of the events that it carries;
 // specs/Pass21.antt has the loop.
+
+#![tactic(auto)]
+
 ghost use Rattle.std.specs.Prelude.{◌≡◌, true, cond, ◌+◌, ◌-◌, ◌/◌, ◌^◌, ◌≤◌, ◌<◌, eqb, ltb, length};
 ghost use Rattle.std.proofs.lemmas.List.Edits.{sets};
 ghost use Rattle.evt_types.specs.Layout.{word_size21, grain2};

@@ -1,4 +1,7 @@
 // EVT2: words of 32 bits. An event word carries its own coordinates and the low six bits of its time.
+
+#![tactic(auto)]
+
 ghost use Rattle.std.specs.Prelude.{◌≡◌};
 ghost use Rattle.evt2_decoder.specs.Evt2.{fresh2, step2, vector2, Sane2, in_range2};
 ghost use Rattle.evt2_decoder.specs.Decode.{Decoded2};
@@ -10,7 +13,7 @@ use evt_types::fields::bits;
 use evt_types::vector::Vector;
 use evt_types::{DecodeAnswer, Refusal, TriggerAnswer, clock, trigger, vector};
 
-#[derive(Drop)]
+#[derive(Clone, Copy)]
 pub struct Evt2Decoder {
     pub initialised: bool,
     pub time_high: u64,
@@ -19,14 +22,14 @@ pub struct Evt2Decoder {
 }
 
 // The decoder after a word, and the word's events.
-#[derive(Drop)]
+#[derive(Clone, Copy)]
 pub struct Evt2Step {
     pub next: Evt2Decoder,
     pub events: Vector,
 }
 
 // What `step` leaves: the next decoder, and the answer.
-#[derive(Drop)]
+#[derive(Clone, Copy)]
 pub struct Evt2Decoded {
     pub next: Evt2Decoder,
     pub answer: DecodeAnswer,

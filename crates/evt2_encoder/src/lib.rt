@@ -1,6 +1,9 @@
 // EVT2: the words of events, stored, or in a dry run only counted. `pass` is proved to store the
 // bytes of the words that specs/Evt2.antt defines, each with a note of the event that it carries;
 // specs/Pass2.antt has their bytes and the loop.
+
+#![tactic(auto)]
+
 ghost use Rattle.std.specs.Prelude.{◌≡◌, ◌+◌, ◌/◌, ◌^◌, ◌≤◌, ◌<◌, eqb, length};
 ghost use Rattle.std.proofs.lemmas.List.Edits.{sets};
 ghost use Rattle.evt_types.specs.Layout.{grain2};

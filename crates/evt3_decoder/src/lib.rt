@@ -1,4 +1,7 @@
 // EVT3: words of 16 bits. A word sets the row, the base column or the time, or carries events.
+
+#![tactic(auto)]
+
 ghost use Rattle.std.specs.Prelude.{◌≡◌};
 ghost use Rattle.evt3_decoder.specs.Evt3.{fresh3, step3, vector3, Sane3, Slim, widened, slimmed, in_range3, is_zero, single, several};
 ghost use Rattle.evt3_decoder.specs.Decode.{Decoded3};
@@ -11,7 +14,7 @@ use evt_types::num::saturating_add;
 use evt_types::vector::Vector;
 use evt_types::{DecodeAnswer, Refusal, TriggerAnswer, clock, trigger, vector};
 
-#[derive(Drop)]
+#[derive(Clone, Copy)]
 pub struct Decoder {
     pub initialised: bool,
     pub time_base: u64,
@@ -23,7 +26,7 @@ pub struct Decoder {
 }
 
 // The decoder inside a loop: all numbers have 64 bits, so that a step is inlined.
-#[derive(Drop)]
+#[derive(Clone, Copy)]
 pub struct WideDecoder {
     pub initialised: bool,
     pub time_base: u64,
@@ -35,14 +38,14 @@ pub struct WideDecoder {
 }
 
 // The decoder after a word, and the word's events.
-#[derive(Drop)]
+#[derive(Clone, Copy)]
 pub struct WideStep {
     pub next: WideDecoder,
     pub events: Vector,
 }
 
 // What `step` leaves: the next decoder, and the answer.
-#[derive(Drop)]
+#[derive(Clone, Copy)]
 pub struct Decoded {
     pub next: Decoder,
     pub answer: DecodeAnswer,

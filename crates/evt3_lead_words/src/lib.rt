@@ -2,6 +2,9 @@
 // is proved to store those that are due, `loops::put_passes` those that pass into a later loop.
 // specs/Evt3.antt says which words a writer sends of a run, each with a note of the events that it
 // carries, specs/Leads.antt which bytes its leading words have, specs/Loops.antt those of the loops.
+
+#![tactic(auto)]
+
 ghost use Rattle.std.specs.Prelude.{◌≡◌, cond, ◌+◌, ◌^◌, ◌<◌, length};
 ghost use Rattle.std.proofs.lemmas.List.Edits.{sets};
 ghost use Rattle.laws_stream.specs.Words.{bytes};

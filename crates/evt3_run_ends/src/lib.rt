@@ -2,6 +2,9 @@
 // the ends of the longest runs, from the left. evt3_run_rules has what a run is and how the ends stand
 // as the bits of a number, `flags` finds these for 63 events at once, and `blocks` goes through long
 // runs.
+
+#![tactic(auto)]
+
 ghost use Rattle.std.specs.Prelude.{◌≡◌, ◌+◌, ◌<◌, length};
 ghost use Rattle.write_buffer.specs.Columns.{Sized, Whole};
 ghost use Rattle.evt3_run_rules.specs.Marks.{stop_at, marks_from, Marked, Finds};

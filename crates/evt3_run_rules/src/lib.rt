@@ -1,12 +1,15 @@
 // What every pass over runs of events rests on: what a run is, and whether an event goes on one.
 // `goes_on` is proved to tell that. specs/Runs.antt says what a run is and which runs events have,
 // specs/Marks.antt how their ends stand as the bits of a number.
+
+#![tactic(auto)]
+
 ghost use Rattle.std.specs.Prelude.{◌≡◌, cond, ltb};
 ghost use Rattle.write_buffer.specs.Columns.{event};
 ghost use Rattle.evt3_run_rules.specs.Runs.{goes};
 
 // The end of a run, and what is known of the ends after it.
-#[derive(Drop)]
+#[derive(Clone, Copy)]
 pub struct Found {
     pub end: usize,
     pub mask: u64,

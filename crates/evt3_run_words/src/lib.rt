@@ -2,6 +2,9 @@
 // events or as vectors, after the words of time and row. `put_run` is proved to store the words that
 // `evt3_lead_words` defines. specs/Parts.antt has their bytes part by part, specs/Masks.antt the
 // masks, specs/Loops.antt the single events.
+
+#![tactic(auto)]
+
 ghost use Rattle.std.specs.Prelude.{◌≡◌, cond, ◌++◌, ◌+◌, ◌*◌, ◌-◌, ◌/◌, ◌%◌, ◌^◌, ◌≤◌, ◌<◌, ltb, length};
 ghost use Rattle.std.proofs.lemmas.List.Edits.{sets};
 ghost use Rattle.laws_stream.specs.Part.{between};
@@ -21,7 +24,7 @@ use evt3_lead_words::put_leads;
 
 // The masks of five vector words, a bit for each of 60 columns, and the index of the first event
 // after these.
-#[derive(Drop)]
+#[derive(Clone, Copy)]
 pub struct MaskBits {
     pub mask: u64,
     pub next: usize,

@@ -13,7 +13,7 @@ use evt2_decoder::Evt2Decoder;
 use evt3_decoder::Decoder;
 use evt21_decoder::Evt21Decoder;
 
-#[derive(Drop)]
+#[derive(Clone, Copy)]
 pub enum Codec {
     Evt2(Evt2Decoder),
     Evt21(Evt21Decoder),
@@ -21,7 +21,7 @@ pub enum Codec {
 }
 
 // What `step` leaves: the next decoder, and the answer.
-#[derive(Drop)]
+#[derive(Clone, Copy)]
 pub struct CodecDecoded {
     pub next: Codec,
     pub answer: DecodeAnswer,

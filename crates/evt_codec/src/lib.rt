@@ -2,6 +2,9 @@
 // evt21_decoder and evt3_decoder) and the shared types (crate evt_types), which are passed on.
 // specs/Reader.antt has what the decoder of each encoding is, specs/Codec.antt what a word does,
 // specs/Decode.antt what decoding it promises, specs/Sound.antt what holds of every encoding's.
+
+#![tactic(auto)]
+
 pub mod codec;
 
 pub use codec::Codec;

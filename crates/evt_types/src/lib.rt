@@ -10,7 +10,7 @@ ghost use Rattle.evt_types.specs.Num.{encoding_number};
 ghost use Rattle.evt_types.specs.Told.{told};
 
 // An event: column, row, time in microseconds, polarity 0 or 1.
-#[derive(Drop)]
+#[derive(Clone, Copy)]
 pub struct RawEvent {
     pub x: u16,
     pub y: u16,
@@ -19,14 +19,14 @@ pub struct RawEvent {
 }
 
 // A pulse on the camera's trigger input: time in microseconds, channel, value 0 or 1.
-#[derive(Drop)]
+#[derive(Clone, Copy)]
 pub struct RawTrigger {
     pub t: i64,
     pub id: u8,
     pub value: u8,
 }
 
-#[derive(Drop)]
+#[derive(Clone, Copy)]
 pub enum Encoding {
     Evt2,
     Evt21,
@@ -48,21 +48,21 @@ pub fn encoding_number(encoding: Encoding) -> u32
 pub type EvtVersion = Encoding;
 
 // A sensor's width and height, where they are known.
-#[derive(Drop)]
+#[derive(Clone, Copy)]
 pub enum SensorSize {
     Unknown,
     Known(usize, usize),
 }
 
 // How many events are handed over at most.
-#[derive(Drop)]
+#[derive(Clone, Copy)]
 pub enum Limit {
     Unlimited,
     AtMost(usize),
 }
 
 // A half of the time or a row that a writer has sent, if it has sent one.
-#[derive(Drop)]
+#[derive(Clone, Copy)]
 pub enum Sent {
     Nothing,
     Value(u64),
@@ -72,7 +72,7 @@ pub enum Sent {
 pub const MOST_BYTES: usize = 1073741824;
 
 // Why a call is refused: a case for each number of the table, with the count that it tells.
-#[derive(Drop)]
+#[derive(Clone, Copy)]
 pub enum Refusal {
     InvalidSensorSize,
     UnknownEncoding,
@@ -111,14 +111,14 @@ pub fn refusal_number(refusal: Refusal) -> u32
 }
 
 // What decoding one word answers.
-#[derive(Drop)]
+#[derive(Clone, Copy)]
 pub enum DecodeAnswer {
     Events(EventVector),
     Refused(Refusal),
 }
 
 // What one word tells of a trigger.
-#[derive(Drop)]
+#[derive(Clone, Copy)]
 pub enum TriggerAnswer {
     Trigger(RawTrigger),
     Nothing,

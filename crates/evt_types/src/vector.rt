@@ -7,7 +7,7 @@ use crate::RawEvent;
 use crate::num::saturate;
 
 // In the loops all numbers have 64 bits, so that a step is inlined. The mask is below 2^32.
-#[derive(Drop)]
+#[derive(Clone, Copy)]
 pub struct Vector {
     pub x: u64,
     pub y: u64,
@@ -16,7 +16,7 @@ pub struct Vector {
     pub mask: u64,
 }
 
-#[derive(Drop)]
+#[derive(Clone, Copy)]
 pub struct EventVector {
     pub x: u16,
     pub y: u16,
@@ -26,7 +26,7 @@ pub struct EventVector {
 }
 
 // The first event, and what is left of the vector without it.
-#[derive(Drop)]
+#[derive(Clone, Copy)]
 pub enum NextEvent {
     Event(RawEvent, EventVector),
     Nothing,

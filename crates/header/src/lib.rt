@@ -3,6 +3,9 @@
 // the answer is stands in specs/Header.antt, over the lines (specs/Lines.antt), and in crate
 // `header_text` the numbers and sizes (specs/Size.antt) and the texts (specs/Text.antt).
 // specs/Notes.antt has only what the functions in here keep.
+
+#![tactic(auto)]
+
 ghost use Rattle.std.specs.Prelude.{◌≡◌};
 ghost use Rattle.header.specs.Lines.{body_of, is_end};
 ghost use Rattle.header.specs.Header.{size_that_holds, has_zero, IsRefused, Parsed};
@@ -13,21 +16,21 @@ use header_text::size::geometry;
 use header_text::text::{ByteClass, begins_with, has, is_word, tail_from, trim, until};
 
 // Where the body starts, the size that holds (the caller's before the header's), and the encoding.
-#[derive(Drop)]
+#[derive(Clone, Copy)]
 pub struct Header {
     pub data_offset: usize,
     pub sensor_size: SensorSize,
     pub encoding: Encoding,
 }
 
-#[derive(Drop)]
+#[derive(Clone, Copy)]
 pub enum HeaderAnswer {
     Header(Header),
     Refused(Refusal),
 }
 
 // Which versions a value begins with.
-#[derive(Drop)]
+#[derive(Clone, Copy)]
 struct Versions {
     three: bool,
     two_one: bool,
@@ -36,7 +39,7 @@ struct Versions {
 
 // What is kept of the lines read so far: the size, and which versions the last `format` and the last
 // `evt` value begin with.
-#[derive(Drop)]
+#[derive(Clone, Copy)]
 struct Seen {
     format: Versions,
     evt: Versions,
@@ -44,14 +47,14 @@ struct Seen {
 }
 
 // Where the body starts, and what is kept of the lines before it.
-#[derive(Drop)]
+#[derive(Clone, Copy)]
 struct Scan {
     at: usize,
     seen: Seen,
 }
 
 // The encoding that the header names, if it names one.
-#[derive(Drop)]
+#[derive(Clone, Copy)]
 enum Named {
     Nothing,
     As(Encoding),

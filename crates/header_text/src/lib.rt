@@ -3,6 +3,9 @@
 // specs/Size.antt says, for any bytes; those that another crate can call ask for nothing.
 // specs/Place.antt says what the place of a bad number is and has the laws of it, specs/Parts.antt the
 // classes of bytes that the code scans for, specs/Cases.antt one law for proofs.
+
+#![tactic(auto)]
+
 pub mod number;
 pub mod size;
 pub mod text;

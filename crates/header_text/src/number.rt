@@ -2,7 +2,7 @@
 ghost use Rattle.std.specs.Prelude.{◌≡◌, ◌+◌, ◌*◌, ◌^◌, ◌≤◌, leb, length, drop};
 ghost use Rattle.header_text.specs.Number.{digits_at, read_of};
 
-#[derive(Drop)]
+#[derive(Clone, Copy)]
 pub enum Number {
     Value(usize),
     // the first byte that can't belong, or with which the value passes 2^64 - 1, or the length

@@ -5,7 +5,7 @@ ghost use Rattle.header_text.specs.Text.{is_blank, lower_of, up_to, from, any, t
 ghost use Rattle.header_text.specs.Parts.{is_in};
 
 // A set of bytes that a scan stops at.
-#[derive(Drop)]
+#[derive(Clone, Copy)]
 pub enum ByteClass {
     Blank,
     NotBlank,

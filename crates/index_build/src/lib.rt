@@ -3,6 +3,9 @@
 // opening answers, by the table of docs/RULES.md; specs/Build.antt has the making, one iteration after another.
 // Records are handed over by value. Crate `index_open` has the entries that make an index; crate `index_records`
 // judges records and finds the one that a slice starts at.
+
+#![tactic(auto)]
+
 ghost use Rattle.std.specs.Prelude.{◌≡◌, true, ◌≤◌, length};
 ghost use Rattle.evt_types.specs.Num.{most_bytes};
 ghost use Rattle.index_build.specs.Index.{spacing_ok, record_count, body_at, index_outcome, open_raw_outcome, open_words_outcome};
@@ -16,7 +19,7 @@ use read_select::Window;
 
 // What is kept after the first `byte_offset` bytes: the events counted before, their maximum time
 // (0 if none), and the decoder.
-#[derive(Drop)]
+#[derive(Clone, Copy)]
 pub struct Checkpoint {
     pub byte_offset: usize,
     pub event_index: usize,
@@ -25,7 +28,7 @@ pub struct Checkpoint {
 }
 
 // An index without its records, which the caller keeps.
-#[derive(Drop)]
+#[derive(Clone, Copy)]
 pub struct RawSliceSource {
     pub encoding: Encoding,
     pub spacing: usize,
@@ -37,26 +40,26 @@ pub struct RawSliceSource {
 }
 
 // The source, and how many records were made.
-#[derive(Drop)]
+#[derive(Clone, Copy)]
 pub struct Opening {
     pub source: RawSliceSource,
     pub records: usize,
 }
 
-#[derive(Drop)]
+#[derive(Clone, Copy)]
 pub enum OpenAnswer {
     Opened(Opening),
     Refused(Refusal),
 }
 
-#[derive(Drop)]
+#[derive(Clone, Copy)]
 pub struct OpenOptions {
     pub sensor_size: SensorSize,
     pub spacing: usize,
 }
 
 // The same for headerless words, whose encoding the caller names.
-#[derive(Drop)]
+#[derive(Clone, Copy)]
 pub struct WordsOptions {
     pub encoding: Encoding,
     pub sensor_size: SensorSize,
@@ -65,7 +68,7 @@ pub struct WordsOptions {
 
 // The building of an index: record `at` of `cap` is next, and stands at byte `offset`. The events of `source`
 // are still to be counted.
-#[derive(Drop)]
+#[derive(Clone, Copy)]
 pub struct Builder {
     pub more: bool,
     pub at: usize,
@@ -81,14 +84,14 @@ pub struct Builder {
 }
 
 // One record, and the builder behind its bytes.
-#[derive(Drop)]
+#[derive(Clone, Copy)]
 pub struct BuildStep {
     pub record: Checkpoint,
     pub next: Builder,
 }
 
 // Why there is no index, or the builder before the first record.
-#[derive(Drop)]
+#[derive(Clone, Copy)]
 pub enum Prepared {
     Refused(Refusal),
     Ready(Builder),

@@ -2,6 +2,9 @@
 // lends no record, and needs no proof by hand. The contracts cite the definitions of index and slice.
 // `open_into`, `open_words_into`, `slice_index_in` and `slice_time_in` lend the first records of an
 // array: they are proved by hand, by the laws of proofs/Front.antt. The others are covered.
+
+#![tactic(auto)]
+
 ghost use Rattle.std.specs.Prelude.{◌≡◌, ◌≤◌, min, replicate, take};
 ghost use Rattle.index_build.specs.Index.{Opens, open_raw_outcome, open_words_outcome};
 ghost use Rattle.index_build.specs.Nth.{blank as blank_record};
@@ -13,7 +16,7 @@ use index_build::{Checkpoint, OpenAnswer, OpenOptions, RawSliceSource, WordsOpti
 use slice_rules::SliceAnswer;
 
 // How an opening was answered, and the records.
-#[derive(Drop)]
+#[derive(Clone, Copy)]
 pub struct FixedIndex {
     pub answer: OpenAnswer,
     pub records: [Checkpoint; 64],

@@ -3,6 +3,9 @@
 // entries: what it asks stands in `index_build`, specs/Build.antt, what it says in specs/Made.antt. The
 // functions are proved by hand, since they are lent records; what they call in `index_build` takes a record
 // by value.
+
+#![tactic(auto)]
+
 ghost use Rattle.std.specs.Prelude.{length};
 ghost use Rattle.index_build.specs.Build.{Begun};
 ghost use Rattle.index_build.specs.Index.{OpensRaw, OpensWords};

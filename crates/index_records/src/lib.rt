@@ -3,6 +3,9 @@
 // comes to it (specs/JudgeLaws.antt); specs/Choose.antt which record is looked for, specs/BinarySearch.antt
 // the binary search, which finds it (specs/Search.antt). The functions take a record by value, but for
 // `judge_all` and `choose`, which are lent records: one proof by hand, proofs/Scan.antt, has both.
+
+#![tactic(auto)]
+
 ghost use Rattle.std.specs.Prelude.{◌≡◌, ◌<◌, false, if◌then◌else◌};
 ghost use Rattle.evt_codec.specs.Codec.{encoding_of, in_range_c};
 ghost use Rattle.index_records.specs.Choose.{passes_of};
@@ -15,7 +18,7 @@ use index_build::Checkpoint;
 
 // What a slice asks of the record it starts at: a count at most `index`, or, by time, a time below
 // `time`.
-#[derive(Drop)]
+#[derive(Clone, Copy)]
 pub struct Choice {
     pub by_time: bool,
     pub index: usize,
@@ -24,7 +27,7 @@ pub struct Choice {
 
 // A binary search: the records before `lo` pass, those from `hi` on don't. Record `at` is read
 // next, and `best` was read last.
-#[derive(Drop)]
+#[derive(Clone, Copy)]
 pub struct Search {
     pub more: bool,
     pub at: usize,
@@ -123,7 +126,7 @@ pub fn choose(records: &[Checkpoint], asked: Choice) -> Checkpoint
 
 // The judging of records one after another (rule 10): record by record what the next one's offset
 // must be, and the last one's count and time. `past`: that offset passes 2^64.
-#[derive(Drop)]
+#[derive(Clone, Copy)]
 pub struct Judging {
     pub ok: bool,
     pub past: bool,
@@ -246,7 +249,7 @@ pub fn judge(s: Judging, c: Checkpoint) -> Judging
 }
 
 // How far the judging of `n` records is: record `at` is read next.
-#[derive(Drop)]
+#[derive(Clone, Copy)]
 pub struct JudgeState {
     pub more: bool,
     pub at: usize,

@@ -3,3 +3,6 @@
 // say and when a decoder is ready for it stands in specs/Ready.antt, the proofs in
 // specs/Lawful2.antt, specs/Lawful21.antt and specs/Lawful3.antt, and the laws for each encoding,
 // over lists of appends, in specs/Appends.antt. The crate has no code of its own to run.
+
+#![tactic(auto)]
+

@@ -10,3 +10,6 @@
 // follows: any number of handovers, and numbers that stay through every cut.
 // specs/Headed.antt states the same behind a written header, of `read_raw` and `open`, over the same
 // definitions; Fronts.antt has what a list sends before its words, and HeadedProof.antt proves it.
+
+#![tactic(auto)]
+

@@ -2,3 +2,6 @@
 // streams, checkpoints, selections, columns, masks and time that loops. No format stands here:
 // every law holds for any state, word and event type. The crate has no code of its own to run;
 // definitions and laws are in specs/.
+
+#![tactic(auto)]
+

@@ -1,5 +1,8 @@
 // Lists a recording from standard input: its first line by `listing_text::begin`, then the events'
 // lines. listing_lines/specs/Listing.antt has the text; reading and writing are all that is added.
+
+#![tactic(auto)]
+
 ghost use Rattle.std.specs.Prelude.{◌≡◌, ◌≤◌, length};
 ghost use Rattle.listing_text.specs.Laws.{Rows};
 

@@ -1,6 +1,9 @@
 // The lines of the text that the listing program prints, each stored into a lent buffer as far as
 // it reaches. specs/Listing.antt has what the program prints, specs/Lines.antt what its lines are
 // made of, and write_text/specs/Stored.antt what stored means.
+
+#![tactic(auto)]
+
 ghost use Rattle.std.specs.Prelude.{◌≡◌, ◌^◌, ◌<◌};
 ghost use Rattle.write_buffer.specs.Columns.{event};
 ghost use Rattle.write_text.specs.Stored.{Stored};

@@ -1,6 +1,9 @@
 // The text that the listing program prints, in pieces that are stored into a lent buffer: the first
 // line, and the lines of the rows of four columns. listing_lines/specs/Listing.antt has what it is,
 // specs/Laws.antt how the pieces make it. A piece is stored as far as the buffer reaches.
+
+#![tactic(auto)]
+
 ghost use Rattle.std.specs.Prelude.{◌≡◌, ◌*◌};
 ghost use Rattle.listing_lines.specs.Listing.{event_lines};
 ghost use Rattle.write_text.specs.Stored.{Stored};
@@ -13,7 +16,7 @@ use read::{LoadOptions, ReadAnswer};
 use write_text::put_text;
 
 // How many bytes the first line has, and how many events are to be listed after it.
-#[derive(Drop)]
+#[derive(Clone, Copy)]
 pub struct Begun {
     pub written: usize,
     pub count: usize,

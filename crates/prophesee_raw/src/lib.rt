@@ -74,6 +74,9 @@
 // the writer or the decoder that it was given as it was. An accepted one alters nothing behind what it
 // hands over. Examples: `no_encoding`, `columns_too_short`, `records_too_few`, `output_too_short`,
 // `times_fall`, `triggers_too_many`.
+
+#![tactic(auto)]
+
 pub use evt_codec::Codec;
 pub use evt_codec::codec::CodecDecoded;
 pub use evt_types::vector::NextEvent;

@@ -3,6 +3,9 @@
 // overlap, lie outside of any contract (include/prophesee_raw.h). What each promises stands in the
 // specs of the crates `c_values`, `c_decoder`, `c_triggers`, `c_index`, `c_writer` and `c_resume`, over
 // the definitions that the library's own contracts cite.
+
+#![tactic(auto)]
+
 ghost use Rattle.std.specs.Prelude.{◌≡◌};
 
 mod opening;

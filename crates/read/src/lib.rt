@@ -1,6 +1,9 @@
 // Reading a whole recording, or headerless words, into four lent columns. Both entries are total.
 // What they answer and hand over, by the table of docs/RULES.md, is in specs/Read.antt of `read_rules`, whose
 // functions settle all that needs no column.
+
+#![tactic(auto)]
+
 ghost use Rattle.std.specs.Prelude.{◌≤◌, ◌^◌, length};
 ghost use Rattle.read_rules.specs.Read.{body_events, ReadsBody, DecodesWords, ReadsRaw};
 

@@ -1,12 +1,15 @@
 // The decoder after words, and after a recording's body: what resuming a stream starts from.
 // specs/After.antt says which it is, and when it is refused.
+
+#![tactic(auto)]
+
 ghost use Rattle.read_after.specs.After.{after_outcome, after_raw_outcome, Afters};
 
 use evt_codec::Codec;
 use evt_types::{MOST_BYTES, Refusal, SensorSize};
 use header::HeaderAnswer;
 
-#[derive(Drop)]
+#[derive(Clone, Copy)]
 pub enum AfterAnswer {
     After(Codec),
     Refused(Refusal),

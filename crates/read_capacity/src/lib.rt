@@ -1,6 +1,9 @@
 // How many places events need, and what handing them over comes to: all of them, or none where the
 // columns are too short (5). No function here has a column. specs/Deliver.antt says what is answered
 // and what the columns hold, specs/Laws.antt that bounds and counts are enough for it.
+
+#![tactic(auto)]
+
 ghost use Rattle.std.specs.Prelude.{◌≡◌, ◌≤◌, ◌^◌, min, ◌-◌, length};
 ghost use Rattle.read_fill.specs.Decode.{Bounded, inside_events};
 ghost use Rattle.read_select.specs.Pass.{Ready, handed_over};
@@ -14,7 +17,7 @@ use evt21_decoder::Evt21Decoder;
 use read_select::Window;
 
 // How many events were written, or how many places they need.
-#[derive(Drop)]
+#[derive(Clone, Copy)]
 pub enum Delivered {
     Written(usize),
     Needed(usize),

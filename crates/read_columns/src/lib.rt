@@ -3,6 +3,9 @@
 //
 // What they require is that the vector's numbers are as small as every step yields them, and that
 // there is room for what is written: the loops above see to it.
+
+#![tactic(auto)]
+
 ghost use Rattle.std.specs.Prelude.{◌≡◌, cond, [], ◌+◌, ◌-◌, ◌≤◌, ◌<◌, ◌^◌, min, max, eqb, length, set};
 ghost use Rattle.std.specs.Int.Bits.{bit_and};
 ghost use Rattle.std.specs.Int.Count.{count_trailing_zeros};

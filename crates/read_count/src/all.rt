@@ -21,21 +21,21 @@ use evt2_decoder::{Evt2Decoder, advance};
 use evt3_decoder::{Decoder, widen};
 use evt21_decoder::{Evt21Decoder, of_evt2};
 
-#[derive(Drop)]
+#[derive(Clone, Copy)]
 pub struct Evt2CountedAll {
     pub count: usize,
     pub latest: u64,
     pub decoder: Evt2Decoder,
 }
 
-#[derive(Drop)]
+#[derive(Clone, Copy)]
 pub struct Evt21CountedAll {
     pub count: usize,
     pub latest: u64,
     pub decoder: Evt21Decoder,
 }
 
-#[derive(Drop)]
+#[derive(Clone, Copy)]
 pub struct Evt3CountedAll {
     pub count: usize,
     pub latest: u64,

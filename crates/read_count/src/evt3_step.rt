@@ -10,7 +10,7 @@ use evt3_decoder::WideDecoder;
 
 // The decoder inside a counting loop. Its polarity is bit 11 of `base_word`, the last word of type 3: a
 // bool of its own takes registers that the loop hasn't got.
-#[derive(Drop)]
+#[derive(Clone, Copy)]
 pub struct CountingDecoder {
     pub initialised: bool,
     pub time_base: u64,
@@ -23,7 +23,7 @@ pub struct CountingDecoder {
 
 // The decoder after a word, and the base column and mask of the word's events. Where there are any,
 // their row and time are the decoder's.
-#[derive(Drop)]
+#[derive(Clone, Copy)]
 pub struct CountingStep {
     pub next: CountingDecoder,
     pub x: u64,

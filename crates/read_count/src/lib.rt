@@ -5,6 +5,9 @@
 //
 // They keep a `requires`: no sum wraps. The caller has judged its decoder (10) before, and `Laws` of
 // the crate `read_fill` shows that this is enough.
+
+#![tactic(auto)]
+
 ghost use Rattle.std.specs.Prelude.{◌≡◌, length, drop};
 ghost use Rattle.read_fill.specs.Decode.{Bounded, Able};
 ghost use Rattle.read_count.specs.Count.{counted_all_of, counted_to_of};
@@ -30,7 +33,7 @@ const LAST_BYTE21: usize = Evt21Decoder::WORD_SIZE - 1;
 const LAST_BYTE3: usize = Decoder::WORD_SIZE - 1;
 
 // What counting leaves: how many events there are, their maximum time (0 of none), and the decoder.
-#[derive(Drop)]
+#[derive(Clone, Copy)]
 pub struct CountedAll {
     pub count: usize,
     pub latest: u64,
@@ -38,7 +41,7 @@ pub struct CountedAll {
 }
 
 // What passing over leaves: how many bytes, how many events inside they have, and the decoder.
-#[derive(Drop)]
+#[derive(Clone, Copy)]
 pub struct CountedTo {
     pub at: usize,
     pub count: usize,

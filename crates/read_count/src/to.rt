@@ -18,21 +18,21 @@ use evt2_decoder::{Evt2Decoder, advance};
 use evt3_decoder::{Decoder, widen};
 use evt21_decoder::{Evt21Decoder, of_evt2};
 
-#[derive(Drop)]
+#[derive(Clone, Copy)]
 pub struct Evt2CountedTo {
     pub at: usize,
     pub count: usize,
     pub decoder: Evt2Decoder,
 }
 
-#[derive(Drop)]
+#[derive(Clone, Copy)]
 pub struct Evt21CountedTo {
     pub at: usize,
     pub count: usize,
     pub decoder: Evt21Decoder,
 }
 
-#[derive(Drop)]
+#[derive(Clone, Copy)]
 pub struct Evt3CountedTo {
     pub at: usize,
     pub count: usize,

@@ -2,6 +2,9 @@
 // (5). `deliver_all` has every event inside a sensor; `deliver` what a pass under a window selects,
 // for reading and for both slices; plan.rt settles before which bytes are decoded for it. What is
 // answered and what the columns hold is in specs/Deliver.antt of `read_capacity`.
+
+#![tactic(auto)]
+
 ghost use Rattle.std.specs.Prelude.{◌≤◌, ◌^◌, length};
 ghost use Rattle.read_fill.specs.Decode.{Bounded, inside_events};
 ghost use Rattle.read_select.specs.Pass.{Ready, handed_over};

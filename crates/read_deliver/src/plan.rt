@@ -14,7 +14,7 @@ use read_select::Window;
 
 // The bytes from `from` to before `to`, from this decoder, where the next event has this number: all
 // their events inside the sensor (`plain`), or what the window leaves of them.
-#[derive(Drop)]
+#[derive(Clone, Copy)]
 pub struct Plan {
     pub plain: bool,
     pub from: usize,

@@ -4,6 +4,9 @@
 //
 // They keep a `requires`: no sum wraps, and the columns suffice. The caller has judged its decoder
 // (10) and its columns (5) before, and specs/Laws.antt shows that this is enough.
+
+#![tactic(auto)]
+
 ghost use Rattle.std.specs.Prelude.{◌≡◌, length};
 ghost use Rattle.evt_codec.specs.Codec.{in_range_c};
 ghost use Rattle.evt_types.specs.Columns.{Wrote};
@@ -16,7 +19,7 @@ pub mod extent;
 pub mod fill;
 
 // What filling leaves: how many events were written, and the decoder.
-#[derive(Drop)]
+#[derive(Clone, Copy)]
 pub struct FilledAll {
     pub count: usize,
     pub codec: Codec,

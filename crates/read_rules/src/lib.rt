@@ -1,6 +1,9 @@
 // What reading answers, and all that it settles without touching a column: whether words are read at
 // all, the window of a size and a limit, and the answer to what was written.
 // specs/Read.antt has the answers by the table of docs/RULES.md, specs/Laws.antt that the parts come to them.
+
+#![tactic(auto)]
+
 ghost use Rattle.std.specs.Prelude.{◌≡◌, ◌≤◌, length};
 ghost use Rattle.read_rules.specs.Laws.{sensor_of, most_of, window_of, Holds, sized_of_lem, settled_of, judged_of};
 
@@ -9,13 +12,13 @@ use read_capacity::Delivered;
 use read_select::Window;
 
 // The Rust's options that concern reading.
-#[derive(Drop)]
+#[derive(Clone, Copy)]
 pub struct LoadOptions {
     pub sensor_size: SensorSize,
     pub max_events: Limit,
 }
 
-#[derive(Drop)]
+#[derive(Clone, Copy)]
 pub struct Reading {
     pub encoding: Encoding,
     pub width: usize,
@@ -23,14 +26,14 @@ pub struct Reading {
     pub count: usize,
 }
 
-#[derive(Drop)]
+#[derive(Clone, Copy)]
 pub enum ReadAnswer {
     Read(Reading),
     Refused(Refusal),
 }
 
 // Whether headerless words are read.
-#[derive(Drop)]
+#[derive(Clone, Copy)]
 pub enum Judged {
     Fit,
     Unfit(Refusal),
@@ -50,7 +53,7 @@ pub fn judge(n: usize, size: SensorSize) -> Judged
 }
 
 // A sensor's sides; 65,536 each, which holds every event, where the size is unknown.
-#[derive(Drop)]
+#[derive(Clone, Copy)]
 struct Sensor {
     width: u64,
     height: u64,

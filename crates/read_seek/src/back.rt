@@ -10,7 +10,7 @@ use evt_types::num::saturating_add;
 use evt_types::words;
 use evt3_decoder::Decoder;
 
-#[derive(Drop)]
+#[derive(Clone, Copy)]
 pub struct Column {
     pub x: u16,
     pub p: bool,

@@ -20,7 +20,7 @@ use evt3_decoder::{Decoder, widen};
 const LAST_BYTE: usize = Decoder::WORD_SIZE - 1;
 
 // Behind the words that were passed over.
-#[derive(Drop)]
+#[derive(Clone, Copy)]
 pub struct Spanned {
     pub at: usize,
     pub stray: bool,
@@ -123,7 +123,7 @@ pub fn span3(bytes: &[u8], d: Decoder, t0: u64, t1: u64) -> Sought
 }
 
 // A place on the way, and the times there.
-#[derive(Drop)]
+#[derive(Clone, Copy)]
 pub struct Stood {
     pub at: usize,
     pub times: Times,

@@ -1,6 +1,9 @@
 // Seeks a time in a part of a recording: passes over the words before the first that takes the
 // decoder's time to it. Slices by time start with it, since no word that is passed over has an event
 // to hand over. specs/Seek.antt says how far it goes, specs/Laws.antt what that leaves of a slice.
+
+#![tactic(auto)]
+
 ghost use Rattle.std.specs.Prelude.{◌≡◌, ◌&&◌, ◌||◌, ◌≤◌, ◌^◌, ltb, length, drop};
 ghost use Rattle.read_select.specs.Pass.{Able};
 ghost use Rattle.read_fill.specs.Decode.{Bounded};
@@ -16,7 +19,7 @@ mod times;
 
 // The bytes that were passed over, whether one of their words that carry events left the decoder
 // before t0, and the decoder behind them.
-#[derive(Drop)]
+#[derive(Clone, Copy)]
 pub struct Sought {
     pub at: usize,
     pub stray: bool,
@@ -24,7 +27,7 @@ pub struct Sought {
 }
 
 // A place on the way, and the decoder there.
-#[derive(Drop)]
+#[derive(Clone, Copy)]
 pub struct Marked {
     pub at: usize,
     pub codec: Codec,

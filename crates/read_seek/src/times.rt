@@ -7,7 +7,7 @@ use evt_types::clock;
 use evt_types::fields::bits;
 use evt3_decoder::Decoder;
 
-#[derive(Drop)]
+#[derive(Clone, Copy)]
 pub struct Times {
     pub base: u64,
     pub time: u64,

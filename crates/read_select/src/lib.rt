@@ -3,6 +3,8 @@
 // by number and by time, and the size of a recording that names none. specs/Pass.antt has what a
 // pass answers, specs/Uses.antt what it comes to in each use.
 
+#![tactic(auto)]
+
 ghost use Rattle.std.specs.Prelude.{◌≡◌, length};
 ghost use Rattle.evt_types.specs.Columns.{Wrote};
 ghost use Rattle.read_select.specs.Pass.{Ready, Fits, handed_over, surveyed, filled};
@@ -12,7 +14,7 @@ pub use read_window::Window;
 
 // What a survey tells: the next event's number, how many events were handed over, their maximum
 // time, column plus 1 and row plus 1 (0 of no events), the words consumed, and the decoder.
-#[derive(Drop)]
+#[derive(Clone, Copy)]
 pub struct SurveyTotals {
     pub number: u64,
     pub count: usize,
@@ -24,7 +26,7 @@ pub struct SurveyTotals {
 }
 
 // What a pass that fills columns tells.
-#[derive(Drop)]
+#[derive(Clone, Copy)]
 pub struct Filled {
     pub number: u64,
     pub count: usize,

@@ -12,7 +12,7 @@ use read_window::{Window, extent, trim};
 
 // What a survey has noted: the next event's number, how many events were handed over, and their
 // extent.
-#[derive(Drop)]
+#[derive(Clone, Copy)]
 pub struct Notes {
     pub number: u64,
     pub count: usize,

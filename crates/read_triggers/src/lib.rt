@@ -2,6 +2,9 @@
 // columns for events and three for triggers. Both entries are total. What they answer and hand over, by
 // the table of docs/RULES.md, is in specs/Read.antt of `trigger_rules`, whose functions settle all that
 // needs no column: 5 and 13 are decided before a column is touched.
+
+#![tactic(auto)]
+
 ghost use Rattle.std.specs.Prelude.{◌≤◌, ◌^◌, length};
 ghost use Rattle.read_rules.specs.Read.{body_events};
 ghost use Rattle.trigger_rules.specs.{Read.body_triggers, Read.DecodesWordsTriggers, Read.ReadsRawTriggers, Laws.ReadsBodyTriggers};

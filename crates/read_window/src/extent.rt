@@ -7,7 +7,7 @@ use evt_types::num::{max_u64, saturate};
 use evt_types::vector::Vector;
 
 // The maximum time, and the maximum column and row plus 1; 0 of no events.
-#[derive(Drop)]
+#[derive(Clone, Copy)]
 pub struct Extent {
     pub latest: u64,
     pub width: u64,

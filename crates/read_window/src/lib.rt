@@ -5,7 +5,10 @@
 // Events inside width x height are numbered. Handed over are those with n0 <= number < n1 and
 // t0 <= t < t1. A pass stops after the first word at which the next number reaches n1, or the
 // decoder is started and its time reaches t1.
-#[derive(Drop)]
+
+#![tactic(auto)]
+
+#[derive(Clone, Copy)]
 pub struct Window {
     pub width: u64,
     pub height: u64,

@@ -11,7 +11,7 @@ use evt_types::num::{inside, saturating_add};
 use evt_types::vector::Vector;
 
 // The bits of the events that are handed over, and how many events are numbered besides.
-#[derive(Drop)]
+#[derive(Clone, Copy)]
 pub struct Trimmed {
     pub mask: u64,
     pub extra: u64,

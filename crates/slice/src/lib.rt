@@ -2,6 +2,9 @@
 // specs/Slice.antt of the crate `slice_rules` defines. specs/Own.antt and specs/Opened.antt say what
 // that is over an index that opening made, specs/During.antt that a slice by time is then all events
 // with t0 <= t < t1 if times never fall, specs/Example.antt that it may be fewer if they do.
+
+#![tactic(auto)]
+
 ghost use Rattle.slice_rules.specs.Slice.{SlicesIndex, SlicesTime};
 ghost use Rattle.slice_rules.specs.From.{passed_from, SlicesFrom, Startable};
 

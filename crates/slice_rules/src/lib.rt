@@ -1,6 +1,9 @@
 // What a slice asks for and answers: by number and by time, with the rules by which it is refused.
 // specs/Slice.antt has what slices answer and hand over, by the table of docs/RULES.md; specs/From.antt what
 // the parts say, each proved; specs/Laws.antt that the parts come to it.
+
+#![tactic(auto)]
+
 ghost use Rattle.std.specs.Prelude.{◌≡◌};
 ghost use Rattle.index_records.specs.Judge.{first_judging};
 ghost use Rattle.slice_rules.specs.From.{asked_by_number, asked_by_time, answer_of, start_of};
@@ -12,14 +15,14 @@ use index_records::{Choice, Judging};
 use read_capacity::Delivered;
 use read_select::Window;
 
-#[derive(Drop)]
+#[derive(Clone, Copy)]
 pub enum SliceAnswer {
     Sliced(usize),
     Refused(Refusal),
 }
 
 // The byte to start at, or why not to.
-#[derive(Drop)]
+#[derive(Clone, Copy)]
 pub enum Start {
     At(usize),
     Not(Refusal),
@@ -27,7 +30,7 @@ pub enum Start {
 
 // What a slice asks for: how the records are judged, which of them it starts at, and which events
 // it hands over.
-#[derive(Drop)]
+#[derive(Clone, Copy)]
 pub struct Asked {
     pub judging: Judging,
     pub choice: Choice,

@@ -1,6 +1,9 @@
 // What the programs that replay cases share: reading a case's text and printing its answer.
 // docs/VECTORS.md says what a case is. Every function is proved safe and to end; those that make
 // room for a call say how long it is.
+
+#![tactic(auto)]
+
 ghost use Rattle.std.specs.Prelude.{◌≡◌, length};
 
 pub mod columns;

@@ -1,6 +1,9 @@
 // Replays cases: a case on each line of standard input, an answer line for each on standard output.
 // A case is `ID COMMAND WORDS`, its answer `ID` and what the command answers. docs/VECTORS.md says
 // where the cases and the expected answers come from. A command has a module of its own.
+
+#![tactic(auto)]
+
 mod hdr;
 mod lengths;
 mod number;

@@ -7,7 +7,7 @@ use read::{LoadOptions, ReadAnswer};
 use test_text::{columns, options, show, text};
 
 // Which of the two is called.
-#[derive(Drop)]
+#[derive(Clone, Copy)]
 enum Entry {
     Raw,
     Words(Encoding),

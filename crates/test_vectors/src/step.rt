@@ -8,7 +8,7 @@ use test_text::{show, state, text};
 
 // What the steps so far come to: the decoder, the number of a refusal (0 if there was none) and of
 // the events.
-#[derive(Drop)]
+#[derive(Clone, Copy)]
 struct Stepped {
     codec: Codec,
     refused: u64,

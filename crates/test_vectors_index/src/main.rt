@@ -2,6 +2,9 @@
 // each on standard output. A case is `ID COMMAND WORDS`, its answer `ID` and what the command answers.
 // docs/VECTORS.md says where the cases and the expected answers come from. The library is called
 // through index_fixed, which lends the records.
+
+#![tactic(auto)]
+
 mod opening;
 mod record;
 mod slicing;

@@ -9,7 +9,7 @@ use prophesee_raw::{Encoding, OpenAnswer, OpenOptions, SensorSize, WordsOptions}
 use test_text::{columns, given, options, room, show, text};
 
 // Which of the two is called.
-#[derive(Drop)]
+#[derive(Clone, Copy)]
 enum Entry {
     Raw,
     Words(Encoding),

@@ -8,7 +8,7 @@ const ROW: u16 = 43981;
 const TIME: i64 = 7777777777777777;
 
 // The first `n` are those of a list.
-#[derive(Drop)]
+#[derive(Clone, Copy)]
 pub struct Records {
     pub all: [Checkpoint; 64],
     pub n: usize,

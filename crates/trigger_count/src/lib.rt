@@ -2,6 +2,9 @@
 // or of all if the decoder has started, those of type 10 are counted, and none is decoded. The type of a
 // word is the high half of its last byte in every encoding, so the same loops serve for all word sizes.
 // specs/Marks.antt shows that they are as many as the triggers.
+
+#![tactic(auto)]
+
 ghost use Rattle.std.specs.Prelude.{◌≡◌, length};
 ghost use Rattle.evt_codec.specs.Triggers.{triggers_from};
 ghost use Rattle.trigger_count.specs.Marks.{trigger_count};

@@ -12,7 +12,7 @@ use crate::form::Form;
 use crate::times::Times;
 use crate::{back, blocks};
 
-#[derive(Drop)]
+#[derive(Clone, Copy)]
 pub struct Stop {
     pub at: usize,
     pub times: Times,

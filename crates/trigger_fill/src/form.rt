@@ -12,7 +12,7 @@ use evt21_decoder::Evt21Decoder;
 // between; the type that sets the time below a grain, 8 where none does; where in a period, by a time
 // word's highest bits, the next time word may count a loop; how many bits of its time a trigger has in
 // its own word, and of its channel.
-#[derive(Drop)]
+#[derive(Clone, Copy)]
 pub struct Form {
     pub size: usize,
     pub shift: u64,

@@ -5,6 +5,9 @@
 // its period or no longer is. Between them no loop is counted (specs/Calm.antt), so blocks of other
 // words are passed over by their highest bytes, and the times are looked for from the next notable
 // word back.
+
+#![tactic(auto)]
+
 ghost use Rattle.std.specs.Prelude.{◌≡◌, ◌≤◌, length};
 ghost use Rattle.evt_types.specs.Trigger.{HandedTriggers, shortest3};
 ghost use Rattle.evt_codec.specs.Triggers.{triggers_from};

@@ -7,7 +7,7 @@ use crate::form::Form;
 use crate::times::Times;
 use evt_codec::Codec;
 
-#[derive(Drop)]
+#[derive(Clone, Copy)]
 pub struct Outset {
     pub form: Form,
     pub started: bool,

@@ -12,7 +12,7 @@ use evt_types::{clock, trigger};
 pub const TYPE: u64 = 8;
 
 // In EVT2 and EVT2.1 the time is the base.
-#[derive(Drop)]
+#[derive(Clone, Copy)]
 pub struct Times {
     pub base: u64,
     pub time: u64,

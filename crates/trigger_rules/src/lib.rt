@@ -1,6 +1,9 @@
 // What reading with triggers answers, and all that it settles without touching a column: up to where
 // a limit leaves triggers, and what is refused where their columns are too short. specs/Read.antt has
 // the answers by the table of docs/RULES.md, specs/Laws.antt that the parts come to them.
+
+#![tactic(auto)]
+
 ghost use Rattle.std.specs.Prelude.{◌≡◌, ◌≤◌, ◌^◌, min, length, take};
 ghost use Rattle.evt_codec.specs.{Codec.fresh_c, Triggers.triggers_from};
 ghost use Rattle.read_rules.specs.Read.{body_events};
@@ -12,13 +15,13 @@ use evt_types::{Encoding, Limit, Refusal, SensorSize};
 use read_rules::{ReadAnswer, Reading};
 
 // What was read, and how many triggers.
-#[derive(Drop)]
+#[derive(Clone, Copy)]
 pub struct TriggerReading {
     pub reading: Reading,
     pub triggers: usize,
 }
 
-#[derive(Drop)]
+#[derive(Clone, Copy)]
 pub enum TriggerReadAnswer {
     Read(TriggerReading),
     Refused(Refusal),

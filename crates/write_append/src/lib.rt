@@ -1,6 +1,9 @@
 // The writer: events in four columns, written as words into a buffer that the caller lends, or
 // refused by number. `append` is proved to answer and to leave what specs/Append.antt says. What it
 // is judged by stands in `write_rules`, the header in `write_header`, the words in `write_words`.
+
+#![tactic(auto)]
+
 ghost use Rattle.std.specs.Prelude.{◌≡◌, cond, ◌||◌, ◌+◌, ◌^◌, ◌<◌, leb, length};
 ghost use Rattle.std.proofs.lemmas.List.Edits.{sets};
 ghost use Rattle.write_buffer.specs.Columns.{Sized, Whole};
@@ -15,13 +18,13 @@ use write_rules::Check;
 pub use write_rules::{LastTime, RawEventSink};
 
 // How many bytes were written, or why none.
-#[derive(Drop)]
+#[derive(Clone, Copy)]
 pub enum AppendAnswer {
     Written(usize),
     Refused(Refusal),
 }
 
-#[derive(Drop)]
+#[derive(Clone, Copy)]
 pub struct Appended {
     pub sink: RawEventSink,
     pub answer: AppendAnswer,

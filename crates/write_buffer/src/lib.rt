@@ -3,6 +3,9 @@
 // dry run. specs/Sent.antt says what counts as sent and which words are then due,
 // specs/Columns.antt which events four columns hold, and specs/Storing.antt what bytes stored
 // piece by piece come to.
+
+#![tactic(auto)]
+
 ghost use Rattle.std.specs.Prelude.{◌≡◌, cond, ◌+◌, ◌^◌, ◌≤◌, ◌<◌, pos, length, get_or, set};
 ghost use Rattle.std.proofs.lemmas.List.Edits.{sets};
 ghost use Rattle.laws_stream.specs.Words.{bytes};
@@ -15,7 +18,7 @@ use evt_types::Sent;
 use evt_types::fields::bits;
 
 // What the writer has sent: the halves of the time, and the row.
-#[derive(Drop)]
+#[derive(Clone, Copy)]
 pub struct EncoderState {
     pub time_high: Sent,
     pub time_low: Sent,
@@ -23,7 +26,7 @@ pub struct EncoderState {
 }
 
 // The state after some words, and where the next go.
-#[derive(Drop)]
+#[derive(Clone, Copy)]
 pub struct Put {
     pub state: EncoderState,
     pub at: usize,

@@ -1,6 +1,9 @@
 // The header that a writer sends before its first words: four lines, stored as far as the buffer
 // reaches. `put_due` is proved to store the header's text where one is due, and to answer its
 // length. specs/Header.antt says which text that is.
+
+#![tactic(auto)]
+
 ghost use Rattle.std.specs.Prelude.{◌≡◌, cond, [], length};
 ghost use Rattle.std.proofs.lemmas.List.Edits.{sets};
 ghost use Rattle.write_text.specs.Stored.{Stored};

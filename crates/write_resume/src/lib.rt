@@ -2,6 +2,9 @@
 // would behind the whole stream, whatever loops of time were counted. specs/Resume.antt says which
 // writer that is and when there is none, specs/Laws.antt that it is always in range; specs/Ends.antt is
 // for the proofs.
+
+#![tactic(auto)]
+
 ghost use Rattle.std.specs.Prelude.{◌≡◌, cond};
 ghost use Rattle.evt_types.specs.Outcome.{refuse};
 ghost use Rattle.evt_types.specs.declared.Sent.TheVariants.{Nothing, Value};
@@ -18,7 +21,7 @@ use read_after::AfterAnswer;
 use write_buffer::EncoderState;
 use write_rules::{LastTime, RawEventSink, TIMES};
 
-#[derive(Drop)]
+#[derive(Clone, Copy)]
 pub enum ResumeAnswer {
     Ready,
     Refused(Refusal),
@@ -26,7 +29,7 @@ pub enum ResumeAnswer {
 
 // On a refusal the sink is a fresh one of the encoding that sends no header; of EVT2 where a recording
 // names no encoding.
-#[derive(Drop)]
+#[derive(Clone, Copy)]
 pub struct Resumed {
     pub sink: RawEventSink,
     pub answer: ResumeAnswer,
@@ -34,7 +37,7 @@ pub struct Resumed {
 
 // What resuming looks at: the encoding of a decoder, whether its time is set, its coarse time, and
 // the half that this is.
-#[derive(Drop)]
+#[derive(Clone, Copy)]
 struct Coarse {
     encoding: Encoding,
     started: bool,

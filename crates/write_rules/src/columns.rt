@@ -17,7 +17,7 @@ pub fn same_lengths(a: usize, b: usize, c: usize, d: usize) -> bool
 
 // What looking through columns tells: whether a time falls, and else whether all places, that is
 // columns, rows and polarities, are in range.
-#[derive(Drop)]
+#[derive(Clone, Copy)]
 pub struct Looked {
     pub falls: bool,
     pub fine: bool,

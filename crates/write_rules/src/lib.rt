@@ -1,6 +1,9 @@
 // What an append is judged by, the output aside: a writer in range, and columns of one length, short
 // enough, in order and in range (rules 10, 12, 4, 6 and 7). `check_append` is proved to answer the
 // first rule that applies. specs/Range.antt says what each asks for, specs/Rules.antt their order.
+
+#![tactic(auto)]
+
 ghost use Rattle.std.specs.Prelude.{◌≡◌};
 ghost use Rattle.write_rules.specs.Range.{sink_in_range};
 ghost use Rattle.write_rules.specs.Rules.{fresh_sink, lengths_outcome, check_outcome, check_of};
@@ -14,13 +17,13 @@ mod range;
 // Rule 7's bound, of every encoding: no event has this time or a later one.
 pub const TIMES: u64 = 17179869184;
 
-#[derive(Drop)]
+#[derive(Clone, Copy)]
 pub enum LastTime {
     Never,
     At(i64),
 }
 
-#[derive(Drop)]
+#[derive(Clone, Copy)]
 pub struct RawEventSink {
     pub version: Encoding,
     pub header_written: bool,
@@ -30,7 +33,7 @@ pub struct RawEventSink {
 }
 
 // What the sink and the columns ask for, the output aside.
-#[derive(Drop)]
+#[derive(Clone, Copy)]
 pub enum Check {
     Passed,
     Failed(Refusal),

@@ -1,6 +1,9 @@
 // Texts and decimal numbers, stored into a buffer that the caller lends, as far as it reaches.
 // Proved: each function stores its text from `at` on, changes nothing else, and answers where the
 // text ends. specs/Text.antt says what a number's digits are, specs/Stored.antt what stored means.
+
+#![tactic(auto)]
+
 ghost use Rattle.std.specs.Prelude.{◌+◌, ◌^◌, ◌<◌, length};
 ghost use Rattle.write_text.specs.Text.{decimal};
 ghost use Rattle.write_text.specs.Stored.{Stored};

@@ -3,6 +3,9 @@
 // it carries, is defined in crates/evt2_encoder/specs/Evt2.antt, crates/evt21_encoder/specs/Evt21.antt
 // and crates/evt3_lead_words/specs/Evt3.antt; specs/Encode.antt says which bytes they have, for each
 // encoding.
+
+#![tactic(auto)]
+
 ghost use Rattle.std.specs.Prelude.{◌≡◌, ◌^◌, ◌≤◌, ◌<◌, length};
 ghost use Rattle.std.proofs.lemmas.List.Edits.{sets};
 ghost use Rattle.write_buffer.specs.Columns.{Sized, Whole, events_in};

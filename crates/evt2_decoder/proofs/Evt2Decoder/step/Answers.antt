@@ -1,0 +1,10 @@
+use mathlib.Core.Path.{sym, ◌∙◌}
+use native.Mathlib.Omega.{arith}
+use Rattle.evt2_decoder.specs.Range.{bounded_range2, bounded_narrow2}
+use Rattle.evt2_decoder.proofs.Evt2Decoder.step.Goals as goal
+
+pub narrow-v-requires : goal.narrow-v-requires
+narrow-v-requires c =
+    let a = c.args in
+    rw c.advance-s.ensures.1 (bounded_narrow2 a.word
+    (bounded_range2 0 a.self (sym c.in_range.ensures ∙ c.if-in_range.true) (omega arith)))

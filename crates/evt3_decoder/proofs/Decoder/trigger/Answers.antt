@@ -1,0 +1,11 @@
+use mathlib.Core.Path.{sym, ap, ◌∙◌}
+use Rattle.evt_types.specs.Trigger.{first_trigger, owed_in_range}
+use Rattle.evt3_decoder.specs.Triggers.{trigger_fields3}
+use Rattle.evt3_decoder.proofs.Decoder.trigger.Goals as goal
+
+pub returns-then-in_range : goal.returns-then-in_range
+returns-then-in_range c =
+    let a = c.args in
+    owed_in_range _ _ (sym c.in_range.ensures ∙ c.if-in_range.true)
+    (c.of_word.ensures
+    ∙ ap first_trigger (trigger_fields3 a.self a.word c.bits.ensures c.bits-then-in_range.ensures c.bits-then-in_range-2.ensures))

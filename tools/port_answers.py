@@ -75,6 +75,7 @@ class Function:
     def __init__(self, crate, path, text, names):
         self.crate, self.path, self.names = crate, path, names
         self.uses, self.items = top_items(text)
+        self.uses = [re.sub(r"(?<=\.)(" + WORD + r")(?=[,}])", lambda m: RENAMED.get(m[1], m[1]), u) for u in self.uses]
         self.bodies, self.locals, self.loops = {}, [], []
         needs = names.get("needs", [])
         self.new_of = {o: n for o, n in needs}

@@ -1,23 +1,23 @@
-use Rattle.std.proofs.Common.{rules, ◌≡◌, ℕ, ◌+◌, ◌-◌, ◌*◌, ◌<◌, ◌≤◌, length, ◌/◌, ◌%◌, Bool, true, false, nat_eq, nat_lt, List, [], ◌∷◌, ◌++◌, slice_index_or, slice_set, bit_and, bit_or, Fits, w8, w32, w64, Bor, MutBor}
-use Rattle.evt2_decoder.specs.Evt2.{fresh2, step2, vector2, Sane2, in_range2}
-use Rattle.evt2_decoder.specs.Decode.{Decoded2}
-use Rattle.evt2_decoder.specs.Triggers.{trigger2}
-use Rattle.evt_types.specs.Owed.{Owed}
-use Rattle.evt_types.specs.Trigger.{trigger_outcome, OwedTrigger}
+use Rattle.std.proofs.Common.{arith, refl}
+use Rattle.evt2_decoder.specs.Evt2.{time_word_lem, event-word, early_word, other_word}
 use Rattle.evt2_decoder.proofs.advance.Goals as goal
 
--- src/lib.rt:135:1
 pub returns-in-8 : goal.returns-in-8
-returns-in-8 c = ?
+returns-in-8 c =
+    let e = time_word_lem c.args.decoder c.args.word c.bits-kind.result c.bits-kind.ensures c.in-8.is in
+    rw (e.0, e.1, c.after-c.ensures, c.bits-raw.ensures) (refl, c.none-v.ensures)
 
--- src/lib.rt:135:1
 pub returns-then-d : goal.returns-then-d
-returns-then-d c = ?
+returns-then-d c =
+    let e = event-word c.args.decoder c.args.word c.bits-kind.result c.bits-kind.ensures (omega arith) c.if-d.true in
+    rw (e.0, e.1, c.bits-then-d-2.ensures, c.bits-then-d.ensures, c.bits.ensures, c.bits-kind.ensures) (refl, refl)
 
--- src/lib.rt:135:1
 pub returns-else-d : goal.returns-else-d
-returns-else-d c = ?
+returns-else-d c =
+    let e = early_word c.args.decoder c.args.word _ c.bits-kind.ensures (omega arith) c.if-d.false in
+    rw (e.0, e.1) (refl, c.none-v.ensures)
 
--- src/lib.rt:135:1
 pub returns-in-2-to-7 : goal.returns-in-2-to-7
-returns-in-2-to-7 c = ?
+returns-in-2-to-7 c =
+    let e = other_word c.args.decoder c.args.word _ c.bits-kind.ensures (omega arith) (omega arith) in
+    rw (e.0, e.1) (refl, c.none-v.ensures)

@@ -1,3 +1,4 @@
+use Rattle.std.proofs.Common.{arith}
 use mathlib.Core.Path.{◌≡◌, refl}
 use mathlib.Core.Logic.{⊎_elim}
 use Rattle.evt3_decoder.specs.Evt3.{slimmed, started_word, started_other, first_word, early_word}
@@ -87,6 +88,6 @@ returns-in-8-kind c =
 
 pub returns-in_default-kind : goal.returns-in_default-kind
 returns-in_default-kind c =
-    let e = early_word (slimmed c.args.self) c.args.word c.bits-kind.result c.bits-kind.ensures c.in_default-kind.rest.1
+    let e = early_word (slimmed c.args.self) c.args.word c.bits-kind.result c.bits-kind.ensures (omega arith)
     c.if-d.false in
     rw (e.0, e.1) (refl, c.none-v.ensures)

@@ -14,7 +14,7 @@ use Rattle.evt21_decoder.specs.{declared.Evt21Decoder.Evt21Decoder, Evt21.as2, E
 use Rattle.evt21_decoder.specs.{Range.bounded_narrow21}
 use Rattle.evt21_decoder.specs.{Range.bounded_range21, Range.fresh_range21, Triggers.trigger21, Triggers.few_triggers21, Triggers.trigger_alone21}
 use Rattle.evt3_decoder.specs.{declared.Decoder.Decoder, Evt3.step3, Evt3.vector3, Evt3.period3, Evt3.threshold3, Triggers.few_triggers3, Triggers.trigger3}
-use Rattle.evt3_decoder.specs.{Triggers.trigger_in3, Triggers.trigger_alone3, Range.Bounded3}
+use Rattle.evt3_decoder.specs.{Triggers.trigger_in3, Triggers.trigger_alone3}
 use Rattle.evt3_decoder.specs.{Range.Paced3, Range.bounded_step3, Range.bounded_narrow3, Range.regular_range3, Range.regular_step3, Range.fresh_range3}
 use Rattle.evt2_decoder.specs.Evt2 as Evt2
 use Rattle.evt3_decoder.specs.Evt3 as Evt3

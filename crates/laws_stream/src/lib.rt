@@ -4,4 +4,3 @@
 // definitions and laws are in specs/.
 
 #![tactic(auto)]
-

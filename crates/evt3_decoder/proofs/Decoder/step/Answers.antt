@@ -10,7 +10,6 @@ slim-next-requires c =
     (bounded_range3 1 a.self (sym c.in_range.ensures ∙ c.if-in_range.true)
     (omega arith) (omega arith))))
 
-
 pub narrow-v-requires : goal.narrow-v-requires
 narrow-v-requires c =
     let a = c.args in

@@ -10,7 +10,6 @@ returns-in-0 c =
     c.if-d.true in
     rw (e.0, e.1, c.bits-x.ensures) (refl, c.none-v.ensures)
 
-
 pub returns-in-2 : goal.returns-in-2
 returns-in-2 c =
     let e = started_word (slimmed c.args.self) c.args.word c.bits-kind.result c.bits-kind.ensures 2
@@ -18,13 +17,11 @@ returns-in-2 c =
     rw (e.0, e.1, c.one-v.ensures, c.bits-x.ensures, c.bits-p.ensures)
     (refl, refl)
 
-
 pub returns-in-3 : goal.returns-in-3
 returns-in-3 c =
     let e = started_word (slimmed c.args.self) c.args.word c.bits-kind.result c.bits-kind.ensures 3 c.in-3.is
     c.if-d.true in
     rw (e.0, e.1, c.bits-x.ensures, c.bits-p.ensures) (refl, c.none-v.ensures)
-
 
 pub returns-in-4 : goal.returns-in-4
 returns-in-4 c =
@@ -32,13 +29,11 @@ returns-in-4 c =
     c.bits-kind.ensures 4 c.in-4.is c.if-d.true in
     rw (e.0, e.1, c.saturating_add.ensures, c.many-v.ensures, c.bits-low.ensures) (refl, refl)
 
-
 pub returns-in-5 : goal.returns-in-5
 returns-in-5 c =
     let e = started_word (slimmed c.args.self) c.args.word c.bits-kind.result c.bits-kind.ensures 5
     c.in-5.is c.if-d.true in
     rw (e.0, e.1, c.saturating_add-in-5.ensures, c.many-v-in-5.ensures, c.bits.ensures) (refl, refl)
-
 
 pub returns-in-6 : goal.returns-in-6
 returns-in-6 c =
@@ -46,13 +41,11 @@ returns-in-6 c =
     c.bits-kind.ensures 6 c.in-6.is c.if-d.true in
     rw (e.0, e.1, c.bits-low.ensures) (refl, c.none-v.ensures)
 
-
 pub returns-in-8 : goal.returns-in-8
 returns-in-8 c =
     let e = started_word (slimmed c.args.self) c.args.word c.bits-kind.result
     c.bits-kind.ensures 8 c.in-8.is c.if-d.true in
     rw (e.0, e.1, c.after-c.ensures, c.bits-low.ensures) (rw (← c.if-d.true) refl, c.none-v.ensures)
-
 
 pub returns-then-d : goal.returns-then-d
 returns-then-d c =
@@ -69,7 +62,6 @@ returns-then-d c =
     c.if-d.true in
     rw (e.0, e.1) (refl, c.none-v.ensures)) c.in-1-1.keys8
 
-
 pub returns-then-kind-lt16 : goal.returns-then-kind-lt16
 returns-then-kind-lt16 c =
     let rest = c.in_default-1.rest.0 in
@@ -78,13 +70,11 @@ returns-then-kind-lt16 c =
     rest.0.0.1 rest.0.1 rest.1 in
     rw (e.0, e.1) (refl, c.none-v.ensures)
 
-
 pub returns-in-8-kind : goal.returns-in-8-kind
 returns-in-8-kind c =
     let e = first_word (slimmed c.args.self) c.args.word c.bits-kind.result
     c.bits-kind.ensures c.in-8-kind.is c.if-d.false in
     rw (e.0, e.1, c.bits-low.ensures) (refl, c.none-v.ensures)
-
 
 pub returns-in_default-kind : goal.returns-in_default-kind
 returns-in_default-kind c =

@@ -2,7 +2,6 @@ use Prim.Native.Nat.{◌-◌, ◌^◌, ◌<◌, ◌≤◌}
 use mathlib.Core.Path.{◌≡◌}
 use lib.ListN.{length, drop}
 use Rattle.header_text.specs.Number.{digits_from, digits_at}
-use Rattle.header_text.proofs.NumberLaws as laws
 use Rattle.header_text.proofs.number.digits.Given as goal
 
 abbrev pub invariant-loop-i : goal.invariant-loop-i

@@ -11,7 +11,6 @@ pub returns-in_default : goal.returns-in_default
 unfolding halves_at both
 returns-in_default c = rw (← c.trim.ensures, bad_number _ _ (sym c.read_number.ensures ∙ c.in_default.is))
 
-
 pub returns-in_default-read_number : goal.returns-in_default-read_number
 unfolding halves_at both
 returns-in_default-read_number c =
@@ -19,7 +18,6 @@ returns-in_default-read_number c =
     let w = value-number _ _ (sym c.read_number.ensures ∙ c.in-Value.is) in
     let h = bad_number _ _ (sym c.read_number-2.ensures ∙ c.in_default-read_number.is) in
     rw (← tail-part a.s.now (a.n + 1) (omega arith), ← c.trim.ensures, ← c.trim-2.ensures, w, h)
-
 
 pub returns : goal.returns
 unfolding halves_at both

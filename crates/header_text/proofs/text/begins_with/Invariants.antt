@@ -2,7 +2,6 @@ use Prim.Native.Nat.{◌-◌, ◌≤◌}
 use mathlib.Core.Path.{◌≡◌}
 use lib.ListN.{length, drop}
 use Rattle.header_text.specs.Text.{begins}
-use Rattle.header_text.proofs.TextLaws as laws
 use Rattle.header_text.proofs.text.begins_with.Given as goal
 
 abbrev pub invariant-loop-i : goal.invariant-loop-i

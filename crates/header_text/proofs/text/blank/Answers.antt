@@ -6,11 +6,9 @@ pub returns-then-b-eq32 : goal.returns-then-b-eq32
 unfolding is_blank
 returns-then-b-eq32 c = simp (eq-eqb _ _ c.if-b-eq32.true)
 
-
 pub returns-then-b-lt9 : goal.returns-then-b-lt9
 unfolding is_blank
 returns-then-b-lt9 c = simp (ne_eqb _ _ c.if-b-eq32.false, lt-leb _ _ c.if-b-lt9.true)
-
 
 pub returns : goal.returns
 unfolding is_blank

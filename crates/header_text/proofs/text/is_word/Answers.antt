@@ -6,7 +6,6 @@ pub returns-then-s-name : goal.returns-then-s-name
 unfolding same
 returns-then-s-name c = simp (ne_eqb _ _ c.if-s-name.true)
 
-
 pub returns : goal.returns
 unfolding same
 returns c = rw (eq-eqb _ _ c.if-s-name.false) c.begins_with.ensures

@@ -2,7 +2,6 @@ use Prim.Native.Nat.{◌≤◌}
 use mathlib.Core.Path.{◌≡◌}
 use lib.ListN.{length, take}
 use Rattle.header_text.specs.Text.{trim_end}
-use Rattle.header_text.proofs.TextLaws as laws
 use Rattle.header_text.proofs.text.trim_end.Given as goal
 
 abbrev pub invariant-loop-n : goal.invariant-loop-n

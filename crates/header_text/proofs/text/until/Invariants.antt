@@ -3,7 +3,6 @@ use mathlib.Core.Path.{◌≡◌}
 use lib.ListN.{length, drop}
 use Rattle.header_text.specs.Text.{up_to}
 use Rattle.header_text.specs.Parts.{is_in}
-use Rattle.header_text.proofs.TextLaws as laws
 use Rattle.header_text.proofs.text.until.Given as goal
 
 abbrev pub invariant-loop-i : goal.invariant-loop-i

@@ -3,10 +3,8 @@ use Rattle.evt_codec.proofs.codec.Codec.step.Goals as goal
 pub returns-in-Evt2 : goal.returns-in-Evt2
 returns-in-Evt2 c = rw c.in-Evt2.is c.first_evt2.ensures
 
-
 pub returns-in-Evt21 : goal.returns-in-Evt21
 returns-in-Evt21 c = rw c.in-Evt21.is c.first_evt21.ensures
-
 
 pub returns-in-Evt3 : goal.returns-in-Evt3
 returns-in-Evt3 c = rw c.in-Evt3.is c.first_evt3.ensures

@@ -24,8 +24,8 @@ fn put_format(version: Encoding, out: &mut [u8]) -> usize
 
 // The header, from the front of `out`.
 fn put_header(version: Encoding, width: usize, height: usize, out: &mut [u8]) -> usize
-    ensures fact_1 { result ≡ length (header_text version width height) }
-    ensures fact_2 { out.new ≡ sets out.old 0 (header_text version width height) }
+    ensures ends { result ≡ length (header_text version width height) }
+    ensures stores { out.new ≡ sets out.old 0 (header_text version width height) }
 {
     let a = put_format(version, &mut *out);
     let b = put_text(&mut *out, a, b"% geometry ");
@@ -37,8 +37,8 @@ fn put_header(version: Encoding, width: usize, height: usize, out: &mut [u8]) ->
 
 // The header, where one is due.
 pub fn put_due(due: bool, version: Encoding, width: usize, height: usize, out: &mut [u8]) -> usize
-    ensures fact_1 { result ≡ length (cond due (header_text version width height) []) }
-    ensures fact_2 { out.new ≡ sets out.old 0 (cond due (header_text version width height) []) }
+    ensures ends { result ≡ length (cond due (header_text version width height) []) }
+    ensures stores { out.new ≡ sets out.old 0 (cond due (header_text version width height) []) }
 {
     if due {
         put_header(version, width, height, &mut *out)

@@ -1,5 +1,4 @@
-use Rattle.std.proofs.Common.{sym, ◌∙◌, true, false}
-use lib.Seq.{length-take-le}
+use Rattle.std.proofs.Common.{sym, ◌∙◌, true, false, length-take-le}
 use Rattle.evt_types.specs.declared.SensorSize.{SensorSize}
 use Rattle.header.proofs.AnswerLaws as laws
 use Rattle.header.proofs.parse_header.Goals as goal

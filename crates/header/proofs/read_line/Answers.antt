@@ -1,6 +1,5 @@
 -- One law for each key.
-use Rattle.std.proofs.Common.{sym, ◌∙◌}
-use lib.Seq.{length-take-le}
+use Rattle.std.proofs.Common.{sym, ◌∙◌, length-take-le}
 use Rattle.header_text.proofs.TextLaws.{count-le}
 use Rattle.header.proofs.LineLaws as laws
 use Rattle.header.proofs.read_line.Goals as goal

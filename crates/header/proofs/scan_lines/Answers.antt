@@ -1,6 +1,4 @@
-use mathlib.Core.Path.{sym, ◌∙◌}
-use native.Mathlib.Omega.{arith}
-use lib.Seq.{length-take-le}
+use Rattle.std.proofs.Common.{sym, ◌∙◌, arith, length-take-le}
 use Rattle.header_text.proofs.TextLaws.{tail-part}
 use Rattle.header.proofs.LineLaws as laws
 use Rattle.header.proofs.scan_lines.Goals as goal

@@ -1,6 +1,4 @@
-use Prim.Native.Nat.{◌-◌, ◌≤◌}
-use mathlib.Core.Path.{◌≡◌}
-use lib.ListN.{length, drop}
+use Rattle.std.proofs.Common.{◌-◌, ◌≤◌, ◌≡◌, length, drop}
 use Rattle.header.specs.Notes.{scan_of}
 use Rattle.header.proofs.LineLaws as laws
 use Rattle.header.proofs.scan_lines.Given as goal

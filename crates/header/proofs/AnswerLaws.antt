@@ -1,11 +1,5 @@
 -- What the code keeps is what the lines say; and the answer, way by way.
-use Prim.Native.Nat.{ℕ, ◌<◌, ◌≤◌}
-use mathlib.Core.Path.{◌≡◌, refl, sym, ◌∙◌, ap}
-use mathlib.Core.List.{List, [], ◌∷◌}
-use mathlib.Core.Bool.{Bool, true, false, cond}
-use native.Mathlib.Omega.{arith}
-use lib.ListN.{length, take}
-use borrow.Author.Tests.{lt-ltb, le-ltb}
+use Rattle.std.proofs.Common.{ℕ, ◌<◌, ◌≤◌, ◌≡◌, refl, sym, ◌∙◌, ap, List, [], ◌∷◌, Bool, true, false, cond, arith, length, take, lt-ltb, le-ltb}
 use Rattle.evt_types.specs.declared.{Encoding.Encoding, Refusal.TheVariants.InvalidSensorSize, Refusal.TheVariants.UnknownEncoding}
 use Rattle.evt_types.specs.declared.{Refusal.TheVariants.HeaderNotAscii, Refusal.TheVariants.TooLong, SensorSize.SensorSize}
 use Rattle.header.specs.declared.{HeaderAnswer.HeaderAnswer, HeaderAnswer.TheVariants.Refused, Named.TheVariants.As}

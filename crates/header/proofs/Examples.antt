@@ -1,8 +1,6 @@
 -- Worked examples of the verdict, computed: the listing's header, bytes 25 80, an empty file, a height of 0, the caller's size over it, and
 -- end lines; and of the encodings that values name.
-use Prim.Native.Nat.{ℕ}
-use mathlib.Core.Path.{◌≡◌, refl}
-use mathlib.Core.List.{List, [], ◌∷◌}
+use Rattle.std.proofs.Common.{ℕ, ◌≡◌, refl, List, [], ◌∷◌}
 use Rattle.evt_types.specs.declared.Encoding.TheVariants.{Evt2, Evt21, Evt3}
 use Rattle.evt_types.specs.declared.SensorSize.TheVariants.{Unknown, Known}
 use Rattle.evt_types.specs.Told.{accepted, refused}
@@ -55,9 +53,9 @@ pub worked :
     ≡ accepted (31 ∷ 3 ∷ 1 ∷ 64 ∷ 48 ∷ []) ∷ refused 3 ∷ refused 2 ∷ refused 1 ∷ accepted (27 ∷ 2 ∷ 1 ∷ 5 ∷ 7 ∷ [])
     ∷ accepted (14 ∷ 3 ∷ 0 ∷ 0 ∷ 0 ∷ []) ∷ accepted (17 ∷ 2 ∷ 0 ∷ 0 ∷ 0 ∷ [])
     ∷ accepted (35 ∷ 3 ∷ 0 ∷ 0 ∷ 0 ∷ []) ∷ accepted (11 ∷ 2 ∷ 0 ∷ 0 ∷ 0 ∷ []) ∷ []
-unfolding is_blank up_to from any rest_of trim_start trim_end trim_of lower_of begins same is_digit all_digits digits_value number_from digits_of number_of
-    both size_at geometry_of is_end joined lines_of starts_percent leading through_end header_lines joined_lines header_bytes body_start body_of key_of value_of read_line
-    read_all said_by encoding_of size_that_holds has_zero with_encoding lines_outcome
+unfolding is_blank up_to from any rest_of trim_start trim_end trim_of lower_of begins same is_digit all_digits digits_value number_from digits_of
+    number_of both size_at geometry_of is_end joined lines_of starts_percent leading through_end header_lines joined_lines header_bytes body_start
+    body_of key_of value_of read_line read_all said_by encoding_of size_that_holds has_zero with_encoding lines_outcome
 worked = refl
 
 -- what the last `format` and `evt` line say

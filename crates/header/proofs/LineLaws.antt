@@ -1,13 +1,6 @@
 -- Laws of the header's lines: the first one, what is kept of one, and the loop over them.
-use Prim.Native.Nat.{ℕ, suc, ◌+◌, ◌-◌, ◌<◌, ◌≤◌}
-use mathlib.Core.Path.{◌≡◌, refl, sym, ◌∙◌, ap}
-use mathlib.Core.List.{List, [], ◌∷◌, append-nil}
-use mathlib.Core.Bool.{Bool, true, false, cond}
-use native.Mathlib.Omega.{arith}
-use lib.ListN.{length, get_or, take, drop, length-take, length-drop, length-append}
-use lib.Seq.{drop-drop}
-use lib.Dec.{eqb}
-use borrow.Author.Tests.{lt-ltb, le-ltb, ne_eqb}
+use Rattle.std.proofs.Common.{ℕ, suc, ◌+◌, ◌-◌, ◌<◌, ◌≤◌, ◌≡◌, refl, sym, ◌∙◌, ap, List, [], ◌∷◌, append-nil, Bool, true, false, cond, arith, length, get_or}
+use Rattle.std.proofs.Common.{take, drop, length-take, length-drop, length-append, drop-drop, eqb, lt-ltb, le-ltb, ne_eqb}
 use Rattle.evt_types.specs.declared.SensorSize.{SensorSize}
 use Rattle.header.specs.declared.{Scan.Scan, Seen.Seen, Versions.Versions}
 use Rattle.header_text.specs.Text.{is_blank, is_byte, up_to, from, any, trim_of, same}

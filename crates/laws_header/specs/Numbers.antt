@@ -1,7 +1,6 @@
 -- A number written in decimal is read back as that number.
-use Rattle.std.specs.Prelude.{◌≡◌, refl, Bool, true, false, ℕ, zero, suc, ◌+◌, ◌-◌, ◌*◌, ◌/◌, ◌%◌, ◌^◌, ◌≤◌, ◌<◌, ltb, length}
-use Rattle.std.proofs.Common.{◌∙◌, ap, arith, length-append, lt-ltb, ltb-true, ltb-false, le-leb, leb-true, ne_eqb}
-use mathlib.Core.List.{List, [], ◌∷◌, ◌++◌, append-nil}
+use Rattle.std.proofs.Common.{◌≡◌, refl, Bool, true, false, ℕ, zero, suc, ◌+◌, ◌-◌, ◌*◌, ◌/◌, ◌%◌, ◌^◌, ◌≤◌, ◌<◌, ltb, length, ◌∙◌, ap, arith, length-append}
+use Rattle.std.proofs.Common.{lt-ltb, ltb-true, ltb-false, le-leb, leb-true, ne_eqb, List, [], ◌∷◌, ◌++◌, append-nil}
 use Rattle.std.proofs.Math.Option.{some}
 use Rattle.std.proofs.lemmas.Bool.{lt-leb}
 use Rattle.laws_stream.specs.Machine.{and_both}

@@ -1,12 +1,8 @@
 -- A header that is written is read back, whatever body follows it: its encoding, its size, and where the body starts.
-use Rattle.std.specs.Prelude.{◌≡◌, ◌⊎◌, Bool, false, cond, ◌||◌, ℕ, ◌+◌, ◌^◌, ◌≤◌, ◌<◌, length}
-use Rattle.std.proofs.Math.Path.{refl}
-use Rattle.std.proofs.Common.{sym, ◌∙◌, arith}
-use Rattle.std.proofs.Math.Logic.{⊎_elim}
-use Rattle.std.proofs.Math.Bool.{true, or-true, and-false}
-use mathlib.Core.List.{List, [], ◌∷◌, ◌++◌, append_assoc, append-nil}
-use Rattle.std.proofs.Math.Dec.{eqb}
-use borrow.Author.Tests.{le-ltb, lt-leb, eq-eqb, ne_eqb}
+use Rattle.std.proofs.Common.{◌≡◌, ◌⊎◌, Bool, false, cond, ◌||◌, ℕ, ◌^◌, ◌≤◌, ◌<◌, length, refl, sym, ◌∙◌, arith, ⊎_elim, true, List, [], ◌∷◌, ◌++◌}
+use Rattle.std.proofs.Common.{append_assoc, append-nil, eqb, le-ltb, eq-eqb, ne_eqb}
+use Rattle.std.proofs.Math.Bool.{or-true, and-false}
+use borrow.Author.Tests.{lt-leb}
 use Rattle.evt_types.specs.declared.{Encoding.Encoding, Encoding.TheVariants.Evt2, Encoding.TheVariants.Evt21, Encoding.TheVariants.Evt3}
 use Rattle.evt_types.specs.declared.{Refusal.TheVariants.InvalidSensorSize, SensorSize.SensorSize, SensorSize.TheVariants.Unknown}
 use Rattle.evt_types.specs.declared.{SensorSize.TheVariants.Known}
@@ -112,7 +108,7 @@ others_read said = refl
 
 size-goes_on : (w h : ℕ) → is_end (size_line w h) ≡ false
 unfolding is_end same begins lower_of
-size-goes_on w h = rw (size-body w h, and-false)
+size-goes_on w h = rw (size-body w h) (simp and-false)
 
 -- a line of a key and a value
 value_line : (name text t : List ℕ) → any (is_byte 10) (name ++ text) ≡ false → is_end (37 ∷ (name ++ (text ++ ascii "\n"))) ≡ false

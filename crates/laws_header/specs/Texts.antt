@@ -1,7 +1,5 @@
 -- Laws of texts that are put together: their first byte of a class, their blanks, their lines.
-use Rattle.std.specs.Prelude.{◌≡◌, refl, Bool, true, false, cond, ℕ}
-use Rattle.std.proofs.Common.{ap, true≢false}
-use mathlib.Core.List.{List, [], ◌∷◌, ◌++◌, append_assoc}
+use Rattle.std.proofs.Common.{◌≡◌, refl, Bool, true, false, cond, ℕ, ap, true≢false, List, [], ◌∷◌, ◌++◌, append_assoc}
 use Rattle.header_text.specs.{Cases.by_bool, Text.is_blank, Text.is_byte, Text.up_to, Text.from, Text.any, Text.trim_end}
 use Rattle.header_text.proofs.TextLaws.{trim_dark}
 use Rattle.header.specs.Lines.{is_end, joined, lines_of, starts_percent, leading, through_end, header_lines}

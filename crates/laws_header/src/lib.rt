@@ -3,4 +3,3 @@
 // specs/Numbers.antt those of decimal numbers. The crate has no code of its own to run.
 
 #![tactic(auto)]
-

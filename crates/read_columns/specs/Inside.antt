@@ -1,5 +1,6 @@
 -- The events of a word that lie inside a sensor of width x height: those with x < width and y < height.
-use Rattle.std.specs.Prelude.{◌≡◌, refl, Bool, true, false, cond, List, [], ◌∷◌, map, ℕ, zero, suc, ◌+◌, ◌-◌, ◌/◌, ◌%◌, ◌≤◌, ◌<◌, ◌^◌, min, max, length, set, ℤ, pos, eqb, ltb}
+use Rattle.std.specs.Prelude.{◌≡◌, refl, Bool, true, false, cond, List, [], ◌∷◌, map, ℕ, zero, suc, ◌+◌}
+use Rattle.std.specs.Prelude.{◌-◌, ◌/◌, ◌%◌, ◌≤◌, ◌<◌, ◌^◌, min, max, length, set, ℤ, pos, eqb, ltb}
 use Rattle.std.proofs.Common.{sym, ap, ◌∙◌, arith, add-zero, mod-eq_of_lt, lt_of_lt_of_le, set-set, pow_mono, eqb-true, ltb-true, ltb-false, lt-ltb, le-ltb}
 use Rattle.std.proofs.Math.Bool.{and-true, and-false}
 use Rattle.std.proofs.Math.Nat.{mod-le}

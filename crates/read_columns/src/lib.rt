@@ -77,8 +77,8 @@ pub fn put_all(
     ps: &mut [u8],
 ) -> usize
     requires { Room (length (events_of v)) v at (length xs.old) (length ys.old) (length ts.old) (length ps.old) }
-    ensures fact_1 { result ≡ at + length (events_of v) }
-    ensures fact_2 { Wrote (events_of v) at
+    ensures count { result ≡ at + length (events_of v) }
+    ensures wrote { Wrote (events_of v) at
         xs.old ys.old ts.old ps.old
         xs.new ys.new ts.new ps.new }
 {
@@ -112,8 +112,9 @@ pub fn place(
     ps: &mut [u8],
 ) -> usize
     requires { Room (length (inside_of width height v)) v at (length xs.old) (length ys.old) (length ts.old) (length ps.old) }
-    ensures { (result ≡ at + length (inside_of width height v)) × (Wrote (inside_of width height v) at xs.old ys.old ts.old ps.old
-        xs.new ys.new ts.new ps.new) }
+    ensures count { result ≡ at + length (inside_of width height v) }
+    ensures wrote { Wrote (inside_of width height v) at xs.old ys.old ts.old ps.old
+        xs.new ys.new ts.new ps.new }
 {
     if v.mask == 1 {
         put1(v, width, height, at, &mut *xs, &mut *ys, &mut *ts, &mut *ps)
@@ -134,8 +135,8 @@ fn put(
     ps: &mut [u8],
 ) -> usize
     requires { Room (length (inside_of width height v)) v at (length xs.old) (length ys.old) (length ts.old) (length ps.old) }
-    ensures fact_1 { result ≡ at + length (inside_of width height v) }
-    ensures fact_2 { Wrote (inside_of width height v) at xs.old ys.old ts.old ps.old
+    ensures count { result ≡ at + length (inside_of width height v) }
+    ensures wrote { Wrote (inside_of width height v) at xs.old ys.old ts.old ps.old
         xs.new ys.new ts.new ps.new }
 {
     let y = v.y as u16;
@@ -171,8 +172,8 @@ pub fn spread(
     ps: &mut [u8],
 ) -> usize
     requires { Room (length (inside_of width height v)) v at (length xs.old) (length ys.old) (length ts.old) (length ps.old) }
-    ensures fact_1 { result ≡ at + length (inside_of width height v) }
-    ensures fact_2 { Wrote (inside_of width height v) at xs.old ys.old ts.old ps.old
+    ensures count { result ≡ at + length (inside_of width height v) }
+    ensures wrote { Wrote (inside_of width height v) at xs.old ys.old ts.old ps.old
         xs.new ys.new ts.new ps.new }
 {
     let y = v.y as u16;
@@ -231,8 +232,8 @@ fn put_two(
     ts: &mut [i64],
     ps: &mut [u8],
 ) -> usize
-    requires fact_1 { Fits (m + 1) (length xs.old) (length ys.old) (length ts.old) (length ps.old) }
-    requires fact_2 { n ≤ m }
+    requires fit { Fits (m + 1) (length xs.old) (length ys.old) (length ts.old) (length ps.old) }
+    requires order { n ≤ m }
     ensures { (result ≡ m + 1) × (xs.new ≡ set (set xs.old n a) m b)
         × (ys.new ≡ set (set ys.old n y) m y)
         × (ts.new ≡ set (set ts.old n t) m t)
@@ -260,10 +261,10 @@ pub fn put1(
     ts: &mut [i64],
     ps: &mut [u8],
 ) -> usize
-    requires fact_1 { Room (length (inside_of width height v)) v at (length xs.old) (length ys.old) (length ts.old) (length ps.old) }
-    requires fact_2 { v.mask ≤ 1 }
-    ensures fact_1 { result ≡ at + length (inside_of width height v) }
-    ensures fact_2 { Wrote (inside_of width height v) at xs.old ys.old ts.old ps.old
+    requires room { Room (length (inside_of width height v)) v at (length xs.old) (length ys.old) (length ts.old) (length ps.old) }
+    requires single { v.mask ≤ 1 }
+    ensures count { result ≡ at + length (inside_of width height v) }
+    ensures wrote { Wrote (inside_of width height v) at xs.old ys.old ts.old ps.old
         xs.new ys.new ts.new ps.new }
 {
     if sees(v, width, height) {

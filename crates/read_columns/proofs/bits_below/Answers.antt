@@ -1,6 +1,4 @@
-use mathlib.Core.Path.{sym}
-use Prim.Native.Nat.{◌-◌}
-use native.Mathlib.Omega.{arith}
+use Rattle.std.proofs.Common.{sym, ◌-◌, arith}
 use Rattle.read_columns.specs.Inside.{all-bits}
 use Rattle.read_columns.proofs.bits_below.Goals as goal
 

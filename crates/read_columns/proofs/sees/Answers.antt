@@ -1,5 +1,4 @@
-use mathlib.Core.Path.{ap, ◌∙◌}
-use native.Mathlib.Omega.{arith}
+use Rattle.std.proofs.Common.{ap, ◌∙◌, arith}
 use Rattle.read_columns.specs.Inside.{inside_at, inside_none, inside_one}
 use Rattle.read_columns.proofs.sees.Goals as goal
 
@@ -7,7 +6,6 @@ pub returns-then-v-eq0 : goal.returns-then-v-eq0
 returns-then-v-eq0 c =
     ap (inside_at c.args.width c.args.height c.args.v) c.if-v-eq0.true
     ∙ inside_none c.args.width c.args.height c.args.v
-
 
 pub returns-else-v-eq0 : goal.returns-else-v-eq0
 returns-else-v-eq0 c =

@@ -4,6 +4,8 @@ ghost use Rattle.std.specs.Prelude.{◌≡◌, ◌≤◌, length};
 use crate::{show, text};
 use evt_types::RawEvent;
 use evt_types::num::max_usize;
+use std::io;
+use std::io::Write;
 
 const SHORT: u16 = 43981;
 
@@ -159,40 +161,64 @@ fn is_marked(e: RawEvent) -> bool {
 }
 
 // The first n events.
-pub fn show_events(xs: &[u16], ys: &[u16], ts: &[i64], ps: &[u8], n: usize) {
+pub fn show_events(
+    stdout: &mut impl Write,
+    xs: &[u16],
+    ys: &[u16],
+    ts: &[i64],
+    ps: &[u8],
+    n: usize,
+) -> io::Result<()> {
     let mut i = 0;
     while i < n {
-        show::byte(b' ');
-        show::event(entry(xs, ys, ts, ps, i));
+        show::byte(stdout, b' ')?;
+        show::event(stdout, entry(xs, ys, ts, ps, i))?;
         i += 1;
     }
+    Ok(())
 }
 
 // ` dirty` if an entry from `from` on hasn't its mark any more.
-fn show_dirty(xs: &[u16], ys: &[u16], ts: &[i64], ps: &[u8], from: usize) {
+fn show_dirty(
+    stdout: &mut impl Write,
+    xs: &[u16],
+    ys: &[u16],
+    ts: &[i64],
+    ps: &[u8],
+    from: usize,
+) -> io::Result<()> {
     let mut i = from;
     while i < xs.len() {
         if is_marked(entry(xs, ys, ts, ps, i)) {
             i += 1;
         } else {
-            return show::text(b" dirty");
+            return show::text(stdout, b" dirty");
         }
     }
+    Ok(())
 }
 
 // The first n events, and whether an entry behind them has changed.
-pub fn show_all(xs: &[u16], ys: &[u16], ts: &[i64], ps: &[u8], n: usize) {
-    show_events(xs, ys, ts, ps, n);
-    show_dirty(xs, ys, ts, ps, n);
+pub fn show_all(
+    stdout: &mut impl Write,
+    xs: &[u16],
+    ys: &[u16],
+    ts: &[i64],
+    ps: &[u8],
+    n: usize,
+) -> io::Result<()> {
+    show_events(stdout, xs, ys, ts, ps, n)?;
+    show_dirty(stdout, xs, ys, ts, ps, n)
 }
 
 // The same for bytes alone.
-pub fn show_dirty_bytes(s: &[u8], from: usize) {
+pub fn show_dirty_bytes(stdout: &mut impl Write, s: &[u8], from: usize) -> io::Result<()> {
     let mut i = from;
     while i < s.len() {
         if s[i] != BYTE {
-            return show::text(b" dirty");
+            return show::text(stdout, b" dirty");
         }
         i += 1;
     }
+    Ok(())
 }

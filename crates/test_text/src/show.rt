@@ -1,49 +1,50 @@
-// Printing to standard output: text, numbers, bytes, events, encodings, refusals.
+// Printing: text, numbers, bytes, events, encodings, refusals. The programs pass standard output.
 use evt_types::{Encoding, RawEvent, Refusal, encoding_number, refusal_number};
-use libc::STDOUT_FILENO;
+use std::io;
+use std::io::Write;
 
-pub fn text(s: &[u8]) {
-    io::write_all(STDOUT_FILENO, s);
+pub fn text(stdout: &mut impl Write, s: &[u8]) -> io::Result<()> {
+    stdout.write_all(s)
 }
 
-pub fn byte(b: u8) {
+pub fn byte(stdout: &mut impl Write, b: u8) -> io::Result<()> {
     let s = [b];
-    io::write_all(STDOUT_FILENO, &s);
+    stdout.write_all(&s)
 }
 
-pub fn number(n: u64) {
-    io::print_decimal(STDOUT_FILENO, n);
+pub fn number(stdout: &mut impl Write, n: u64) -> io::Result<()> {
+    write!(stdout, "{n}")
 }
 
 // For n below 0 the magnitude is !n + 1.
-pub fn signed(n: i64) {
+pub fn signed(stdout: &mut impl Write, n: i64) -> io::Result<()> {
     if n < 0 {
         let less = !n;
-        byte(b'-');
-        return number(less as u64 + 1);
+        byte(stdout, b'-')?;
+        return number(stdout, less as u64 + 1);
     }
-    number(n as u64)
+    number(stdout, n as u64)
 }
 
 // A separator and a number.
-pub fn next(separator: u8, n: u64) {
-    byte(separator);
-    number(n);
+pub fn next(stdout: &mut impl Write, separator: u8, n: u64) -> io::Result<()> {
+    byte(stdout, separator)?;
+    number(stdout, n)
 }
 
 // `t,x,y,p`.
-pub fn event(e: RawEvent) {
-    signed(e.t);
-    next(b',', e.x as u64);
-    next(b',', e.y as u64);
-    next(b',', e.p as u64);
+pub fn event(stdout: &mut impl Write, e: RawEvent) -> io::Result<()> {
+    signed(stdout, e.t)?;
+    next(stdout, b',', e.x as u64)?;
+    next(stdout, b',', e.y as u64)?;
+    next(stdout, b',', e.p as u64)
 }
 
 // `t,id,value`.
-pub fn trigger(t: i64, id: u8, value: u8) {
-    signed(t);
-    next(b',', id as u64);
-    next(b',', value as u64);
+pub fn trigger(stdout: &mut impl Write, t: i64, id: u8, value: u8) -> io::Result<()> {
+    signed(stdout, t)?;
+    next(stdout, b',', id as u64)?;
+    next(stdout, b',', value as u64)
 }
 
 // The last digit of n in hex.
@@ -56,32 +57,33 @@ fn nibble(n: u8) -> u8 {
 }
 
 // Two hex digits for each byte, `-` for none.
-pub fn hex(s: &[u8]) {
+pub fn hex(stdout: &mut impl Write, s: &[u8]) -> io::Result<()> {
     if s.len() == 0 {
-        byte(b'-');
+        byte(stdout, b'-')?;
     }
     let mut i = 0;
     while i < s.len() {
-        byte(nibble(s[i] / 16));
-        byte(nibble(s[i]));
+        byte(stdout, nibble(s[i] / 16))?;
+        byte(stdout, nibble(s[i]))?;
         i += 1;
     }
+    Ok(())
 }
 
 // `refused`, the table's number, and the count that the refusal tells.
-pub fn refusal(r: Refusal) {
-    text(b"refused");
-    next(b' ', refusal_number(r) as u64);
+pub fn refusal(stdout: &mut impl Write, r: Refusal) -> io::Result<()> {
+    text(stdout, b"refused")?;
+    next(stdout, b' ', refusal_number(r) as u64)?;
     match r {
-        Refusal::ColumnsTooShort(n) => next(b' ', n as u64),
-        Refusal::TooFewRecords(n) => next(b' ', n as u64),
-        Refusal::OutputTooShort(n) => next(b' ', n as u64),
-        Refusal::TriggerColumnsTooShort(n) => next(b' ', n as u64),
-        _ => {}
+        Refusal::ColumnsTooShort(n) => next(stdout, b' ', n as u64),
+        Refusal::TooFewRecords(n) => next(stdout, b' ', n as u64),
+        Refusal::OutputTooShort(n) => next(stdout, b' ', n as u64),
+        Refusal::TriggerColumnsTooShort(n) => next(stdout, b' ', n as u64),
+        _ => Ok(()),
     }
 }
 
-pub fn encoding(e: Encoding) {
-    text(b"EVT");
-    number(encoding_number(e) as u64);
+pub fn encoding(stdout: &mut impl Write, e: Encoding) -> io::Result<()> {
+    text(stdout, b"EVT")?;
+    number(stdout, encoding_number(e) as u64)
 }

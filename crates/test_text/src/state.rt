@@ -4,6 +4,8 @@ use crate::{show, text};
 use evt_codec::Codec;
 use evt2_decoder::Evt2Decoder;
 use evt3_decoder::Decoder;
+use std::io;
+use std::io::Write;
 
 pub fn read(s: &[u8]) -> Codec {
     let mut n = [0u64; 8];
@@ -33,29 +35,29 @@ pub fn read(s: &[u8]) -> Codec {
     })
 }
 
-pub fn show(codec: Codec) {
+pub fn show(stdout: &mut impl Write, codec: Codec) -> io::Result<()> {
     match codec {
-        Codec::Evt2(d) => show2(b"2:", d),
-        Codec::Evt21(d) => show2(b"21:", d.evt2()),
-        Codec::Evt3(d) => show3(d),
+        Codec::Evt2(d) => show2(stdout, b"2:", d),
+        Codec::Evt21(d) => show2(stdout, b"21:", d.evt2()),
+        Codec::Evt3(d) => show3(stdout, d),
     }
 }
 
-fn show2(encoding: &[u8], d: Evt2Decoder) {
-    show::text(encoding);
-    show::number(d.initialised as u64);
-    show::next(b',', d.time_high);
-    show::next(b',', d.time);
-    show::next(b',', d.high_loops);
+fn show2(stdout: &mut impl Write, encoding: &[u8], d: Evt2Decoder) -> io::Result<()> {
+    show::text(stdout, encoding)?;
+    show::number(stdout, d.initialised as u64)?;
+    show::next(stdout, b',', d.time_high)?;
+    show::next(stdout, b',', d.time)?;
+    show::next(stdout, b',', d.high_loops)
 }
 
-fn show3(d: Decoder) {
-    show::text(b"3:");
-    show::number(d.initialised as u64);
-    show::next(b',', d.time_base);
-    show::next(b',', d.time);
-    show::next(b',', d.y as u64);
-    show::next(b',', d.base_x as u64);
-    show::next(b',', d.polarity as u64);
-    show::next(b',', d.high_loops);
+fn show3(stdout: &mut impl Write, d: Decoder) -> io::Result<()> {
+    show::text(stdout, b"3:")?;
+    show::number(stdout, d.initialised as u64)?;
+    show::next(stdout, b',', d.time_base)?;
+    show::next(stdout, b',', d.time)?;
+    show::next(stdout, b',', d.y as u64)?;
+    show::next(stdout, b',', d.base_x as u64)?;
+    show::next(stdout, b',', d.polarity as u64)?;
+    show::next(stdout, b',', d.high_loops)
 }

@@ -47,8 +47,8 @@ fn low_kept(sent: bool, low: u64) -> u64
 // then takes its place.
 fn put_lead(sent: bool, w: u16, out: &mut [u8], at: usize) -> usize
     requires { (at < 2 ^ 61) × Roomy out.old at word_size3 }
-    ensures fact_1 { result ≡ at + length (due_bytes3 sent w) }
-    ensures fact_2 { out.new ≡ sets out.old at (bytes word_size3 w) }
+    ensures ends { result ≡ at + length (due_bytes3 sent w) }
+    ensures stores { out.new ≡ sets out.old at (bytes word_size3 w) }
 {
     write_buffer::put16(&mut *out, at, w);
     write_buffer::past(sent, Decoder::WORD_SIZE, at)

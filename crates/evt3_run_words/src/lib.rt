@@ -60,8 +60,8 @@ fn mask_word(mask: u64) -> u16
 // A word for each event from i up to end.
 fn put_singles(p: u8, xs: &[u16], i: usize, end: usize, out: &mut [u8], at: usize) -> usize
     requires { Part xs.now i end at × Roomy out.old at (length (single_bytes p (between xs.now i end))) }
-    ensures fact_1 { result ≡ at + length (single_bytes p (between xs.now i end)) }
-    ensures fact_2 { out.new ≡ sets out.old at (single_bytes p (between xs.now i end)) }
+    ensures ends { result ≡ at + length (single_bytes p (between xs.now i end)) }
+    ensures stores { out.new ≡ sets out.old at (single_bytes p (between xs.now i end)) }
 {
     let mut a = at;
     let mut j = i;
@@ -102,8 +102,8 @@ fn next_masks(xs: &[u16], from: usize, end: usize, base: u64) -> MaskBits
 // The words of k masks of 12 columns, whose bits are those of `mask`.
 fn put_digits(mask: u64, k: u64, out: &mut [u8], at: usize) -> usize
     requires { (k ≤ 2 ^ 20) × (at ≤ 2 ^ 50) × Roomy out.old at (word_size3 * k) }
-    ensures fact_1 { result ≡ at + word_size3 * k }
-    ensures fact_2 { out.new ≡ sets out.old at (digit_bytes k mask) }
+    ensures ends { result ≡ at + word_size3 * k }
+    ensures stores { out.new ≡ sets out.old at (digit_bytes k mask) }
 {
     let mut a = at;
     let mut m = mask;
@@ -129,8 +129,8 @@ fn put_masks(
 ) -> usize
     requires { Part xs.now i end at × (base + 12 * k ≤ 2 ^ 20) × Inc base (2 ^ 16) (between xs.now i end)
         × Roomy out.old at (length (mask_bytes k base (between xs.now i end))) }
-    ensures fact_1 { result ≡ at + length (mask_bytes k base (between xs.now i end)) }
-    ensures fact_2 { out.new ≡ sets out.old at (mask_bytes k base (between xs.now i end)) }
+    ensures ends { result ≡ at + length (mask_bytes k base (between xs.now i end)) }
+    ensures stores { out.new ≡ sets out.old at (mask_bytes k base (between xs.now i end)) }
 {
     let mut a = at;
     let mut c = i;
@@ -166,8 +166,8 @@ fn vector_pays(n: u64, first: u64, last: u64) -> bool
 // The words of one or two events: a single one is stored twice, which is faster than a branch.
 fn put_pair(p: u8, xs: &[u16], i: usize, end: usize, out: &mut [u8], at: usize) -> usize
     requires { Part xs.now i end at × (i < end) × (end ≤ i + 2) × Roomy out.old at (length (single_bytes p (between xs.now i end))) }
-    ensures fact_1 { result ≡ at + length (single_bytes p (between xs.now i end)) }
-    ensures fact_2 { out.new ≡ sets out.old at (single_bytes p (between xs.now i end)) }
+    ensures ends { result ≡ at + length (single_bytes p (between xs.now i end)) }
+    ensures stores { out.new ≡ sets out.old at (single_bytes p (between xs.now i end)) }
 {
     let j = end - 1;
     let last = at + Decoder::WORD_SIZE * (j - i);
@@ -181,8 +181,8 @@ fn put_pair(p: u8, xs: &[u16], i: usize, end: usize, out: &mut [u8], at: usize) 
 fn put_body(p: u8, xs: &[u16], i: usize, end: usize, out: &mut [u8], at: usize) -> usize
     requires { Part xs.now i end (at + word_size3) × (i < end) × Rising (between xs.now i end)
         × Roomy out.old at (length (body_bytes p (between xs.now i end))) }
-    ensures fact_1 { result ≡ at + length (body_bytes p (between xs.now i end)) }
-    ensures fact_2 { out.new ≡ sets out.old at (body_bytes p (between xs.now i end)) }
+    ensures ends { result ≡ at + length (body_bytes p (between xs.now i end)) }
+    ensures stores { out.new ≡ sets out.old at (body_bytes p (between xs.now i end)) }
 {
     let n = end - i;
     if n <= 2 {
@@ -228,8 +228,8 @@ pub fn put_run(
 ) -> usize
     requires { Part xs.now i end (at + 8) × (i < end) × Rising (between xs.now i end)
         × Roomy out.old at (length (leads_bytes high low row t y ++ body_bytes p (between xs.now i end))) }
-    ensures fact_1 { result ≡ at + length (leads_bytes high low row t y ++ body_bytes p (between xs.now i end)) }
-    ensures fact_2 { out.new ≡ sets out.old at (leads_bytes high low row t y ++ body_bytes p (between xs.now i end)) }
+    ensures ends { result ≡ at + length (leads_bytes high low row t y ++ body_bytes p (between xs.now i end)) }
+    ensures stores { out.new ≡ sets out.old at (leads_bytes high low row t y ++ body_bytes p (between xs.now i end)) }
 {
     let a = put_leads(high, low, row, t, y, &mut *out, at);
     if 0 < out.len() {

@@ -7,7 +7,7 @@
 ghost use Rattle.std.specs.Prelude.{◌≡◌, ◌^◌, ◌<◌};
 ghost use Rattle.write_buffer.specs.Columns.{event};
 ghost use Rattle.write_text.specs.Stored.{Stored};
-ghost use Rattle.listing_lines.specs.Listing.{field as Listing·field, refused_line, read_line, event_line};
+ghost use Rattle.listing_lines.specs.Listing.{field, refused_line, read_line, event_line};
 ghost use Rattle.listing_lines.specs.Lines.{head_line};
 
 use evt_types::{Refusal, encoding_number, refusal_number};
@@ -17,7 +17,7 @@ use write_text::{put_decimal, put_text};
 // A number, and the byte that ends it. Each function here that stores answers where its text ends.
 fn field(out: &mut [u8], at: usize, n: u64, end: u8) -> usize
     requires { at < 2 ^ 60 }
-    ensures { Stored 21 out.old at (Listing·field n end) result out.new }
+    ensures { Stored 21 out.old at (field n end) result out.new }
 {
     let e = put_decimal(&mut *out, at, n);
     write_buffer::put8(&mut *out, e, end);

@@ -1,5 +1,5 @@
 -- What a caller can use of these definitions: bytes in parts, how many events, decoders that a loop takes, times and coordinates.
-use Rattle.std.specs.Prelude.{◌≡◌, refl, true, List, [], ◌∷◌, ◌++◌, ℕ, suc, ◌+◌, ◌*◌, ◌/◌, ◌≤◌, ◌<◌, ◌^◌, max, length}
+use Rattle.std.specs.Prelude.{◌≡◌, true, List, [], ◌∷◌, ◌++◌, ℕ, suc, ◌+◌, ◌*◌, ◌/◌, ◌≤◌, ◌<◌, ◌^◌, max, length}
 use Rattle.std.proofs.Common.{sym, ap, subst, ◌∙◌, arith, suc-add, zero-add, mul-div_cancel, length-append, lt-ltb}
 use Rattle.std.proofs.Math.Nat.{mul-add-div_right}
 use Rattle.evt_types.specs.{declared.Encoding.Encoding, declared.vector.Vector.Vector, Event.Event, Event.event_at, Event.events_of, Event.Narrow}

@@ -1,7 +1,7 @@
 -- A loop over the words of some bytes, for every machine and every word size: what holds at index i, at the start, after an iteration, at the end.
 -- While columns are filled it is `Filling`.
-use Rattle.std.specs.Prelude.{◌≡◌, refl, List, [], ◌∷◌, ◌++◌, ℕ, suc, ◌+◌, ◌*◌, ◌≤◌, ◌<◌, length, take, drop, ℤ}
-use Rattle.std.proofs.Common.{sym, ap, ◌∙◌, arith, mul-suc, length-append}
+use Rattle.std.specs.Prelude.{◌≡◌, refl, List, [], ◌∷◌, ◌++◌, ℕ, suc, ◌+◌, ◌≤◌, ◌<◌, length, take, drop, ℤ}
+use Rattle.std.proofs.Common.{sym, ap, ◌∙◌, arith, length-append}
 use Rattle.laws_stream.specs.{Machine.Machine, Machine.run, Machine.emits, Words.words_of, Words.value, Words.words-next, Words.words-end, Slice.sift}
 use Rattle.laws_stream.specs.{Slice.sift-append, Stream.decode, Stream.after}
 use Rattle.evt_types.specs.{declared.vector.Vector.Vector, Event.Event, Event.events_of, Event.Narrow, Columns.Going, Columns.Room, Columns.Wrote}

@@ -1,5 +1,5 @@
 -- What a caller can use of these definitions: bytes in parts, how many events, decoders that a loop takes, times and coordinates.
-use Rattle.std.specs.Prelude.{◌≡◌, refl, true, List, [], ◌∷◌, ◌++◌, ℕ, suc, ◌+◌, ◌*◌, ◌/◌, ◌≤◌, ◌<◌, ◌^◌, max, length}
+use Rattle.std.specs.Prelude.{◌≡◌, true, List, [], ◌∷◌, ◌++◌, ℕ, suc, ◌+◌, ◌*◌, ◌/◌, ◌≤◌, ◌<◌, ◌^◌, max, length}
 use Rattle.std.proofs.Common.{sym, ap, subst, ◌∙◌, arith, suc-add, zero-add, mul-div_cancel, length-append, lt-ltb}
 use Rattle.std.proofs.Math.Nat.{mul-add-div_right}
 use Rattle.evt_types.specs.{declared.Encoding.Encoding, declared.vector.Vector.Vector, Event.Event, Event.event_at, Event.events_of, Event.Narrow}
@@ -8,7 +8,8 @@ use Rattle.laws_stream.specs.{Machine.emits-all, Words.words_of}
 use Rattle.laws_stream.specs.{Words.length-words, Words.words-end, Mask.bits, Order.greatest, Order.greatest-append, Order.greatest-le, Slice.sift}
 use Rattle.laws_stream.specs.{Slice.sift-append}
 use Rattle.laws_stream.specs.{Slice.sift-all, Slice.all-sift, Stream.decode-append, Stream.after-append, Stream.decode, Stream.after}
-use Rattle.evt_codec.specs.{declared.codec.Codec.Codec, Reader.Reader, Reader.view, Reader.View, Codec.fresh_c, Codec.word_size, Codec.in_range_c, Codec.codec_view}
+use Rattle.evt_codec.specs.{declared.codec.Codec.Codec, Reader.Reader, Reader.view, Reader.View, Codec.fresh_c, Codec.word_size, Codec.in_range_c}
+use Rattle.evt_codec.specs.{Codec.codec_view}
 use Rattle.evt_codec.specs.{Codec.view-after, Codec.view-fresh, Sound.Sound, Sound.sound, Sound.sound_of, Sound.able_range, Sound.able_fitting}
 use Rattle.evt_codec.specs.{Sound.bounded_words}
 use Rattle.read_columns.specs.Inside.{inside, clock, events_few, sift_few}

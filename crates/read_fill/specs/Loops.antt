@@ -1,6 +1,6 @@
 -- The iterations of the encodings' loops, from what the code has at hand.
 use Rattle.std.specs.Prelude.{◌≡◌, List, ℕ, ◌+◌, ◌≤◌, ◌<◌, ◌^◌, length}
-use Rattle.std.proofs.Common.{sym, ap, ◌∙◌, arith}
+use Rattle.std.proofs.Common.{sym, ap, ◌∙◌}
 use Rattle.evt_types.specs.{Ahead.ahead, Ahead.ahead-some, declared.vector.Vector.Vector, Event.events_of, Event.Narrow}
 use Rattle.evt_codec.specs.{Reader.Reader, Sound.Sound}
 use Rattle.read_fill.specs.Iteration.{Iteration}

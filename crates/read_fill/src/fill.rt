@@ -29,11 +29,11 @@ pub fn evt2(
     ts: &mut [i64],
     ps: &mut [u8],
 ) -> FilledAll
-    requires fact_1 { Bounded (length bytes.now) (Evt2 d) }
-    requires fact_2 { Fits (length (inside_events width height (Evt2 d) bytes.now))
+    requires bounded { Bounded (length bytes.now) (Evt2 d) }
+    requires fit { Fits (length (inside_events width height (Evt2 d) bytes.now))
         (length xs.old) (length ys.old) (length ts.old) (length ps.old) }
-    ensures fact_1 { result ≡ filled_all_of width height (Evt2 d) bytes.now }
-    ensures fact_2 { Wrote (inside_events width height (Evt2 d) bytes.now) 0
+    ensures filled { result ≡ filled_all_of width height (Evt2 d) bytes.now }
+    ensures wrote { Wrote (inside_events width height (Evt2 d) bytes.now) 0
         xs.old ys.old ts.old ps.old
         xs.new ys.new ts.new ps.new }
 {
@@ -64,11 +64,11 @@ pub fn evt21(
     ts: &mut [i64],
     ps: &mut [u8],
 ) -> FilledAll
-    requires fact_1 { Bounded (length bytes.now) (Evt21 d) }
-    requires fact_2 { Fits (length (inside_events width height (Evt21 d) bytes.now))
+    requires bounded { Bounded (length bytes.now) (Evt21 d) }
+    requires fit { Fits (length (inside_events width height (Evt21 d) bytes.now))
         (length xs.old) (length ys.old) (length ts.old) (length ps.old) }
-    ensures fact_1 { result ≡ filled_all_of width height (Evt21 d) bytes.now }
-    ensures fact_2 { Wrote (inside_events width height (Evt21 d) bytes.now) 0
+    ensures filled { result ≡ filled_all_of width height (Evt21 d) bytes.now }
+    ensures wrote { Wrote (inside_events width height (Evt21 d) bytes.now) 0
         xs.old ys.old ts.old ps.old
         xs.new ys.new ts.new ps.new }
 {
@@ -100,11 +100,11 @@ pub fn evt3(
     ts: &mut [i64],
     ps: &mut [u8],
 ) -> FilledAll
-    requires fact_1 { Bounded (length bytes.now) (Evt3 d) }
-    requires fact_2 { Fits (length (inside_events width height (Evt3 d) bytes.now))
+    requires bounded { Bounded (length bytes.now) (Evt3 d) }
+    requires fit { Fits (length (inside_events width height (Evt3 d) bytes.now))
         (length xs.old) (length ys.old) (length ts.old) (length ps.old) }
-    ensures fact_1 { result ≡ filled_all_of width height (Evt3 d) bytes.now }
-    ensures fact_2 { Wrote (inside_events width height (Evt3 d) bytes.now) 0
+    ensures filled { result ≡ filled_all_of width height (Evt3 d) bytes.now }
+    ensures wrote { Wrote (inside_events width height (Evt3 d) bytes.now) 0
         xs.old ys.old ts.old ps.old
         xs.new ys.new ts.new ps.new }
 {

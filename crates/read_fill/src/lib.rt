@@ -47,11 +47,11 @@ pub fn fill_all(
     ts: &mut [i64],
     ps: &mut [u8],
 ) -> FilledAll
-    requires fact_1 { Bounded (length bytes.now) codec }
-    requires fact_2 { Fits (length (inside_events width height codec bytes.now)) (length xs.old)
+    requires bounded { Bounded (length bytes.now) codec }
+    requires fit { Fits (length (inside_events width height codec bytes.now)) (length xs.old)
         (length ys.old) (length ts.old) (length ps.old) }
-    ensures fact_1 { result ≡ filled_all_of width height codec bytes.now }
-    ensures fact_2 { Wrote (inside_events width height codec bytes.now) 0
+    ensures filled { result ≡ filled_all_of width height codec bytes.now }
+    ensures wrote { Wrote (inside_events width height codec bytes.now) 0
         xs.old ys.old ts.old ps.old
         xs.new ys.new ts.new ps.new }
 {

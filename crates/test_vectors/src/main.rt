@@ -13,55 +13,57 @@ mod step;
 mod write;
 mod writer;
 
-use libc::STDIN_FILENO;
-use test_text::{room, show, text};
+use std::io;
+use std::io::Write;
+use test_text::{read_full, room, show, text};
 
 // `read` and the resumes differ in their third byte, `word`, `words` and `write` in their fifth.
-fn run(case: &[u8], command: &[u8]) {
+fn run(stdout: &mut impl Write, case: &[u8], command: &[u8]) -> io::Result<()> {
     match text::at(command, 0) {
-        b's' => step::answer(case, true),
-        b'h' => hdr::answer(case),
-        b'l' => lengths::answer(case),
-        b'n' => number::answer(case),
-        b'a' => resuming::after(case),
+        b's' => step::answer(stdout, case, true),
+        b'h' => hdr::answer(stdout, case),
+        b'l' => lengths::answer(stdout, case),
+        b'n' => number::answer(stdout, case),
+        b'a' => resuming::after(stdout, case),
         b'r' => {
             if text::at(command, 2) == b's' {
-                return resuming::answer(case, text::at(command, 6));
+                return resuming::answer(stdout, case, text::at(command, 6));
             }
-            reading::answer(case, false)
+            reading::answer(stdout, case, false)
         }
         _ => {
             match text::at(command, 4) {
-                b's' => reading::answer(case, true),
-                b'e' => write::answer(case),
-                _ => step::answer(case, false),
+                b's' => reading::answer(stdout, case, true),
+                b'e' => write::answer(stdout, case),
+                _ => step::answer(stdout, case, false),
             }
         }
     }
 }
 
-fn replay(case: &[u8]) {
-    show::text(text::field(case, b' ', 0));
-    show::byte(b' ');
-    run(case, text::field(case, b' ', 1));
-    show::byte(b'\n');
+fn replay(stdout: &mut impl Write, case: &[u8]) -> io::Result<()> {
+    show::text(stdout, text::field(case, b' ', 0))?;
+    show::byte(stdout, b' ')?;
+    run(stdout, case, text::field(case, b' ', 1))?;
+    show::byte(stdout, b'\n')
 }
 
-fn lines(cases: &[u8]) {
+fn lines(stdout: &mut impl Write, cases: &[u8]) -> io::Result<()> {
     let mut at = 0;
     while at < cases.len() {
         let end = text::seek(cases, at, b'\n');
-        replay(text::part(cases, at, end));
+        replay(stdout, text::part(cases, at, end))?;
         let next = text::past(cases, end);
         if next <= at {
-            return;
+            return Ok(());
         }
         at = next;
     }
+    Ok(())
 }
 
-fn main() {
+fn main(rt: HostRuntime) -> io::Result<()> {
     let mut cases = room();
-    let n = io::read_full(STDIN_FILENO, &mut cases);
-    lines(&cases[..n]);
+    let n = read_full(&mut rt.reader(), &mut cases)?;
+    lines(&mut io::writer(&rt), &cases[..n])
 }

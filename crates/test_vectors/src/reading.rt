@@ -4,7 +4,9 @@
 // behind it if an entry behind the events changed, or any one by a refused call.
 use evt_types::Encoding;
 use read::{LoadOptions, ReadAnswer};
-use test_text::{columns, options, show, text};
+use std::io;
+use std::io::Write;
+use test_text::{buffer, columns, options, show, text};
 
 // Which of the two is called.
 #[derive(Clone, Copy)]
@@ -14,21 +16,21 @@ enum Entry {
 }
 
 // How many events there are.
-fn show_reading(answer: ReadAnswer) -> usize {
+fn show_reading(stdout: &mut impl Write, answer: ReadAnswer) -> io::Result<usize> {
     match answer {
         ReadAnswer::Read(r) => {
             let encoding = r.encoding;
-            show::text(b"ok ");
-            show::encoding(encoding);
-            show::next(b' ', r.width as u64);
-            show::next(b' ', r.height as u64);
-            show::next(b' ', r.count as u64);
-            show::text(b" :");
-            r.count
+            show::text(stdout, b"ok ")?;
+            show::encoding(stdout, encoding)?;
+            show::next(stdout, b' ', r.width as u64)?;
+            show::next(stdout, b' ', r.height as u64)?;
+            show::next(stdout, b' ', r.count as u64)?;
+            show::text(stdout, b" :")?;
+            Ok(r.count)
         }
         ReadAnswer::Refused(why) => {
-            show::refusal(why);
-            0
+            show::refusal(stdout, why)?;
+            Ok(0)
         }
     }
 }
@@ -76,7 +78,13 @@ fn lend(
     }
 }
 
-fn run(entry: Entry, options: LoadOptions, room: &[u8], bytes: &[u8]) {
+fn run(
+    stdout: &mut impl Write,
+    entry: Entry,
+    options: LoadOptions,
+    room: &[u8],
+    bytes: &[u8],
+) -> io::Result<()> {
     let mut xs = columns::shorts();
     let mut ys = columns::shorts();
     let mut ts = columns::longs();
@@ -84,30 +92,35 @@ fn run(entry: Entry, options: LoadOptions, room: &[u8], bytes: &[u8]) {
     let answer = lend(
         entry, options, room, bytes, &mut xs, &mut ys, &mut ts, &mut ps,
     );
-    let n = show_reading(answer);
-    columns::show_all(&xs, &ys, &ts, &ps, n);
+    let n = show_reading(stdout, answer)?;
+    columns::show_all(stdout, &xs, &ys, &ts, &ps, n)
 }
 
 // With the fields behind: size, limit, room, bytes.
-fn with_entry(entry: Entry, rest: &[u8]) {
+fn with_entry(stdout: &mut impl Write, entry: Entry, rest: &[u8]) -> io::Result<()> {
     let options = LoadOptions {
         sensor_size: options::read_size(text::field(rest, b' ', 0)),
         max_events: options::read_limit(text::field(rest, b' ', 1)),
     };
-    let mut buffer = io::buffer();
+    let mut buffer = buffer();
     let n = text::read_hex(text::field(rest, b' ', 3), &mut buffer);
     run(
+        stdout,
         entry,
         options,
         text::field(rest, b' ', 2),
         text::part(&buffer, 0, n),
-    );
+    )
 }
 
-pub fn answer(case: &[u8], words: bool) {
+pub fn answer(stdout: &mut impl Write, case: &[u8], words: bool) -> io::Result<()> {
     if words {
         let encoding = options::read_encoding(text::field(case, b' ', 2));
-        return with_entry(Entry::Words(encoding), text::from_field(case, b' ', 3));
+        return with_entry(
+            stdout,
+            Entry::Words(encoding),
+            text::from_field(case, b' ', 3),
+        );
     }
-    with_entry(Entry::Raw, text::from_field(case, b' ', 2));
+    with_entry(stdout, Entry::Raw, text::from_field(case, b' ', 2))
 }

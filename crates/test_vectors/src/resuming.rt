@@ -8,62 +8,70 @@ use crate::writer;
 use evt_codec::Codec;
 use evt_types::Encoding;
 use read_after::AfterAnswer;
-use test_text::{given, options, show, state, text};
+use std::io;
+use std::io::Write;
+use test_text::{given, large_buffer, options, show, state, text};
 use write_resume::{ResumeAnswer, Resumed};
 
-fn show_resumed(resumed: Resumed) {
+fn show_resumed(stdout: &mut impl Write, resumed: Resumed) -> io::Result<()> {
     let sink = resumed.sink;
     let answer = resumed.answer;
     match answer {
-        ResumeAnswer::Ready => show::text(b"ok"),
-        ResumeAnswer::Refused(why) => show::refusal(why),
+        ResumeAnswer::Ready => show::text(stdout, b"ok")?,
+        ResumeAnswer::Refused(why) => show::refusal(stdout, why)?,
     }
-    show::byte(b' ');
-    writer::show(sink);
+    show::byte(stdout, b' ')?;
+    writer::show(stdout, sink)
 }
 
-fn show_after(after: AfterAnswer) {
+fn show_after(stdout: &mut impl Write, after: AfterAnswer) -> io::Result<()> {
     let mut codec = Codec::new(Encoding::Evt2);
     match after {
         AfterAnswer::After(there) => {
-            show::text(b"ok");
+            show::text(stdout, b"ok")?;
             codec = there;
         }
-        AfterAnswer::Refused(why) => show::refusal(why),
+        AfterAnswer::Refused(why) => show::refusal(stdout, why)?,
     }
-    show::byte(b' ');
-    state::show(codec);
+    show::byte(stdout, b' ')?;
+    state::show(stdout, codec)
 }
 
-fn behind_decoder(case: &[u8]) {
+fn behind_decoder(stdout: &mut impl Write, case: &[u8]) -> io::Result<()> {
     let codec = state::read(text::field(case, b' ', 2));
-    show_resumed(write_resume::resume(codec));
+    show_resumed(stdout, write_resume::resume(codec))
 }
 
-fn behind_words(case: &[u8]) {
+fn behind_words(stdout: &mut impl Write, case: &[u8]) -> io::Result<()> {
     let encoding = options::read_encoding(text::field(case, b' ', 2));
-    let mut buffer = io::large_buffer();
+    let mut buffer = large_buffer();
     let n = given::read(text::field(case, b' ', 3), &mut buffer);
-    show_resumed(write_resume::resume_words(text::part(&buffer, 0, n), encoding));
+    show_resumed(
+        stdout,
+        write_resume::resume_words(text::part(&buffer, 0, n), encoding),
+    )
 }
 
-fn behind_recording(case: &[u8]) {
-    let mut buffer = io::large_buffer();
+fn behind_recording(stdout: &mut impl Write, case: &[u8]) -> io::Result<()> {
+    let mut buffer = large_buffer();
     let n = given::read(text::field(case, b' ', 2), &mut buffer);
-    show_resumed(write_resume::resume_raw(text::part(&buffer, 0, n)));
+    show_resumed(stdout, write_resume::resume_raw(text::part(&buffer, 0, n)))
 }
 
-pub fn after(case: &[u8]) {
-    let mut buffer = io::large_buffer();
+pub fn after(stdout: &mut impl Write, case: &[u8]) -> io::Result<()> {
+    let mut buffer = large_buffer();
     let n = given::read(text::field(case, b' ', 2), &mut buffer);
-    show_after(read_after::decoder_after_raw(text::part(&buffer, 0, n)));
+    show_after(
+        stdout,
+        read_after::decoder_after_raw(text::part(&buffer, 0, n)),
+    )
 }
 
 // By the byte behind `resume` in the command.
-pub fn answer(case: &[u8], which: u8) {
+pub fn answer(stdout: &mut impl Write, case: &[u8], which: u8) -> io::Result<()> {
     match which {
-        b'w' => behind_words(case),
-        b'r' => behind_recording(case),
-        _ => behind_decoder(case),
+        b'w' => behind_words(stdout, case),
+        b'r' => behind_recording(stdout, case),
+        _ => behind_decoder(stdout, case),
     }
 }

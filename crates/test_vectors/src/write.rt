@@ -3,24 +3,26 @@
 // ` | HEX SINK`, `-` for no bytes, or ` | refused N SINK`, with the count that 11 tells; and ` dirty`
 // behind it if a byte behind those handed over changed, or any one by a refused call.
 use crate::writer;
+use std::io;
+use std::io::Write;
 use test_text::{columns, show, text};
 use write_append::{AppendAnswer, Appended, RawEventSink};
 
-fn show_answer(appended: Appended, out: &[u8]) {
+fn show_answer(stdout: &mut impl Write, appended: Appended, out: &[u8]) -> io::Result<()> {
     let sink = appended.sink;
     let answer = appended.answer;
     let mut n = 0;
-    show::text(b" | ");
+    show::text(stdout, b" | ")?;
     match answer {
         AppendAnswer::Written(written) => {
             n = written;
-            show::hex(text::part(out, 0, n));
+            show::hex(stdout, text::part(out, 0, n))?;
         }
-        AppendAnswer::Refused(why) => show::refusal(why),
+        AppendAnswer::Refused(why) => show::refusal(stdout, why)?,
     }
-    show::byte(b' ');
-    writer::show(sink);
-    columns::show_dirty_bytes(out, n);
+    show::byte(stdout, b' ')?;
+    writer::show(stdout, sink)?;
+    columns::show_dirty_bytes(stdout, out, n)
 }
 
 // Lends the first bytes of the output, as many as the case says.
@@ -42,7 +44,7 @@ fn lend(
 }
 
 // Answers the writer after it.
-fn one(sink: RawEventSink, append: &[u8]) -> RawEventSink {
+fn one(stdout: &mut impl Write, sink: RawEventSink, append: &[u8]) -> io::Result<RawEventSink> {
     let given = text::from_field(append, b':', 2);
     let mut xs = columns::shorts();
     let mut ys = columns::shorts();
@@ -59,20 +61,21 @@ fn one(sink: RawEventSink, append: &[u8]) -> RawEventSink {
         text::part(&ps, 0, columns::count(given, 3)),
         &mut out,
     );
-    show_answer(appended, &out);
-    appended.sink
+    show_answer(stdout, appended, &out)?;
+    Ok(appended.sink)
 }
 
-pub fn answer(case: &[u8]) {
-    show::text(b"ok");
+pub fn answer(stdout: &mut impl Write, case: &[u8]) -> io::Result<()> {
+    show::text(stdout, b"ok")?;
     let mut sink = writer::read(text::field(case, b' ', 2));
     let mut k = 3;
     while k < case.len() {
         let append = text::field(case, b' ', k);
         if append.len() == 0 {
-            return;
+            return Ok(());
         }
-        sink = one(sink, append);
+        sink = one(stdout, sink, append)?;
         k += 1;
     }
+    Ok(())
 }

@@ -2,6 +2,8 @@
 // nothing; or `3n`, a fresh one, or `3h`, a fresh one that sends a header. EVT2 has 2 for 3, EVT2.1
 // has 21.
 use evt_types::Sent;
+use std::io;
+use std::io::Write;
 use test_text::{options, show, text};
 use write_append::{LastTime, RawEventSink};
 use write_buffer::EncoderState;
@@ -47,33 +49,33 @@ pub fn read(s: &[u8]) -> RawEventSink {
     }
 }
 
-fn show_half(s: Sent) {
+fn show_half(stdout: &mut impl Write, s: Sent) -> io::Result<()> {
     match s {
-        Sent::Nothing => show::text(b",-"),
-        Sent::Value(n) => show::next(b',', n),
+        Sent::Nothing => show::text(stdout, b",-"),
+        Sent::Value(n) => show::next(stdout, b',', n),
     }
 }
 
-fn show_last(last: LastTime) {
-    show::byte(b',');
+fn show_last(stdout: &mut impl Write, last: LastTime) -> io::Result<()> {
+    show::byte(stdout, b',')?;
     match last {
-        LastTime::Never => show::byte(b'-'),
-        LastTime::At(t) => show::signed(t),
+        LastTime::Never => show::byte(stdout, b'-'),
+        LastTime::At(t) => show::signed(stdout, t),
     }
 }
 
-pub fn show(sink: RawEventSink) {
+pub fn show(stdout: &mut impl Write, sink: RawEventSink) -> io::Result<()> {
     let version = sink.version;
     let last = sink.last_t;
     let state = sink.state;
     let high = state.time_high;
     let low = state.time_low;
     let row = state.y;
-    show::number(evt_types::encoding_number(version) as u64);
-    show::next(b':', sink.header_written as u64);
-    show::next(b',', sink.n_events as u64);
-    show_last(last);
-    show_half(high);
-    show_half(low);
-    show_half(row);
+    show::number(stdout, evt_types::encoding_number(version) as u64)?;
+    show::next(stdout, b':', sink.header_written as u64)?;
+    show::next(stdout, b',', sink.n_events as u64)?;
+    show_last(stdout, last)?;
+    show_half(stdout, high)?;
+    show_half(stdout, low)?;
+    show_half(stdout, row)
 }

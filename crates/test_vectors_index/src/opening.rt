@@ -6,6 +6,8 @@
 use crate::{record, source};
 use prophesee_raw::fixed::FixedIndex;
 use prophesee_raw::{Encoding, OpenAnswer, OpenOptions, SensorSize, WordsOptions};
+use std::io;
+use std::io::Write;
 use test_text::{columns, given, options, room, show, text};
 
 // Which of the two is called.
@@ -41,28 +43,28 @@ fn open(entry: Entry, sensor_size: SensorSize, rest: &[u8], bytes: &[u8]) -> Fix
     }
 }
 
-fn show_answer(made: FixedIndex) {
+fn show_answer(stdout: &mut impl Write, made: FixedIndex) -> io::Result<()> {
     let records = made.records;
     let answer = made.answer;
     match answer {
         OpenAnswer::Opened(opening) => {
             let opened = opening.source;
             let n = opening.records;
-            show::text(b"ok ");
-            source::show(opened);
-            show::next(b' ', n as u64);
-            show::text(b" :");
-            record::show_all(records, n);
+            show::text(stdout, b"ok ")?;
+            source::show(stdout, opened)?;
+            show::next(stdout, b' ', n as u64)?;
+            show::text(stdout, b" :")?;
+            record::show_all(stdout, records, n)
         }
         OpenAnswer::Refused(why) => {
-            show::refusal(why);
-            record::show_all(records, 0);
+            show::refusal(stdout, why)?;
+            record::show_all(stdout, records, 0)
         }
     }
 }
 
 // With the fields behind: size, spacing, room, bytes.
-fn with_entry(entry: Entry, rest: &[u8]) {
+fn with_entry(stdout: &mut impl Write, entry: Entry, rest: &[u8]) -> io::Result<()> {
     let mut buffer = room();
     let n = given::read(text::field(rest, b' ', 3), &mut buffer);
     let size = options::read_size(rest);
@@ -72,13 +74,17 @@ fn with_entry(entry: Entry, rest: &[u8]) {
         text::from_field(rest, b' ', 1),
         text::part(&buffer, 0, n),
     );
-    show_answer(made);
+    show_answer(stdout, made)
 }
 
-pub fn answer(case: &[u8], words: bool) {
+pub fn answer(stdout: &mut impl Write, case: &[u8], words: bool) -> io::Result<()> {
     if words {
         let encoding = options::read_encoding(text::field(case, b' ', 2));
-        return with_entry(Entry::Words(encoding), text::from_field(case, b' ', 3));
+        return with_entry(
+            stdout,
+            Entry::Words(encoding),
+            text::from_field(case, b' ', 3),
+        );
     }
-    with_entry(Entry::Raw, text::from_field(case, b' ', 2));
+    with_entry(stdout, Entry::Raw, text::from_field(case, b' ', 2))
 }

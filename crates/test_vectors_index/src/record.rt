@@ -1,6 +1,8 @@
 // Records as text, `offset/events/time/STATE`, and held by value, behind them a mark, so that a store
 // to any record shows.
 use prophesee_raw::{Checkpoint, Codec, Decoder};
+use std::io;
+use std::io::Write;
 use test_text::{show, state, text};
 
 const ROW: u16 = 43981;
@@ -56,30 +58,31 @@ fn is_marked(c: Checkpoint) -> bool {
 }
 
 // Whether all is well: a record is shown, or else still has its mark.
-fn show_or_test(c: Checkpoint, shown: bool) -> bool {
+fn show_or_test(stdout: &mut impl Write, c: Checkpoint, shown: bool) -> io::Result<bool> {
     if shown {
         let codec = c.codec;
-        show::next(b' ', c.byte_offset as u64);
-        show::next(b'/', c.event_index as u64);
-        show::byte(b'/');
-        show::signed(c.time);
-        show::byte(b'/');
-        state::show(codec);
-        return true;
+        show::next(stdout, b' ', c.byte_offset as u64)?;
+        show::next(stdout, b'/', c.event_index as u64)?;
+        show::byte(stdout, b'/')?;
+        show::signed(stdout, c.time)?;
+        show::byte(stdout, b'/')?;
+        state::show(stdout, codec)?;
+        return Ok(true);
     }
-    is_marked(c)
+    Ok(is_marked(c))
 }
 
 // The first n, and ` dirty` if one behind them hasn't its mark any more.
-pub fn show_all(all: [Checkpoint; 64], n: usize) {
+pub fn show_all(stdout: &mut impl Write, all: [Checkpoint; 64], n: usize) -> io::Result<()> {
     let mut i = 0;
     while i < 64 {
-        if show_or_test(all[i], i < n) {
+        if show_or_test(stdout, all[i], i < n)? {
             i += 1;
         } else {
-            return show::text(b" dirty");
+            return show::text(stdout, b" dirty");
         }
     }
+    Ok(())
 }
 
 fn read(s: &[u8]) -> Checkpoint {

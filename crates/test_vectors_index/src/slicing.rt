@@ -5,6 +5,8 @@
 use crate::record::Records;
 use crate::{record, source};
 use prophesee_raw::{RawSliceSource, SliceAnswer};
+use std::io;
+use std::io::Write;
 use test_text::{columns, given, room, show, text};
 
 fn dispatch(
@@ -78,23 +80,30 @@ fn lend(
 }
 
 // How many events there are.
-fn show_answer(answer: SliceAnswer) -> usize {
-    show::text(b" | ");
+fn show_answer(stdout: &mut impl Write, answer: SliceAnswer) -> io::Result<usize> {
+    show::text(stdout, b" | ")?;
     match answer {
         SliceAnswer::Sliced(n) => {
-            show::text(b"ok");
-            show::next(b' ', n as u64);
-            show::text(b" :");
-            n
+            show::text(stdout, b"ok")?;
+            show::next(stdout, b' ', n as u64)?;
+            show::text(stdout, b" :")?;
+            Ok(n)
         }
         SliceAnswer::Refused(why) => {
-            show::refusal(why);
-            0
+            show::refusal(stdout, why)?;
+            Ok(0)
         }
     }
 }
 
-fn run(query: &[u8], source: RawSliceSource, given: Records, room: &[u8], bytes: &[u8]) {
+fn run(
+    stdout: &mut impl Write,
+    query: &[u8],
+    source: RawSliceSource,
+    given: Records,
+    room: &[u8],
+    bytes: &[u8],
+) -> io::Result<()> {
     let mut xs = columns::shorts();
     let mut ys = columns::shorts();
     let mut ts = columns::longs();
@@ -102,35 +111,44 @@ fn run(query: &[u8], source: RawSliceSource, given: Records, room: &[u8], bytes:
     let answer = lend(
         query, source, given, room, bytes, &mut xs, &mut ys, &mut ts, &mut ps,
     );
-    let n = show_answer(answer);
-    columns::show_all(&xs, &ys, &ts, &ps, n);
+    let n = show_answer(stdout, answer)?;
+    columns::show_all(stdout, &xs, &ys, &ts, &ps, n)
 }
 
 // One query after another; `;` parts them.
-fn all(queries: &[u8], source: RawSliceSource, given: Records, room: &[u8], bytes: &[u8]) {
+fn all(
+    stdout: &mut impl Write,
+    queries: &[u8],
+    source: RawSliceSource,
+    given: Records,
+    room: &[u8],
+    bytes: &[u8],
+) -> io::Result<()> {
     let mut k = 0;
     while k < queries.len() {
         let query = text::field(queries, b';', k);
         if query.len() == 0 {
-            return;
+            return Ok(());
         }
-        run(query, source, given, room, bytes);
+        run(stdout, query, source, given, room, bytes)?;
         k += 1;
     }
+    Ok(())
 }
 
-pub fn answer(case: &[u8]) {
-    show::text(b"ok");
+pub fn answer(stdout: &mut impl Write, case: &[u8]) -> io::Result<()> {
+    show::text(stdout, b"ok")?;
     let source = source::read(text::field(case, b' ', 2));
     let given = record::read_all(text::field(case, b' ', 3));
     let mut buffer = room();
     let n = given::read(text::field(case, b' ', 6), &mut buffer);
     let bytes = text::part(&buffer, 0, n);
     all(
+        stdout,
         text::field(case, b' ', 5),
         source,
         given,
         text::field(case, b' ', 4),
         bytes,
-    );
+    )
 }

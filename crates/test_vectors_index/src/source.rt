@@ -1,5 +1,7 @@
 // An index without its records, as text: `3:spacing,start,length,width,height,events`.
 use prophesee_raw::RawSliceSource;
+use std::io;
+use std::io::Write;
 use test_text::{options, show, text};
 
 pub fn read(s: &[u8]) -> RawSliceSource {
@@ -16,13 +18,13 @@ pub fn read(s: &[u8]) -> RawSliceSource {
     }
 }
 
-pub fn show(source: RawSliceSource) {
+pub fn show(stdout: &mut impl Write, source: RawSliceSource) -> io::Result<()> {
     let encoding = source.encoding;
-    show::number(evt_types::encoding_number(encoding) as u64);
-    show::next(b':', source.spacing as u64);
-    show::next(b',', source.data_offset as u64);
-    show::next(b',', source.len as u64);
-    show::next(b',', source.width as u64);
-    show::next(b',', source.height as u64);
-    show::next(b',', source.n_events as u64);
+    show::number(stdout, evt_types::encoding_number(encoding) as u64)?;
+    show::next(stdout, b':', source.spacing as u64)?;
+    show::next(stdout, b',', source.data_offset as u64)?;
+    show::next(stdout, b',', source.len as u64)?;
+    show::next(stdout, b',', source.width as u64)?;
+    show::next(stdout, b',', source.height as u64)?;
+    show::next(stdout, b',', source.n_events as u64)
 }

@@ -44,8 +44,8 @@ fn adds_up(flag: u8, byte: u8) -> u8
 
 // The sum over at most 64 bytes: a byte holds it, so that many are added at once.
 fn sum(bytes: &[u8], flags: &[u8; 64]) -> u8
-    requires fact_1 { length bytes.now ≤ 64 }
-    requires fact_2 { Flags flags.now }
+    requires few { length bytes.now ≤ 64 }
+    requires flags { Flags flags.now }
     ensures { result ≡ tally flags.now bytes.now }
 {
     let mut n: u8 = 0;

@@ -1,12 +1,6 @@
 -- The listing, piece by piece: the first line, and the lines of the rows of four columns.
-use Rattle.std.specs.Prelude.{◌≡◌, refl, Bool, cond, List, [], ◌∷◌, ◌++◌, map, ℤ, length, drop}
-use Rattle.std.proofs.Common.{sym, ◌∙◌, append-nil, add-zero, zero-add, add-one, length-append, length-drop}
-use Rattle.std.proofs.Math.Path.{ap}
-use Rattle.std.proofs.Math.Bool.{true, false}
-use Prim.Native.Nat.{ℕ, zero, suc, ◌+◌, ◌-◌, ◌*◌, ◌^◌, ◌≤◌, ◌<◌}
-use native.Mathlib.Omega.{arith}
-use borrow.Author.Tests.{lt-ltb, le-ltb}
-use Rattle.std.proofs.Math.Dec.{ltb}
+use Rattle.std.proofs.Common.{◌≡◌, refl, Bool, cond, List, [], ◌∷◌, ◌++◌, map, ℤ, length, drop, sym, ◌∙◌, append-nil, add-zero, zero-add, add-one}
+use Rattle.std.proofs.Common.{length-append, length-drop, ap, true, false, ℕ, zero, suc, ◌+◌, ◌-◌, ◌*◌, ◌^◌, ◌≤◌, ◌<◌, arith, lt-ltb, le-ltb, ltb}
 use Rattle.evt_types.specs.declared.{Encoding.Encoding, Encoding.TheVariants.Evt2, Encoding.TheVariants.Evt21, Encoding.TheVariants.Evt3}
 use Rattle.evt_types.specs.declared.{Limit.TheVariants.Unlimited}
 use Rattle.evt_types.specs.declared.{Refusal.Refusal, Refusal.TheVariants.InvalidSensorSize}

@@ -37,8 +37,8 @@ pub fn event_word(x: u16, y: u16, t: u64, p: u8) -> u32
 // always: where it isn't due the event's word takes its place, which is faster than a branch.
 fn put_event(high: u64, x: u16, y: u16, t: u64, p: u8, out: &mut [u8], at: usize) -> usize
     requires { (at < 2 ^ 60) × Roomy out.old at (length (event_bytes2 (eqb high (t / grain2)) (event x y t p))) × Fit2 (event x y t p) }
-    ensures fact_1 { result ≡ at + length (event_bytes2 (eqb high (t / grain2)) (event x y t p)) }
-    ensures fact_2 { out.new ≡ sets out.old at (event_bytes2 (eqb high (t / grain2)) (event x y t p)) }
+    ensures ends { result ≡ at + length (event_bytes2 (eqb high (t / grain2)) (event x y t p)) }
+    ensures stores { out.new ≡ sets out.old at (event_bytes2 (eqb high (t / grain2)) (event x y t p)) }
 {
     let w = event_word(x, y, t, p);
     let a = write_buffer::past(high == t / Evt2Decoder::GRAIN, Evt2Decoder::WORD_SIZE, at);
@@ -61,9 +61,10 @@ fn put_at(
     requires { Within2 xs.now ys.now ps.now i × (at < 2 ^ 60)
         × Roomy out.old at (length (event_bytes2 (eqb high (t / grain2)) (event_at2 xs.now ys.now ps.now i t)))
         × Fit2 (event_at2 xs.now ys.now ps.now i t) }
-    ensures { (result ≡ at + length (event_bytes2 (eqb high (t / grain2)) (event_at2
-        xs.now ys.now ps.now i t))) × (out.new ≡ sets out.old at (event_bytes2 (eqb high (t / grain2)) (event_at2
-        xs.now ys.now ps.now i t))) }
+    ensures ends { result ≡ at + length (event_bytes2 (eqb high (t / grain2)) (event_at2
+        xs.now ys.now ps.now i t)) }
+    ensures stores { out.new ≡ sets out.old at (event_bytes2 (eqb high (t / grain2)) (event_at2
+        xs.now ys.now ps.now i t)) }
 {
     put_event(high, xs[i], ys[i], t, ps[i], &mut *out, at)
 }
@@ -82,8 +83,8 @@ pub fn pass(
     requires { Sized xs.now ys.now ts.now ps.now × (start ≤ 2 ^ 32) × Whole ts.now
         × Roomy out.old start (length (stream2 state (events_in xs.now ys.now ts.now ps.now)))
         × Fitting2 xs.now ys.now ts.now ps.now }
-    ensures fact_1 { result ≡ passed2 state (events_in xs.now ys.now ts.now ps.now) start }
-    ensures fact_2 { out.new ≡ sets out.old start (stream2 state (events_in
+    ensures passed { result ≡ passed2 state (events_in xs.now ys.now ts.now ps.now) start }
+    ensures stores { out.new ≡ sets out.old start (stream2 state (events_in
         xs.now ys.now ts.now ps.now)) }
 {
     let sent = state.time_high;

@@ -46,8 +46,8 @@ pub fn stopped(win: Window, k: u64, started: bool, time: u64) -> bool
 
 // Each event of v is handed over.
 pub fn whole(v: Vector, win: Window, k: u64) -> bool
-    requires fact_1 { Narrow v }
-    requires fact_2 { k < 2 ^ 63 }
+    requires narrow { Narrow v }
+    requires small { k < 2 ^ 63 }
     ensures { result ≡ is_whole v win k }
 {
     if v.y < win.height {
@@ -71,8 +71,8 @@ pub fn whole(v: Vector, win: Window, k: u64) -> bool
 
 // Each event of v, whose row is inside, is numbered, and none is handed over.
 fn skips(v: Vector, win: Window, k: u64) -> bool
-    requires fact_1 { Narrow v }
-    requires fact_2 { k < 2 ^ 63 }
+    requires narrow { Narrow v }
+    requires small { k < 2 ^ 63 }
     ensures { result ≡ is_skipped v win k }
 {
     if v.x + 32 <= win.width {

@@ -1,24 +1,27 @@
 // Single words, as they come in.
 use crate::print;
 use prophesee_raw::{AfterAnswer, Codec, Decoder, Encoding, decoder_after};
+use std::io;
+use std::io::Write;
 
 // A step answers the next decoder, and the word's events. The words 8001 300A 4003 have two,
 // at columns 10 and 11.
-pub fn decode_singly() {
+pub fn decode_singly(stdout: &mut impl Write) -> io::Result<()> {
     let decoder = Decoder::new();
     let first = decoder.step(0x8001);
     let second = first.next.step(0x300A);
     let third = second.next.step(0x4003);
     let answer = third.answer;
-    print::first(b"decode_singly: ", answer);
+    print::first(stdout, b"decode_singly: ", answer)
 }
 
 // The decoder after the words 8001 300A: the next word, 4003, has the same two events.
-pub fn decode_after() {
+pub fn decode_after(stdout: &mut impl Write) -> io::Result<()> {
     let codec = Codec::new(Encoding::Evt3);
     if let AfterAnswer::After(there) = decoder_after(b"\x01\x80\x0a\x30", codec) {
         let decoded = there.step(b"\x03\x40");
         let answer = decoded.answer;
-        print::first(b"decode_after: ", answer);
+        print::first(stdout, b"decode_after: ", answer)?;
     }
+    Ok(())
 }

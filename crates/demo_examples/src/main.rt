@@ -15,30 +15,33 @@ mod slicing;
 mod triggers;
 mod writing;
 
-fn main() {
-    reading::read_recording();
-    reading::read_past_end_line();
-    reading::read_limited();
-    reading::read_words();
-    reading::read_evt21();
-    reading::bad_number();
-    triggers::read_pulses();
-    slicing::slice_recording();
-    writing::write_words();
-    writing::write_recording();
-    writing::write_evt21();
-    resuming::cut_and_resume();
-    resuming::cut_recording();
-    resuming::resume_stream();
-    resuming::resume_recording();
-    writing::long_show();
-    decoding::decode_singly();
-    decoding::decode_after();
-    triggers::trigger_of_word();
-    refusing::no_encoding();
-    refusing::columns_too_short();
-    refusing::records_too_few();
-    refusing::output_too_short();
-    refusing::times_fall();
-    triggers::triggers_too_many();
+use std::io;
+
+fn main(rt: HostRuntime) -> io::Result<()> {
+    let mut stdout = io::writer(&rt);
+    reading::read_recording(&mut stdout)?;
+    reading::read_past_end_line(&mut stdout)?;
+    reading::read_limited(&mut stdout)?;
+    reading::read_words(&mut stdout)?;
+    reading::read_evt21(&mut stdout)?;
+    reading::bad_number(&mut stdout)?;
+    triggers::read_pulses(&mut stdout)?;
+    slicing::slice_recording(&mut stdout)?;
+    writing::write_words(&mut stdout)?;
+    writing::write_recording(&mut stdout)?;
+    writing::write_evt21(&mut stdout)?;
+    resuming::cut_and_resume(&mut stdout)?;
+    resuming::cut_recording(&mut stdout)?;
+    resuming::resume_stream(&mut stdout)?;
+    resuming::resume_recording(&mut stdout)?;
+    writing::long_show(&mut stdout)?;
+    decoding::decode_singly(&mut stdout)?;
+    decoding::decode_after(&mut stdout)?;
+    triggers::trigger_of_word(&mut stdout)?;
+    refusing::no_encoding(&mut stdout)?;
+    refusing::columns_too_short(&mut stdout)?;
+    refusing::records_too_few(&mut stdout)?;
+    refusing::output_too_short(&mut stdout)?;
+    refusing::times_fall(&mut stdout)?;
+    triggers::triggers_too_many(&mut stdout)
 }

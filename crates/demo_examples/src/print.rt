@@ -3,6 +3,8 @@ use prophesee_raw::{
     AppendAnswer, Appended, DecodeAnswer, NextEvent, Number, OpenAnswer, RawEventSink, ReadAnswer,
     Reading, Refusal, SliceAnswer, TriggerAnswer, TriggerReadAnswer,
 };
+use std::io;
+use std::io::Write;
 use test_text::{columns, show, text};
 
 fn needed(why: Refusal) -> usize {
@@ -16,38 +18,46 @@ fn needed(why: Refusal) -> usize {
 }
 
 // The number, and the count that four of them tell.
-fn refusal(why: Refusal) {
-    show::text(b"refused");
-    show::next(b' ', prophesee_raw::refusal_number(why) as u64);
+fn refusal(stdout: &mut impl Write, why: Refusal) -> io::Result<()> {
+    show::text(stdout, b"refused")?;
+    show::next(stdout, b' ', prophesee_raw::refusal_number(why) as u64)?;
     let n = needed(why);
     if n > 0 {
-        show::next(b' ', n as u64);
+        show::next(stdout, b' ', n as u64)?;
     }
+    Ok(())
 }
 
 // The first n events of the columns.
-pub fn events(n: usize, xs: [u16; 4], ys: [u16; 4], ts: [i64; 4], ps: [u8; 4]) {
-    columns::show_events(&xs, &ys, &ts, &ps, n);
-    show::text(b"\n");
+pub fn events(
+    stdout: &mut impl Write,
+    n: usize,
+    xs: [u16; 4],
+    ys: [u16; 4],
+    ts: [i64; 4],
+    ps: [u8; 4],
+) -> io::Result<()> {
+    columns::show_events(stdout, &xs, &ys, &ts, &ps, n)?;
+    show::text(stdout, b"\n")
 }
 
 // The encoding, the size, and how many events.
-fn read(r: Reading) -> usize {
+fn read(stdout: &mut impl Write, r: Reading) -> io::Result<usize> {
     let encoding = r.encoding;
-    show::encoding(encoding);
-    show::next(b' ', r.width as u64);
-    show::next(b' ', r.height as u64);
-    show::next(b' ', r.count as u64);
-    r.count
+    show::encoding(stdout, encoding)?;
+    show::next(stdout, b' ', r.width as u64)?;
+    show::next(stdout, b' ', r.height as u64)?;
+    show::next(stdout, b' ', r.count as u64)?;
+    Ok(r.count)
 }
 
-pub fn reading(name: &[u8], answer: ReadAnswer) -> usize {
-    show::text(name);
+pub fn reading(stdout: &mut impl Write, name: &[u8], answer: ReadAnswer) -> io::Result<usize> {
+    show::text(stdout, name)?;
     match answer {
-        ReadAnswer::Read(r) => read(r),
+        ReadAnswer::Read(r) => read(stdout, r),
         ReadAnswer::Refused(why) => {
-            refusal(why);
-            0
+            refusal(stdout, why)?;
+            Ok(0)
         }
     }
 }
@@ -59,118 +69,134 @@ pub struct Counts {
     pub triggers: usize,
 }
 
-pub fn reading_triggers(name: &[u8], answer: TriggerReadAnswer) -> Counts {
-    show::text(name);
+pub fn reading_triggers(
+    stdout: &mut impl Write,
+    name: &[u8],
+    answer: TriggerReadAnswer,
+) -> io::Result<Counts> {
+    show::text(stdout, name)?;
     match answer {
         TriggerReadAnswer::Read(r) => {
             let reading = r.reading;
-            let events = read(reading);
-            Counts {
+            let events = read(stdout, reading)?;
+            Ok(Counts {
                 events,
                 triggers: r.triggers,
-            }
+            })
         }
         TriggerReadAnswer::Refused(why) => {
-            refusal(why);
-            Counts {
+            refusal(stdout, why)?;
+            Ok(Counts {
                 events: 0,
                 triggers: 0,
-            }
+            })
         }
     }
 }
 
 // The first n triggers of the columns, which have two at most, in a line of their own.
-pub fn triggers(n: usize, times: [i64; 2], ids: [u8; 2], values: [u8; 2]) {
+pub fn triggers(
+    stdout: &mut impl Write,
+    n: usize,
+    times: [i64; 2],
+    ids: [u8; 2],
+    values: [u8; 2],
+) -> io::Result<()> {
     if 0 < n {
-        show::text(b"triggers: ");
-        show::trigger(times[0], ids[0], values[0]);
+        show::text(stdout, b"triggers: ")?;
+        show::trigger(stdout, times[0], ids[0], values[0])?;
         if 1 < n {
-            show::text(b" ");
-            show::trigger(times[1], ids[1], values[1]);
+            show::text(stdout, b" ")?;
+            show::trigger(stdout, times[1], ids[1], values[1])?;
         }
-        end();
+        end(stdout)?;
     }
+    Ok(())
 }
 
-pub fn trigger(name: &[u8], answer: TriggerAnswer) {
-    show::text(name);
+pub fn trigger(stdout: &mut impl Write, name: &[u8], answer: TriggerAnswer) -> io::Result<()> {
+    show::text(stdout, name)?;
     if let TriggerAnswer::Trigger(g) = answer {
-        show::trigger(g.t, g.id, g.value);
+        show::trigger(stdout, g.t, g.id, g.value)?;
     }
-    end();
+    end(stdout)
 }
 
-fn end() {
-    show::text(b"\n");
+fn end(stdout: &mut impl Write) -> io::Result<()> {
+    show::text(stdout, b"\n")
 }
 
 // How many events, and how many records.
-pub fn opening(name: &[u8], answer: OpenAnswer) {
-    show::text(name);
+pub fn opening(stdout: &mut impl Write, name: &[u8], answer: OpenAnswer) -> io::Result<()> {
+    show::text(stdout, name)?;
     match answer {
         OpenAnswer::Opened(o) => {
-            show::number(o.source.n_events as u64);
-            show::next(b' ', o.records as u64);
+            show::number(stdout, o.source.n_events as u64)?;
+            show::next(stdout, b' ', o.records as u64)?;
         }
-        OpenAnswer::Refused(why) => refusal(why),
+        OpenAnswer::Refused(why) => refusal(stdout, why)?,
     }
-    show::text(b"\n");
+    show::text(stdout, b"\n")
 }
 
 // How many events.
-pub fn slice(name: &[u8], answer: SliceAnswer) -> usize {
-    show::text(name);
+pub fn slice(stdout: &mut impl Write, name: &[u8], answer: SliceAnswer) -> io::Result<usize> {
+    show::text(stdout, name)?;
     match answer {
         SliceAnswer::Sliced(n) => {
-            show::number(n as u64);
-            n
+            show::number(stdout, n as u64)?;
+            Ok(n)
         }
         SliceAnswer::Refused(why) => {
-            refusal(why);
-            0
+            refusal(stdout, why)?;
+            Ok(0)
         }
     }
 }
 
 // The bytes written. Answers the next writer.
-pub fn append(name: &[u8], appended: Appended, output: &[u8]) -> RawEventSink {
+pub fn append(
+    stdout: &mut impl Write,
+    name: &[u8],
+    appended: Appended,
+    output: &[u8],
+) -> io::Result<RawEventSink> {
     let answer = appended.answer;
-    show::text(name);
+    show::text(stdout, name)?;
     match answer {
-        AppendAnswer::Written(n) => show::hex(text::part(output, 0, n)),
-        AppendAnswer::Refused(why) => refusal(why),
+        AppendAnswer::Written(n) => show::hex(stdout, text::part(output, 0, n))?,
+        AppendAnswer::Refused(why) => refusal(stdout, why)?,
     }
-    show::text(b"\n");
-    appended.sink
+    show::text(stdout, b"\n")?;
+    Ok(appended.sink)
 }
 
 // The value, or the place.
-pub fn number(name: &[u8], answer: Number) {
-    show::text(name);
+pub fn number(stdout: &mut impl Write, name: &[u8], answer: Number) -> io::Result<()> {
+    show::text(stdout, name)?;
     match answer {
-        Number::Value(n) => show::number(n as u64),
+        Number::Value(n) => show::number(stdout, n as u64)?,
         Number::Bad(k) => {
-            show::text(b"bad at");
-            show::next(b' ', k as u64);
+            show::text(stdout, b"bad at")?;
+            show::next(stdout, b' ', k as u64)?;
         }
     }
-    end();
+    end(stdout)
 }
 
-pub fn bytes(name: &[u8], s: &[u8]) {
-    show::text(name);
-    show::hex(s);
-    end();
+pub fn bytes(stdout: &mut impl Write, name: &[u8], s: &[u8]) -> io::Result<()> {
+    show::text(stdout, name)?;
+    show::hex(stdout, s)?;
+    end(stdout)
 }
 
 // The first event of a word, if it has one.
-pub fn first(name: &[u8], answer: DecodeAnswer) {
-    show::text(name);
+pub fn first(stdout: &mut impl Write, name: &[u8], answer: DecodeAnswer) -> io::Result<()> {
+    show::text(stdout, name)?;
     if let DecodeAnswer::Events(v) = answer {
         if let NextEvent::Event(e, _) = v.next() {
-            show::event(e);
+            show::event(stdout, e)?;
         }
     }
-    show::text(b"\n");
+    show::text(stdout, b"\n")
 }

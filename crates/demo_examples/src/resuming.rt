@@ -5,6 +5,8 @@ use crate::{print, reading, slicing};
 use prophesee_raw::{
     AppendAnswer, Decoder, Encoding, HeaderAnswer, OpenAnswer, RawEventSink, SensorSize,
 };
+use std::io;
+use std::io::Write;
 use test_text::columns::at_most;
 use test_text::text;
 
@@ -53,36 +55,44 @@ fn fresh() -> RawEventSink {
 }
 
 // An index of just these bytes: event 2, by number.
-fn slice_arrived(arrived: &[u8]) {
+fn slice_arrived(stdout: &mut impl Write, arrived: &[u8]) -> io::Result<()> {
     let index = slicing::open_words(arrived, Encoding::Evt3);
     let answer = index.answer;
     let records = index.records;
     if let OpenAnswer::Opened(opened) = answer {
         slicing::by_number(
+            stdout,
             b"cut_and_resume, number 2: ",
             arrived,
             opened,
             records,
             2,
             3,
-        );
+        )?;
     }
+    Ok(())
 }
 
 // Of 16 bytes 13 arrive: six words, and half of the seventh, which is written over: a second writer,
 // here a fresh one, sends the time and the row again, and then the events that are missing. The joined
 // stream has all of them. A fresh one does as long as nothing is past the first loop of EVT3, 2^24
 // microseconds.
-pub fn cut_and_resume() {
+pub fn cut_and_resume(stdout: &mut impl Write) -> io::Result<()> {
     let mut stream = [0; 32];
     write(false, &mut stream);
     let arrived = text::part(&stream, 0, 13);
-    let n = reading::decode(b"cut_and_resume, arrived: ", arrived, Encoding::Evt3);
-    slice_arrived(arrived);
+    let n = reading::decode(
+        stdout,
+        b"cut_and_resume, arrived: ",
+        arrived,
+        Encoding::Evt3,
+    )?;
+    slice_arrived(stdout, arrived)?;
     let kept = 13 - 13 % Decoder::WORD_SIZE;
     let m = at_most(go_on(fresh(), n, &mut stream, kept), 20);
     let joined = text::part(&stream, 0, kept + m);
-    reading::decode(b"cut_and_resume, joined: ", joined, Encoding::Evt3);
+    reading::decode(stdout, b"cut_and_resume, joined: ", joined, Encoding::Evt3)?;
+    Ok(())
 }
 
 fn body_start(recording: &[u8]) -> usize {
@@ -101,43 +111,69 @@ fn whole_words(recording: &[u8]) -> usize {
 }
 
 // The same behind a header of 57 bytes, which names the size. The second writer sends no header.
-pub fn cut_recording() {
+pub fn cut_recording(stdout: &mut impl Write) -> io::Result<()> {
     let mut stream = [0; 96];
     write(true, &mut stream);
     let arrived = text::part(&stream, 0, 70);
-    let n = reading::read(b"cut_recording, arrived: ", arrived, reading::whole());
+    let n = reading::read(
+        stdout,
+        b"cut_recording, arrived: ",
+        arrived,
+        reading::whole(),
+    )?;
     let kept = at_most(whole_words(arrived), 70);
     let m = at_most(go_on(fresh(), n, &mut stream, kept), 20);
     let joined = text::part(&stream, 0, kept + m);
-    reading::read(b"cut_recording, joined: ", joined, reading::whole());
+    reading::read(stdout, b"cut_recording, joined: ", joined, reading::whole())?;
+    Ok(())
 }
 
 // The stream of `cut_and_resume`, but the second writer is the one that stands behind what has arrived.
 // It holds the coarse time with its loops, so it is right for a show of any length, and sends only the
 // fine time and the row again: its words are 6388 0009 2814, none of type 8.
-pub fn resume_stream() {
+pub fn resume_stream(stdout: &mut impl Write) -> io::Result<()> {
     let mut stream = [0; 32];
     write(false, &mut stream);
     let arrived = text::part(&stream, 0, 13);
-    let n = reading::decode(b"resume_stream, arrived: ", arrived, Encoding::Evt3);
+    let n = reading::decode(stdout, b"resume_stream, arrived: ", arrived, Encoding::Evt3)?;
     let resumed = prophesee_raw::resume_words(arrived, Encoding::Evt3);
     let kept = 13 - 13 % Decoder::WORD_SIZE;
     let m = at_most(go_on(resumed.sink, n, &mut stream, kept), 20);
-    print::bytes(b"resume_stream: ", text::part(&stream, kept, kept + m));
+    print::bytes(
+        stdout,
+        b"resume_stream: ",
+        text::part(&stream, kept, kept + m),
+    )?;
     let joined = text::part(&stream, 0, kept + m);
-    reading::decode(b"resume_stream, joined: ", joined, Encoding::Evt3);
+    reading::decode(stdout, b"resume_stream, joined: ", joined, Encoding::Evt3)?;
+    Ok(())
 }
 
 // The recording of `cut_recording`: the encoding is the header's, and no header is due again.
-pub fn resume_recording() {
+pub fn resume_recording(stdout: &mut impl Write) -> io::Result<()> {
     let mut stream = [0; 96];
     write(true, &mut stream);
     let arrived = text::part(&stream, 0, 70);
-    let n = reading::read(b"resume_recording, arrived: ", arrived, reading::whole());
+    let n = reading::read(
+        stdout,
+        b"resume_recording, arrived: ",
+        arrived,
+        reading::whole(),
+    )?;
     let resumed = prophesee_raw::resume_raw(arrived);
     let kept = at_most(whole_words(arrived), 70);
     let m = at_most(go_on(resumed.sink, n, &mut stream, kept), 20);
-    print::bytes(b"resume_recording: ", text::part(&stream, kept, kept + m));
+    print::bytes(
+        stdout,
+        b"resume_recording: ",
+        text::part(&stream, kept, kept + m),
+    )?;
     let joined = text::part(&stream, 0, kept + m);
-    reading::read(b"resume_recording, joined: ", joined, reading::whole());
+    reading::read(
+        stdout,
+        b"resume_recording, joined: ",
+        joined,
+        reading::whole(),
+    )?;
+    Ok(())
 }

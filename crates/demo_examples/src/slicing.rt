@@ -5,6 +5,8 @@ use prophesee_raw::fixed::FixedIndex;
 use prophesee_raw::{
     Checkpoint, Encoding, OpenAnswer, OpenOptions, Opening, SensorSize, WordsOptions, fixed,
 };
+use std::io;
+use std::io::Write;
 
 // A record for every 4 bytes of the body, with room for so many.
 pub fn open(recording: &[u8], room: usize) -> FixedIndex {
@@ -27,13 +29,14 @@ pub fn open_words(words: &[u8], encoding: Encoding) -> FixedIndex {
 
 // The events from number i0 to before i1.
 pub fn by_number(
+    stdout: &mut impl Write,
     name: &[u8],
     recording: &[u8],
     opened: Opening,
     records: [Checkpoint; 64],
     i0: usize,
     i1: usize,
-) {
+) -> io::Result<()> {
     let source = opened.source;
     let n = opened.records;
     let mut xs = [0; 4];
@@ -43,19 +46,20 @@ pub fn by_number(
     let answer = fixed::slice_index(
         recording, source, records, n, i0, i1, &mut xs, &mut ys, &mut ts, &mut ps,
     );
-    let count = print::slice(name, answer);
-    print::events(count, xs, ys, ts, ps);
+    let count = print::slice(stdout, name, answer)?;
+    print::events(stdout, count, xs, ys, ts, ps)
 }
 
 // The events with t0 <= t < t1.
 fn by_time(
+    stdout: &mut impl Write,
     name: &[u8],
     recording: &[u8],
     opened: Opening,
     records: [Checkpoint; 64],
     t0: i64,
     t1: i64,
-) {
+) -> io::Result<()> {
     let source = opened.source;
     let n = opened.records;
     let mut xs = [0; 4];
@@ -65,37 +69,45 @@ fn by_time(
     let answer = fixed::slice_time(
         recording, source, records, n, t0, t1, &mut xs, &mut ys, &mut ts, &mut ps,
     );
-    let count = print::slice(name, answer);
-    print::events(count, xs, ys, ts, ps);
+    let count = print::slice(stdout, name, answer)?;
+    print::events(stdout, count, xs, ys, ts, ps)
 }
 
 // The last two events, by number, an end past the total being the total; and the first three, by time.
-fn slices(recording: &[u8], opened: Opening, records: [Checkpoint; 64]) {
+fn slices(
+    stdout: &mut impl Write,
+    recording: &[u8],
+    opened: Opening,
+    records: [Checkpoint; 64],
+) -> io::Result<()> {
     by_number(
+        stdout,
         b"slice_recording, by number: ",
         recording,
         opened,
         records,
         2,
         9,
-    );
+    )?;
     by_time(
+        stdout,
         b"slice_recording, by time: ",
         recording,
         opened,
         records,
         4097,
         5000,
-    );
+    )
 }
 
-pub fn slice_recording() {
+pub fn slice_recording(stdout: &mut impl Write) -> io::Result<()> {
     let recording = given::recording();
     let index = open(&recording, 8);
     let answer = index.answer;
     let records = index.records;
-    print::opening(b"slice_recording: ", answer);
+    print::opening(stdout, b"slice_recording: ", answer)?;
     if let OpenAnswer::Opened(opened) = answer {
-        slices(&recording, opened, records);
+        slices(stdout, &recording, opened, records)?;
     }
+    Ok(())
 }

@@ -1,6 +1,8 @@
 // Writing into an output that the caller lends.
 use crate::{print, reading};
 use prophesee_raw::{AppendAnswer, Appended, Encoding, RawEventSink};
+use std::io;
+use std::io::Write;
 use test_text::text;
 
 // Three events of time t. The size is for the header alone.
@@ -13,35 +15,43 @@ pub fn append(writer: RawEventSink, t: i64, output: &mut [u8]) -> Appended {
 }
 
 // The same, and what it answered. Answers the next writer.
-pub fn append_told(name: &[u8], writer: RawEventSink, t: i64, output: &mut [u8]) -> RawEventSink {
+pub fn append_told(
+    stdout: &mut impl Write,
+    name: &[u8],
+    writer: RawEventSink,
+    t: i64,
+    output: &mut [u8],
+) -> io::Result<RawEventSink> {
     let appended = append(writer, t, &mut *output);
-    print::append(name, appended, output)
+    print::append(stdout, name, appended, output)
 }
 
 // Words without a header. An append answers the next writer, which knows the time and the
 // row that were sent: the second one sends less.
-pub fn write_words() {
+pub fn write_words(stdout: &mut impl Write) -> io::Result<()> {
     let mut output = [0; 32];
     let writer = RawEventSink::to_writer(Encoding::Evt3, false);
-    let next = append_told(b"write_words: ", writer, 4097, &mut output);
-    append_told(b"write_words, next: ", next, 5000, &mut output);
+    let next = append_told(stdout, b"write_words: ", writer, 4097, &mut output)?;
+    append_told(stdout, b"write_words, next: ", next, 5000, &mut output)?;
+    Ok(())
 }
 
 // A recording: the first append sends the header too. It is read back.
-pub fn write_recording() {
+pub fn write_recording(stdout: &mut impl Write) -> io::Result<()> {
     let mut output = [0; 96];
     let writer = RawEventSink::to_writer(Encoding::Evt2, true);
     let appended = append(writer, 4097, &mut output);
     let answer = appended.answer;
     if let AppendAnswer::Written(n) = answer {
         let recording = text::part(&output, 0, n);
-        reading::read(b"write_recording: ", recording, reading::whole());
+        reading::read(stdout, b"write_recording: ", recording, reading::whole())?;
     }
+    Ok(())
 }
 
 // EVT2.1: events of one time, row and polarity in one block of 32 columns share a word, and column 32
 // opens another block. The words are 8000004000000000 0040000780002400 0041000700000001.
-pub fn write_evt21() {
+pub fn write_evt21(stdout: &mut impl Write) -> io::Result<()> {
     let xs = [10, 13, 31, 32];
     let ys = [7, 7, 7, 7];
     let ts = [4097, 4097, 4097, 4097];
@@ -49,13 +59,14 @@ pub fn write_evt21() {
     let mut output = [0; 32];
     let writer = RawEventSink::to_writer(Encoding::Evt21, false);
     let appended = prophesee_raw::append(writer, 64, 48, &xs, &ys, &ts, &ps, &mut output);
-    print::append(b"write_evt21: ", appended, &output);
+    print::append(stdout, b"write_evt21: ", appended, &output)?;
+    Ok(())
 }
 
 // EVT3 counts 2^24 microseconds and starts anew: for each such loop that passes the writer sends
 // 8FFF 8000. An event at 2^24 from a fresh writer has the words 8FFF 8000 0009 2814, and reads as it
 // was written.
-pub fn long_show() {
+pub fn long_show(stdout: &mut impl Write) -> io::Result<()> {
     let xs = [20];
     let ys = [9];
     let ts = [16777216];
@@ -63,13 +74,15 @@ pub fn long_show() {
     let mut output = [0; 32];
     let writer = RawEventSink::to_writer(Encoding::Evt3, false);
     let appended = prophesee_raw::append(writer, 64, 48, &xs, &ys, &ts, &ps, &mut output);
-    print::append(b"long_show: ", appended, &output);
+    print::append(stdout, b"long_show: ", appended, &output)?;
     let answer = appended.answer;
     if let AppendAnswer::Written(n) = answer {
         reading::decode(
+            stdout,
             b"long_show, read: ",
             text::part(&output, 0, n),
             Encoding::Evt3,
-        );
+        )?;
     }
+    Ok(())
 }

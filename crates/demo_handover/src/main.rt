@@ -15,6 +15,8 @@ ghost use Rattle.std.specs.Prelude.{◌≤◌, ◌<◌, length};
 
 use crate::given::{Case, When};
 use prophesee_raw::{Codec, Encoding};
+use std::io;
+use std::io::Write;
 
 mod compare;
 mod exact;
@@ -33,7 +35,13 @@ fn word_size(encoding: Encoding) -> usize
 
 // The stream, cut, and then joined with what the writer behind the cut makes of the events that are
 // missing. Whole words are counted from the body's start.
-fn check_cut(case: Case, stream: &[u8], start: usize, cut: usize) -> bool
+fn check_cut(
+    stdout: &mut impl Write,
+    case: Case,
+    stream: &[u8],
+    start: usize,
+    cut: usize,
+) -> io::Result<bool>
     requires { (start ≤ cut) × (cut ≤ length stream.now) × (length stream.now ≤ 256) }
 {
     let encoding = case.encoding;
@@ -44,66 +52,73 @@ fn check_cut(case: Case, stream: &[u8], start: usize, cut: usize) -> bool
     let mut joined = write::room();
     write::copy(&stream[..kept], &mut joined);
     let left = &stream[..cut];
-    let end = write::resume(case, left, whole, &mut joined, kept);
-    print::cut(cut, whole, end);
-    let first = exact::reads(case, left, whole, b" before the cut");
-    let second = exact::reads(case, &joined[..end], given::total(when), b" joined");
+    let end = write::resume(stdout, case, left, whole, &mut joined, kept)?;
+    print::cut(stdout, cut, whole, end)?;
+    let first = exact::reads(stdout, case, left, whole, b" before the cut")?;
+    let second = exact::reads(stdout, case, &joined[..end], given::total(when), b" joined")?;
     let exact = exact::both(first, second);
-    print::end(exact);
-    exact
+    print::end(stdout, exact)?;
+    Ok(exact)
 }
 
-fn check_cuts(case: Case, stream: &[u8], start: usize) -> bool
+fn check_cuts(stdout: &mut impl Write, case: Case, stream: &[u8], start: usize) -> io::Result<bool>
     requires { length stream.now ≤ 256 }
 {
     let mut all = true;
     let mut cut = start;
     while cut <= stream.len() {
-        let exact = check_cut(case, stream, start, cut);
+        let exact = check_cut(stdout, case, stream, start, cut)?;
         all = exact::both(all, exact);
         cut += 1;
     }
-    all
+    Ok(all)
 }
 
-fn show(case: Case) {
-    print::case(case);
-    test_text::show::text(b"\n");
+fn show(stdout: &mut impl Write, case: Case) -> io::Result<()> {
+    print::case(stdout, case)?;
+    test_text::show::text(stdout, b"\n")?;
     let mut out = write::room();
-    let n = write::appends(case, &mut out);
+    let n = write::appends(stdout, case, &mut out)?;
     let stream = &out[..n];
     let start = reading::body_start(case, stream);
-    print::header(&stream[..start]);
+    print::header(stdout, &stream[..start])?;
     let encoding = case.encoding;
-    print::stream(&stream[start..], word_size(encoding));
-    let exact = check_cuts(case, stream, start);
-    print::all(case, exact);
+    print::stream(stdout, &stream[start..], word_size(encoding))?;
+    let exact = check_cuts(stdout, case, stream, start)?;
+    print::all(stdout, case, exact)
 }
 
-fn show_headed(encoding: Encoding, when: When) {
-    show(Case {
-        encoding,
-        headed: true,
-        when,
-    });
+fn show_headed(stdout: &mut impl Write, encoding: Encoding, when: When) -> io::Result<()> {
+    show(
+        stdout,
+        Case {
+            encoding,
+            headed: true,
+            when,
+        },
+    )
 }
 
 // Without a header, and behind one.
-fn show_both(encoding: Encoding, when: When) {
-    show(Case {
-        encoding,
-        headed: false,
-        when,
-    });
-    show_headed(encoding, when);
+fn show_both(stdout: &mut impl Write, encoding: Encoding, when: When) -> io::Result<()> {
+    show(
+        stdout,
+        Case {
+            encoding,
+            headed: false,
+            when,
+        },
+    )?;
+    show_headed(stdout, encoding, when)
 }
 
-fn main() {
-    show_both(Encoding::Evt2, When::Early);
-    show_headed(Encoding::Evt2, When::Later2);
-    show_both(Encoding::Evt21, When::Early);
-    show_both(Encoding::Evt3, When::Early);
-    show_headed(Encoding::Evt3, When::Later3);
-    show_both(Encoding::Evt3, When::Long);
-    opening::tell();
+fn main(rt: HostRuntime) -> io::Result<()> {
+    let mut stdout = io::writer(&rt);
+    show_both(&mut stdout, Encoding::Evt2, When::Early)?;
+    show_headed(&mut stdout, Encoding::Evt2, When::Later2)?;
+    show_both(&mut stdout, Encoding::Evt21, When::Early)?;
+    show_both(&mut stdout, Encoding::Evt3, When::Early)?;
+    show_headed(&mut stdout, Encoding::Evt3, When::Later3)?;
+    show_both(&mut stdout, Encoding::Evt3, When::Long)?;
+    opening::tell(&mut stdout)
 }

@@ -5,6 +5,8 @@ ghost use Rattle.std.specs.Prelude.{◌≡◌, length};
 use crate::given::{Case, When};
 use crate::{print, reading};
 use prophesee_raw::{Encoding, ReadAnswer, refusal_number};
+use std::io;
+use std::io::Write;
 use test_text::{columns, show};
 
 fn recording() -> [u8; 24]
@@ -14,7 +16,7 @@ fn recording() -> [u8; 24]
 }
 
 // What the recording is, and what it reads as.
-pub fn tell() {
+pub fn tell(stdout: &mut impl Write) -> io::Result<()> {
     let bytes = recording();
     let case = Case {
         encoding: Encoding::Evt3,
@@ -26,12 +28,12 @@ pub fn tell() {
     let mut ts = [0; 16];
     let mut ps = [0; 16];
     let answer = reading::read(case, &bytes, &mut xs, &mut ys, &mut ts, &mut ps);
-    show::text(b"% evt 3, % end,");
-    print::words(&bytes[14..], 2);
-    show::text(b": reads as");
+    show::text(stdout, b"% evt 3, % end,")?;
+    print::words(stdout, &bytes[14..], 2)?;
+    show::text(stdout, b": reads as")?;
     match answer {
-        ReadAnswer::Read(r) => columns::show_events(&xs, &ys, &ts, &ps, r.count),
-        ReadAnswer::Refused(why) => print::told(b" refused ", refusal_number(why) as u64),
+        ReadAnswer::Read(r) => columns::show_events(stdout, &xs, &ys, &ts, &ps, r.count)?,
+        ReadAnswer::Refused(why) => print::told(stdout, b" refused ", refusal_number(why) as u64)?,
     }
-    show::text(b"\n");
+    show::text(stdout, b"\n")
 }

@@ -1,9 +1,11 @@
 // Appending: what is given, and what a second writer resumes with.
-ghost use Rattle.std.specs.Prelude.{◌≡◌, ◌++◌, ◌≤◌, length, drop};
+ghost use Rattle.std.specs.Prelude.{◌≡◌, ◌++◌, ◌≤◌, length, drop, IfOk};
 
 use crate::given::{Case, When};
 use crate::{given, print};
 use prophesee_raw::{AppendAnswer, RawEventSink, Resumed};
+use std::io;
+use std::io::Write;
 use test_text::{columns, text};
 
 // A writer, how many bytes of the output are written, and whether the answers are told.
@@ -38,9 +40,17 @@ fn behind(at: usize, answer: AppendAnswer, len: usize) -> usize
 }
 
 // Appends behind what is written.
-fn append(w: Progress, xs: &[u16], ys: &[u16], ts: &[i64], ps: &[u8], out: &mut [u8]) -> Progress
+fn append(
+    stdout: &mut impl Write,
+    w: Progress,
+    xs: &[u16],
+    ys: &[u16],
+    ts: &[i64],
+    ps: &[u8],
+    out: &mut [u8],
+) -> io::Result<Progress>
     requires { w.at ≤ length out.old }
-    ensures { result.at ≤ length out.old }
+    ensures { IfOk result (λ w. w.at ≤ length out.old) }
 {
     let sink = w.sink;
     let at = w.at;
@@ -48,25 +58,33 @@ fn append(w: Progress, xs: &[u16], ys: &[u16], ts: &[i64], ps: &[u8], out: &mut 
     let appended = prophesee_raw::append(sink, 2048, 2048, xs, ys, ts, ps, &mut out[at..]);
     let next = appended.sink;
     let answer = appended.answer;
-    print::append(w.told, xs.len() as u64, answer);
+    print::append(stdout, w.told, xs.len() as u64, answer)?;
     let end = behind(at, answer, len);
-    Progress {
+    Ok(Progress {
         sink: next,
         at: end,
         told: w.told,
-    }
+    })
 }
 
 // Appends the given events from number `from` on, up to `to`.
-fn append_given(w: Progress, when: When, from: usize, to: usize, out: &mut [u8]) -> Progress
+fn append_given(
+    stdout: &mut impl Write,
+    w: Progress,
+    when: When,
+    from: usize,
+    to: usize,
+    out: &mut [u8],
+) -> io::Result<Progress>
     requires { w.at ≤ length out.old }
-    ensures { result.at ≤ length out.old }
+    ensures { IfOk result (λ w. w.at ≤ length out.old) }
 {
     let xs = given::columns();
     let ys = given::rows();
     let ts = given::times(when);
     let ps = given::polarities();
     append(
+        stdout,
         w,
         columns::part_of_shorts(&xs, from, to),
         columns::part_of_shorts(&ys, from, to),
@@ -77,20 +95,20 @@ fn append_given(w: Progress, when: When, from: usize, to: usize, out: &mut [u8])
 }
 
 // Two events whose times fall.
-fn append_falling(w: Progress, out: &mut [u8]) -> Progress
+fn append_falling(stdout: &mut impl Write, w: Progress, out: &mut [u8]) -> io::Result<Progress>
     requires { w.at ≤ length out.old }
-    ensures { result.at ≤ length out.old }
+    ensures { IfOk result (λ w. w.at ≤ length out.old) }
 {
     let xs = [1, 2];
     let ys = [7, 7];
     let ts = [4096, 4095];
     let ps = [0, 0];
-    append(w, &xs, &ys, &ts, &ps, &mut *out)
+    append(stdout, w, &xs, &ys, &ts, &ps, &mut *out)
 }
 
 // The appends that are given, by a fresh writer. Answers how long the stream is.
-pub fn appends(case: Case, out: &mut [u8]) -> usize
-    ensures { result ≤ length out.old }
+pub fn appends(stdout: &mut impl Write, case: Case, out: &mut [u8]) -> io::Result<usize>
+    ensures { IfOk result (λ n. n ≤ length out.old) }
 {
     let when = case.when;
     let encoding = case.encoding;
@@ -100,10 +118,10 @@ pub fn appends(case: Case, out: &mut [u8]) -> usize
         at: 0,
         told: true,
     };
-    let first = append_given(writer, when, 0, 7, &mut *out);
-    let second = append_falling(first, &mut *out);
-    let third = append_given(second, when, 7, given::total(when), &mut *out);
-    third.at
+    let first = append_given(stdout, writer, when, 0, 7, &mut *out)?;
+    let second = append_falling(stdout, first, &mut *out)?;
+    let third = append_given(stdout, second, when, 7, given::total(when), &mut *out)?;
+    Ok(third.at)
 }
 
 // The writer behind what is left of a stream.
@@ -116,22 +134,29 @@ fn behind_left(case: Case, left: &[u8]) -> Resumed {
 }
 
 // That writer goes on at `at` with the given events from number `from` on. Answers where it ends.
-pub fn resume(case: Case, left: &[u8], from: usize, out: &mut [u8], at: usize) -> usize
+pub fn resume(
+    stdout: &mut impl Write,
+    case: Case,
+    left: &[u8],
+    from: usize,
+    out: &mut [u8],
+    at: usize,
+) -> io::Result<usize>
     requires { at ≤ length out.old }
-    ensures { result ≤ length out.old }
+    ensures { IfOk result (λ n. n ≤ length out.old) }
 {
     let when = case.when;
     let resumed = behind_left(case, left);
     let answer = resumed.answer;
-    print::resumed(answer);
+    print::resumed(stdout, answer)?;
     let sink = resumed.sink;
     let writer = Progress {
         sink,
         at,
         told: false,
     };
-    let w = append_given(writer, when, from, given::total(when), &mut *out);
-    w.at
+    let w = append_given(stdout, writer, when, from, given::total(when), &mut *out)?;
+    Ok(w.at)
 }
 
 // Copies to the front of `to`.

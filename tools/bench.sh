@@ -16,7 +16,7 @@
 # read_words and read_file, which they don't have:
 #   tools/bench.sh CHECKOUT --only read,append,triggers --files evt21,evt21dense
 # CHECKOUT is of the original, as tools/original.sh says. The archive is built (and proved) first, unless ARCHIVE names one:
-#   ARCHIVE=target/staticlib/libprophesee_raw_c.a tools/bench.sh CHECKOUT --only append --files evt3
+#   ARCHIVE=crates/prophesee_raw_c/out/libprophesee_raw_c.a tools/bench.sh CHECKOUT --only append --files evt3
 # Recordings are made once, in BENCH_DIR (default /dev/shm/prophesee-bench).
 # Exit status 0: measured; 1: what the two hand over differs; 2: it wasn't built.
 [ $# -gt 0 ] || { sed -n '2,/^\[/{/^#/p}' "$0"; exit 2; }

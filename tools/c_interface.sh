@@ -2,12 +2,12 @@
 # Proves the C interface, builds its archive, and runs tests/c/calls.c and tests/c/long_show.c against what is
 # stored beside them and the program of README.md against what is printed below it there; compiles the header
 # file as C++ too. Exit status 0: as stored; 1: it differs; 2: it wasn't built. `--store` writes what the first
-# two print instead.
+# two print instead. ARCHIVE=FILE takes that archive, and builds and proves none.
 cd "$(dirname "$0")/.." || exit 2
-rt staticlib prophesee_raw_c || exit 2
-archive=target/staticlib/libprophesee_raw_c.a
+. tools/original.sh
+archive=target/original/libprophesee_raw_c.a
 out=target/c_interface
-mkdir -p "$out" || exit 2
+mkdir -p "$out" && build_archive || exit 2
 compile() { ${CC:-cc} -std=c11 -Wall -Wextra -Werror -O1 -Iinclude "$1" "$archive" -o "$2"; }
 
 ${CXX:-c++} -std=c++17 -Wall -Wextra -Werror -Iinclude -fsyntax-only tests/c/header.cpp || exit 2

@@ -4,10 +4,10 @@
 # prophesee_parse_header, which looks at every byte of its lines whatever numbers they have: a geometry without a size, with 1 MiB of
 # digits behind the bad letter, and with 1 MiB of zeros before it, which the number reader has to read.
 #   tools/number_cost.sh
-# ARCHIVE=FILE takes another archive than this worktree's. Exit status 0: the first two are the same; 1: not; 2: not built or not counted.
+# ARCHIVE=FILE takes that archive, and builds and proves none. Exit status 0: the first two are the same; 1: not; 2: not built or not counted.
 cd "$(dirname "$0")/.." || exit 2
 . tools/original.sh
-mkdir -p target/original && build_archive || exit 2
+build_archive || exit 2
 program=target/number_cost log=target/number_cost.log mib=1048576
 ${CC:-cc} -std=c11 -Wall -Wextra -Werror -O1 -Iinclude tools/number_cost.c target/original/libprophesee_raw_c.a -o "$program" || exit 2
 

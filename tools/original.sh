@@ -5,7 +5,7 @@
 # without `.txt` behind its name: crates/eventcv-core/src/lib.rs, io.rs, io/text.rs and io/prophesee_raw.rs.
 # tools/original/cut.py cuts what is needed out of it, to target/original/from; nothing of it enters the repository.
 # Wanted are Python 3, Rust 1.88 or later, and the crate memmap2: from Debian's package librust-memmap2-dev where that is
-# installed, else from crates.io. ARCHIVE=FILE takes another archive than this worktree's.
+# installed, else from crates.io. ARCHIVE=FILE takes that archive, and builds and proves none.
 build_original() { # CHECKOUT
     from=target/original/from registry=/usr/share/cargo/registry
     mkdir -p "$from" && cp -Rp tools/original/. "$from" || return 2
@@ -19,13 +19,14 @@ build_original() { # CHECKOUT
     return 2
 }
 
-build_archive() {
+build_archive() { # to target/original/libprophesee_raw_c.a
+    mkdir -p target/original || return 2
     if [ -n "$ARCHIVE" ]; then
         cp "$ARCHIVE" target/original/libprophesee_raw_c.a
         return
     fi
-    rt staticlib prophesee_raw_c >target/original/staticlib.log 2>&1 || { tail -n 5 target/original/staticlib.log; return 2; }
-    cp target/staticlib/libprophesee_raw_c.a target/original/libprophesee_raw_c.a
+    (cd crates/prophesee_raw_c && rt lib) >target/original/lib.log 2>&1 || { tail -n 5 target/original/lib.log; return 2; }
+    cp crates/prophesee_raw_c/out/libprophesee_raw_c.a target/original/libprophesee_raw_c.a
 }
 
 build_with() { # CHECKOUT NAME

@@ -5,7 +5,7 @@
 [ $# -ge 1 ] || { echo "usage: tools/random_calls.sh MINUTES [SEED [CASE]]"; exit 2; }
 cd "$(dirname "$0")/.." || exit 2
 . tools/original.sh
-mkdir -p target/original && build_archive || exit 2
+build_archive || exit 2
 rustc --edition 2021 -C opt-level=3 -o target/original/random_calls tools/rust/random_calls.rs \
     -L native=target/original -l static=prophesee_raw_c || exit 2
 exec target/original/random_calls "$@"

@@ -222,8 +222,12 @@ module _ (v : EncoderState) where
   open_on a e m es q =
       let g = went a e q in
       let n = follow21 e es in
+      let block : block_of a.x ≡ block_of e.x = rw (went_block a e q) in
+      let bits : bits_of a m (suc n) (e ∷ es) ≡ bits_of e (m + bit_of e.x) n es =
+      ap (λ (k : ℕ). m + (2 ^ (e.x - k) + mask k (map col_x (take n es)))) block ∙ omega (arith, bit_is e.x) in
+      let same : (k : ℕ) → masked_word21 a k ≡ masked_word21 e k = λ k. rw (went_block a e q, g.is_t, g.is_y, g.is_p) in
       let word : masked_word21 a (bits_of a m (suc n) (e ∷ es)) ≡ masked_word21 e (bits_of e (m + bit_of e.x) n es) =
-      rw (went_block a e q, g.is_t, g.is_y, g.is_p) (omega (arith, bit_is e.x)) in
+      ap (masked_word21 a) bits ∙ same (bits_of e (m + bit_of e.x) n es) in
       let state : encoded2 v a ≡ encoded2 v e = rw g.is_t in
       ap (λ (k : ℕ). open_at v a m k (e ∷ es)) (follow_on a e q es)
       ∙ ap (λ (w : ℕ). word_then w (encoded2 v a) (drop n es)) word

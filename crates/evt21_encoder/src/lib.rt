@@ -82,8 +82,8 @@ fn place_of(on: bool, at: usize) -> usize
 // the event's word takes its place, which is faster than a branch.
 fn put_words(high: u64, t: u64, key: u32, mask: u32, out: &mut [u8], at: usize) -> usize
     requires { (at < 2 ^ 60) × Roomy out.old at (length (key_bytes (eqb high (t / grain2)) t key mask)) × (t < 2 ^ 34) }
-    ensures fact_1 { result ≡ at + length (key_bytes (eqb high (t / grain2)) t key mask) }
-    ensures fact_2 { out.new ≡ sets out.old at (key_bytes (eqb high (t / grain2)) t key mask) }
+    ensures ends { result ≡ at + length (key_bytes (eqb high (t / grain2)) t key mask) }
+    ensures stores { out.new ≡ sets out.old at (key_bytes (eqb high (t / grain2)) t key mask) }
 {
     let w = masked_word(key, mask);
     let a = write_buffer::past(high == t / Evt2Decoder::GRAIN, WORD_SIZE, at);
@@ -107,8 +107,8 @@ pub fn pass(
     requires { Sized xs.now ys.now ts.now ps.now × (start ≤ 2 ^ 32) × Whole ts.now
         × Roomy out.old start (length (stream21 state (events_in xs.now ys.now ts.now ps.now)))
         × Fitting2 xs.now ys.now ts.now ps.now }
-    ensures fact_1 { result ≡ passed21 state (events_in xs.now ys.now ts.now ps.now) start }
-    ensures fact_2 { out.new ≡ sets out.old start (stream21 state (events_in
+    ensures passed { result ≡ passed21 state (events_in xs.now ys.now ts.now ps.now) start }
+    ensures stores { out.new ≡ sets out.old start (stream21 state (events_in
         xs.now ys.now ts.now ps.now)) }
 {
     let sent = state.time_high;

@@ -56,8 +56,8 @@ fn pass_still(
     requires { Sized xs.now ys.now ts.now ps.now × (start ≤ 2 ^ 37) × Whole ts.now × Still state ts.now
         × (length (stream3 state (events_in xs.now ys.now ts.now ps.now)) ≤ 2 ^ 37)
         × Roomy out.old start (length (stream3 state (events_in xs.now ys.now ts.now ps.now))) }
-    ensures fact_1 { result ≡ passed3 state (events_in xs.now ys.now ts.now ps.now) start }
-    ensures fact_2 { out.new ≡ sets out.old start (stream3 state (events_in
+    ensures passed { result ≡ passed3 state (events_in xs.now ys.now ts.now ps.now) start }
+    ensures stores { out.new ≡ sets out.old start (stream3 state (events_in
         xs.now ys.now ts.now ps.now)) }
 {
     let sent_high = state.time_high;
@@ -103,8 +103,8 @@ fn at_end(held: Sent) -> bool
 // The words into the loop of t, if that is later than the one held.
 fn enter(state: EncoderState, t: u64, out: &mut [u8], at: usize) -> Put
     requires { (at ≤ 2 ^ 50) × Roomy out.old at (length (ahead_bytes state t)) }
-    ensures fact_1 { result ≡ entered state t at }
-    ensures fact_2 { out.new ≡ sets out.old at (ahead_bytes state t) }
+    ensures entered { result ≡ entered state t at }
+    ensures stores { out.new ≡ sets out.old at (ahead_bytes state t) }
 {
     let held = state.time_high;
     let row = state.y;
@@ -154,8 +154,8 @@ fn pass_across(
     requires { Sized xs.now ys.now ts.now ps.now × (start ≤ 2 ^ 32) × Whole ts.now
         × (length (stream3 before (events_in xs.now ys.now ts.now ps.now)) ≤ 2 ^ 36)
         × Roomy out.old start (length (stream3 before (events_in xs.now ys.now ts.now ps.now))) }
-    ensures fact_1 { result ≡ passed3 before (events_in xs.now ys.now ts.now ps.now) start }
-    ensures fact_2 { out.new ≡ sets out.old start (stream3 before (events_in
+    ensures passed { result ≡ passed3 before (events_in xs.now ys.now ts.now ps.now) start }
+    ensures stores { out.new ≡ sets out.old start (stream3 before (events_in
         xs.now ys.now ts.now ps.now)) }
 {
     let n = xs.len();
@@ -195,8 +195,8 @@ pub fn pass(
         × (length (stream3 state (events_in xs.now ys.now ts.now ps.now)) ≤ 2 ^ 36)
         × Roomy out.old start (length (stream3 state (events_in xs.now ys.now ts.now ps.now)))
         × Paced3 state (events_in xs.now ys.now ts.now ps.now) }
-    ensures fact_1 { result ≡ passed3 state (events_in xs.now ys.now ts.now ps.now) start }
-    ensures fact_2 { out.new ≡ sets out.old start (stream3 state (events_in
+    ensures passed { result ≡ passed3 state (events_in xs.now ys.now ts.now ps.now) start }
+    ensures stores { out.new ≡ sets out.old start (stream3 state (events_in
         xs.now ys.now ts.now ps.now)) }
 {
     let held = state.time_high;

@@ -46,8 +46,8 @@ pub fn pass(
         × Roomy out.old start (length (encode_bytes version state (events_in xs.now ys.now ts.now ps.now)))
         × Fitting version xs.now ys.now ts.now ps.now
         × Paced version state (events_in xs.now ys.now ts.now ps.now) }
-    ensures fact_1 { result ≡ passed version state (events_in xs.now ys.now ts.now ps.now) start }
-    ensures fact_2 { out.new ≡ sets out.old start (encode_bytes version state (events_in
+    ensures passed { result ≡ passed version state (events_in xs.now ys.now ts.now ps.now) start }
+    ensures stores { out.new ≡ sets out.old start (encode_bytes version state (events_in
         xs.now ys.now ts.now ps.now)) }
 {
     match version {

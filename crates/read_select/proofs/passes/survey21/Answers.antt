@@ -9,19 +9,23 @@ use Rattle.read_select.proofs.passes.survey21.Goals as goal
 pub loop-i-init : goal.loop-i-init
 loop-i-init c =
     rw c.evt2-s.ensures
-    (counts_start sound21 (bounded_words (Evt21 c.args.d) c.args.bytes.now c.requires.able) c.requires.long c.requires.low)
+    (counts_start sound21 (bounded_words (Evt21 c.args.d) c.args.bytes.now c.requires.able)
+    c.requires.long c.requires.low)
 
 pub cut21-r-requires-clause-narrow : goal.cut21-r-requires-clause-narrow
-cut21-r-requires-clause-narrow c = narrow_here sound21 c.loop-i.invariant.at (iteration (omega arith) c.eight_at-w.ensures (ap of2 c.advance-step.ensures.0) c.advance-step.ensures.1)
+cut21-r-requires-clause-narrow c = narrow_here sound21 c.loop-i.invariant.at
+    (iteration (omega arith) c.eight_at-w.ensures (ap of2 c.advance-step.ensures.0) c.advance-step.ensures.1)
 
 pub note-t-requires : goal.note-t-requires
 note-t-requires c =
-    notable-here sound21 c.loop-i.invariant (iteration (omega arith) c.eight_at-w.ensures (ap of2 c.advance-step.ensures.0) c.advance-step.ensures.1) c.cut21-r.result c.cut21-r.ensures
+    notable-here sound21 c.loop-i.invariant
+    (iteration (omega arith) c.eight_at-w.ensures (ap of2 c.advance-step.ensures.0) c.advance-step.ensures.1) c.cut21-r.result c.cut21-r.ensures
 
 pub loop-i-preserved : goal.loop-i-preserved
 loop-i-preserved c =
     counts_on sound21 (sym c.stopped.ensures ∙ c.if-stopped.false) (rw c.note-t.ensures
-    (counts_next sound21 c.loop-i.invariant (iteration (omega arith) c.eight_at-w.ensures (ap of2 c.advance-step.ensures.0) c.advance-step.ensures.1)
+    (counts_next sound21 c.loop-i.invariant
+    (iteration (omega arith) c.eight_at-w.ensures (ap of2 c.advance-step.ensures.0) c.advance-step.ensures.1)
     c.cut21-r.result c.cut21-r.ensures))
 
 pub returns : goal.returns
@@ -31,7 +35,8 @@ returns c =
       | else-loop-i-test w ↦ rw (w.s-is, w.t-is, w.i-is) (counts_end sound21 c.loop-i.invariant (omega arith))
       | then-loop-i-test+then-stopped w ↦ rw (w.s-is, w.t-is, w.i-is)
           (counts_stop sound21 (sym w.stopped.ensures ∙ w.if-stopped.true) (rw w.note-t.ensures
-          (counts_next sound21 c.loop-i.invariant (iteration (omega arith) w.eight_at-w.ensures (ap of2 w.advance-step.ensures.0) w.advance-step.ensures.1)
+          (counts_next sound21 c.loop-i.invariant
+          (iteration (omega arith) w.eight_at-w.ensures (ap of2 w.advance-step.ensures.0) w.advance-step.ensures.1)
           w.cut21-r.result w.cut21-r.ensures)))
     ] in
     rw c.of_evt2-decoder.ensures (counted sound21 done)

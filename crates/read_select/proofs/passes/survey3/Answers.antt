@@ -10,26 +10,32 @@ use Rattle.read_select.proofs.passes.survey3.Goals as goal
 pub loop-i-init : goal.loop-i-init
 loop-i-init c =
     rw c.widen-s.ensures.0
-    (counts_start sound3 (bounded_words (Evt3 c.args.d) c.args.bytes.now (able_fitting (Evt3 c.args.d) (length c.args.bytes.now) c.requires.able c.widen-s.ensures.1.column)) c.requires.long c.requires.low)
+    (counts_start sound3
+    (bounded_words (Evt3 c.args.d) c.args.bytes.now (able_fitting (Evt3 c.args.d) (length c.args.bytes.now) c.requires.able c.widen-s.ensures.1.column))
+    c.requires.long c.requires.low)
 
 pub cut3-r-requires-clause-narrow : goal.cut3-r-requires-clause-narrow
-cut3-r-requires-clause-narrow c = narrow_here sound3 c.loop-i.invariant.at (iteration (omega arith) c.two_at-w.ensures (ap slimmed c.advance-step.ensures.0) c.advance-step.ensures.1)
+cut3-r-requires-clause-narrow c = narrow_here sound3 c.loop-i.invariant.at
+    (iteration (omega arith) c.two_at-w.ensures (ap slimmed c.advance-step.ensures.0) c.advance-step.ensures.1)
 
 pub note-t-requires : goal.note-t-requires
 note-t-requires c =
-    notable-here sound3 c.loop-i.invariant (iteration (omega arith) c.two_at-w.ensures (ap slimmed c.advance-step.ensures.0) c.advance-step.ensures.1) c.cut3-r.result c.cut3-r.ensures
+    notable-here sound3 c.loop-i.invariant
+    (iteration (omega arith) c.two_at-w.ensures (ap slimmed c.advance-step.ensures.0) c.advance-step.ensures.1) c.cut3-r.result c.cut3-r.ensures
 
 pub loop-i-preserved : goal.loop-i-preserved
 loop-i-preserved c =
     counts_on sound3 (sym c.stopped.ensures ∙ c.if-stopped.false) (rw c.note-t.ensures
-    (counts_next sound3 c.loop-i.invariant (iteration (omega arith) c.two_at-w.ensures (ap slimmed c.advance-step.ensures.0) c.advance-step.ensures.1)
+    (counts_next sound3 c.loop-i.invariant
+    (iteration (omega arith) c.two_at-w.ensures (ap slimmed c.advance-step.ensures.0) c.advance-step.ensures.1)
     c.cut3-r.result c.cut3-r.ensures))
 
 pub slim-decoder-requires : goal.slim-decoder-requires
 slim-decoder-requires c = elim c.loop-i-test.branch [
   | else-loop-i-test w ↦ rw w.s-is (bounded_slim3 c.loop-i.invariant.at.inv)
   | then-loop-i-test+then-stopped w ↦ rw w.s-is
-      (bounded_slim3 (inv_next sound3 c.loop-i.invariant.at (iteration (omega arith) w.two_at-w.ensures (ap slimmed w.advance-step.ensures.0) w.advance-step.ensures.1)))
+      (bounded_slim3 (inv_next sound3 c.loop-i.invariant.at
+      (iteration (omega arith) w.two_at-w.ensures (ap slimmed w.advance-step.ensures.0) w.advance-step.ensures.1)))
 ]
 
 pub returns : goal.returns
@@ -39,7 +45,8 @@ returns c =
       | else-loop-i-test w ↦ rw (w.s-is, w.t-is, w.i-is) (counts_end sound3 c.loop-i.invariant (omega arith))
       | then-loop-i-test+then-stopped w ↦ rw (w.s-is, w.t-is, w.i-is)
           (counts_stop sound3 (sym w.stopped.ensures ∙ w.if-stopped.true) (rw w.note-t.ensures
-          (counts_next sound3 c.loop-i.invariant (iteration (omega arith) w.two_at-w.ensures (ap slimmed w.advance-step.ensures.0) w.advance-step.ensures.1)
+          (counts_next sound3 c.loop-i.invariant
+          (iteration (omega arith) w.two_at-w.ensures (ap slimmed w.advance-step.ensures.0) w.advance-step.ensures.1)
           w.cut3-r.result w.cut3-r.ensures)))
     ] in
     rw c.slim-decoder.ensures (counted sound3 done)

@@ -46,8 +46,8 @@ pub fn most_from(codec: Codec, n: usize) -> usize
 // they need. Where no bound tells, the bytes are decoded for it. `requires`, here and below: every
 // caller has refused longer recordings (4) and a decoder out of range (10).
 pub fn need_all(bytes: &[u8], codec: Codec, width: u64, height: u64, room: usize) -> usize
-    requires fact_1 { length bytes.now ≤ 2 ^ 30 }
-    requires fact_2 { Bounded (length bytes.now) codec }
+    requires short { length bytes.now ≤ 2 ^ 30 }
+    requires bounded { Bounded (length bytes.now) codec }
     ensures { Enough (inside_events width height codec bytes.now) room result }
 {
     let most = most_from(codec, bytes.len());

@@ -28,8 +28,8 @@ pub fn deliver_all(
     ts: &mut [i64],
     ps: &mut [u8],
 ) -> Delivered
-    requires fact_1 { length bytes.now ≤ 2 ^ 30 }
-    requires fact_2 { Bounded (length bytes.now) codec }
+    requires short { length bytes.now ≤ 2 ^ 30 }
+    requires bounded { Bounded (length bytes.now) codec }
     ensures { Delivers (inside_events window.width window.height codec bytes.now) result
         xs.old ys.old ts.old ps.old
         xs.new ys.new ts.new ps.new }

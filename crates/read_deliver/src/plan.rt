@@ -45,8 +45,8 @@ pub fn plan_window(bytes: &[u8], codec: Codec, window: Window, number: u64) -> P
 
 // From the window's first time on.
 fn plan_time(bytes: &[u8], codec: Codec, window: Window, number: u64) -> Plan
-    requires fact_1 { Ready codec number (length bytes.now) }
-    requires fact_2 { Timed window }
+    requires ready { Ready codec number (length bytes.now) }
+    requires timed { Timed window }
     ensures { Planned window number codec bytes.now result }
 {
     let s = read_seek::seek(bytes, codec, window.t0);
@@ -73,8 +73,8 @@ fn plan_time(bytes: &[u8], codec: Codec, window: Window, number: u64) -> Plan
 
 // From the window's first number on.
 fn plan_number(bytes: &[u8], codec: Codec, window: Window, number: u64) -> Plan
-    requires fact_1 { Ready codec number (length bytes.now) }
-    requires fact_2 { Numbered window number }
+    requires ready { Ready codec number (length bytes.now) }
+    requires numbered { Numbered window number }
     ensures { Planned window number codec bytes.now result }
 {
     let most = (window.n0 - number) as usize;

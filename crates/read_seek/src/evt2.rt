@@ -16,8 +16,8 @@ use evt2_decoder::{Evt2Decoder, advance};
 const LAST_BYTE: usize = Evt2Decoder::WORD_SIZE - 1;
 
 pub fn span2(bytes: &[u8], d: Evt2Decoder, t0: u64, t1: u64) -> Sought
-    requires fact_1 { Bounded2 (length bytes.now / word_size2) d }
-    requires fact_2 { length bytes.now ≤ 2 ^ 30 }
+    requires bounded { Bounded2 (length bytes.now / word_size2) d }
+    requires short { length bytes.now ≤ 2 ^ 30 }
     ensures { (result ≡ sought_of t0 t1 (Evt2 d) bytes.now) × Bounded (length (drop result.at bytes.now)) result.codec }
 {
     let mut s = d;
@@ -45,8 +45,8 @@ pub fn span2(bytes: &[u8], d: Evt2Decoder, t0: u64, t1: u64) -> Sought
 // To the last time word before t behind which no word reaches t without another: a word's time is
 // less than GRAIN past the time word's.
 pub fn skip2(bytes: &[u8], d: Evt2Decoder, t: u64) -> Marked
-    requires fact_1 { Bounded2 (length bytes.now / word_size2) d }
-    requires fact_2 { length bytes.now ≤ 2 ^ 30 }
+    requires bounded { Bounded2 (length bytes.now / word_size2) d }
+    requires short { length bytes.now ≤ 2 ^ 30 }
     ensures { Midway t (Evt2 d) bytes.now result.at result.codec }
 {
     let mut s = d;

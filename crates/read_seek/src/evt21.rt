@@ -17,8 +17,8 @@ use evt21_decoder::{Evt21Decoder, of_evt2};
 const LAST_BYTE: usize = Evt21Decoder::WORD_SIZE - 1;
 
 pub fn span21(bytes: &[u8], d: Evt21Decoder, t0: u64, t1: u64) -> Sought
-    requires fact_1 { Bounded21 (length bytes.now / word_size21) d }
-    requires fact_2 { length bytes.now ≤ 2 ^ 30 }
+    requires bounded { Bounded21 (length bytes.now / word_size21) d }
+    requires short { length bytes.now ≤ 2 ^ 30 }
     ensures { (result ≡ sought_of t0 t1 (Evt21 d) bytes.now) × Bounded (length (drop result.at bytes.now)) result.codec }
 {
     let mut s = d.evt2();
@@ -46,8 +46,8 @@ pub fn span21(bytes: &[u8], d: Evt21Decoder, t0: u64, t1: u64) -> Sought
 
 // As `skip2`.
 pub fn skip21(bytes: &[u8], d: Evt21Decoder, t: u64) -> Marked
-    requires fact_1 { Bounded21 (length bytes.now / word_size21) d }
-    requires fact_2 { length bytes.now ≤ 2 ^ 30 }
+    requires bounded { Bounded21 (length bytes.now / word_size21) d }
+    requires short { length bytes.now ≤ 2 ^ 30 }
     ensures { Midway t (Evt21 d) bytes.now result.at result.codec }
 {
     let mut s = d.evt2();

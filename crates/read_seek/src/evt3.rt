@@ -29,9 +29,9 @@ pub struct Spanned {
 
 // From a started decoder, by its times alone.
 fn pass(bytes: &[u8], d: Decoder, t0: u64, t1: u64) -> Spanned
-    requires fact_1 { d.initialised ≡ true }
-    requires fact_2 { Bounded3 (length bytes.now / word_size3) d }
-    requires fact_3 { length bytes.now ≤ 2 ^ 30 }
+    requires initialised { d.initialised ≡ true }
+    requires bounded { Bounded3 (length bytes.now / word_size3) d }
+    requires short { length bytes.now ≤ 2 ^ 30 }
     ensures { (result ≡ spanned_of (reach3 t0 t1 d bytes.now))
         × Bounded3 (length (drop result.at bytes.now) / word_size3) (reach3 t0 t1 d bytes.now).state }
 {
@@ -59,8 +59,8 @@ fn pass(bytes: &[u8], d: Decoder, t0: u64, t1: u64) -> Spanned
 // From any decoder, by all that a word does: only the first record of an index has one that isn't
 // started.
 fn walk(bytes: &[u8], d: Decoder, t0: u64, t1: u64) -> Sought
-    requires fact_1 { Bounded3 (length bytes.now / word_size3) d }
-    requires fact_2 { length bytes.now ≤ 2 ^ 30 }
+    requires bounded { Bounded3 (length bytes.now / word_size3) d }
+    requires short { length bytes.now ≤ 2 ^ 30 }
     ensures { (result ≡ sought_of t0 t1 (Evt3 d) bytes.now) × Bounded (length (drop result.at bytes.now)) result.codec }
 {
     let mut s = widen(d);
@@ -104,8 +104,8 @@ fn put(front: &[u8], d: Decoder, times: Times) -> Decoder
 }
 
 pub fn span3(bytes: &[u8], d: Decoder, t0: u64, t1: u64) -> Sought
-    requires fact_1 { Paced3 (length bytes.now / word_size3) d }
-    requires fact_2 { length bytes.now ≤ 2 ^ 30 }
+    requires paced { Paced3 (length bytes.now / word_size3) d }
+    requires short { length bytes.now ≤ 2 ^ 30 }
     ensures { (result ≡ sought_of t0 t1 (Evt3 d) bytes.now) × Bounded (length (drop result.at bytes.now)) result.codec }
 {
     if d.initialised {
@@ -132,9 +132,9 @@ pub struct Stood {
 // From a started decoder to the last time word before t behind which no word reaches t without
 // another: a word's time is less than GRAIN past the time word's.
 fn stride(bytes: &[u8], d: Decoder, t: u64) -> Stood
-    requires fact_1 { d.initialised ≡ true }
-    requires fact_2 { Bounded3 (length bytes.now / word_size3) d }
-    requires fact_3 { length bytes.now ≤ 2 ^ 30 }
+    requires initialised { d.initialised ≡ true }
+    requires bounded { Bounded3 (length bytes.now / word_size3) d }
+    requires short { length bytes.now ≤ 2 ^ 30 }
     ensures { Passing 0 t d bytes.now result.times false result.at }
 {
     let mut c = times::of(d);
@@ -163,8 +163,8 @@ fn stride(bytes: &[u8], d: Decoder, t: u64) -> Stood
 }
 
 pub fn skip3(bytes: &[u8], d: Decoder, t: u64) -> Marked
-    requires fact_1 { Paced3 (length bytes.now / word_size3) d }
-    requires fact_2 { length bytes.now ≤ 2 ^ 30 }
+    requires paced { Paced3 (length bytes.now / word_size3) d }
+    requires short { length bytes.now ≤ 2 ^ 30 }
     ensures { Midway t (Evt3 d) bytes.now result.at result.codec }
 {
     if d.initialised {

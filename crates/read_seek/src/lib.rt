@@ -37,8 +37,8 @@ pub struct Marked {
 // from there. `requires` is every caller's to show: it refuses a decoder out of range (10) and more
 // than 2^30 bytes (4) first.
 pub fn seek(bytes: &[u8], codec: Codec, t: u64) -> Sought
-    requires fact_1 { Able (length bytes.now) codec }
-    requires fact_2 { length bytes.now ≤ 2 ^ 30 }
+    requires able { Able (length bytes.now) codec }
+    requires short { length bytes.now ≤ 2 ^ 30 }
     ensures { (result ≡ sought_of 0 t codec bytes.now) × Bounded (length (drop result.at bytes.now)) result.codec }
 {
     let m = skip(bytes, codec, t);
@@ -55,8 +55,8 @@ pub fn seek(bytes: &[u8], codec: Codec, t: u64) -> Sought
 
 // As far as it stays below t1, and whether a word strayed from t0 on.
 pub fn span(bytes: &[u8], codec: Codec, t0: u64, t1: u64) -> Sought
-    requires fact_1 { Able (length bytes.now) codec }
-    requires fact_2 { length bytes.now ≤ 2 ^ 30 }
+    requires able { Able (length bytes.now) codec }
+    requires short { length bytes.now ≤ 2 ^ 30 }
     ensures { (result ≡ sought_of t0 t1 codec bytes.now) × Bounded (length (drop result.at bytes.now)) result.codec }
 {
     match codec {
@@ -69,8 +69,8 @@ pub fn span(bytes: &[u8], codec: Codec, t0: u64, t1: u64) -> Sought
 // From time word to time word, over no word that takes the time to t. How far is left open: what a
 // seek finds from there is what it finds from the start.
 fn skip(bytes: &[u8], codec: Codec, t: u64) -> Marked
-    requires fact_1 { Able (length bytes.now) codec }
-    requires fact_2 { length bytes.now ≤ 2 ^ 30 }
+    requires able { Able (length bytes.now) codec }
+    requires short { length bytes.now ≤ 2 ^ 30 }
     ensures { Midway t codec bytes.now result.at result.codec }
 {
     match codec {

@@ -145,7 +145,7 @@ module _ {Q : Reader} (L : Sound Q) {win : Window} {number : ℕ} {s₀ : Q.Stat
         pub mask-here : v.mask < 2 ^ Q.most
         mask-here = rw o.is_events (L.few s w)
 
-        inv_next : Q.Bounded (length (rest Q win number s₀ bytes j)) s'
+        pub inv_next : Q.Bounded (length (rest Q win number s₀ bytes j)) s'
         inv_next = rw o.is_next (L.steps _ s w (rw words-here at u.inv))
 
         -- those of its events that have a number

@@ -63,11 +63,11 @@ pub fn fill(
     ts: &mut [i64],
     ps: &mut [u8],
 ) -> Filled
-    requires fact_1 { Ready codec number (length bytes.now) }
-    requires fact_2 { Fits (length (handed_over win number codec bytes.now)) (length xs.old)
+    requires ready { Ready codec number (length bytes.now) }
+    requires fit { Fits (length (handed_over win number codec bytes.now)) (length xs.old)
         (length ys.old) (length ts.old) (length ps.old) }
-    ensures fact_1 { result ≡ filled win number codec bytes.now }
-    ensures fact_2 { Wrote (handed_over win number codec bytes.now) 0
+    ensures filled { result ≡ filled win number codec bytes.now }
+    ensures wrote { Wrote (handed_over win number codec bytes.now) 0
         xs.old ys.old ts.old ps.old
         xs.new ys.new ts.new ps.new }
 {

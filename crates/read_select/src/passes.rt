@@ -70,11 +70,11 @@ pub fn fill2(
     ts: &mut [i64],
     ps: &mut [u8],
 ) -> Filled
-    requires fact_1 { Ready (Evt2 d) number (length bytes.now) }
-    requires fact_2 { Fits (length (handed_over win number (Evt2 d) bytes.now))
+    requires ready { Ready (Evt2 d) number (length bytes.now) }
+    requires fit { Fits (length (handed_over win number (Evt2 d) bytes.now))
         (length xs.old) (length ys.old) (length ts.old) (length ps.old) }
-    ensures fact_1 { result ≡ filled win number (Evt2 d) bytes.now }
-    ensures fact_2 { Wrote (handed_over win number (Evt2 d) bytes.now) 0
+    ensures filled { result ≡ filled win number (Evt2 d) bytes.now }
+    ensures wrote { Wrote (handed_over win number (Evt2 d) bytes.now) 0
         xs.old ys.old ts.old ps.old
         xs.new ys.new ts.new ps.new }
 {
@@ -152,11 +152,11 @@ pub fn fill21(
     ts: &mut [i64],
     ps: &mut [u8],
 ) -> Filled
-    requires fact_1 { Ready (Evt21 d) number (length bytes.now) }
-    requires fact_2 { Fits (length (handed_over win number (Evt21 d) bytes.now))
+    requires ready { Ready (Evt21 d) number (length bytes.now) }
+    requires fit { Fits (length (handed_over win number (Evt21 d) bytes.now))
         (length xs.old) (length ys.old) (length ts.old) (length ps.old) }
-    ensures fact_1 { result ≡ filled win number (Evt21 d) bytes.now }
-    ensures fact_2 { Wrote (handed_over win number (Evt21 d) bytes.now) 0
+    ensures filled { result ≡ filled win number (Evt21 d) bytes.now }
+    ensures wrote { Wrote (handed_over win number (Evt21 d) bytes.now) 0
         xs.old ys.old ts.old ps.old
         xs.new ys.new ts.new ps.new }
 {
@@ -235,11 +235,11 @@ pub fn fill3(
     ts: &mut [i64],
     ps: &mut [u8],
 ) -> Filled
-    requires fact_1 { Ready (Evt3 d) number (length bytes.now) }
-    requires fact_2 { Fits (length (handed_over win number (Evt3 d) bytes.now))
+    requires ready { Ready (Evt3 d) number (length bytes.now) }
+    requires fit { Fits (length (handed_over win number (Evt3 d) bytes.now))
         (length xs.old) (length ys.old) (length ts.old) (length ps.old) }
-    ensures fact_1 { result ≡ filled win number (Evt3 d) bytes.now }
-    ensures fact_2 { Wrote (handed_over win number (Evt3 d) bytes.now) 0
+    ensures filled { result ≡ filled win number (Evt3 d) bytes.now }
+    ensures wrote { Wrote (handed_over win number (Evt3 d) bytes.now) 0
         xs.old ys.old ts.old ps.old
         xs.new ys.new ts.new ps.new }
 {

@@ -47,8 +47,8 @@ pub fn cut2(v: Vector, win: Window, k: u64) -> Trimmed
 
 // The same of EVT3, for `survey3` alone.
 pub fn cut3(v: Vector, win: Window, k: u64) -> Trimmed
-    requires fact_1 { Narrow v }
-    requires fact_2 { k < 2 ^ 62 + 2 ^ 61 }
+    requires narrow { Narrow v }
+    requires small { k < 2 ^ 62 + 2 ^ 61 }
     ensures { Picked v win k result }
 {
     if v.mask == 0 {
@@ -68,8 +68,8 @@ pub fn cut3(v: Vector, win: Window, k: u64) -> Trimmed
 
 // `cut3` for `fill3`: with two callers it would stay a call, and cost a third more.
 pub fn keep3(v: Vector, win: Window, k: u64) -> Trimmed
-    requires fact_1 { Narrow v }
-    requires fact_2 { k < 2 ^ 62 + 2 ^ 61 }
+    requires narrow { Narrow v }
+    requires small { k < 2 ^ 62 + 2 ^ 61 }
     ensures { Picked v win k result }
 {
     if v.mask == 0 {
@@ -89,8 +89,8 @@ pub fn keep3(v: Vector, win: Window, k: u64) -> Trimmed
 
 // The same of EVT 2.1, for both its loops: there a bit alone is seldom the lowest.
 pub fn cut21(v: Vector, win: Window, k: u64) -> Trimmed
-    requires fact_1 { Narrow v }
-    requires fact_2 { k < 2 ^ 62 + 2 ^ 61 }
+    requires narrow { Narrow v }
+    requires small { k < 2 ^ 62 + 2 ^ 61 }
     ensures { Picked v win k result }
 {
     if v.mask == 0 {

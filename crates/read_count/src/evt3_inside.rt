@@ -28,8 +28,8 @@ pub fn count_inside(
     height: u64,
     counts: &[usize; 64],
 ) -> usize
-    requires fact_1 { (x < 65536) × (mask < 2 ^ 12) }
-    requires fact_2 { counts.now ≡ bit_counts }
+    requires small { (x < 65536) × (mask < 2 ^ 12) }
+    requires table { counts.now ≡ bit_counts }
     ensures { result ≡ inside_count x y mask bound height }
 {
     let kept = read_columns::clip(x, y, mask, bound, height);
@@ -38,8 +38,8 @@ pub fn count_inside(
 
 // How many bits are set.
 fn count_bits(mask: u64, counts: &[usize; 64]) -> usize
-    requires fact_1 { mask < 2 ^ 12 }
-    requires fact_2 { counts.now ≡ bit_counts }
+    requires small { mask < 2 ^ 12 }
+    requires table { counts.now ≡ bit_counts }
     ensures { result ≡ ones mask }
 {
     let low = bits(mask, 0, 6) as usize;

@@ -79,10 +79,10 @@ impl CountingDecoder {
 
     // One word.
     pub fn table_step(self, word: u64, spans: &[u64; 16], vects: &[u64; 16]) -> CountingStep
-        requires fact_1 { Sane3 (decoder_of self) }
-        requires fact_2 { Slim (decoder_of self) }
-        requires fact_3 { spans.now ≡ span_table }
-        requires fact_4 { vects.now ≡ vect_table }
+        requires sane { Sane3 (decoder_of self) }
+        requires slim { Slim (decoder_of self) }
+        requires spans { spans.now ≡ span_table }
+        requires vects { vects.now ≡ vect_table }
         ensures { AgreesWithStep (slimmed (decoder_of self)) word result }
     {
         if self.initialised {
@@ -101,10 +101,10 @@ impl CountingDecoder {
 
     // A word of another type than 8 to a started decoder.
     fn started_step(self, word: u64, spans: &[u64; 16], vects: &[u64; 16]) -> CountingStep
-        requires fact_1 { Sane3 (decoder_of self) }
-        requires fact_2 { Slim (decoder_of self) }
-        requires fact_3 { spans.now ≡ span_table }
-        requires fact_4 { vects.now ≡ vect_table }
+        requires sane { Sane3 (decoder_of self) }
+        requires slim { Slim (decoder_of self) }
+        requires spans { spans.now ≡ span_table }
+        requires vects { vects.now ≡ vect_table }
         ensures { result ≡ started_step self word }
     {
         let kind = bits(word, 12, 4);

@@ -1,6 +1,7 @@
 #!/usr/bin/env python3
 """Checks the documents against the tree, prints what is missing, and exits with 1 if anything is.
-In README.md, docs/*.md, docs/changes/*.md, the C header and the comments of the crates: every path exists, and every rule that is cited
+In README.md, docs/*.md, docs/changes/*.md, the C header and the comments of the crates: every path exists (below a crate's out/, which rt makes,
+the crate), and every rule that is cited
 (E3-5, T-2 and so on) stands in docs/RULES.md. In docs/CLAIMS.md besides: every must-fail edit that is named exists, every edit in the
 tree is named, every public function of both faces has its row, and every name of a definition, law, function or type stands in crates/
 (in the file that its cell names last, where it names one). Run from anywhere."""
@@ -13,6 +14,7 @@ os.chdir(os.path.dirname(os.path.dirname(os.path.abspath(__file__))))
 WORD = re.compile(r"[^\s(){};,.@\"«»|`:]+")
 PATH = re.compile(r"(?<![\w/.])((?:crates|tools|tests|docs|include|samples)/[\w./*{},-]*\w)")
 RULE = re.compile(r"\b((?:E21|E2|E3|H|R|G|I|A|T|D|V|L)-\d+)\b")
+MADE = re.compile(r'(crates/\w+)/out(?:/.*)?')
 NOT_NAMES = re.compile(r"[%+\d]|.*[ /].*|x|X|end|format|evt\d?|geometry|\.\.|\|")
 faults = []
 
@@ -20,6 +22,21 @@ faults = []
 def read(path):
     with open(path, encoding='utf-8') as f:
         return f.read()
+
+
+def sources():
+    """The files of the crates' src/, specs/ and proofs/."""
+    for folder in ('src', 'specs', 'proofs'):
+        yield from (f for f in glob.glob(f'crates/*/{folder}/**/*', recursive=True) if f.endswith(('.rt', '.antt')))
+
+
+def passed_on(path):
+    """The functions that a file passes on: `pub use a::b::f;` and `pub use a::{b::f, g};`."""
+    for group, single in re.findall(r'^pub use [\w:]+::(?:\{([^}]*)\}|(\w+));', read(path), re.M):
+        for item in (group or single).split(','):
+            name = item.strip().split('::')[-1]
+            if re.match('[a-z]', name):
+                yield name
 
 
 def words(path):
@@ -30,7 +47,8 @@ def words(path):
 def check_paths(path, text):
     for number, line in enumerate(text.split('\n'), 1):
         for found in PATH.findall(line):
-            if not glob.glob(found) and not found.endswith('.out'):
+            made = MADE.fullmatch(found)
+            if not glob.glob(made[1] if made else found) and not found.endswith('.out'):
                 faults.append(f'{path}:{number}: no {found}')
 
 
@@ -48,7 +66,7 @@ class Claims:
         self.crates = sorted(os.listdir('crates'))
         self.edits = {(e.split('/')[1], os.path.basename(e)[:-5]) for e in glob.glob('crates/*/must-fail/*.edit')}
         self.patches = {os.path.basename(p)[:-6] for p in glob.glob('tools/edits_below/*.patch')}
-        self.files = {f: words(f) for f in glob.glob('crates/**/*', recursive=True) if f.endswith(('.rt', '.antt'))}
+        self.files = {f: words(f) for f in sources()}
         self.every = set().union(*self.files.values())
         self.named = set()
 
@@ -84,8 +102,7 @@ class Claims:
         for crate, label in sorted(self.edits - self.named):
             faults.append(f'docs/CLAIMS.md: edit {label} of {crate} is not named')
         exported = re.findall(r'^(?!typedef|static|\s)[\w \*]*?\b(prophesee_\w+)\(', read('include/prophesee_raw.h'), re.M)
-        passed_on = [n for n in re.findall(r'^pub use [\w:]+::([a-z]\w*);', read('crates/prophesee_raw/src/lib.rt'), re.M)]
-        for name in exported + passed_on:
+        for name in exported + list(passed_on('crates/prophesee_raw/src/lib.rt')):
             if not re.search(r'^\|[^|]*`' + name + r'`', text, re.M):
                 faults.append(f'docs/CLAIMS.md: the public function {name} has no row')
 

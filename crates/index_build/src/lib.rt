@@ -98,6 +98,7 @@ pub enum Prepared {
 }
 
 // The record that stands where the builder is, and the builder behind the record's bytes.
+#[tactic(auto, using(crate::specs::Laws::part_bounded, crate::specs::Laws::count_sum))]
 pub fn advance(recording: &[u8], builder: Builder) -> BuildStep
     requires { Fit recording.now builder }
     ensures { Advanced recording.now builder result }
@@ -142,6 +143,7 @@ const EVT21_ALIGNMENT: usize = 8;
 const EVT3_ALIGNMENT: usize = 4;
 
 // A spacing that rule 8 allows.
+#[tactic(auto, unfolding(crate::specs::Index::spacing_ok))]
 pub fn spacing_ok(encoding: Encoding, spacing: usize) -> bool
     ensures { result ≡ spacing_ok encoding spacing }
 {
@@ -232,6 +234,7 @@ fn whole_window() -> Window
 }
 
 // A body from `start` on, its spacing allowed: 9, 1 for no event, or its builder.
+#[tactic(auto, using(crate::specs::Open::spaced), unfolding(crate::specs::Index::index_outcome))]
 fn spaced_builder(
     recording: &[u8],
     start: usize,
@@ -268,6 +271,7 @@ fn spaced_builder(
 }
 
 // 8, and so on.
+#[tactic(auto, unfolding(crate::specs::Index::index_outcome))]
 fn body_builder(
     recording: &[u8],
     start: usize,
@@ -286,6 +290,7 @@ fn body_builder(
 }
 
 // A recording: its header, then its body.
+#[tactic(auto, using(crate::specs::Open::header_fits), unfolding(crate::specs::Index::open_raw_outcome))]
 pub fn prepare(recording: &[u8], options: OpenOptions, room: usize) -> Prepared
     ensures { result ≡ prepared_by (open_raw_outcome recording.now options room) }
 {
@@ -302,6 +307,7 @@ pub fn prepare(recording: &[u8], options: OpenOptions, room: usize) -> Prepared
 }
 
 // Headerless words.
+#[tactic(auto, unfolding(crate::specs::Index::open_words_outcome))]
 pub fn prepare_words(words: &[u8], options: WordsOptions, room: usize) -> Prepared
     ensures { result ≡ prepared_by (open_words_outcome words.now options room) }
 {

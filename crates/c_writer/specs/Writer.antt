@@ -56,7 +56,7 @@ sink_of f = record {
   state = state_of f;
 }
 
--- ---- the numbers of a writer: specs/Laws.antt has that `sinkOf` reads them back
+-- ---- the numbers of a writer: specs/Laws.antt has that `sink_of` reads them back
 
 abbrev pub has_sent : Sent → ℕ
 has_sent Nothing = 0

@@ -1,5 +1,4 @@
-// An index of a recording, and slices by number and by time. Its records are held by value: whoever
-// lends records is proved by hand, as crates/index_fixed is.
+// An index of a recording, and slices by number and by time. Its records are held by value.
 use crate::{given, print};
 use prophesee_raw::fixed::FixedIndex;
 use prophesee_raw::{

@@ -39,7 +39,7 @@ trigger_id2 = field 12 8
 abbrev pub trigger_value2 : ℕ → ℕ
 trigger_value2 = field 0 0
 
--- ---- EVT 2.1, words of 64 bits: the upper half is laid out as a word of EVT 2.0 (`upper-type` and so on), the lower is the mask of an event word
+-- ---- EVT 2.1, words of 64 bits: the upper half is laid out as a word of EVT 2.0 (`upper_type` and so on), the lower is the mask of an event word
 
 abbrev pub word_size21 : ℕ
 word_size21 = 8

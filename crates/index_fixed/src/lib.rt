@@ -1,7 +1,6 @@
 // An index whose records are held by value, in an array: whoever opens and slices by these functions
-// lends no record, and needs no proof by hand. The contracts cite the definitions of index and slice.
-// `open_into`, `open_words_into`, `slice_index_in` and `slice_time_in` lend the first records of an
-// array: they are proved by hand, by the laws of proofs/Front.antt. The others are covered.
+// lends no record. The contracts cite the definitions of index and slice. `open_into`,
+// `open_words_into`, `slice_index_in` and `slice_time_in` lend the first records of an array.
 
 #![tactic(auto)]
 

@@ -1,8 +1,7 @@
 // Opening: makes the index of a recording into lent records, for all that the crate `index_build` defines
 // (`OpensRaw`, `OpensWords` in its specs/Index.antt). One loop, in `make`, makes the records of both
-// entries: what it asks stands in `index_build`, specs/Build.antt, what it says in specs/Made.antt. The
-// functions are proved by hand, since they are lent records; what they call in `index_build` takes a record
-// by value.
+// entries: what it asks stands in `index_build`, specs/Build.antt, what it says in specs/Made.antt.
+// What the functions call in `index_build` takes a record by value.
 
 #![tactic(auto)]
 

@@ -4,22 +4,22 @@
 --
 --   a list of appends, each given the writer that the last one returned    `Call`, `next`; as they ran: `Ran`, `Chained`
 --   a fresh writer that sends no header                                    `fresh`
---   accepted exactly if the table gives it no number                       `isAccepted`
---   the accepted events, numbered from 0                                   `acceptedEvents`
---   the stream                                                             `streamOf`; as it was written: `allWritten`
---   the event word of each accepted event                                  `streamWords`, `Typed`, `GivenAt`
---   a cut; whole before it                                                 `beforeCut`, `wholeBefore`
---   the resuming writer, by decoding what is left                          `left`, `decoderLeft`, `resuming`; as it ran: `ResumedBy`
---   the joined stream                                                      `joined`; of calls that ran: `joinedRan`
---   decoding: reading in the writer's encoding, no header and no limit     `asWords`, `read_by`
+--   accepted exactly if the table gives it no number                       `is_accepted`
+--   the accepted events, numbered from 0                                   `accepted_events`
+--   the stream                                                             `stream_of`; as it was written: `all_written`
+--   the event word of each accepted event                                  `stream_words`, `Typed`, `GivenAt`
+--   a cut; whole before it                                                 `before_cut`, `whole_before_lem`
+--   the resuming writer, by decoding what is left                          `left`, `decoder_left`, `resuming`; as it ran: `ResumedBy`
+--   the joined stream                                                      `joined`; of calls that ran: `joined_ran`
+--   decoding: reading in the writer's encoding, no header and no limit     `as_words`, `read_by`
 --   decoding what came before gives exactly the whole events               `DemandThreeRan`: `of_cut`, `decoded`
---   the joined stream decodes to all                                       `DemandThreeRan`: `of-joined`
+--   the joined stream decodes to all                                       `DemandThreeRan`: `of_joined`
 --   so it does with a fresh second writer, where no loop was counted,
---   as where all accepted events are of the first loop                     `of-joined-fresh`, `of-joined-first`, `InFirstLoop`
+--   as where all accepted events are of the first loop                     `of_joined-fresh`, `of_joined-first`, `InFirstLoop`
 --   a second list always exists                                            `SecondListExists`, `singles`
---   slices by number and time, exact at every allowed spacing              `opened`, `by_number`, `by-time` of `ReadBack`
+--   slices by number and time, exact at every allowed spacing              `opened`, `by_number`, `by_time_lem` of `ReadBack`
 --   by an index whose records are lent, or held by value in any room       `lent`, `by_value`; the latter in full: `DemandThreeByValue`
---   the count and all four columns up to it; by every two indexes alike    `HoldsEvents`, `Alike`, `alike-number`, `alike-time`
+--   the count and all four columns up to it; by every two indexes alike    `HoldsEvents`, `Alike`, `alike_number`, `alike_time`
 --
 -- The definitions are those of specs/Headed.antt too, which says the same of streams behind a written header: what stands before the words is a `Front`, here
 -- `bare`, nothing.

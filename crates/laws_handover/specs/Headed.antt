@@ -9,10 +9,10 @@
 -- others. Without an accepted event nothing is sent, not even the header. A body may begin with the byte `%`, since the header's end line is its last line.
 --
 --   a fresh writer that sends a header                                     `due`
---   the header that a list sends: with which append, of which size         `frontOf`
+--   the header that a list sends: with which append, of which size         `front_of`
 --   the size covers all accepted events                                    `Covers`
 --   the cut at the header's end or behind it; whole before it; joined      `Claim`, `whole`, `joined` of specs/Handover.antt, with `headed`
---   read with no size, indexed and sliced likewise                         `asRecording`, `read_by`, `openBy`
+--   read with no size, indexed and sliced likewise                         `as_recording`, `read_by`, `open_by_lem`
 --   of lists of appends                                                    `DemandThreeHeaded`
 --   of calls that ran, records lent or by value                            `DemandThreeHeadedRan`, `DemandThreeHeadedByValue`
 --   a second list always exists                                            `SecondListExistsHeaded`

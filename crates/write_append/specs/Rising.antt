@@ -1,16 +1,16 @@
 -- The events of an append that the rules let pass: within 7's bounds, their times never fall, and none is below the time that the writer may not go below.
-use Rattle.std.specs.Prelude.{◌≡◌, refl, Bool, true, false, ◌&&◌, List, [], ◌∷◌, ℕ, ◌+◌, ◌-◌, ◌*◌, ◌/◌, ◌^◌, ◌≤◌, ◌<◌, ltb, leb, ℤ, pos, negsuc, length}
-use Rattle.std.proofs.Common.{sym, subst, ◌∙◌, true≢false, arith, eqb-true, ltb-true, ltb-false, le-ltb}
+use Rattle.std.specs.Prelude.{◌≡◌, refl, Bool, true, false, ◌&&◌, List, [], ◌∷◌, ℕ, ◌+◌, ◌/◌, ◌^◌, ◌≤◌, ltb, leb, ℤ, pos, negsuc, length}
+use Rattle.std.proofs.Common.{sym, subst, true≢false, arith, eqb-true, ltb-true, ltb-false, le-ltb}
 use Rattle.std.specs.Int.Signed.{lt_z, non_neg}
 use Rattle.laws_stream.specs.{Machine.and_both, Order.Rise, Order.last_of}
 use Rattle.evt_types.specs.{Event.Event, Num.natural, Layout.grain3, declared.Sent.Sent, declared.Sent.TheVariants.Nothing, declared.Sent.TheVariants.Value}
 use Rattle.evt_types.specs.declared.{Encoding.Encoding, Encoding.TheVariants.Evt2, Encoding.TheVariants.Evt21, Encoding.TheVariants.Evt3}
 use Rattle.evt3_decoder.specs.Evt3.{period3}
 use Rattle.evt3_lead_words.specs.Evt3.{loop_of}
-use Rattle.write_buffer.specs.{declared.EncoderState.EncoderState, Columns.events_in, Columns.Sized}
+use Rattle.write_buffer.specs.{declared.EncoderState.EncoderState, Columns.events_in}
 use Rattle.write_words.specs.Encode.{encode_state, loop_clock, Paced, loops_ahead}
 use Rattle.write_rules.specs.declared.{LastTime.LastTime, LastTime.TheVariants.Never, LastTime.TheVariants.At, RawEventSink.RawEventSink}
-use Rattle.write_rules.specs.Range.{time_bound, time_in_range, every, at_most, events_in_range, falls, falls_after, belongs, not_before, sink_not_before}
+use Rattle.write_rules.specs.Range.{time_bound, time_in_range, every, at_most, falls, falls_after, belongs, not_before, sink_not_before}
 use Rattle.write_rules.specs.Range.{last_in_range, sink_in_range}
 use Rattle.write_rules.specs.Checks.{Checked, or_neither}
 use Rattle.write_append.specs.Append.{last_after, next_sink}

@@ -93,8 +93,8 @@ fn write(
         × Suffices sink width height xs.now ys.now ts.now ps.now
         × Roomy out.old 0 (length (sends sink width height xs.now ys.now ts.now ps.now))
         × Fitting sink.version xs.now ys.now ts.now ps.now }
-    ensures fact_1 { result ≡ wrote sink width height xs.now ys.now ts.now ps.now }
-    ensures fact_2 { out.new ≡ sets out.old 0 (sends sink width height
+    ensures wrote { result ≡ wrote sink width height xs.now ys.now ts.now ps.now }
+    ensures stores { out.new ≡ sets out.old 0 (sends sink width height
         xs.now ys.now ts.now ps.now) }
 {
     let version = sink.version;

@@ -1,0 +1,60 @@
+use Rattle.std.proofs.Common.{sym, ap, ◌∙◌, arith, length}
+use Rattle.write_buffer.specs.declared.Put.{Put}
+use Rattle.write_append.specs.Append.{sends}
+use Rattle.write_append.specs.Ends.{ends_failed, ends-short, ends-written, sink_with, short_cases, fitting_of, suffices}
+use Rattle.write_rules.specs.Checks.{check_given, checked_of}
+use Rattle.write_append.proofs.append.Goals as goal
+
+pub shortfall-need-requires : goal.shortfall-need-requires
+shortfall-need-requires c =
+    let a = c.args in
+    let r = checked_of a.sink a.xs.now a.ys.now a.ts.now a.ps.now
+    (check_given _ (sym c.check_append-verdict.ensures ∙ c.in-Passed.is)) in (
+      r.sized,
+      r.whole,
+      suffices a.sink a.width a.height a.xs.now a.ys.now a.ts.now a.ps.now r (omega arith) (omega arith),
+      fitting_of a.sink.version a.xs.now a.ys.now a.ts.now a.ps.now r.events,
+    )
+
+pub write-put-requires : goal.write-put-requires
+write-put-requires c =
+    let a = c.args in
+    let r = checked_of a.sink a.xs.now a.ys.now a.ts.now a.ps.now
+    (check_given _ (sym c.check_append-verdict.ensures ∙ c.in-Passed.is)) in
+    let all = sends a.sink a.width a.height a.xs.now a.ys.now a.ts.now a.ps.now in
+    let fits = (short_cases (length all) (length a.output.now) c.shortfall-need.result
+    c.shortfall-need.ensures).0 c.if-need-eq0.true in (
+      r.sized,
+      r.whole,
+      suffices a.sink a.width a.height a.xs.now a.ys.now a.ts.now a.ps.now r (omega arith) (omega arith),
+      (λ h. omega arith),
+      fitting_of a.sink.version a.xs.now a.ys.now a.ts.now a.ps.now r.events,
+    )
+
+pub returns-in-Failed : goal.returns-in-Failed
+returns-in-Failed c =
+    let a = c.args in
+    ends_failed a.sink a.width a.height a.xs.now a.ys.now a.ts.now a.ps.now a.output.now _
+    (sym c.check_append-verdict.ensures ∙ c.in-Failed.is)
+
+pub returns-then-need-eq0 : goal.returns-then-need-eq0
+returns-then-need-eq0 c =
+    let a = c.args in
+    let all = sends a.sink a.width a.height a.xs.now a.ys.now a.ts.now a.ps.now in
+    let put = c.write-put.result in
+    let fits = (short_cases (length all) (length a.output.now) c.shortfall-need.result
+    c.shortfall-need.ensures).0 c.if-need-eq0.true in
+    ends-written a.sink a.width a.height a.xs.now a.ys.now a.ts.now a.ps.now a.output.now _ _
+    (sym c.check_append-verdict.ensures ∙ c.in-Passed.is)
+    fits
+    (c.next_sink-next.ensures ∙ ap (λ (p : Put). sink_with a.sink p.state a.xs.now a.ts.now) c.write-put.ensures.wrote)
+    c.write-put.ensures.stores put.at (ap (λ (p : Put). p.at) c.write-put.ensures.wrote)
+
+pub returns-else-need-eq0 : goal.returns-else-need-eq0
+returns-else-need-eq0 c =
+    let a = c.args in
+    let all = sends a.sink a.width a.height a.xs.now a.ys.now a.ts.now a.ps.now in
+    let short = (short_cases (length all) (length a.output.now) c.shortfall-need.result c.shortfall-need.ensures).1 c.if-need-eq0.false in
+    ends-short a.sink a.width a.height a.xs.now a.ys.now a.ts.now a.ps.now a.output.now
+    c.shortfall-need.result
+    (sym c.check_append-verdict.ensures ∙ c.in-Passed.is) short.0 (omega arith)

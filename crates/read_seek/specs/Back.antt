@@ -108,7 +108,8 @@ module _ (d : Decoder) (w : ℕ) (small : d.base_x < 2 ^ 16) where
 pub base_run : (d : Decoder) (ws : List ℕ) → d.initialised ≡ true → d.base_x < 2 ^ 16 → base_of (run reader3 d ws) ≡ base_after (base_of d) ws
 unfolding base_after
 base_run d [] on small = refl
-base_run d (w ∷ ws) on small = base_run (step3 d w) ws (step_on d w on) (small_step d w small on) ∙ ap (λ (c : Column). base_after c ws) (base_step d w small on)
+base_run d (w ∷ ws) on small =
+    base_run (step3 d w) ws (step_on d w on) (small_step d w small on) ∙ ap (λ (c : Column). base_after c ws) (base_step d w small on)
 
 -- ---- the loops, from the end back: word k is the next to be looked at
 
@@ -191,7 +192,8 @@ module _ (front : List ℕ) where
         → record { x = min (x3 w + by) 65535; p = eqb (polarity3 w) 1 } ≡ base_after c (words_of word_size3 front)
     base_found c u e =
         let a = words_of word_size3 (take (j * word_size3) front) in
-        sym (ap (base_after c) (parted k j next u.within w is_IsWord) ∙ base_append c a (w ∷ behind k) ∙ base_set (base_after c a) w (behind k) (sym is-type ∙ e)
+        sym (ap (base_after c) (parted k j next u.within w is_IsWord)
+        ∙ base_append c a (w ∷ behind k) ∙ base_set (base_after c a) w (behind k) (sym is-type ∙ e)
         ∙ u.same (record { x = x3 w; p = eqb (polarity3 w) 1 }) (omega arith))
 
 -- ---- the decoder behind some words, put together

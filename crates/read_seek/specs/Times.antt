@@ -44,7 +44,8 @@ module _ (d : Decoder) (w : ℕ) (on : d.initialised ≡ true) where
       (λ e0 e2 e3 e4 e5 e6 e8. rw (e0, e2, e3, e4, e5, e6, e8) on))
 
   pub step_times : times_of (step3 d w) ≡ ticked (times_of d) w
-  step_times = rw (started_step_lem d w on) (by_type (λ k. times_of (step_as (kind_on k) d w) ≡ ticked_as k (times_of d) w) (type3 w) refl refl refl refl refl refl refl
+  step_times = rw (started_step_lem d w on)
+      (by_type (λ k. times_of (step_as (kind_on k) d w) ≡ ticked_as k (times_of d) w) (type3 w) refl refl refl refl refl refl refl
       (λ e0 e2 e3 e4 e5 e6 e8. rw (e0, e2, e3, e4, e5, e6, e8)))
 
 -- the types that carry events, as the bits of 52

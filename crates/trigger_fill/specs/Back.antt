@@ -1,5 +1,5 @@
 -- The times behind words that count no loop, looked for from their end back.
-use Rattle.std.specs.Prelude.{◌≡◌, List, ◌∷◌, ◌++◌, ℕ, zero, suc, ◌+◌, ◌-◌, ◌*◌, ◌≤◌, ◌<◌, length, take, drop}
+use Rattle.std.specs.Prelude.{◌≡◌, List, ◌∷◌, ◌++◌, ℕ, zero, suc, ◌+◌, ◌*◌, ◌≤◌, ◌<◌, length, take, drop}
 use Rattle.std.proofs.Common.{sym, ap, ◌∙◌, arith, zero-mul, suc-mul, take-append-drop, length-take-le}
 use Rattle.laws_stream.specs.{Words.words_of, Words.words-end, Words.words_taken, Words.words_dropped}
 use Rattle.evt_types.specs.Ahead.{ahead}

@@ -197,7 +197,7 @@ paced_eased {f} known {n} {c} w p = by_kind f c w (Paced f n (eased f c w))
 pub paced_settled : {f : Form} → Known f → {n : ℕ} {c : Times} (a : List ℕ) → Paced f n c → Paced f n (settled f c a)
 unfolding settled
 paced_settled known [] p = p
-paced_settled known (w ∷ a) p = paced_settled known a (paced_eased known w p)
+paced_settled {f = f} known {c = c} (w ∷ a) p = paced_settled known {c = eased f c w} a (paced_eased known w p)
 
 -- ---- over words that aren't notable
 
@@ -207,4 +207,4 @@ unfolding settled
 calm_over known late p side [] b calm = refl
 calm_over {f} known late {n} {c} p side (w ∷ a) b calm =
     rw (no_trigger_lem f c w (plain known late w calm.0), calm_tick known late p side w calm.0)
-    (calm_over known late (paced_eased known w p) (calm_side known late p side w calm.0) a b calm.1)
+    (calm_over known late {c = eased f c w} (paced_eased known w p) (calm_side known late p side w calm.0) a b calm.1)

@@ -13,9 +13,9 @@ use evt_types::fields::bits;
 
 // The last time word's, or as it was.
 fn base(f: Form, front: &[u8], c: Times) -> u64
-    requires fact_1 { Known f }
-    requires fact_2 { Paced f 0 c }
-    requires fact_3 { Whole f (length front.now) }
+    requires known { Known f }
+    requires paced { Paced f 0 c }
+    requires whole { Whole f (length front.now) }
     ensures { result ≡ (settled f c (words_of f.size front.now)).base }
 {
     let size = f.size;
@@ -32,9 +32,9 @@ fn base(f: Form, front: &[u8], c: Times) -> u64
 }
 
 pub fn across(f: Form, front: &[u8], c: Times) -> Times
-    requires fact_1 { Known f }
-    requires fact_2 { Paced f 0 c }
-    requires fact_3 { Whole f (length front.now) }
+    requires known { Known f }
+    requires paced { Paced f 0 c }
+    requires whole { Whole f (length front.now) }
     ensures { result ≡ settled f c (words_of f.size front.now) }
 {
     let size = f.size;

@@ -37,8 +37,8 @@ fn find(f: Form, late: bool, s: &[u8]) -> usize
 
 // From index i on.
 pub fn reach(f: Form, bytes: &[u8], i: usize, c: Times) -> Stop
-    requires fact_1 { Known f }
-    requires fact_2 { Place f bytes.now c i }
+    requires known { Known f }
+    requires place { Place f bytes.now c i }
     ensures { Reached f bytes.now c i result.times result.at }
 {
     let late = c.loops * f.period + f.late <= c.base;

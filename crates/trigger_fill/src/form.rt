@@ -79,8 +79,8 @@ pub fn evt3() -> Form
 
 // The word at index i, 0 if none is whole there.
 pub fn word(f: Form, bytes: &[u8], i: usize) -> u64
-    requires fact_1 { Known f }
-    requires fact_2 { i + 7 < 2 ^ 64 }
+    requires known { Known f }
+    requires fits { i + 7 < 2 ^ 64 }
     ensures { result ≡ ahead f.size bytes.now i }
 {
     if f.size == Evt2Decoder::WORD_SIZE {

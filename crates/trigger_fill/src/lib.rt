@@ -31,8 +31,8 @@ mod times;
 // starts from a decoder in range, has refused longer recordings (4), and columns that are too short
 // (13).
 pub fn fill(bytes: &[u8], codec: Codec, ts: &mut [i64], ids: &mut [u8], values: &mut [u8]) -> usize
-    requires fact_1 { Bounded (length bytes.now) codec }
-    requires fact_2 { length (triggers_from codec bytes.now) ≤ shortest3 ts.old ids.old values.old }
+    requires bounded { Bounded (length bytes.now) codec }
+    requires room { length (triggers_from codec bytes.now) ≤ shortest3 ts.old ids.old values.old }
     ensures { (result ≡ length (triggers_from codec bytes.now))
         × HandedTriggers (triggers_from codec bytes.now) ts.old ids.old values.old
         ts.new ids.new values.new }

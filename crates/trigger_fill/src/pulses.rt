@@ -19,9 +19,9 @@ pub fn pulses(
     ids: &mut [u8],
     values: &mut [u8],
 ) -> usize
-    requires fact_1 { Known f }
-    requires fact_2 { Place f bytes.now start from }
-    requires fact_3 { length (pulses_from f start from bytes.now) ≤ shortest3 ts.old ids.old values.old }
+    requires known { Known f }
+    requires place { Place f bytes.now start from }
+    requires room { length (pulses_from f start from bytes.now) ≤ shortest3 ts.old ids.old values.old }
     ensures { (result ≡ length (pulses_from f start from bytes.now))
         × HandedTriggers (pulses_from f start from bytes.now) ts.old ids.old values.old
         ts.new ids.new values.new }

@@ -21,8 +21,8 @@ pub struct Times {
 
 // A word to a started decoder.
 pub fn tick(f: Form, c: Times, word: u64) -> Times
-    requires fact_1 { Known f }
-    requires fact_2 { Paced f 0 c }
+    requires known { Known f }
+    requires paced { Paced f 0 c }
     ensures { result ≡ ticked f c word }
 {
     let kind = bits(word, f.shift, 4);
@@ -48,8 +48,8 @@ pub fn tick(f: Form, c: Times, word: u64) -> Times
 
 // The coarse time of a time word that counts no loop.
 pub fn coarse(f: Form, c: Times, word: u64) -> u64
-    requires fact_1 { Known f }
-    requires fact_2 { Paced f 0 c }
+    requires known { Known f }
+    requires paced { Paced f 0 c }
     ensures { result ≡ low_in f word * f.grain + c.loops * f.period }
 {
     let raw = bits(word, f.from, f.width) * f.grain;
@@ -66,9 +66,9 @@ pub fn put(
     ids: &mut [u8],
     values: &mut [u8],
 ) -> usize
-    requires fact_1 { Known f }
-    requires fact_2 { Paced f 0 c }
-    requires fact_3 { at + length (triggered f c word) ≤ shortest3 ts.old ids.old values.old }
+    requires known { Known f }
+    requires paced { Paced f 0 c }
+    requires room { at + length (triggered f c word) ≤ shortest3 ts.old ids.old values.old }
     ensures { Put (triggered f c word) at result ts.old ids.old values.old
         ts.new ids.new values.new }
 {

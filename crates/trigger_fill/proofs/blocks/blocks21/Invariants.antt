@@ -1,0 +1,12 @@
+use Rattle.std.proofs.Common.{length, ◌-◌}
+use Rattle.evt_types.specs.Layout.{word_size21}
+use Rattle.trigger_fill.specs.Form.{form21}
+use Rattle.trigger_fill.specs.Calm.{notable}
+use Rattle.trigger_fill.specs.Follow.{Leading}
+use Rattle.trigger_fill.proofs.blocks.blocks21.Given as goal
+
+abbrev pub invariant-loop-i : goal.invariant-loop-i
+invariant-loop-i l = Leading (notable l.late form21) word_size21 l.s l.i
+
+abbrev pub decreases-loop-i : goal.decreases-loop-i
+decreases-loop-i l = length l.s - l.i

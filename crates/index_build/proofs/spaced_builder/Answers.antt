@@ -1,15 +1,9 @@
-use Rattle.std.proofs.Common.{arith, sym, ap}
-use Rattle.index_build.specs.Index.{body_at}
-use Rattle.index_build.specs.Build.{prepared_by}
-use Rattle.index_build.specs.Open.{spaced, outcome-short, ready_known, ready_none, ready_surveyed, ready_rest}
+use Rattle.index_build.specs.Open.{ready_known, ready_none, ready_surveyed, ready_rest}
 use Rattle.index_build.proofs.spaced_builder.Goals as goal
-
-
 
 pub survey-tally-requires : goal.survey-tally-requires
 survey-tally-requires c =
     ready_rest c.args.recording.now c.args.start c.args.encoding c.new-codec.result c.new-codec.ensures c.requires.0
-
 
 pub returns-then-tally-eq0 : goal.returns-then-tally-eq0
 returns-then-tally-eq0 c =
@@ -23,7 +17,6 @@ returns-then-tally-eq0 c =
     c.in-Unknown.is fresh.result fresh.ensures
     window.result window.ensures tally.result tally.ensures c.if-tally-eq0.true
 
-
 pub returns-in-Known : goal.returns-in-Known
 returns-in-Known c =
     let source = c.uncounted-source in
@@ -32,7 +25,6 @@ returns-in-Known c =
     ready_known a.recording.now a.start a.encoding a.size a.spacing a.room c.requires.0 c.requires.1.1
     need.result need.ensures c.if-room-need.false _ _ c.in-Known.is
     source.result source.ensures c.first_builder.result c.first_builder.ensures
-
 
 pub returns-else-tally-eq0 : goal.returns-else-tally-eq0
 returns-else-tally-eq0 c =

@@ -1,0 +1,18 @@
+use Rattle.std.proofs.Common.{length}
+use Rattle.index_build.specs.Index.{open_raw_outcome}
+use Rattle.index_build.specs.Open.{accepted_raw, builds, opens_built}
+use Rattle.index_open.proofs.open.Goals as goal
+
+pub make-requires : goal.make-requires
+make-requires c =
+    let a = c.args in
+    let room = length a.records.now in
+    (builds a.recording.now room (open_raw_outcome a.recording.now a.options room) (accepted_raw a.recording.now a.options room) c.in-Ready.first c.in-Ready.ensures).begun
+
+pub returns-in-Ready : goal.returns-in-Ready
+returns-in-Ready c =
+    let a = c.args in
+    let room = length a.records.now in
+    let outcome = open_raw_outcome a.recording.now a.options room in
+    let built = builds a.recording.now room outcome (accepted_raw a.recording.now a.options room) c.in-Ready.first c.in-Ready.ensures in
+    opens_built a.recording.now room outcome c.in-Ready.first built c.make.result a.records.now c.make.new.records c.make.ensures.is_answer c.make.ensures.laid

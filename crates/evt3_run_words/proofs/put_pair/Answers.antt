@@ -9,12 +9,6 @@ put16-requires c =
     let n = singles-length a.p a.xs.now a.i a.end c.requires.0.low c.requires.0.high in
     (omega arith, λ h. omega (arith, c.requires.3 h, n))
 
-pub put16-requires-2 : goal.put16-requires-2
-put16-requires-2 c =
-    let a = c.args in
-    let n = singles-length a.p a.xs.now a.i a.end c.requires.0.low c.requires.0.high in
-    (omega arith, λ h. omega (arith, c.requires.3 (omega arith), n))
-
 pub returns : goal.returns
 returns c =
     let a = c.args in

@@ -1,8 +1,8 @@
 use Rattle.std.proofs.Common.{refl, ◌∙◌, arith, length-append}
 use Rattle.laws_stream.specs.Part.{between}
-use Rattle.write_buffer.specs.Storing.{roomy_rest, sets_empty}
-use Rattle.evt3_lead_words.specs.Leads.{leads_bytes, leads_few}
-use Rattle.evt3_run_words.specs.Parts.{body-some, body_few, body-length, body_bytes}
+use Rattle.write_buffer.specs.Storing.{sets_empty}
+use Rattle.evt3_lead_words.specs.Leads.{leads_bytes}
+use Rattle.evt3_run_words.specs.Parts.{body-some, body-length, body_bytes}
 use Rattle.evt3_run_words.proofs.put_run.Goals as goal
 
 pub put_leads-a-requires : goal.put_leads-a-requires
@@ -16,27 +16,6 @@ put_leads-a-requires c =
         length-append (leads_bytes a.high a.low a.row a.t a.y) (body_bytes a.p (between a.xs.now a.i a.end)),
       ),
     )
-
-pub put_body-requires : goal.put_body-requires
-put_body-requires c =
-    let put = c.put_leads-a in
-    let a = c.args in
-    let p = c.requires.0 in
-    let few = leads_few a.high a.low a.row a.t a.y in (
-      record { low = p.low; high = p.high; few = p.few; place = omega arith },
-      c.requires.1,
-      c.requires.2,
-      roomy_rest a.out.now put.new.out a.at (leads_bytes a.high a.low a.row a.t a.y)
-          (body_bytes a.p (between a.xs.now a.i a.end)) put.ensures.place put.auto.out c.requires.3,
-    )
-
-pub overflow_add-result : goal.overflow_add-result
-overflow_add-result c =
-    let a = c.args in
-    let few = leads_few a.high a.low a.row a.t a.y in
-    let body = body_few a.p a.xs.now a.i a.end _ c.requires.1 c.requires.0.high refl in
-    let is = body-length a.p a.xs.now a.i a.end _ c.requires.1 c.requires.0.high refl in
-    omega arith
 
 pub returns-then-out-gt0 : goal.returns-then-out-gt0
 returns-then-out-gt0 c =

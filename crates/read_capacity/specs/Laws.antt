@@ -1,7 +1,6 @@
 -- A pass hands over no more than its bounds say, and what was written or needed is what specs/Deliver.antt defines.
-use Rattle.std.specs.Prelude.{◌≡◌, refl, Bool, true, false, ◌&&◌, List, [], ◌∷◌, ◌++◌, map, ℕ, suc, ◌-◌, ◌≤◌, ◌<◌, min, max, leb, ltb, ℤ, length, take, drop}
-use Rattle.std.proofs.Common.{ap, subst, ◌∙◌, arith, zero-add, mul_comm, leb-true, ltb-true, le-leb}
-use Rattle.std.proofs.lemmas.List.{length-map}
+use Rattle.std.specs.Prelude.{◌≡◌, refl, Bool, true, false, ◌&&◌, List, [], ◌∷◌, ℕ, suc, ◌-◌, ◌≤◌, ◌<◌, min, max, leb, ltb, ℤ, length, take}
+use Rattle.std.proofs.Common.{ap, subst, arith, mul_comm, leb-true, ltb-true, le-leb}
 use Rattle.std.proofs.lemmas.Bool.{lt-leb}
 use Rattle.evt_types.specs.{Columns.col_x, Columns.col_y, Columns.col_t, Columns.col_p, Columns.Wrote, Columns.Fits}
 use Rattle.evt_types.specs.{Event.Event}

@@ -44,7 +44,8 @@ module _ (win : Window) (no_end : 2 ^ 63 ≤ win.t1) (k most : ℕ) (few : most 
       ∙ ap (λ (v : View). handed_from win (k + p.count) v (drop (p.words * n) l)) (sym (view_codec c p.state)))
 
 -- and it can go on there
-pub ready_passed : (width height most k : ℕ) (c : Codec) (l : List ℕ) → length l ≤ 2 ^ 30 → k ≤ 2 ^ 33 → (r : CountedTo) → r ≡ counted_to_of width height most c l
+pub ready_passed : (width height most k : ℕ) (c : Codec) (l : List ℕ) → length l ≤ 2 ^ 30 → k ≤ 2 ^ 33
+    → (r : CountedTo) → r ≡ counted_to_of width height most c l
     → Bounded (length (drop r.at l)) r.codec → Ready r.codec (k + r.count) (length (drop r.at l))
 ready_passed width height most k c l long low r is b =
     let n = ap (λ (r : CountedTo). r.count) is ∙ passed-count width height most l c in

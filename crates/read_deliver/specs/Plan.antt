@@ -9,7 +9,7 @@ use Rattle.evt_types.specs.Event.{Event}
 use Rattle.read_count.specs.{declared.CountedTo.CountedTo, Count.counted_to_of}
 use Rattle.read_fill.specs.{Decode.inside_events, Decode.Bounded, Decode.Fitting, Laws.bounded_less, Laws.inside-bytes}
 use Rattle.read_window.specs.declared.Window.{Window}
-use Rattle.read_select.specs.{Pass.Able, Pass.Ready, Pass.handed_over, Uses.numbered_over, Uses.over-all}
+use Rattle.read_select.specs.{Pass.Able, Pass.Ready, Pass.handed_over, Uses.over-all}
 use Rattle.read_seek.specs.{declared.Sought.Sought, Seek.sought_of, Laws.sought_within, Laws.sought_from_lem, Laws.sought_upto, Laws.ready_there}
 use Rattle.read_deliver.specs.PassOver.{passed-within, passed_few, handed-passed, ready_passed}
 use Rattle.read_capacity.specs.{declared.Delivered.Delivered, Deliver.Delivers}

@@ -2,8 +2,8 @@
 use Rattle.std.specs.Prelude.{◌≡◌, refl, Bool, true, false, cond, List, [], ◌∷◌, ◌++◌, map, ℕ, ◌+◌, ◌≤◌, ◌<◌, ◌^◌, leb, ltb, eqb, ℤ, length, take, drop}
 use Rattle.std.proofs.Common.{sym, ap, ◌∙◌, arith, length-append, take_at, take_all, add-one, le-ltb, lt-ltb, leb-true, leb-false, ltb-false, ne_eqb}
 use Rattle.std.proofs.lemmas.List.{length-map}
-use Rattle.laws_stream.specs.{Mask.top, Order.greatest, Order.greatest-map, Slice.sift}
-use Rattle.evt_types.specs.declared.{Encoding.Encoding, Encoding.TheVariants.Evt2, Encoding.TheVariants.Evt3, Limit.Limit}
+use Rattle.laws_stream.specs.{Mask.top, Order.greatest, Order.greatest-map}
+use Rattle.evt_types.specs.declared.{Encoding.Encoding, Limit.Limit}
 use Rattle.evt_types.specs.declared.{Limit.TheVariants.Unlimited, Limit.TheVariants.AtMost, Refusal.Refusal, Refusal.TheVariants.InvalidSensorSize}
 use Rattle.evt_types.specs.declared.{Refusal.TheVariants.TooLong, Refusal.TheVariants.ColumnsTooShort, SensorSize.SensorSize}
 use Rattle.evt_types.specs.{declared.SensorSize.TheVariants.Unknown, declared.SensorSize.TheVariants.Known, Columns.col_x, Columns.col_y, Event.Event}
@@ -15,7 +15,6 @@ use Rattle.read_rules.specs.declared.{ReadAnswer.ReadAnswer, ReadAnswer.TheVaria
 use Rattle.read_capacity.specs.declared.{Delivered.Delivered, Delivered.TheVariants.Written, Delivered.TheVariants.Needed}
 use Rattle.read_capacity.specs.{Deliver.Delivers, Laws.handed_none}
 use Rattle.header.specs.declared.{HeaderAnswer.HeaderAnswer, HeaderAnswer.TheVariants.Header, HeaderAnswer.TheVariants.Refused as NoHeader}
-use Rattle.read_columns.specs.Inside.{inside}
 use Rattle.read_window.specs.declared.Window.{Window}
 use Rattle.read_select.specs.{Pass.Ready, Pass.handed_over, Uses.over-limit}
 use Rattle.evt_codec.specs.Sound.{able_range}

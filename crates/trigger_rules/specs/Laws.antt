@@ -25,7 +25,7 @@ use Rattle.read_select.specs.{declared.SurveyTotals.SurveyTotals, Pass.reading_b
 use Rattle.read_rules.specs.declared.ReadAnswer.{ReadAnswer}
 use Rattle.read_rules.specs.declared.ReadAnswer.TheVariants as R
 use Rattle.read_rules.specs.Read.{kept, ReadEvents, Reads, body_outcome, body_events, shortest}
-use Rattle.read_rules.specs.Laws.{sensor_of, window_of, ready_fresh}
+use Rattle.read_rules.specs.Laws.{sensor_of, window_of}
 use Rattle.read_rules.specs.Laws.{judged_of, words_fit, words_unfit, raw_fit, raw_unfit}
 use Rattle.read_rules.specs.declared.{Judged.TheVariants.Fit, Judged.TheVariants.Unfit, LoadOptions.LoadOptions}
 use Rattle.header.specs.declared.{HeaderAnswer.HeaderAnswer, HeaderAnswer.TheVariants.Header, HeaderAnswer.TheVariants.Refused as NoHeader}

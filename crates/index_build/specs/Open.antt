@@ -26,7 +26,8 @@ use Rattle.read_rules.specs.{Laws.ready_fresh, Read.width_of, Read.height_of, Re
 use Rattle.index_build.specs.declared.{Builder.Builder, Checkpoint.Checkpoint, OpenAnswer.OpenAnswer, OpenAnswer.TheVariants.Opened}
 use Rattle.index_build.specs.declared.{OpenAnswer.TheVariants.Refused, OpenOptions.OpenOptions, Prepared.Prepared, Prepared.TheVariants.Ready}
 use Rattle.index_build.specs.declared.{Prepared.TheVariants.Refused as NotReady, RawSliceSource.RawSliceSource, WordsOptions.WordsOptions}
-use Rattle.index_build.specs.Index.{kept_events, record_at, firsts, record_count, records_of, alignment, spacing_ok, Body, body_at, body_bytes, body_kept, need_of}
+use Rattle.index_build.specs.Index.{kept_events, record_at, firsts, record_count, records_of, alignment, spacing_ok, Body, body_at, body_bytes}
+use Rattle.index_build.specs.Index.{body_kept, need_of}
 use Rattle.index_build.specs.Index.{opening_of, records_by, index_outcome, open_after_header, open_raw_outcome, words_body, open_words_outcome}
 use Rattle.index_build.specs.Index.{open_answer, open_records}
 use Rattle.index_build.specs.{Index.Opens, Index.told_open, Index.told-answer, Laws.builder_start, Laws.Laid, Laws.laid_end}

@@ -1,6 +1,7 @@
 -- Opening into the first k records of a list says what becomes of the whole list.
 use Rattle.std.specs.Prelude.{◌≡◌, refl, ℕ, zero, suc, ◌+◌, ◌≤◌, min, ℤ, Bool, true, false, List, [], ◌∷◌, ◌++◌, length, take, drop, replicate, ltb}
-use Rattle.std.proofs.Common.{sym, ◌∙◌, ap, subst, not-suc-le-zero, le_of_suc-le-suc, arith, append_assoc, take-append-drop, length-append, length-take-le, take_all, ltb-true, ltb-false}
+use Rattle.std.proofs.Common.{sym, ◌∙◌, ap, subst, not-suc-le-zero, le_of_suc-le-suc, arith, append_assoc, take-append-drop, length-append}
+use Rattle.std.proofs.Common.{length-take-le, take_all, ltb-true, ltb-false}
 use Rattle.evt_types.specs.Outcome.{Outcome}
 use Rattle.index_build.specs.declared.{Checkpoint.Checkpoint, OpenAnswer.OpenAnswer, RawSliceSource.RawSliceSource}
 use Rattle.index_build.specs.Index.{Body, Opens, open_records}

@@ -1,5 +1,6 @@
 -- Judging the records one after another comes to rule 10, and what an index in range has: records in range, whose counts and times never fall.
-use Rattle.std.specs.Prelude.{◌≡◌, ℕ, suc, ◌+◌, ◌-◌, ◌^◌, ◌<◌, ◌≤◌, Bool, true, false, cond, not, ◌&&◌, leb, List, [], ◌∷◌, length, ℤ, pos, negsuc, ◌==◌, int_le, int_lt, nat_eq, nat_le, nat_lt}
+use Rattle.std.specs.Prelude.{◌≡◌, ℕ, suc, ◌+◌, ◌-◌, ◌^◌, ◌<◌, ◌≤◌, Bool, true, false, cond, not, ◌&&◌, leb, List, [], ◌∷◌, length, ℤ, pos, negsuc}
+use Rattle.std.specs.Prelude.{◌==◌, int_le, int_lt, nat_eq, nat_le, nat_lt}
 use Rattle.std.proofs.Math.Path.{refl}
 use Rattle.std.proofs.Common.{sym, ap, ◌∙◌, arith, ltb-true, ltb-false, leb-true, leb-false, eqb-true, lt-ltb, le-ltb, le-leb, eq-eqb, ne_eqb}
 use Rattle.std.proofs.Math.Bool.{and_assoc, and_comm}
@@ -112,7 +113,8 @@ judged_failed j (c ∷ cs) h = judged_failed (judged_of j c) cs (onward-ok j c (
     go false false = refl
 
 module _ (s : RawSliceSource) (small : s.spacing ≤ 4194304) where
-  failed : (j : Judging) (c : Checkpoint) (cs : List Checkpoint) (rest r : Bool) → admits_of j c ≡ r → r ≡ false → (judged_all (judged_of j c) cs).ok ≡ (r && rest)
+  failed : (j : Judging) (c : Checkpoint) (cs : List Checkpoint) (rest r : Bool) → admits_of j c ≡ r → r ≡ false
+      → (judged_all (judged_of j c) cs).ok ≡ (r && rest)
   failed j c cs rest r p q = judged_failed (judged_of j c) cs (onward-ok j c (admits_of j c) ∙ p ∙ q) ∙ sym (rw q)
 
   -- behind a record that is fine

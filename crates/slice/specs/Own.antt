@@ -1,7 +1,8 @@
 -- Slices over an index of the recording itself, its records unaltered: the index is in range, and slices are exact at every spacing.
 use Rattle.std.specs.Prelude.{◌≡◌, Bool, false, not, List, [], ◌∷◌, ◌++◌, ℤ, pos, length, take, drop}
 use Rattle.std.proofs.Math.Path.{refl, ap}
-use Rattle.std.proofs.Common.{sym, ◌∙◌, add-zero, zero-add, mul_assoc, length-append, take-append-drop, take-add, drop-drop, length-take-le, leb-true, ltb-true, lt-ltb, le-ltb, le-leb, eq-eqb}
+use Rattle.std.proofs.Common.{sym, ◌∙◌, add-zero, zero-add, mul_assoc, length-append, take-append-drop, take-add, drop-drop, length-take-le}
+use Rattle.std.proofs.Common.{leb-true, ltb-true, lt-ltb, le-ltb, le-leb, eq-eqb}
 use Rattle.std.proofs.Math.Bool.{true}
 use Prim.Native.Nat.{ℕ, zero, suc, ◌+◌, ◌-◌, ◌*◌, ◌/◌, ◌^◌, ◌≤◌, ◌<◌, max}
 use native.Mathlib.Omega.{arith}
@@ -53,7 +54,8 @@ starting : (p : Checkpoint → Bool) (g : Checkpoint → List Event) (f : ℕ �
     → ((j : ℕ) → j < n → p (f j) ≡ true → g (f j) ≡ es)
     → starting_at p g (firsts f n) ≡ es
 starting p g f zero es h a b = absurd (omega arith)
-starting p g f (suc n) es h a b = rw (firsts_up f (suc n)) (last_passes (λ c. g c ≡ es) p (f 0) (up_from f 1 n) a (all_up _ f 1 n (λ i _ lt. b i (omega arith))))
+starting p g f (suc n) es h a b =
+    rw (firsts_up f (suc n)) (last_passes (λ c. g c ≡ es) p (f 0) (up_from f 1 n) a (all_up _ f 1 n (λ i _ lt. b i (omega arith))))
 
 -- ---- events that count
 
@@ -62,7 +64,8 @@ kept_split : (size : SensorSize) (e : Encoding) (k : ℕ) (a b : List ℕ) → l
     → kept_events size e (a ++ b) ≡ kept_events size e a ++ kept size (events_from (codec_after (fresh_c e) a) b)
 kept_split Unknown e k a b h = events-append (fresh_c e) k a b h
 kept_split (Known w d) e k a b h =
-    ap (sift (inside w d)) (events-append (fresh_c e) k a b h) ∙ sift-append (inside w d) (events_from (fresh_c e) a) (events_from (codec_after (fresh_c e) a) b)
+    ap (sift (inside w d)) (events-append (fresh_c e) k a b h)
+    ∙ sift-append (inside w d) (events_from (fresh_c e) a) (events_from (codec_after (fresh_c e) a) b)
 
 kept-nil : (size : SensorSize) (e : Encoding) → kept_events size e [] ≡ []
 kept-nil Unknown e = events-nil (fresh_c e)

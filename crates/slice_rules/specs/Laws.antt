@@ -103,7 +103,8 @@ starts n s ok offset at e =
     record { place = a.0; fits = ltb-false most_bytes n long.0; spaced = spaced.0; ranged = (given_if tt ok _ _ spaced.1).0 }
 
 module _ (recording : List ℕ) (s : RawSliceSource) (ok : Bool) (es : List Event) (offset : ℕ) {xs₀ ys₀ : List ℕ} {ts₀ : List ℤ} {ps₀ : List ℕ} where
-  pub from_not : (why : Refusal) → Not why ≡ start_of (length recording) s ok offset → SlicesFrom recording s ok es (Refused why) xs₀ ys₀ ts₀ ps₀ xs₀ ys₀ ts₀ ps₀
+  pub from_not : (why : Refusal) → Not why ≡ start_of (length recording) s ok offset
+      → SlicesFrom recording s ok es (Refused why) xs₀ ys₀ ts₀ ps₀ xs₀ ys₀ ts₀ ps₀
   unfolding slice_outcome
   from_not why e = rw (start_refused (slice_check (length recording) s ok) (min offset (length recording)) why e) (slices {o = refuse why} refl handed_none)
 

@@ -7,7 +7,8 @@ pub make-requires : goal.make-requires
 make-requires c =
     let a = c.args in
     let room = length a.records.now in
-    (builds a.recording.now room (open_raw_outcome a.recording.now a.options room) (accepted_raw a.recording.now a.options room) c.in-Ready.first c.in-Ready.ensures).begun
+    let outcome = open_raw_outcome a.recording.now a.options room in
+    (builds a.recording.now room outcome (accepted_raw a.recording.now a.options room) c.in-Ready.first c.in-Ready.ensures).begun
 
 pub returns-in-Ready : goal.returns-in-Ready
 returns-in-Ready c =

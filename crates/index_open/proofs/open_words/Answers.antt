@@ -7,7 +7,8 @@ pub make-requires : goal.make-requires
 make-requires c =
     let a = c.args in
     let room = length a.records.now in
-    (builds a.words.now room (open_words_outcome a.words.now a.options room) (accepted-words a.words.now a.options room) c.in-Ready.first c.in-Ready.ensures).begun
+    let outcome = open_words_outcome a.words.now a.options room in
+    (builds a.words.now room outcome (accepted-words a.words.now a.options room) c.in-Ready.first c.in-Ready.ensures).begun
 
 pub returns-in-Ready : goal.returns-in-Ready
 returns-in-Ready c =

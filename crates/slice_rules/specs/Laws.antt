@@ -9,7 +9,6 @@ use Rattle.std.proofs.Math.Dec.{leb}
 use Rattle.std.specs.Int.Signed.{lt_z}
 use Rattle.std.proofs.Math.ListN.{length, drop, length-drop}
 use Rattle.laws_stream.specs.{Slice.sift, Select.by_number_lem, Part.rest_of}
-use Rattle.laws_stream.specs.Select as Select
 use Rattle.evt_types.specs.declared.Refusal.TheVariants.{InvalidSensorSize, TooLong, ColumnsTooShort, InvalidSpacing, StateOutOfRange}
 use Rattle.evt_codec.specs.{declared.codec.Codec.Codec, Reader.view, Codec.events_from, Sound.sound, Sound.able_range}
 use Rattle.evt_types.specs.{Event.Event, Num.most_bytes, Outcome.Outcome, Outcome.refuse, Outcome.give, Outcome.on_outcome, Outcome.given_if}

@@ -3,11 +3,12 @@ use Rattle.std.specs.Prelude.{◌≡◌, true, List, map, ℕ, suc, ◌*◌, ◌
 use Rattle.std.proofs.Common.{ap, ◌∙◌, mul-le-mul_right, arith}
 use Rattle.std.proofs.lemmas.List.{length-map}
 use Rattle.laws_stream.specs.{Machine.run, Words.words_of, Words.length-words}
-use Rattle.evt2_decoder.specs.{declared.Evt2Decoder.Evt2Decoder, Evt2.fresh2, Evt2.vector2, Evt2.in_range2, Evt2.few2, Range.Bounded2, Range.bounded_step2}
-use Rattle.evt2_decoder.specs.Range.{bounded_narrow2, bounded_range2, fresh_range_words2}
+use Rattle.evt2_decoder.specs.{declared.Evt2Decoder.Evt2Decoder, Evt2.fresh2, Evt2.vector2, Evt2.in_range2, Range.Bounded2}
+use Rattle.evt2_decoder.specs.Range.{bounded_range2}
 use Rattle.evt_types.specs.{Event.Narrow, Layout.word_size21, Layout.mask21, Layout.upper}
 use Rattle.evt21_decoder.specs.{declared.Evt21Decoder.Evt21Decoder, Evt21.as2, Evt21.fresh21, Evt21.step21, Evt21.vector21, Evt21.reader21}
 use Rattle.evt21_decoder.specs.Evt21.{in_range21, wide, run-wide2, run-upper}
+use Rattle.evt2_decoder.proofs.{Evt2Laws.few2, RangeLaws.bounded_narrow2, RangeLaws.bounded_step2, RangeLaws.fresh_range_words2}
 
 -- the decoder can take n words more, and no sum wraps
 abbrev pub Bounded21 : ℕ → Evt21Decoder → Type 0

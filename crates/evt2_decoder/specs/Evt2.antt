@@ -97,8 +97,3 @@ by_kinds P type true h e k = either P (eqb type 8) h (one (ltb type 2) refl)
     one true q = e refl (ltb-true type 2 q)
     one false q = k
 by_kinds P type false h e k = either P (eqb type 8) h k
-
--- a word has at most one event
-pub few2 : (d : Evt2Decoder) (w : ℕ) → (vector2 d w).mask < 2 ^ 1
-unfolding vector2
-few2 d w = by_kinds (λ k. (vector_as k d w).mask < 2 ^ 1) (type2 w) d.initialised (omega arith) (λ on q. omega arith) (omega arith)

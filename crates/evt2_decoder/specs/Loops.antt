@@ -1,11 +1,11 @@
 -- The time-loop law of EVT2: which time words a decoder reads as the times that were meant.
 use Rattle.std.specs.Prelude.{◌≡◌, refl, true, ℕ, suc, ◌+◌, ◌-◌, ◌*◌, ◌/◌, ◌%◌, ◌^◌, ◌≤◌, ◌<◌}
 use Rattle.std.proofs.Common.{arith}
-use Rattle.laws_stream.specs.Loop.{never_twice}
 use Rattle.evt2_decoder.specs.{declared.Evt2Decoder.Evt2Decoder, Evt2.period2, Evt2.threshold2, Evt2.step2, Evt2.in_range2, Evt2.time_word_lem}
 use Rattle.evt2_decoder.specs.{Range.regular_range2, Range.below2}
 use Rattle.evt_types.specs.Layout.{type2, time_high2, grain2, time_word2, time_type2, time_high2_lem}
 use Rattle.evt_types.specs.Tracking.{ticking_tracks}
+use Rattle.laws_stream.proofs.LoopLaws.{never_twice}
 
 -- a started decoder reads the time word of a coarse time t, from its own up to the period less the threshold later, as t
 pub tracks2 : (d : Evt2Decoder) (t : ℕ) → in_range2 d ≡ true → d.initialised ≡ true → t % grain2 ≡ 0

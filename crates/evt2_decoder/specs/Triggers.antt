@@ -1,11 +1,10 @@
 -- EVT2: the trigger that a word carries.
-use Rattle.std.specs.Prelude.{◌≡◌, refl, List, ℕ, ◌+◌, ◌≤◌, length}
-use Rattle.std.proofs.Common.{ap, ◌∙◌, arith}
+use Rattle.std.specs.Prelude.{◌≡◌, List, ℕ, ◌+◌, ◌≤◌, length}
+use Rattle.std.proofs.Common.{arith}
 use Rattle.laws_stream.specs.{Machine.Machine, Beside.emitting}
-use Rattle.evt_types.specs.{Event.events_of, Event.no_events_lem, Event.no_events, Trigger.Trigger, Trigger.Small, Trigger.trigger_if, Trigger.trigger_few}
-use Rattle.evt_types.specs.Trigger.{NoTriggerMatters, without_triggers}
-use Rattle.evt_types.specs.Layout.{type2, time_low2, trigger_id2, trigger_value2, trigger_type}
-use Rattle.evt2_decoder.specs.{declared.Evt2Decoder.Evt2Decoder, Evt2.step2, Evt2.vector2, Evt2.reader2, Evt2.other_word, Range.Bounded2, Range.below2}
+use Rattle.evt_types.specs.Trigger.{Trigger, Small, trigger_if, trigger_few}
+use Rattle.evt_types.specs.Layout.{type2, time_low2, trigger_id2, trigger_value2}
+use Rattle.evt2_decoder.specs.{declared.Evt2Decoder.Evt2Decoder, Evt2.reader2, Range.Bounded2, Range.below2}
 
 -- its own low bits give its time
 abbrev pub trigger_in2 : Evt2Decoder → ℕ → Trigger
@@ -23,13 +22,6 @@ trigger_fields2 d w is-k is_t is-i is-v = rw (is-k, is_t, is-i, is-v)
 -- the same states as the events' machine
 abbrev pub triggers2 : Machine Evt2Decoder ℕ Trigger
 triggers2 = emitting reader2 trigger2
-
--- a trigger word leaves the decoder as it is, its time too, and carries no event
-pub trigger_alone2 : (d : Evt2Decoder) (w : ℕ) → type2 w ≡ trigger_type → (step2 d w ≡ d) × (vector2 d w ≡ no_events)
-trigger_alone2 d w h = other_word d w (type2 w) refl (λ e. absurd (omega arith)) (omega arith)
-
-pub without_triggers2 : NoTriggerMatters reader2 type2
-without_triggers2 = without_triggers reader2 type2 (λ d w h. let a = trigger_alone2 d w h in (a.0, ap events_of a.1 ∙ no_events_lem))
 
 pub few_triggers2 : (d : Evt2Decoder) (w : ℕ) → length (trigger2 d w) ≤ 1
 unfolding trigger2

@@ -1,10 +1,10 @@
 -- The time-loop law of EVT3: which time words a decoder reads as the times that were meant.
 use Rattle.std.specs.Prelude.{◌≡◌, refl, Bool, true, false, ℕ, suc, ◌+◌, ◌-◌, ◌*◌, ◌/◌, ◌%◌, ◌≤◌, ◌<◌}
 use Rattle.std.proofs.Common.{arith}
-use Rattle.laws_stream.specs.Loop.{never_twice}
 use Rattle.evt3_decoder.specs.{declared.Decoder.Decoder, Evt3.period3, Evt3.threshold3, Evt3.step3, Evt3.in_range3, Evt3.started_word}
 use Rattle.evt3_decoder.specs.{Evt3.first_word, Range.regular_range3, Range.below3}
 use Rattle.evt_types.specs.{Layout.type3, Layout.time3, Layout.grain3, Layout.word3, Layout.word-type3, Layout.word-time3, Tracking.ticking_tracks}
+use Rattle.laws_stream.proofs.LoopLaws.{never_twice}
 
 -- a started decoder reads the time word of a coarse time t, from its own up to the period less the threshold later, as t
 pub tracks3 : (d : Decoder) (t : ℕ) → in_range3 d ≡ true → d.initialised ≡ true → t % grain3 ≡ 0

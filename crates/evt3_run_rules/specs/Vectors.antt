@@ -1,9 +1,10 @@
 -- The events of a vector whose mask was made of rising columns.
 use Rattle.std.specs.Prelude.{◌≡◌, refl, List, [], ◌∷◌, map, ℕ, suc, ◌+◌, ◌≤◌, min}
 use Rattle.std.proofs.Common.{ap, ◌∙◌, arith}
-use Rattle.laws_stream.specs.Mask.{Inc, mask, bits, bits-mask}
+use Rattle.laws_stream.specs.Mask.{Inc, mask, bits}
 use Rattle.evt_types.specs.{Event.event_at, Event.events_of, declared.vector.Vector.Vector}
 use Rattle.evt3_run_rules.specs.Runs.{spread}
+use Rattle.laws_stream.proofs.MaskLaws.{bits-mask}
 
 -- none is saturated
 spread_at : (v : Vector) (at to : ℕ) (xs : List ℕ) → to ≤ 65536 → Inc at to xs → map (event_at v) xs ≡ spread v.t v.y v.p xs

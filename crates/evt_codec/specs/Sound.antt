@@ -2,25 +2,31 @@
 -- events than is said.
 use Rattle.std.specs.Prelude.{◌≡◌, refl, Bool, true, false, List, [], ℕ, suc, ◌+◌, ◌*◌, ◌/◌, ◌^◌, ◌≤◌, ◌<◌, length}
 use Rattle.std.proofs.Common.{sym, ap, subst, ◌∙◌, true≢false, arith, zero-mul, lt-ltb}
-use Rattle.laws_stream.specs.{Machine.All, Loop.loops_one, Stream.after, Words.words_of, Words.length-words}
+use Rattle.laws_stream.specs.{Machine.All, Stream.after, Words.words_of, Words.length-words}
 use Rattle.evt_types.specs.{declared.Encoding.Encoding, declared.vector.Vector.Vector, Event.events_of, Event.events_timed, Event.events-masked, Event.Narrow}
 use Rattle.evt_types.specs.{Event.no_events, Event.no_events_lem, Trigger.Trigger, Trigger.trigger_if, Trigger.trigger_other}
 use Rattle.evt_types.specs.Layout.{type2, time_low2, type3, time3, grain3, trigger_type, upper, upper_type, mask21}
 use Rattle.evt_types.specs.declared.Encoding.TheVariants as E
 use Rattle.evt2_decoder.specs.{declared.Evt2Decoder.Evt2Decoder, Evt2.step2, Evt2.vector2, Triggers.few_triggers2, Triggers.trigger2, Triggers.trigger_in2}
-use Rattle.evt2_decoder.specs.{Triggers.trigger_alone2, Range.Bounded2, Range.bounded_step2, Range.bounded_narrow2}
-use Rattle.evt2_decoder.specs.Range.{regular_step2, bounded_range2, fresh_range2}
+use Rattle.evt2_decoder.specs.Range.{Bounded2}
+use Rattle.evt2_decoder.specs.Range.{bounded_range2}
 use Rattle.evt21_decoder.specs.{declared.Evt21Decoder.Evt21Decoder, Evt21.as2, Evt21.wide, Evt21.vector21, Range.few21, Range.bounded_step21}
 use Rattle.evt21_decoder.specs.{Range.bounded_narrow21}
 use Rattle.evt21_decoder.specs.{Range.bounded_range21, Range.fresh_range21, Triggers.trigger21, Triggers.few_triggers21, Triggers.trigger_alone21}
 use Rattle.evt3_decoder.specs.{declared.Decoder.Decoder, Evt3.step3, Evt3.vector3, Evt3.period3, Evt3.threshold3, Triggers.few_triggers3, Triggers.trigger3}
-use Rattle.evt3_decoder.specs.{Triggers.trigger_in3, Triggers.trigger_alone3}
-use Rattle.evt3_decoder.specs.{Range.Paced3, Range.bounded_step3, Range.bounded_narrow3, Range.regular_range3, Range.regular_step3, Range.fresh_range3}
+use Rattle.evt3_decoder.specs.Triggers.{trigger_in3}
+use Rattle.evt3_decoder.specs.Range.{Paced3, regular_range3}
 use Rattle.evt2_decoder.specs.Evt2 as Evt2
 use Rattle.evt3_decoder.specs.Evt3 as Evt3
 use Rattle.evt_codec.specs.declared.{codec.Codec.Codec, codec.Codec.TheVariants.Evt2, codec.Codec.TheVariants.Evt21, codec.Codec.TheVariants.Evt3}
 use Rattle.evt_codec.specs.Reader.{Reader, carries2, carries21, carries_as, carries3, evt2, evt21, evt3, reader_of, view}
 use Rattle.evt_codec.specs.Codec.{word_size, in_range_c, Bounded, Able, Fitting}
+use Rattle.laws_stream.proofs.LoopLaws.{loops_one}
+use Rattle.evt2_decoder.proofs.Evt2Laws.{few2}
+use Rattle.evt2_decoder.proofs.{RangeLaws.bounded_narrow2, RangeLaws.bounded_step2, RangeLaws.fresh_range2, RangeLaws.regular_step2}
+use Rattle.evt2_decoder.proofs.{TriggersLaws.trigger_alone2}
+use Rattle.evt3_decoder.proofs.{RangeLaws.bounded_narrow3, RangeLaws.bounded_step3, RangeLaws.fresh_range3, RangeLaws.regular_step3}
+use Rattle.evt3_decoder.proofs.{TriggersLaws.trigger_alone3}
 
 pub record Sound (R : Reader) : Type 0 where
   pub some : 0 < R.size
@@ -91,7 +97,7 @@ pub sound2 : Sound evt2
 sound2 = record {
   some = omega arith;
   emits = λ d w. refl;
-  few = Evt2.few2;
+  few = few2;
   spread = λ n. omega arith;
   few_triggers = few_triggers2;
   apart = apart2;

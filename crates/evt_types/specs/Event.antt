@@ -4,9 +4,10 @@ use Rattle.std.proofs.Common.{ap, arith, eqb-true}
 use Rattle.std.specs.Int.Bits.{bit_and}
 use Rattle.std.specs.Int.Count.{count_trailing_zeros}
 use Rattle.std.proofs.lemmas.Bool.{eqb-false}
-use Rattle.laws_stream.specs.{Machine.All, Machine.all_of, Machine.all_mapped, Mask.bits, Mask.bits-zero, Mask.low_bit}
+use Rattle.laws_stream.specs.{Machine.All, Machine.all_of, Machine.all_mapped, Mask.bits, Mask.bits-zero}
 use Rattle.evt_types.specs.declared.{RawEvent.RawEvent, vector.EventVector.EventVector, vector.NextEvent.NextEvent}
 use Rattle.evt_types.specs.declared.{vector.NextEvent.TheVariants.Nothing, vector.NextEvent.TheVariants.Event as First, vector.Vector.Vector}
+use Rattle.laws_stream.proofs.MaskLaws.{low_bit}
 
 -- column x, row y, time t in microseconds, polarity p (0 or 1)
 pub record Event : Type 0 where

@@ -326,9 +326,6 @@ module _ (w : ℕ) where
   pub upper-value : trigger_value2 (upper w) ≡ trigger_value21 w
   upper-value = omega arith
 
-  upper_unused : (field 21 13 (upper w) ≡ field 53 45 w) × (field 7 1 (upper w) ≡ field 39 33 w)
-  upper_unused = (omega arith, omega arith)
-
   pub upper_fits : w < 2 ^ 64 → upper w < 2 ^ 32
   upper_fits h = omega arith
 
@@ -364,9 +361,3 @@ module _ (w : ℕ) (w< : w < 2 ^ 64) where
   time_whole21 t m =
       let e = time_whole2 (upper w) (upper_fits w w<) (upper_type w ∙ t) in
       omega (arith, e, upper_time w, halves w)
-
-  pub trigger_whole21 : type21 w ≡ trigger_type → field 53 45 w ≡ 0 → field 39 33 w ≡ 0 → mask21 w ≡ 0
-      → trigger_word21 (time_low21 w) (trigger_id21 w) (trigger_value21 w) ≡ w
-  trigger_whole21 t a b m =
-      let e = trigger_whole2 (upper w) (upper_fits w w<) (upper_type w ∙ t) ((upper_unused w).0 ∙ a) ((upper_unused w).1 ∙ b) in
-      omega (arith, e, upper_low w, upper_id w, upper-value w, halves w)

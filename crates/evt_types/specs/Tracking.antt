@@ -1,8 +1,9 @@
 -- A clock in its period reads a time word for a later coarse time as that time: the time-loop law for any clock that is k grains to a period.
 use Rattle.std.specs.Prelude.{◌≡◌, ℕ, suc, ◌+◌, ◌*◌, ◌/◌, ◌%◌, ◌≤◌, ◌<◌}
 use Rattle.std.proofs.Common.{arith, le-div_iff_mul-le, div-lt_iff_lt-mul}
-use Rattle.laws_stream.specs.Loop.{loops_after, time_after, tracks}
+use Rattle.laws_stream.specs.Loop.{loops_after, time_after}
 use Rattle.evt_types.specs.Clock.{Ticking}
+use Rattle.laws_stream.proofs.LoopLaws.{tracks}
 
 module _ (k grain threshold : ℕ) (more : 0 < k * grain) (some : 0 < threshold) where
   pub ticking_tracks : (coarse time loops raw t : ℕ) → Ticking k grain coarse time loops → raw ≡ t % (k * grain)

@@ -12,7 +12,8 @@ use Rattle.evt_types.specs.Num.{most_bytes}
 use Rattle.evt_types.specs.Outcome.{refuse, give}
 use Rattle.header.specs.Notes.{seen_of, note_line, note_all, blank_note, scan_of, name_of}
 use Rattle.header_text.specs.Cases.{by_bool}
-use Rattle.header.specs.Laws.{header_part, body-within, verdict_of}
+use Rattle.header.specs.Laws.{verdict_of}
+use Rattle.header.proofs.HeaderLaws.{body-within, header_part}
 
 note_read : (said : Said) (l : List ℕ) → note_line (seen_of said) l ≡ seen_of (read_line said l)
 unfolding note_line read_line

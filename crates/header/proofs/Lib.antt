@@ -1,3 +1,4 @@
 pub mod LineLaws
 pub mod AnswerLaws
 pub mod Examples
+pub mod HeaderLaws

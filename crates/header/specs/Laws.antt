@@ -1,21 +1,21 @@
 -- Laws of the definitions that callers cite: the header is a part of the recording, where an end line stands in it, one that doesn't name EVT2.1,
 -- the verdict is what the answer tells, answers are told apart, and what an acceptance says.
-use Rattle.std.specs.Prelude.{ℕ, ◌≤◌, ◌≡◌, refl, List, [], ◌∷◌, ◌++◌, Bool, true, false, cond, ◌||◌, length, take, get_or, ltb, eqb}
-use Rattle.std.proofs.Common.{sym, ◌∙◌, ap, append_assoc, append-nil, arith, length-take, take_at, ltb-false}
+use Rattle.std.specs.Prelude.{ℕ, ◌≤◌, ◌≡◌, refl, List, [], ◌∷◌, ◌++◌, Bool, true, false, cond, ◌||◌, length, get_or, ltb, eqb}
+use Rattle.std.proofs.Common.{sym, ◌∙◌, ap, arith}
 use Rattle.evt_types.specs.declared.{Encoding.Encoding, Encoding.TheVariants.Evt2, Encoding.TheVariants.Evt21, Encoding.TheVariants.Evt3}
-use Rattle.evt_types.specs.declared.Refusal.TheVariants.{UnknownEncoding, HeaderNotAscii, TooLong}
+use Rattle.evt_types.specs.declared.Refusal.TheVariants.{HeaderNotAscii, TooLong}
 use Rattle.evt_types.specs.declared.{SensorSize.SensorSize, SensorSize.TheVariants.Unknown, SensorSize.TheVariants.Known}
 use Rattle.evt_types.specs.Told.{Told, told, told-apart, told-numbered, naturals, accepted-naturals}
 use Rattle.header.specs.declared.{HeaderAnswer.HeaderAnswer, HeaderAnswer.TheVariants.Header, HeaderAnswer.TheVariants.Refused, Named.Named}
 use Rattle.header.specs.declared.{Named.TheVariants.As, Named.TheVariants.Nothing}
 use Rattle.header.specs.declared.Header as header
 use Rattle.header_text.specs.{Cases.by_bool, Text.not_ascii, Text.any, Text.begins}
-use Rattle.header.specs.Lines.{is_end, joined, lines_of, starts_percent, leading, through_end, header_lines, joined_lines, header_bytes, body_start}
+use Rattle.header.specs.Lines.{is_end, joined, lines_of, leading, through_end, header_lines, joined_lines, header_bytes, body_start}
 use Rattle.header.specs.Header.{evt2, evt21, evt3, two, two_one_lem, three, Said, said_by, encoding_of, size_that_holds, has_zero, size_values, header_values}
 use Rattle.header.specs.Header.{told_header, with_encoding, lines_outcome, header_outcome, answer_by, header_of, header_verdict}
 use Rattle.evt_types.specs.Num.{most_bytes, encoding_number}
 use Rattle.laws_stream.specs.Machine.{All}
-use Rattle.evt_types.specs.Outcome.{Outcome, refuse, give, verdict, never_given, given-unless}
+use Rattle.evt_types.specs.Outcome.{Outcome, refuse, give, verdict}
 
 -- ---- the header is a part of the recording
 
@@ -30,36 +30,6 @@ lines_whole [] = refl
 lines_whole (b ∷ s) =
     by_bool (eqb b 10) (λ e. rw e (ap (λ (t : List ℕ). b ∷ t) (lines_whole s)))
     (λ e. rw e (bytes-joined b (lines_of s) ∙ ap (λ (t : List ℕ). b ∷ t) (lines_whole s)))
-
-leading-part : (ls : List (List ℕ)) → (t : List ℕ) × (joined_lines ls ≡ joined_lines (leading ls) ++ t)
-unfolding joined_lines leading
-leading-part [] = ([], refl)
-leading-part (l ∷ ls) =
-    let r = leading-part ls in
-    by_bool (starts_percent l) (λ e. (r.0, rw e (ap (λ (t : List ℕ). l ++ t) r.1 ∙ sym (append_assoc l (joined_lines (leading ls)) r.0))))
-    (λ e. (l ++ joined_lines ls, rw e))
-
-through_part : (ls : List (List ℕ)) → (t : List ℕ) × (joined_lines ls ≡ joined_lines (through_end ls) ++ t)
-unfolding joined_lines through_end
-through_part [] = ([], refl)
-through_part (l ∷ ls) =
-    let r = through_part ls in
-    by_bool (is_end l) (λ e. (joined_lines ls, rw e (ap (λ (t : List ℕ). t ++ joined_lines ls) (sym (append-nil l)))))
-    (λ e. (r.0, rw e (ap (λ (t : List ℕ). l ++ t) r.1 ∙ sym (append_assoc l (joined_lines (through_end ls)) r.0))))
-
-pub header_part : (s : List ℕ) → take (body_start s) s ≡ header_bytes s
-unfolding body_start header_bytes header_lines
-header_part s =
-    let r = leading-part (lines_of s) in
-    let q = through_part (leading (lines_of s)) in
-    let front = joined_lines (through_end (leading (lines_of s))) in
-    let e : s ≡ front ++ (q.0 ++ r.0) =
-    sym (lines_whole s) ∙ r.1 ∙ ap (λ (t : List ℕ). t ++ r.0) q.1 ∙ append_assoc front q.0 r.0 in
-    ap (take (length front)) e ∙ take_at front (q.0 ++ r.0) _ refl
-
-pub body-within : (s : List ℕ) → body_start s ≤ length s
-unfolding body_start
-body-within s = omega (arith, length-take (body_start s) s, ap length (header_part s))
 
 -- ---- where an end line stands
 
@@ -78,10 +48,6 @@ lines_as_before s = all_through (leading (lines_of s))
     all_through [] h = refl
     all_through (l ∷ []) h = by_bool (is_end l) (λ e. rw e) (λ e. rw e)
     all_through (l ∷ m ∷ ls) h = rw h.0 (ap (λ (k : List (List ℕ)). l ∷ k) (all_through (m ∷ ls) h.1))
-
-pub as_before : (s : List ℕ) (given : SensorSize) → NoLineBehind (leading (lines_of s))
-    → header_outcome s given ≡ lines_outcome (length s) (leading (lines_of s)) given
-as_before s given h = rw (lines_as_before s h)
 
 -- THE FIRST END LINE is the last of the header, whatever stands behind it
 pub at-end : (s : List ℕ) (before : List (List ℕ)) (l : List ℕ) (behind : List (List ℕ)) → leading (lines_of s) ≡ before ++ l ∷ behind
@@ -164,36 +130,6 @@ pub record Accepted (s : List ℕ) (given : SensorSize) (h : header.Header) : Ty
   pub within : h.data_offset ≤ length s
   pub size : h.sensor_size ≡ size_that_holds given (said_by s).size
   pub positive : has_zero h.sensor_size ≡ false
-
-given_by : (o : Outcome header.Header) (h : header.Header) → answer_by o ≡ Header h → o ≡ give h
-given_by (refuse r) h e = let no : ◌≡◌ {A = ℕ} 0 1 = cc in absurd (omega arith)
-given_by (give g) h e = cc
-
-named_by : (at : ℕ) (size : SensorSize) (n : Named) (h : header.Header) → with_encoding at size n ≡ give h
-    → (has_zero size ≡ false) × ((at ≡ h.data_offset) × (size ≡ h.sensor_size))
-unfolding with_encoding
-named_by at size Nothing h e = never_given h UnknownEncoding e
-named_by at size (As n) h e =
-    let z = given-unless h (has_zero size) _ _ e in
-    let k : record { data_offset = at; sensor_size = size; encoding = n } ≡ h = same-given _ h z.1 in
-    (z.0, (ap (λ (x : header.Header). x.data_offset) k, ap (λ (x : header.Header). x.sensor_size) k))
-  where
-    same-given : (g h : header.Header) → give g ≡ give h → g ≡ h
-    same-given g h e = cc
-
-pub of_accepted : (s : List ℕ) (given : SensorSize) (h : header.Header) → header_of s given ≡ Header h → Accepted s given h
-unfolding header_of lines_outcome header_bytes body_start said_by
-of_accepted s given h e =
-    let a = given-unless h (ltb most_bytes (length s)) _ _ (given_by (header_outcome s given) h e) in
-    let b = given-unless h (any not_ascii (header_bytes s)) _ _ a.1 in
-    let k = named_by (body_start s) (size_that_holds given (said_by s).size) (encoding_of (said_by s)) h b.1 in
-    record {
-      short = ltb-false most_bytes (length s) a.0;
-      start = sym k.1.0;
-      within = omega (arith, body-within s, k.1.0);
-      size = sym k.1.1;
-      positive = ap has_zero (sym k.1.1) ∙ k.0;
-    }
 
 -- a header is refused by 1 to 4
 pub header_four : (s : List ℕ) (given : SensorSize) → (told_header (header_of s given)).number ≤ 4

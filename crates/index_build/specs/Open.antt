@@ -18,7 +18,7 @@ use Rattle.read_columns.specs.Inside.{clock}
 use Rattle.read_fill.specs.{Decode.inside_events, Laws.bounded_fresh, Laws.all-inside, Laws.inside-bytes}
 use Rattle.header.specs.declared.Header as header
 use Rattle.header.specs.declared.{HeaderAnswer.HeaderAnswer, HeaderAnswer.TheVariants.Header, HeaderAnswer.TheVariants.Refused as NoHeader}
-use Rattle.header.specs.{Header.has_zero, Header.header_of, Laws.of_accepted}
+use Rattle.header.specs.Header.{has_zero, header_of}
 use Rattle.read_select.specs.{declared.SurveyTotals.SurveyTotals, Pass.Ready as ReadyFor, Pass.handed_over, Pass.surveyed, Uses.numbered_over}
 use Rattle.read_select.specs.{Uses.over-all}
 use Rattle.read_window.specs.declared.Window.{Window}
@@ -32,6 +32,7 @@ use Rattle.index_build.specs.Index.{opening_of, records_by, index_outcome, open_
 use Rattle.index_build.specs.Index.{open_answer, open_records}
 use Rattle.index_build.specs.{Index.Opens, Index.told_open, Index.told-answer, Laws.builder_start, Laws.Laid, Laws.laid_end}
 use Rattle.index_build.specs.Build.{Begun, builder_at, made_at, span_width, span_height, whole_window, first_for, uncounted, first_of, prepared_by, concluded}
+use Rattle.header.proofs.HeaderLaws.{of_accepted}
 
 -- ---- spacing and counts
 

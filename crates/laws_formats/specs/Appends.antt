@@ -3,9 +3,9 @@
 use Rattle.std.specs.Prelude.{◌≡◌, refl, Bool, true, List, [], ◌∷◌, ◌++◌, ℕ, ◌*◌, ◌/◌, ◌≤◌, take, drop}
 use Rattle.std.proofs.Common.{sym, ap, subst, ◌∙◌, append-nil, lt-ltb}
 use Rattle.laws_stream.specs.Machine.{Note, All, all_of, run, emits, words, notes, words_append, notes-append, words_take, says_take, says_fits}
-use Rattle.laws_stream.specs.{Words.Fits, Words.stream, Words.stream-append, Words.words_of, Words.words_of-take, Format.Format}
+use Rattle.laws_stream.specs.{Words.Fits, Words.stream, Words.stream-append, Words.words_of, Format.Format}
 use Rattle.laws_stream.specs.{Format.Lawful, Format.Good, Format.givens, Format.writes, Format.resumes, Format.ready_after, Stream.noted_bytes, Stream.after}
-use Rattle.laws_stream.specs.{Stream.decode-whole, Stream.decode_cut, Stream.bytes_resumed, Stream.good_timed, Order.Rise, Slice.Past}
+use Rattle.laws_stream.specs.{Stream.bytes_resumed, Order.Rise, Slice.Past}
 use Rattle.laws_stream.specs.{Slice.within, Slice.reached, Slice.over_time, Slice.says_past}
 use Rattle.evt_types.specs.{declared.Encoding.Encoding, Event.Event}
 use Rattle.evt_codec.specs.Codec.{events_from}
@@ -18,6 +18,7 @@ use Rattle.laws_formats.specs.Ready.{sayable, sayable-true}
 use Rattle.laws_formats.specs.Either.{StateOf, codec_of, fresh_of, appender, ReadyOf, AgreeOf, format_of, lawful_of, events_are, fresh_ready}
 use Rattle.laws_formats.specs.Either.{ready_ahead, past-over}
 use Rattle.evt_codec.specs.Reader.{reader_of}
+use Rattle.laws_stream.proofs.{StreamLaws.decode-whole, StreamLaws.decode_cut, StreamLaws.good_timed, WordsLaws.words_of-take}
 
 -- all the events of some appends
 abbrev pub flat : List (List Event) → List Event

@@ -1,7 +1,7 @@
 -- EVT2: the decoder understands the writer.
 use Rattle.std.specs.Prelude.{◌≡◌, refl, Bool, true, false, List, [], ◌∷◌, ◌++◌, ℕ, ◌+◌, ◌*◌, ◌/◌, ◌%◌, ◌^◌, ◌≤◌, ◌<◌}
 use Rattle.std.proofs.Common.{ap, ◌∙◌, arith}
-use Rattle.laws_stream.specs.{Machine.run, Machine.words, Format.Format, Format.Lawful, Format.Good, Loop.tracks_same, Order.rise_first}
+use Rattle.laws_stream.specs.{Machine.run, Machine.words, Format.Format, Format.Lawful, Format.Good, Order.rise_first}
 use Rattle.evt_types.specs.{declared.Encoding.TheVariants.Evt2, Event.Event, Event.events_of, Event.no_events}
 use Rattle.evt2_decoder.specs.declared.Evt2Decoder.{Evt2Decoder}
 use Rattle.evt_types.specs.Layout.{type2, time_low2, x2, y2, event-type2, event_low2, event-x2, event-y2, event_fits2, time_type2, time_high2_lem, time_fits2}
@@ -13,6 +13,7 @@ use Rattle.write_buffer.specs.{declared.EncoderState.EncoderState, Sent.carries,
 use Rattle.evt2_encoder.specs.Evt2.{high_word2, word_of2, high_sent2, encode2, writer2, encode_notes2}
 use Rattle.evt_codec.specs.Reader.{evt2}
 use Rattle.laws_formats.specs.Ready.{format_by, limit, sayable, Ready, IfSent, holds_sent, Sayable, sayable-true, no_event, one-event}
+use Rattle.laws_stream.proofs.LoopLaws.{tracks_same}
 
 abbrev pub Ready2 : Evt2Decoder → List Event → Type 0
 Ready2 d es = Ready period2 d.time_high d.time d.high_loops es

@@ -6,7 +6,6 @@ use Rattle.std.proofs.Math.Bool.{true, false}
 use mathlib.Core.List.{List, [], ◌∷◌, ◌++◌, append_assoc}
 use Prim.Native.Nat.{ℕ, zero, suc, ◌+◌, ◌-◌, ◌*◌, ◌/◌, ◌%◌, ◌^◌, ◌≤◌, ◌<◌, min}
 use Rattle.laws_stream.specs.{Machine.Note, Machine.run, Machine.words, Machine.notes, Machine.notes-append, Format.Format, Format.Lawful, Format.Good}
-use Rattle.laws_stream.specs.Loop.{tracks_same, tracks_next}
 use Rattle.laws_stream.specs.{Mask.Inc, Mask.mask, Mask.mask_lt, Order.Rise, Order.rise_from, Order.rise_suffix}
 use Rattle.evt_types.specs.{declared.Sent.Sent, declared.Sent.TheVariants.Nothing, declared.Sent.TheVariants.Value, Event.Event, Layout.word3}
 use Rattle.evt_types.specs.{Event.events_of, Layout.column-polarity3, Layout.column-x3, Layout.column_fits3}
@@ -25,6 +24,7 @@ use Rattle.write_words.specs.Laws.{reach, spread_is, none_left, singles-notes, m
 use Rattle.write_words.specs.Laws.{encode_notes3}
 use Rattle.evt_codec.specs.Reader.{evt3}
 use Rattle.laws_formats.specs.Ready.{format_by, limit, sayable, Ready, IfSent, holds_sent, Sayable, sayable-true, no_event, one-event}
+use Rattle.laws_stream.proofs.LoopLaws.{tracks_next, tracks_same}
 
 abbrev pub Ready3 : Decoder → List Event → Type 0
 Ready3 d es = Ready period3 d.time_base d.time d.high_loops es

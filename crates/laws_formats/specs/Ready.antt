@@ -1,12 +1,13 @@
 -- Events that an encoding can say, and a decoder that is ready for them.
 use Rattle.std.specs.Prelude.{◌≡◌, Bool, true, ◌&&◌, List, [], ◌∷◌, ℕ, ◌/◌, ◌^◌, ◌≤◌, ◌<◌, min, leb, ltb}
 use Rattle.std.proofs.Common.{sym, subst, true≢false, arith, leb-true, ltb-true, eqb-true}
-use Rattle.laws_stream.specs.{Machine.Machine, Machine.Note, Machine.and_both, Format.Format, Mask.bits-zero, Mask.bits-one, Order.Rise}
+use Rattle.laws_stream.specs.{Machine.Machine, Machine.Note, Machine.and_both, Format.Format, Mask.bits-zero, Order.Rise}
 use Rattle.evt_types.specs.{declared.Sent.Sent, declared.Sent.TheVariants.Nothing, declared.Sent.TheVariants.Value, Event.Event, Event.events_of}
 use Rattle.evt_types.specs.Event.{no_events}
 use Rattle.evt_codec.specs.Reader.{Reader}
 use Rattle.read_columns.specs.Inside.{clock}
 use Rattle.write_buffer.specs.{declared.EncoderState.EncoderState, Columns.event, Sent.fresh_state, Sent.sent_is}
+use Rattle.laws_stream.proofs.MaskLaws.{bits-one}
 
 -- the times that a writer's words can say: rule 7's bound is not above it
 abbrev pub limit : ℕ

@@ -1,16 +1,14 @@
 -- The one rule of selection: reading with a limit, slices by number and by time, and the index are uses of it.
 use Rattle.std.specs.Prelude.{◌≡◌, Bool, ◌&&◌, ◌||◌, ℕ, suc, ◌+◌, ◌-◌, ◌≤◌, ◌<◌, max, ltb, take, drop}
 use Rattle.std.proofs.Math.Path.{refl, sym, ap}
-use Rattle.std.proofs.Common.{◌∙◌, arith, add-zero, add-suc, suc-add, length-append, leb-true, leb-false, ltb-true, ltb-false, le-leb, lt-ltb, le-ltb}
-use Rattle.std.proofs.Math.Bool.{true, false, and-false, or-false}
+use Rattle.std.proofs.Common.{◌∙◌, arith, add-zero, add-suc, suc-add, length-append, le-leb, lt-ltb}
+use Rattle.std.proofs.Math.Bool.{true, false}
 use mathlib.Core.List.{List, [], ◌∷◌, ◌++◌, append-nil}
 use Rattle.std.proofs.Math.Dec.{leb}
 use Rattle.std.proofs.Math.ListN.{length}
-use Rattle.std.proofs.Math.Seq.{take-nil, drop-nil}
-use Rattle.std.proofs.lemmas.Bool.{lt-leb}
-use Rattle.laws_stream.specs.Machine.{Machine, All, run, emits, emits-append}
-use Rattle.laws_stream.specs.Slice.{onto, onto-append, sift, sift-append, sift-all, sift-sift, and_then, none_sifted, until, unless, within, reached}
-use Rattle.laws_stream.specs.Slice.{not_reached, Past, sliced}
+use Rattle.laws_stream.specs.Machine.{Machine, run, emits, emits-append}
+use Rattle.laws_stream.specs.Slice.{onto, onto-append, sift, sift-append, unless, within, reached}
+use Rattle.laws_stream.specs.Slice.{not_reached}
 
 -- numbers n0 to before n1, times t0 to before t1
 pub record Selection : Type 0 where
@@ -119,16 +117,9 @@ module _ {S W E : Type 0} (R : Reading S W E) where
     chosen-append k (e ∷ a) b =
         rw (chosen-append (suc k) a b, suc-add, add-suc) (sym (onto-append (spans win k (R.clock e)) e (chosen (suc k) a) (chosen (suc (k + length a)) b)))
 
-    chosen-cons : (k : ℕ) (s : S) (w : W) (ws : List W)
+    pub chosen-cons : (k : ℕ) (s : S) (w : W) (ws : List W)
         → chosen k (numbered_of_lem s w) ++ chosen (k + length (numbered_of_lem s w)) (numbered (R.machine.step s w) ws) ≡ chosen k (numbered s (w ∷ ws))
     chosen-cons k s w ws = sym (ap (chosen k) (numbered-cons s w ws) ∙ chosen-append k (numbered_of_lem s w) (numbered (R.machine.step s w) ws))
-
-    spans-past : (k t : ℕ) → win.n1 ≤ k → spans win k t ≡ false
-    spans-past k t h = rw (le-ltb k) (and-false (leb win.n0 k))
-
-    pub chosen-past : (k : ℕ) (es : List E) → win.n1 ≤ k → chosen k es ≡ []
-    chosen-past k [] h = refl
-    chosen-past k (e ∷ es) h = rw (spans-past k (R.clock e) h) (chosen-past (suc k) es (omega arith))
 
     pub chosen_few : (k : ℕ) (es : List E) → length (chosen k es) ≤ length es
     chosen_few k [] = omega arith
@@ -137,31 +128,6 @@ module _ {S W E : Type 0} (R : Reading S W E) where
         go : (b : Bool) → length (chosen (suc k) es) ≤ length es → length (onto b e (chosen (suc k) es)) ≤ suc (length es)
         go true h = omega arith
         go false h = omega arith
-
-    -- where all times are within the window, a choice by number alone
-    pub chosen-number : (k : ℕ) (es : List E) → All (λ e. in_time e ≡ true) es → chosen k es ≡ by_number_lem win.n0 win.n1 k es
-    chosen-number k [] h = sym (ap (take (win.n1 - max win.n0 k)) (drop-nil (win.n0 - k)) ∙ take-nil (win.n1 - max win.n0 k))
-    chosen-number k (e ∷ es) h = go (leb win.n0 k) refl (ltb k win.n1) refl (chosen-number (suc k) es h.1)
-      where
-        go : (a : Bool) → leb win.n0 k ≡ a → (b : Bool) → ltb k win.n1 ≡ b → chosen (suc k) es ≡ by_number_lem win.n0 win.n1 (suc k) es
-            → onto (spans win k (R.clock e)) e (chosen (suc k) es) ≡ by_number_lem win.n0 win.n1 k (e ∷ es)
-        go false p b q ih =
-            let l = leb-false win.n0 k p in
-            let d : win.n0 - k ≡ suc (win.n0 - suc k) = omega arith in
-            let m : max win.n0 k ≡ max win.n0 (suc k) = omega arith in
-            rw (p, d, m) ih
-        go true p true q ih =
-            let l = leb-true win.n0 k p in
-            let l' = ltb-true k win.n1 q in
-            let d : win.n0 - k ≡ 0 = omega arith in
-            let d' : win.n0 - suc k ≡ 0 = omega arith in
-            let m : win.n1 - max win.n0 k ≡ suc (win.n1 - max win.n0 (suc k)) = omega arith in
-            rw (p, q, h.0, d, m) (ap (λ (l : List E). e ∷ l) (ih ∙ rw d'))
-        go true p false q ih =
-            let l = leb-true win.n0 k p in
-            let l' = ltb-false k win.n1 q in
-            let m : win.n1 - max win.n0 k ≡ 0 = omega arith in
-            rw (p, q, m) (chosen-past (suc k) es (omega arith))
 
     -- where all numbers are, a choice by time alone
     pub chosen_time : (k : ℕ) (es : List E) → win.n0 ≤ k → k + length es ≤ win.n1 → chosen k es ≡ sift in_time es
@@ -184,64 +150,9 @@ module _ {S W E : Type 0} (R : Reading S W E) where
         let j = keeps (length ws) s w i in
         (not_reached R.live R.time win.t1 u (below (length ws) u j), calm_bounded Inv keeps below u ws j)
 
-    pub handed-chosen : (k : ℕ) (s : S) (ws : List W) → Calm s ws → handed k s ws ≡ chosen k (numbered s ws)
-    unfolding handed
-    handed-chosen k s [] c = refl
-    handed-chosen k s (w ∷ ws) c =
-        let es = numbered_of_lem s w in
-        let j = k + length es in
-        let u = R.machine.step s w in
-        rw (c.0, or-false (leb win.n1 j)) (ap (λ (l : List E). chosen k es ++ l) (go (leb win.n1 j) refl (handed-chosen j u ws c.1)))
-        ∙ chosen-cons k s w ws
-      where
-        go : (t : Bool) → leb win.n1 (k + length (numbered_of_lem s w)) ≡ t
-            → handed (k + length (numbered_of_lem s w)) (R.machine.step s w) ws ≡ chosen (k + length (numbered_of_lem s w)) (numbered (R.machine.step s w) ws)
-            → unless t (handed (k + length (numbered_of_lem s w)) (R.machine.step s w) ws)
-            ≡ chosen (k + length (numbered_of_lem s w)) (numbered (R.machine.step s w) ws)
-        go true e ih = sym (chosen-past (k + length (numbered_of_lem s w)) (numbered (R.machine.step s w) ws) (leb-true _ _ e))
-        go false e ih = ih
-
-    pub handed_by-number : (k : ℕ) (s : S) (ws : List W) → Calm s ws → All (λ e. in_time e ≡ true) (numbered s ws)
-        → handed k s ws ≡ by_number_lem win.n0 win.n1 k (numbered s ws)
-    handed_by-number k s ws c h = handed-chosen k s ws c ∙ chosen-number k (numbered s ws) h
-
-    pub handed-limit : (s : S) (ws : List W) → win.n0 ≡ 0 → Calm s ws → All (λ e. in_time e ≡ true) (numbered s ws)
-        → handed 0 s ws ≡ take win.n1 (numbered s ws)
-    handed-limit s ws z c h =
-        let m : win.n1 - max win.n0 0 ≡ win.n1 = omega arith in
-        let d : win.n0 - 0 ≡ 0 = omega arith in
-        handed_by-number 0 s ws c h ∙ rw (m, d)
-
     -- ---- BY TIME: where the numbers run past no end
 
-    pub handed_by_time : (k : ℕ) (s : S) (ws : List W) → win.n0 ≤ k → k + length (numbered s ws) < win.n1
-        → handed k s ws ≡ sift in_time (numbered s (until R.machine is_over s ws))
-    unfolding handed
-    handed_by_time k s [] a b = refl
-    handed_by_time k s (w ∷ ws) a b =
-        let es = numbered_of_lem s w in
-        let j = k + length es in
-        let u = R.machine.step s w in
-        let vs = until R.machine is_over u ws in
-        let f = length-numbered s w ws in
-        rw (lt-leb win.n1 j (omega arith))
-        (ap (λ (l : List E). l ++ unless (is_over u) (handed j u ws)) (chosen_time k es a (omega arith))
-        ∙ ap (λ (l : List E). sift in_time es ++ l) (go (is_over u) (handed_by_time j u ws (omega arith) (omega arith))))
-        ∙ sym (ap (sift in_time) (numbered-cons s w (unless (is_over u) vs)) ∙ sift-append in_time es (numbered u (unless (is_over u) vs)))
-      where
-        go : (t : Bool)
-            → handed (k + length (numbered_of_lem s w)) (R.machine.step s w) ws
-            ≡ sift in_time (numbered (R.machine.step s w) (until R.machine is_over (R.machine.step s w) ws))
-            → unless t (handed (k + length (numbered_of_lem s w)) (R.machine.step s w) ws)
-            ≡ sift in_time (numbered (R.machine.step s w) (unless t (until R.machine is_over (R.machine.step s w) ws)))
-        go true ih = refl
-        go false ih = ih
-
     -- ---- ALL: nothing stops, and nothing is left out
-
-    pub handed-all : (k : ℕ) (s : S) (ws : List W) → win.n0 ≤ k → k + length (numbered s ws) ≤ win.n1 → Calm s ws → All (λ e. in_time e ≡ true) (numbered s ws)
-        → handed k s ws ≡ numbered s ws
-    handed-all k s ws a b c h = handed-chosen k s ws c ∙ chosen_time k (numbered s ws) a b ∙ sift-all in_time (numbered s ws) h
 
     -- ---- the words consumed, whatever stops the pass
 
@@ -258,14 +169,4 @@ module _ {S W E : Type 0} (R : Reading S W E) where
             → chosen k (numbered_of_lem s w) ++ unless t (handed j u ws) ≡ chosen k (numbered s (take (one_more (end_at t j u e)).consumed (w ∷ ws)))
         go true j u e f ih = f []
         go false j u e f ih = ap (λ (l : List E). chosen k (numbered_of_lem s w) ++ l) ih ∙ f (take e.consumed ws)
-
-    -- ---- from a record, the state and the number after the words a
-
-    -- where none of the events before it is in time
-    pub by_time_from : (s : S) (a b : List W) → All (λ e. in_time e ≡ false) (numbered s a) → Past R.machine (and_then R.inside in_time) is_over s (a ++ b)
-        → sift in_time (numbered (run R.machine s a) (until R.machine is_over (run R.machine s a) b)) ≡ sift in_time (numbered s (a ++ b))
-    by_time_from s a b h p =
-        let u = run R.machine s a in
-        sift-sift R.inside in_time (emits R.machine u (until R.machine is_over u b))
-        ∙ sliced R.machine (and_then R.inside in_time) is_over s a b (none_sifted R.inside in_time (emits R.machine s a) h) p
-        ∙ sym (sift-sift R.inside in_time (emits R.machine s (a ++ b)))
+        -- ---- from a record, the state and the number after the words a

@@ -3,7 +3,7 @@ use Rattle.std.specs.Prelude.{◌≡◌, refl, List, [], ◌∷◌, ◌++◌, ma
 use Rattle.std.proofs.Common.{sym, ap, ◌∙◌, append_assoc, arith, leb-true, le-leb, lt-ltb, le-ltb}
 use Rattle.std.proofs.Math.Bool.{and-false}
 use Rattle.std.proofs.lemmas.Bool.{lt-leb}
-use Rattle.laws_stream.specs.Machine.{and_both, Machine, Note, All, all_append, all-append-left, all_map, run, emits, emits-append, words, notes, Says}
+use Rattle.laws_stream.specs.Machine.{and_both, Machine, Note, All, all_append, all-append-left, all_map, run, emits, words, notes, Says}
 use Rattle.laws_stream.specs.Machine.{says_emits}
 
 module _ {E : Type 0} where
@@ -113,11 +113,6 @@ module _ {S W E : Type 0} (M : Machine S W E) (keep : E → Bool) (done : S → 
   pub past-append : (s : S) (a b : List W) → Past s (a ++ b) → Past (run M s a) b
   past-append s [] b p = p
   past-append s (w ∷ a) b p = past-append (M.step s w) a b p.1
-
-  -- THE SLICE: from the state after a, where nothing in a is kept, up to the stop
-  pub sliced : (s : S) (a b : List W) → All (λ e. keep e ≡ false) (emits M s a) → Past s (a ++ b)
-      → sift keep (emits M (run M s a) (until M done (run M s a) b)) ≡ sift keep (emits M s (a ++ b))
-  sliced s a b h p = until-sift (run M s a) b (past-append s a b p) ∙ sym (rw (emits-append M s a b, sift-append keep, sift_none keep (emits M s a) h))
 
   -- a stream that was written is such a one
   module _ (Fits : W → Type 0) (Ready : S → List E → Type 0) (over : (s : S) (es : List E) → Ready s es → done s ≡ true → All (λ e. keep e ≡ false) es) where

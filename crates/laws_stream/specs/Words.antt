@@ -1,10 +1,10 @@
 -- Words of n bytes, the low byte first. A last word that is broken off is no word.
 use Rattle.std.specs.Prelude.{◌≡◌, refl, ◌↔◌, List, [], ◌∷◌, ◌++◌, ℕ, zero, suc, ◌+◌, ◌*◌, ◌/◌, ◌%◌, ◌^◌, ◌≤◌, ◌<◌, length, take, drop, get_or}
-use Rattle.std.proofs.Common.{sym, ap, subst, ◌∙◌, append_assoc, append-nil, arith, zero-add, suc-add, suc-mul, zero-mul, mod-lt, div-add-mod', le-div_iff_mul-le, add-one, length-append, length-take, length-drop, take-append-drop, take_at, drop_at, take-add, drop-cons, drop-drop, length-take-le}
+use Rattle.std.proofs.Common.{sym, ap, ◌∙◌, append_assoc, arith, zero-add, suc-add, suc-mul, zero-mul, div-add-mod', le-div_iff_mul-le, add-one, length-append, length-drop, take_at, drop_at, take-add, drop-cons, drop-drop}
 use Rattle.std.proofs.Math.Nat.{div-eq_of_eq-mul_left, div-eq-sub-div, mul-add-div_right, div-eq_of_lt}
 use Rattle.std.proofs.Math.Seq.{take-append-add, drop-append-add, take-nil, drop-nil}
 use Rattle.std.proofs.lemmas.List.{take-append-le, drop-append-le}
-use Rattle.laws_stream.specs.Machine.{All, all_take}
+use Rattle.laws_stream.specs.Machine.{All}
 
 abbrev pub bytes : ℕ → ℕ → List ℕ
 bytes zero w = []
@@ -156,33 +156,5 @@ module _ (n : ℕ) where
         let e : length (a ++ b) / n ≡ k + length b / n = rw (length-append, h) (mul-add-div_right pos k (length b)) in
         rw (e, ea) (parse-append k (length b / n) a b h)
 
-    -- so many words have so many bytes
-    pub words-within : (k : ℕ) (l : List ℕ) → k ≤ length (words_of l) → k * n ≤ length l
-    words-within k l h = (le-div_iff_mul-le pos).0 (subst (λ (m : ℕ). k ≤ m) (length-words l) h)
-
-    -- at a whole number of words
-    module _ (k : ℕ) (l : List ℕ) (h : k * n ≤ length l) where
-      halves : words_of (take (k * n) l) ++ words_of (drop (k * n) l) ≡ words_of l
-      halves = sym (words_of-append k (take (k * n) l) (drop (k * n) l) (length-take-le (k * n) l h)) ∙ ap words_of (take-append-drop (k * n) l)
-
-      first : length (words_of (take (k * n) l)) ≡ k
-      first = length-words (take (k * n) l) ∙ div-eq_of_eq-mul_left pos (length-take-le (k * n) l h)
-
-      pub words_taken : words_of (take (k * n) l) ≡ take k (words_of l)
-      words_taken = sym (take_at (words_of (take (k * n) l)) (words_of (drop (k * n) l)) k first) ∙ ap (take k) halves
-
-      pub words_dropped : words_of (drop (k * n) l) ≡ drop k (words_of l)
-      words_dropped = sym (drop_at (words_of (take (k * n) l)) (words_of (drop (k * n) l)) k first) ∙ ap (drop k) halves
-
     pub words_of-stream : (ws : List ℕ) → All Fits ws → words_of (stream ws) ≡ ws
     words_of-stream ws h = rw (div-eq_of_eq-mul_left pos (length-stream ws)) (parse-stream ws h)
-
-    -- the words of a stream, with a broken one behind them
-    pub words_of_broken : (ws rest : List ℕ) → All Fits ws → length rest < n → words_of (stream ws ++ rest) ≡ ws
-    words_of_broken ws rest h lt = words_of-append (length ws) (stream ws) rest (length-stream ws) ∙ rw (words_of-stream ws h, div-eq_of_lt lt) (append-nil ws)
-
-    -- THE CUT: of c bytes the whole words are left
-    pub words_of-take : (c : ℕ) (ws : List ℕ) → All Fits ws → words_of (take c (stream ws)) ≡ take (c / n) ws
-    words_of-take c ws h =
-        let lt : length (take (c % n) (stream (drop (c / n) ws))) < n = rw length-take (omega (arith, mod-lt c pos)) in
-        ap words_of (take-stream c ws) ∙ words_of_broken (take (c / n) ws) (take (c % n) (stream (drop (c / n) ws))) (all_take Fits (c / n) ws h) lt

@@ -12,9 +12,10 @@ use Rattle.evt_codec.specs.declared.{codec.Codec.Codec, codec.Codec.TheVariants.
 use Rattle.evt_codec.specs.{Codec.fresh_c, Codec.in_range_c, Codec.codec_after}
 use Rattle.header.specs.declared.{HeaderAnswer.HeaderAnswer, HeaderAnswer.TheVariants.Header, HeaderAnswer.TheVariants.Refused as NoHeader}
 use Rattle.header.specs.declared.Header as header
-use Rattle.header.specs.{Header.header_of, Header.size_that_holds, Header.has_zero, Header.told_header, Laws.of_accepted, Laws.header_four, Laws.header_sized}
+use Rattle.header.specs.{Header.header_of, Header.size_that_holds, Header.has_zero, Header.told_header, Laws.header_four, Laws.header_sized}
 use Rattle.read_fill.specs.Laws.{range_fresh}
 use Rattle.read_after.specs.declared.{AfterAnswer.AfterAnswer, AfterAnswer.TheVariants.After, AfterAnswer.TheVariants.Refused}
+use Rattle.header.proofs.HeaderLaws.{of_accepted}
 
 -- 4 over 2^30 bytes, 10 for a decoder out of range, else the decoder after all whole words
 unfoldable pub after_outcome : Codec → List ℕ → Outcome Codec

@@ -9,10 +9,11 @@ use Rattle.std.specs.Int.Bits.{bit_and}
 use Rattle.std.proofs.lemmas.Nat.{and_le_l}
 use Rattle.std.specs.Int.Count.{count_trailing_zeros}
 use Rattle.std.proofs.lemmas.Bool.{eqb-false}
-use Rattle.laws_stream.specs.{Machine.all_of, Machine.all_mapped, Mask.bits, Mask.bits-zero, Mask.bits-one, Mask.bits_few, Mask.bits_below, Mask.low_bit}
+use Rattle.laws_stream.specs.{Machine.all_of, Machine.all_mapped, Mask.bits, Mask.bits-zero}
 use Rattle.laws_stream.specs.{Mask.trailing_wide, Order.greatest, Slice.onto, Slice.sift, Slice.sift_none, Slice.sift-all, Slice.sift_mapped}
 use Rattle.evt_types.specs.Columns.{Going, going_one}
 use Rattle.evt_types.specs.{declared.vector.Vector.Vector, Num.is_inside, Event.Event, Event.event_at, Event.events_of}
+use Rattle.laws_stream.proofs.MaskLaws.{bits-one, bits_below, bits_few, low_bit}
 
 abbrev pub inside : (width height : ℕ) → Event → Bool
 inside width height e = is_inside width height e.x e.y

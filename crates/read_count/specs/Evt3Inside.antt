@@ -4,10 +4,11 @@ use Rattle.std.proofs.Common.{ap, ◌∙◌, arith}
 use Rattle.std.specs.Int.Count.{ones}
 use Rattle.std.proofs.lemmas.Nat.{ones_cat, ones-le}
 use Rattle.std.proofs.lemmas.List.{length-map}
-use Rattle.laws_stream.specs.Mask.{bits, bits-count}
+use Rattle.laws_stream.specs.Mask.{bits}
 use Rattle.evt_types.specs.{declared.vector.Vector.Vector, Event.event_at}
 use Rattle.read_columns.specs.Inside.{inside_of, column_bound, kept_bits, clipped, kept_small, inside-clipped}
 use Rattle.read_count.specs.Tables.{table_of, table_at}
+use Rattle.laws_stream.proofs.MaskLaws.{bits-count}
 
 -- how many bits are set in each number of six bits
 unfoldable pub bit_counts : List ℕ

@@ -4,10 +4,10 @@ use Rattle.std.proofs.Common.{sym, ap, ◌∙◌, arith, add-zero}
 use Rattle.laws_stream.specs.{Words.words_of, Order.greatest, Stream.after}
 use Rattle.evt_types.specs.{Ahead.ahead, Ahead.ahead-some, declared.vector.Vector.Vector, Layout.time_low2, Layout.word_size3, Layout.word_size2}
 use Rattle.evt_types.specs.Layout.{word_size21, upper, mask21}
-use Rattle.evt2_decoder.specs.{declared.Evt2Decoder.Evt2Decoder, Evt2.step2, Evt2.vector2, Evt2.reader2, Range.Bounded2, Range.bounded_step2}
+use Rattle.evt2_decoder.specs.{declared.Evt2Decoder.Evt2Decoder, Evt2.step2, Evt2.vector2, Evt2.reader2, Range.Bounded2}
 use Rattle.evt2_decoder.specs.declared.Evt2Step.{Evt2Step}
 use Rattle.evt21_decoder.specs.{Evt21.of2, Evt21.wide, Evt21.reader21, Range.Bounded21}
-use Rattle.evt3_decoder.specs.{declared.Decoder.Decoder, Evt3.vector3, Evt3.reader3, Evt3.slimmed, Range.Bounded3, Range.bounded_step3}
+use Rattle.evt3_decoder.specs.{declared.Decoder.Decoder, Evt3.vector3, Evt3.reader3, Evt3.slimmed, Range.Bounded3}
 use Rattle.read_columns.specs.Inside.{inside_of, column_bound, clock, latest_of}
 use Rattle.read_fill.specs.{Iteration.Iteration, Iteration.inside_all}
 use Rattle.read_fill.specs.Loops as Loops
@@ -17,6 +17,8 @@ use Rattle.read_count.specs.{Counting.counting_end, Passing.Passing, Passing.Rea
 use Rattle.read_count.specs.{Evt2Inside.key_bound, Evt2Inside.is_event_inside, Evt2Inside.one_if, Evt2Inside.event-count, Evt2Inside.event_step}
 use Rattle.read_count.specs.{Evt3Inside.inside_count, Evt3Inside.inside_counted, Evt3Step.AgreesWithStep, Evt3Step.decoder_of}
 use Rattle.read_count.specs.Evt3Step.{counted_vector}
+use Rattle.evt2_decoder.proofs.RangeLaws.{bounded_step2}
+use Rattle.evt3_decoder.proofs.RangeLaws.{bounded_step3}
 
 -- ---- EVT2
 

@@ -1,14 +1,15 @@
 -- What is passed over by number: its bytes, its events and the decoder behind it; and that a pass under a window of all times hands over the same from there.
 use Rattle.std.specs.Prelude.{◌≡◌, List, ℕ, ◌+◌, ◌-◌, ◌*◌, ◌≤◌, ◌^◌, length, take, drop}
 use Rattle.std.proofs.Common.{sym, ap, ◌∙◌, arith, length-take, length-drop}
-use Rattle.laws_stream.specs.{Words.words_of, Words.words-within, Words.words_taken, Words.words_dropped, Select.handed, PassOver.Over, PassOver.Passes}
-use Rattle.laws_stream.specs.{PassOver.over, PassOver.over_passes, PassOver.handed-over}
+use Rattle.laws_stream.specs.{Words.words_of, Select.handed, PassOver.Over, PassOver.Passes}
+use Rattle.laws_stream.specs.PassOver.{over, over_passes}
 use Rattle.evt_codec.specs.{declared.codec.Codec.Codec, Reader.View, Reader.view, Codec.word_size, Codec.view_codec, Sound.sound, Sound.able_bounded}
 use Rattle.read_columns.specs.Inside.{inside}
 use Rattle.read_fill.specs.{Decode.inside_events, Decode.Bounded, Laws.inside-bytes}
 use Rattle.read_count.specs.{declared.CountedTo.CountedTo, Count.counted_to_of}
 use Rattle.read_window.specs.{declared.Window.Window, Window.selection_of}
 use Rattle.read_select.specs.{Pass.reading_by, Pass.handed_from, Pass.handed_over, Pass.Able, Pass.Ready, Uses.calm}
+use Rattle.laws_stream.proofs.{PassOverLaws.handed-over, WordsLaws.words-within, WordsLaws.words_dropped, WordsLaws.words_taken}
 
 -- ---- what is passed over
 

@@ -7,13 +7,14 @@ use Rattle.laws_stream.specs.{Machine.Machine, Machine.All, Machine.all_of, Mach
 use Rattle.laws_stream.specs.{Machine.emits-all, Words.words_of}
 use Rattle.laws_stream.specs.{Words.length-words, Words.words-end, Mask.bits, Order.greatest, Order.greatest-append, Order.greatest-le, Slice.sift}
 use Rattle.laws_stream.specs.{Slice.sift-append}
-use Rattle.laws_stream.specs.{Slice.sift-all, Slice.all-sift, Stream.decode-append, Stream.after-append, Stream.decode, Stream.after}
+use Rattle.laws_stream.specs.{Slice.sift-all, Slice.all-sift, Stream.decode, Stream.after}
 use Rattle.evt_codec.specs.{declared.codec.Codec.Codec, Reader.Reader, Reader.view, Reader.View, Codec.fresh_c, Codec.word_size, Codec.in_range_c}
 use Rattle.evt_codec.specs.{Codec.codec_view}
 use Rattle.evt_codec.specs.{Codec.view-after, Codec.view-fresh, Sound.Sound, Sound.sound, Sound.sound_of, Sound.able_range, Sound.able_fitting}
 use Rattle.evt_codec.specs.{Sound.bounded_words}
 use Rattle.read_columns.specs.Inside.{inside, clock, events_few, sift_few}
 use Rattle.read_fill.specs.{Decode.events_from, Decode.codec_after, Decode.inside_events, Decode.Bounded, Decode.Fitting, Iteration.inside_all}
+use Rattle.laws_stream.proofs.StreamLaws.{after-append, decode-append}
 
 -- ---- in parts: the first is a whole number of words
 

@@ -5,11 +5,12 @@ use Rattle.std.proofs.Math.Path.{ap}
 use Prim.Native.Nat.{ℕ, ◌+◌, ◌*◌, ◌/◌, ◌≤◌, ◌<◌, ◌^◌, min}
 use native.Mathlib.Omega.{arith}
 use Rattle.std.proofs.Math.Dec.{eqb}
-use Rattle.laws_stream.specs.{Machine.run, Words.words_of, Words.words-next, Words.words-end, Stream.split_words}
+use Rattle.laws_stream.specs.{Machine.run, Words.words_of, Words.words-next, Words.words-end}
 use Rattle.evt_types.specs.{Ahead.ahead, Ahead.ahead-some, Layout.type3, Layout.y3, Layout.x3, Layout.polarity3, Layout.word_size3}
 use Rattle.evt3_decoder.specs.{declared.Decoder.Decoder, Evt3.by_type, Evt3.kind_on, Evt3.step_as, Evt3.step3, Evt3.reader3}
 use Rattle.read_seek.specs.declared.{back.Column.Column, times.Times.Times}
 use Rattle.read_seek.specs.Times.{times_of, started_step_lem, step_on}
+use Rattle.laws_stream.proofs.StreamLaws.{split_words}
 
 -- ---- the row
 

@@ -2,11 +2,12 @@
 use Rattle.std.specs.Prelude.{◌≡◌, refl, Bool, false, ◌&&◌, ◌||◌, List, [], ◌∷◌, ◌++◌, ℕ, ◌+◌, ◌*◌, ◌/◌, ◌≤◌, ◌<◌, ltb, length, take, drop}
 use Rattle.std.proofs.Common.{sym, ap, subst, ◌∙◌, arith, add-mul, take-add}
 use Rattle.laws_stream.specs.Machine.{run, run-append}
-use Rattle.laws_stream.specs.Words.{words_of, words-next, words-end, words_dropped, length-words}
+use Rattle.laws_stream.specs.Words.{words_of, words-next, words-end, length-words}
 use Rattle.laws_stream.specs.Seek.{Reach, reach, behind, behind_none, behind-stay, behind_more, strays, reach-nil, reach_on, reach_stop}
 use Rattle.evt_types.specs.Ahead.{ahead, ahead-some}
 use Rattle.evt_codec.specs.{declared.codec.Codec.Codec, Reader.Reader, Reader.View, Reader.view, Codec.view_codec, Sound.Sound}
 use Rattle.read_seek.specs.Seek.{reach_from, sought_as, sought_from, further, Midway}
+use Rattle.laws_stream.proofs.WordsLaws.{words_dropped}
 
 module _ (R : Reader) (t₀ t₁ : ℕ) (s₀ : R.State) (bytes : List ℕ) where
   -- how far a seek goes over the words left at index i

@@ -2,14 +2,15 @@
 -- slice itself, unless a word strays.
 use Rattle.std.specs.Prelude.{◌≡◌, false, List, ℕ, ◌+◌, ◌*◌, ◌≤◌, ◌<◌, ◌^◌, length, take, drop}
 use Rattle.std.proofs.Common.{sym, ap, ◌∙◌, arith, length-drop, drop-drop}
-use Rattle.laws_stream.specs.{Words.words_of, Words.words-within, Words.words_taken, Words.words_dropped}
-use Rattle.laws_stream.specs.{Seek.reach-most, Seek.handed-from, Seek.handed-upto}
+use Rattle.laws_stream.specs.Words.{words_of}
+use Rattle.laws_stream.specs.Seek.{reach-most}
 use Rattle.laws_stream.specs.Select as Select
 use Rattle.evt_codec.specs.{declared.codec.Codec.Codec, Reader.View, Reader.view, Codec.word_size, Codec.view_codec, Sound.sound, Sound.able_bounded}
 use Rattle.read_fill.specs.{Decode.inside_events, Decode.Bounded, Laws.inside-bytes, Laws.inside-from}
 use Rattle.read_window.specs.{declared.Window.Window, Window.selection_of}
 use Rattle.read_select.specs.Pass.{reading_by, handed_from, handed_over, Able, Ready}
 use Rattle.read_seek.specs.{declared.Sought.Sought, Seek.reach_from, Seek.sought_of, Seek.further, Seek.Midway}
+use Rattle.laws_stream.proofs.{SeekLaws.handed-from, SeekLaws.handed-upto, WordsLaws.words-within, WordsLaws.words_dropped, WordsLaws.words_taken}
 
 -- ---- how far
 

@@ -2,11 +2,12 @@
 use Rattle.std.specs.Prelude.{◌≡◌, refl, true, List, ℕ, ◌*◌, ◌/◌, ◌≤◌, ◌<◌, ◌^◌, length, take, drop}
 use Rattle.std.proofs.Common.{sym, ap, ◌∙◌, arith}
 use Rattle.evt_types.specs.Layout.{word_size3}
-use Rattle.laws_stream.specs.{Machine.run, Words.words_of, Words.words_taken, Seek.Reach, Seek.reach_state}
+use Rattle.laws_stream.specs.{Machine.run, Words.words_of, Seek.Reach, Seek.reach_state}
 use Rattle.evt3_decoder.specs.{declared.Decoder.Decoder, Evt3.reader3, Range.Bounded3}
 use Rattle.evt_codec.specs.{declared.codec.Codec.TheVariants.Evt3, Reader.evt3}
 use Rattle.read_seek.specs.{declared.evt3.Spanned.Spanned, Seek.reach3, Seek.sought_of, Times.times_of, Times.spanned_of}
 use Rattle.read_seek.specs.{Back.put_behind, Back.put_is, Laws.sought_within}
+use Rattle.laws_stream.proofs.WordsLaws.{words_taken}
 
 module _ (t₀ t₁ : ℕ) (d : Decoder) (bytes : List ℕ) where
   abbrev end : Reach Decoder

@@ -1,18 +1,21 @@
 -- Strides from time word to time word: what holds of the last one that was passed, the mark, and of the words behind it.
 use Rattle.std.specs.Prelude.{◌≡◌, refl, Bool, true, false, cond, ◌||◌, ◌&&◌, List, ℕ, ◌+◌, ◌/◌, ◌≤◌, ◌<◌, ◌^◌, ltb, length, take}
 use Rattle.std.proofs.Common.{sym, ap, ◌∙◌, arith, ne_eqb, le-ltb}
-use Rattle.laws_stream.specs.{Machine.run, Words.words_of, Words.words_taken}
+use Rattle.laws_stream.specs.{Machine.run, Words.words_of}
 use Rattle.evt_types.specs.{Ahead.ahead, Layout.type2, Layout.type3, Layout.word_size3, Layout.grain2, Layout.grain3, Layout.upper}
-use Rattle.evt2_decoder.specs.{declared.Evt2Decoder.Evt2Decoder, Evt2.step2, Range.Bounded2, Range.Regular2, Range.bounded_sane2, Range.regular_step2}
+use Rattle.evt2_decoder.specs.{declared.Evt2Decoder.Evt2Decoder, Evt2.step2, Range.Bounded2, Range.Regular2, Range.bounded_sane2}
 use Rattle.evt2_decoder.specs.Evt2 as Evt2
 use Rattle.evt21_decoder.specs.Evt21.{of2}
-use Rattle.evt3_decoder.specs.{declared.Decoder.Decoder, Evt3.step3, Evt3.reader3, Range.Bounded3, Range.regular_step3}
+use Rattle.evt3_decoder.specs.{declared.Decoder.Decoder, Evt3.step3, Evt3.reader3, Range.Bounded3}
 use Rattle.evt_codec.specs.{declared.codec.Codec.TheVariants.Evt3, Reader.Reader, Reader.evt2, Reader.evt21, Sound.Sound, Sound.sound2, Sound.sound21}
 use Rattle.evt_codec.specs.Sound.{sound3}
 use Rattle.read_seek.specs.{declared.times.Times.Times, Times.carries_as, Seek.Midway, Iteration.Seeking, Iteration.seeking_start}
 use Rattle.read_seek.specs.{Iteration.seeking_next, Iteration.midway}
 use Rattle.read_seek.specs.{Times.times_of, Times.ticked, Times.ticked_as, Times.step_on, Times.step_times, Back.put_behind, Back.put_is}
 use Rattle.read_seek.specs.Loops.{Passing, passing_start, passing_next, passing_slow}
+use Rattle.laws_stream.proofs.WordsLaws.{words_taken}
+use Rattle.evt2_decoder.proofs.RangeLaws.{regular_step2}
+use Rattle.evt3_decoder.proofs.RangeLaws.{regular_step3}
 
 -- no time is before 0
 none_early : (t : ℕ) (b : Bool) → (false || (ltb t 0 && b)) ≡ false

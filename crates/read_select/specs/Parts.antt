@@ -6,6 +6,7 @@ use Rattle.laws_stream.specs.Select as Select
 use Rattle.evt_codec.specs.{declared.codec.Codec.Codec, Reader.View, Reader.view, Codec.word_size, Codec.codec_after, Codec.view-after, Sound.sound}
 use Rattle.read_window.specs.{declared.Window.Window, Window.selection_of}
 use Rattle.read_select.specs.{Pass.reading_by, Uses.numbered_over, Uses.is_timely, Uses.until_from, Uses.until_over, Uses.PastWords, Uses.PastOver}
+use Rattle.laws_stream.proofs.SelectLaws as SelectLaws
 
 module _ (a b : List ℕ) (j : ℕ) where
   -- the first part is a whole number of words
@@ -21,5 +22,5 @@ module _ (a b : List ℕ) (j : ℕ) where
         let n = word_size c in
         let ws = words_of-append n (sound c).some j a b h in
         ap (λ (v : View). sift (is_timely win) (until_from win v b)) (view-after c a)
-        ∙ Select.by_time_from R (selection_of win) (view c).state (words_of n a) (words_of n b) e (subst (PastWords win (view c)) ws p)
+        ∙ SelectLaws.by_time_from R (selection_of win) (view c).state (words_of n a) (words_of n b) e (subst (PastWords win (view c)) ws p)
         ∙ ap (λ (ws : List ℕ). sift (is_timely win) (Select.numbered R (view c).state ws)) (sym ws)

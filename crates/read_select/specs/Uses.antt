@@ -10,6 +10,7 @@ use Rattle.evt_codec.specs.Sound.{able_words}
 use Rattle.read_columns.specs.Inside.{inside, clock}
 use Rattle.read_window.specs.{declared.Window.Window, Window.selection_of}
 use Rattle.read_select.specs.Pass.{reading_by, handed_over, Able}
+use Rattle.laws_stream.proofs.SelectLaws as SelectLaws
 
 -- ---- no time reaches 2^63
 
@@ -76,19 +77,19 @@ module _ (win : Window) where
     -- BY NUMBER
     pub over_by_number : (k : ℕ) → handed_over win k c l ≡ by_number_lem win.n0 win.n1 k (numbered_over win c l)
     over_by_number k =
-        Select.handed_by-number (reading_by (view c).reader win) (selection_of win) k (view c).state ws (calm c l no_end able)
+        SelectLaws.handed_by-number (reading_by (view c).reader win) (selection_of win) k (view c).state ws (calm c l no_end able)
         (all_timely c l able no_start no_end)
 
     -- THE LIMIT
     pub over-limit : win.n0 ≡ 0 → handed_over win 0 c l ≡ take win.n1 (numbered_over win c l)
     over-limit z =
-        Select.handed-limit (reading_by (view c).reader win) (selection_of win) (view c).state ws z (calm c l no_end able)
+        SelectLaws.handed-limit (reading_by (view c).reader win) (selection_of win) (view c).state ws z (calm c l no_end able)
         (all_timely c l able no_start no_end)
 
     -- ALL: and all numbers
     pub over-all : (k : ℕ) → win.n0 ≤ k → k + length (numbered_over win c l) ≤ win.n1 → handed_over win k c l ≡ numbered_over win c l
     over-all k lo hi =
-        Select.handed-all (reading_by (view c).reader win) (selection_of win) k (view c).state ws lo hi (calm c l no_end able)
+        SelectLaws.handed-all (reading_by (view c).reader win) (selection_of win) k (view c).state ws lo hi (calm c l no_end able)
         (all_timely c l able no_start no_end)
 
   -- ---- BY TIME: where the window has all numbers
@@ -96,7 +97,7 @@ module _ (win : Window) where
   pub over_by_time : (k : ℕ) (c : Codec) (l : List ℕ) → win.n0 ≤ k → k + length (numbered_over win c l) < win.n1
       → handed_over win k c l ≡ sift (is_timely win) (until_over win c l)
   over_by_time k c l lo hi =
-      Select.handed_by_time (reading_by (view c).reader win) (selection_of win) k (view c).state (words_of (word_size c) l) lo hi
+      SelectLaws.handed_by_time (reading_by (view c).reader win) (selection_of win) k (view c).state (words_of (word_size c) l) lo hi
 
 -- ---- no more are handed over than have a number
 

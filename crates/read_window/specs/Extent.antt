@@ -3,9 +3,10 @@ use Rattle.std.specs.Prelude.{◌≡◌, List, [], ◌++◌, map, ℕ, ◌+◌, 
 use Rattle.std.proofs.Common.{sym, ap, ◌∙◌, arith}
 use Rattle.std.specs.Int.Count.{count_leading_zeros}
 use Rattle.std.proofs.lemmas.Nat.{leading_top}
-use Rattle.laws_stream.specs.{Order.greatest, Order.greatest-append, Order.greatest-map, Mask.bits, Mask.bits-zero, Mask.greatest-leading}
+use Rattle.laws_stream.specs.{Order.greatest, Order.greatest-append, Order.greatest-map, Mask.bits, Mask.bits-zero}
 use Rattle.evt_types.specs.{declared.vector.Vector.Vector, Event.Event, Event.event_at, Event.events_of}
 use Rattle.read_window.specs.declared.extent.Extent.{Extent}
+use Rattle.laws_stream.proofs.MaskLaws.{greatest-leading}
 
 -- of events: the maximum time, the maximum column plus 1, the maximum row plus 1, each 0 of none
 abbrev pub extent_of : List Event → Extent

@@ -10,13 +10,14 @@ use Rattle.std.proofs.Math.Pow.{pow-lt}
 use Rattle.std.proofs.lemmas.Bool.{lt-leb}
 use Rattle.laws_stream.specs.{Machine.All, Machine.all_mapped, Machine.all_of, Machine.all_map, Machine.and_both, Mask.trailing_wide, Slice.onto}
 use Rattle.laws_stream.specs.{Slice.sift-all}
-use Rattle.laws_stream.specs.Mask.{Inc, bits, parity, bits-zero, bits-one, bits_even, bits_odd, bits_in, bits-count, clear_lt, low_bit, trailing_lt}
+use Rattle.laws_stream.specs.Mask.{Inc, bits, parity, bits-zero, bits_even, bits_odd, clear_lt, trailing_lt}
 use Rattle.laws_stream.specs.Select as Select
 use Rattle.evt_types.specs.{declared.vector.Vector.Vector, Event.Event, Event.event_at, Event.events_of, Event.Narrow, Num.is_inside}
 use Rattle.read_columns.specs.Inside.{inside, inside_at, inside_none, inside-next, inside_one, inside_out, events_at, events_none, events_few, first_of}
 use Rattle.read_columns.specs.Inside.{sift_few}
 use Rattle.read_window.specs.declared.{Window.Window, trim.Trimmed.Trimmed}
 use Rattle.read_window.specs.Window.{is_within, is_spanned, selection_of, any_reading, choose}
+use Rattle.laws_stream.proofs.MaskLaws.{bits-count, bits-one, bits_in, low_bit}
 
 -- v with another mask
 abbrev pub masked : Vector → ℕ → Vector

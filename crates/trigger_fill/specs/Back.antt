@@ -1,11 +1,12 @@
 -- The times behind words that count no loop, looked for from their end back.
 use Rattle.std.specs.Prelude.{◌≡◌, List, ◌∷◌, ◌++◌, ℕ, zero, suc, ◌+◌, ◌*◌, ◌≤◌, ◌<◌, length, take, drop}
 use Rattle.std.proofs.Common.{sym, ap, ◌∙◌, arith, zero-mul, suc-mul, take-append-drop, length-take-le}
-use Rattle.laws_stream.specs.{Words.words_of, Words.words-end, Words.words_taken, Words.words_dropped}
+use Rattle.laws_stream.specs.Words.{words_of, words-end}
 use Rattle.evt_types.specs.Ahead.{ahead}
 use Rattle.trigger_fill.specs.declared.{form.Form.Form, times.Times.Times}
 use Rattle.trigger_fill.specs.{Form.Known, Form.kind_in, Form.low_in, Form.size-pos, Form.by_kind, Pulse.word-here}
 use Rattle.trigger_fill.specs.Calm.{same_loop, eased, settled, settled-nil, settled-next, settled-append, settled_loops, ease_time, ease_fine, ease_other}
+use Rattle.laws_stream.proofs.WordsLaws.{words_dropped, words_taken}
 
 -- k bytes are whole words
 pub record Whole (f : Form) (k : ℕ) : Type 0 where

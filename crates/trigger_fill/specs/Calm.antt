@@ -4,11 +4,12 @@ use Rattle.std.specs.Prelude.{◌≡◌, Bool, true, false, cond, not, List, [],
 use Rattle.std.proofs.Math.Path.{refl}
 use Rattle.std.proofs.Common.{sym, ap, ◌∙◌, true≢false, arith}
 use borrow.Author.Tests.{eq-eqb, ne_eqb, eqb-true, eqb-false, leb-true, leb-false}
-use Rattle.laws_stream.specs.{Machine.All, Machine.emits, Loop.tracks_same}
+use Rattle.laws_stream.specs.Machine.{All, emits}
 use Rattle.evt_types.specs.{Ahead.ahead, Ahead.ahead-two, Ahead.ahead_four, Ahead.ahead_eight, Layout.trigger_type}
 use Rattle.trigger_fill.specs.declared.{form.Form.Form, times.Times.Times}
 use Rattle.trigger_fill.specs.Form.{form2, form21, form3, Known, known2, known21, known3, kind_in, low_in, set_to, fine_word, ticked, pulses, Paced}
 use Rattle.trigger_fill.specs.Form.{raw_in, paced_fine, by_kind, tick_time, tick_fine, tick_other, no_trigger_lem}
+use Rattle.laws_stream.proofs.LoopLaws.{tracks_same}
 
 -- a word's highest byte
 abbrev pub top_in : Form → ℕ → ℕ

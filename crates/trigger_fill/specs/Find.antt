@@ -6,9 +6,10 @@ use Rattle.std.proofs.Math.Bool.{true, false, cond}
 use mathlib.Core.List.{List, [], ◌∷◌, ◌++◌}
 use native.Mathlib.Omega.{arith}
 use Rattle.std.proofs.Math.Nat.{div-eq_of_eq-mul_left}
-use Rattle.laws_stream.specs.{Machine.All, Words.words_of, Words.length-words, Words.words-end, Words.words_taken, Words.words_dropped}
+use Rattle.laws_stream.specs.{Machine.All, Words.words_of, Words.length-words, Words.words-end}
 use Rattle.laws_stream.specs.Part.{between}
 use Rattle.trigger_fill.specs.Follow.{lead, Leading}
+use Rattle.laws_stream.proofs.WordsLaws.{words_dropped, words_taken}
 
 unfoldable pub tally : (ℕ → Bool) → List ℕ → ℕ
 tally p [] = 0

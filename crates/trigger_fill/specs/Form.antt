@@ -2,13 +2,14 @@
 use Rattle.std.specs.Prelude.{◌≡◌, refl, Bool, true, false, cond, List, [], ◌∷◌, ℕ, suc, ◌+◌, ◌*◌, ◌/◌, ◌%◌, ◌^◌, ◌≤◌, ◌<◌, eqb, length, drop}
 use Rattle.std.proofs.Common.{mul-le-mul_right, arith, length-drop}
 use borrow.Author.Tests.{eq-eqb, ne_eqb, eqb-true, eqb-false}
-use Rattle.laws_stream.specs.{Loop.loops_after, Loop.time_after, Loop.loops_one, Loop.in_period, Machine.Machine, Machine.emits}
+use Rattle.laws_stream.specs.{Loop.loops_after, Loop.time_after, Loop.in_period, Machine.Machine, Machine.emits}
 use Rattle.laws_stream.specs.Words.{words_of, length-words}
 use Rattle.evt_types.specs.{Trigger.Trigger, Trigger.Small, Layout.word_size2, Layout.word_size21, Layout.word_size3, Layout.grain2, Layout.grain3}
 use Rattle.evt_types.specs.Layout.{trigger_type}
 use Rattle.evt2_decoder.specs.Evt2.{period2, threshold2}
 use Rattle.evt3_decoder.specs.Evt3.{period3, threshold3}
 use Rattle.trigger_fill.specs.declared.{form.Form.Form, times.Times.Times}
+use Rattle.laws_stream.proofs.LoopLaws.{loops_one}
 
 -- EVT2's, of words above a mask. No type sets the time below a grain: a trigger's own word has it
 abbrev pub form2_above : (size from : ℕ) → Form

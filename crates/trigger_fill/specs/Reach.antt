@@ -1,12 +1,13 @@
 -- From a place to the next notable word: the triggers from there on are the same.
 use Rattle.std.specs.Prelude.{◌≡◌, Bool, List, ◌++◌, ℕ, ◌+◌, ◌*◌, ◌≤◌, ℤ, length, take, drop}
 use Rattle.std.proofs.Common.{sym, ap, ◌∙◌, arith, length-drop, length-append, take-append-drop, drop-drop, length-take-le}
-use Rattle.laws_stream.specs.{Machine.emits, Words.words_of, Words.length-words, Words.words_taken, Words.words_dropped}
+use Rattle.laws_stream.specs.{Machine.emits, Words.words_of, Words.length-words}
 use Rattle.evt_types.specs.Trigger.{Trigger}
 use Rattle.trigger_fill.specs.declared.{form.Form.Form, times.Times.Times}
 use Rattle.trigger_fill.specs.{Form.Known, Form.pulses, Form.pulses_from, Form.size-pos, Form.words-within, Form.paced_fewer, Pulse.Place, Pulse.Pulse}
 use Rattle.trigger_fill.specs.{Follow.lead, Follow.lead-most, Find.lead_none, Calm.notable, Calm.Side, Calm.settled, Calm.calm_over, Calm.paced_settled}
 use Rattle.trigger_fill.specs.Back.{Whole}
+use Rattle.laws_stream.proofs.WordsLaws.{words_dropped, words_taken}
 
 pub record Reached (f : Form) (l : List ℕ) (c : Times) (i : ℕ) (c' : Times) (j : ℕ) : Type 0 where
   pub on : i ≤ j

@@ -4,7 +4,7 @@ use Rattle.std.proofs.Math.Path.{refl}
 use Rattle.std.proofs.Common.{sym, ap, ◌∙◌, eqb-true}
 use Rattle.std.proofs.Math.Bool.{true, false, cond}
 use native.Mathlib.Omega.{arith}
-use Rattle.laws_stream.specs.{Machine.Machine, Machine.emits, Words.words_of, Words.length-words, Words.words_dropped, Stream.decode, Loop.tracks_same}
+use Rattle.laws_stream.specs.{Machine.Machine, Machine.emits, Words.words_of, Words.length-words, Stream.decode}
 use Rattle.evt_types.specs.{Clock.either, Layout.type2, Layout.type3, Layout.time3, Layout.upper, Layout.upper_type, Layout.upper_time, Layout.upper_low}
 use Rattle.evt_types.specs.Layout.{upper_id, upper-value}
 use Rattle.evt_types.specs.{Layout.grain3, Layout.trigger_type, Layout.trigger_id3, Layout.trigger_value3, Trigger.Trigger, Trigger.HandedTriggers}
@@ -23,6 +23,7 @@ use Rattle.trigger_fill.specs.Form.{form2, form21, form3, Known, known2, known21
 use Rattle.trigger_fill.specs.Form.{triggered, pulses, pulses_from, Paced, size-pos, paced_fewer, words-within, words_left, tick_time, no_trigger_lem}
 use Rattle.trigger_fill.specs.Pulse.{Place}
 use Rattle.trigger_fill.specs.Follow.{skipped, skipped-most, Follows, follows}
+use Rattle.laws_stream.proofs.{LoopLaws.tracks_same, WordsLaws.words_dropped}
 
 abbrev pub is_time : Form → ℕ → Bool
 is_time f w = eqb (kind_in f w) 8

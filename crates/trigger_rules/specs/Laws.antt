@@ -5,8 +5,8 @@ use Rattle.std.proofs.Common.{◌∙◌, true≢false, length-append, take_all, 
 use mathlib.Core.List.{List, [], ◌∷◌, ◌++◌, append-nil}
 use native.Mathlib.Omega.{arith}
 use Rattle.laws_stream.specs.Machine.{Machine, All, all_of, all_map, run, emits, emits_few}
-use Rattle.laws_stream.specs.{Words.value, Words.words_of, Words.words_of-append, Words.words-within, Words.words_taken, Words.words-next, Words.words-end}
-use Rattle.laws_stream.specs.{Words.length-words, Slice.sift, Slice.sift-all, Slice.sift-append, Stream.decode, Stream.after, Stream.decode-append}
+use Rattle.laws_stream.specs.Words.{value, words_of, words_of-append, words-next, words-end}
+use Rattle.laws_stream.specs.{Words.length-words, Slice.sift, Slice.sift-all, Slice.sift-append, Stream.decode, Stream.after}
 use Rattle.laws_stream.specs.{PassOver.numbers_in}
 use Rattle.laws_stream.specs.Beside.{emitting, emits_before, before_none, before_few, before-most, before-nth, before_alike, ended-within, before-ended}
 use Rattle.laws_stream.specs.Select.{Reading, numbered_of_lem}
@@ -35,6 +35,7 @@ use Rattle.read_capacity.specs.Laws.{handed_none}
 use Rattle.trigger_rules.specs.declared.{TriggerReadAnswer.TriggerReadAnswer, TriggerReadAnswer.TheVariants.Read}
 use Rattle.trigger_rules.specs.declared.TriggerReadAnswer.TheVariants.{Refused}
 use Rattle.trigger_rules.specs.Read.{keeps, body_triggers, raw_triggers, ReadTriggers, with_triggers, ReadsTriggers, DecodesWordsTriggers, ReadsRawTriggers}
+use Rattle.laws_stream.proofs.{StreamLaws.decode-append, WordsLaws.words-within, WordsLaws.words_taken}
 
 -- ---- where a limit ends the triggers
 

@@ -1,8 +1,8 @@
 use Rattle.std.proofs.Common.{sym, ◌∙◌, arith}
 use Rattle.laws_stream.specs.Part.{rest_of}
-use Rattle.header.specs.Laws.{of_accepted}
 use Rattle.read_after.specs.After.{raw_refused, raw_after}
 use Rattle.read_after.proofs.decoder_after_raw.Goals as goal
+use Rattle.header.proofs.HeaderLaws.{of_accepted}
 
 pub returns-in_default : goal.returns-in_default
 returns-in_default c = raw_refused _ _ c.parse_header-answer.ensures.answer _ c.refusal_of.ensures

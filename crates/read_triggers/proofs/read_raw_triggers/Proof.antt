@@ -2,11 +2,11 @@ use native.Mathlib.Omega.{arith}
 use mathlib.Core.Path.{sym, ◌∙◌}
 use lib.ListN.{length-drop}
 use Rattle.laws_stream.specs.Part.{rest_of}
-use Rattle.header.specs.Laws.{of_accepted}
 use Rattle.trigger_rules.specs.Laws.{raw_refused, raw_read}
 use borrow.Author.Rules.{rules}
 use Rattle.read_triggers.proofs.read_raw_triggers.Statement.{statement}
 use Rattle.read_triggers.proofs.read_raw_triggers.Tie as tie
+use Rattle.header.proofs.HeaderLaws.{of_accepted}
 
 refusal-of-requires : tie.Need-refusal-of-requires
 refusal-of-requires c κs = rw c.enum_told.given.1 tt

@@ -1,7 +1,8 @@
 use mathlib.Core.Path.{sym, ◌∙◌}
 use native.Mathlib.Omega.{arith}
-use Rattle.evt2_decoder.specs.Range.{bounded_range2, bounded_narrow2}
+use Rattle.evt2_decoder.specs.Range.{bounded_range2}
 use Rattle.evt2_decoder.proofs.Evt2Decoder.step.Goals as goal
+use Rattle.evt2_decoder.proofs.RangeLaws.{bounded_narrow2}
 
 pub narrow-v-requires : goal.narrow-v-requires
 narrow-v-requires c =

@@ -1,7 +1,8 @@
 use mathlib.Core.Path.{sym, ◌∙◌}
 use native.Mathlib.Omega.{arith}
-use Rattle.evt3_decoder.specs.Range.{bounded_range3, bounded_step3, bounded_slim3, bounded_narrow3}
+use Rattle.evt3_decoder.specs.Range.{bounded_range3, bounded_slim3}
 use Rattle.evt3_decoder.proofs.Decoder.step.Goals as goal
+use Rattle.evt3_decoder.proofs.RangeLaws.{bounded_narrow3, bounded_step3}
 
 pub slim-next-requires : goal.slim-next-requires
 slim-next-requires c =

@@ -1,5 +1,4 @@
 use Rattle.std.proofs.Common.{◌+◌, sym, ◌∙◌, arith}
-use Rattle.evt2_decoder.specs.Range.{bounded_step2}
 use Rattle.evt_codec.specs.declared.codec.Codec.TheVariants.{Evt2}
 use Rattle.evt_codec.specs.Sound.{bounded_words}
 use Rattle.read_fill.specs.Laws.{inside_few}
@@ -7,6 +6,7 @@ use Rattle.read_count.specs.Counting.{counting_start, counting_end}
 use Rattle.read_count.specs.Loops.{Word2, event_few, event-next, other_next}
 use Rattle.read_count.proofs.all.evt2.Goals as goal
 use Rattle.read_count.proofs.all.evt2.Goals.{then-is_event_inside, else-is_event_inside}
+use Rattle.evt2_decoder.proofs.RangeLaws.{bounded_step2}
 
 pub loop-i-init : goal.loop-i-init
 loop-i-init c = record {

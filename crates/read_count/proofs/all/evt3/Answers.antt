@@ -1,12 +1,12 @@
 use Rattle.std.proofs.Common.{ap, ◌∙◌, arith}
 use Rattle.evt_codec.specs.declared.codec.Codec.TheVariants.{Evt3}
 use Rattle.evt3_decoder.specs.Evt3.{slimmed}
-use Rattle.evt3_decoder.specs.Range.{bounded_step3}
 use Rattle.read_fill.specs.Laws.{inside_few}
 use Rattle.read_count.specs.Counting.{counting_start}
 use Rattle.read_count.specs.Evt3Step.{decoder_of}
 use Rattle.read_count.specs.Loops.{started3, word3_few, word3-next}
 use Rattle.read_count.proofs.all.evt3.Goals as goal
+use Rattle.evt3_decoder.proofs.RangeLaws.{bounded_step3}
 
 pub loop-i-init : goal.loop-i-init
 loop-i-init c = record {

@@ -1,11 +1,11 @@
 use Rattle.std.proofs.Common.{◌+◌, sym, ◌∙◌, arith}
-use Rattle.evt2_decoder.specs.Range.{bounded_step2}
 use Rattle.evt_codec.specs.declared.codec.Codec.TheVariants.{Evt2}
 use Rattle.evt_codec.specs.Sound.{bounded_words}
 use Rattle.read_count.specs.Passing.{passing_start, passing_end}
 use Rattle.read_count.specs.Loops.{Word2, event_stop, event_pass, other_pass}
 use Rattle.read_count.proofs.to.evt2.Goals as goal
 use Rattle.read_count.proofs.to.evt2.Goals.{then-is_event_inside+else-most-n, else-is_event_inside}
+use Rattle.evt2_decoder.proofs.RangeLaws.{bounded_step2}
 
 pub loop-i-init : goal.loop-i-init
 loop-i-init c = record {

@@ -1,10 +1,10 @@
 use Rattle.std.proofs.Common.{ap, ◌∙◌, arith}
 use Rattle.evt3_decoder.specs.Evt3.{slimmed}
-use Rattle.evt3_decoder.specs.Range.{bounded_step3}
 use Rattle.read_count.specs.Passing.{passing_start, passing_end}
 use Rattle.read_count.specs.Loops.{started3, reached3, word3_stop, word3_pass}
 use Rattle.read_count.proofs.to.evt3.Goals as goal
 use Rattle.read_count.proofs.to.evt3.Goals.{else-loop-i-test, then-loop-i-test+then-most-n}
+use Rattle.evt3_decoder.proofs.RangeLaws.{bounded_step3}
 
 pub loop-i-init : goal.loop-i-init
 loop-i-init c = record {

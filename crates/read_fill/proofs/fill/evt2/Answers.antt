@@ -1,10 +1,10 @@
 use Rattle.std.proofs.Common.{arith}
-use Rattle.evt2_decoder.specs.Range.{bounded_step2}
 use Rattle.evt_codec.specs.declared.codec.Codec.TheVariants.{Evt2}
 use Rattle.evt_codec.specs.Sound.{sound2, bounded_words}
 use Rattle.read_fill.specs.Iteration.{filling_start, filling_room, filling_next, filling_end}
 use Rattle.read_fill.specs.Loops.{iteration, word_narrow, word_few}
 use Rattle.read_fill.proofs.fill.evt2.Goals as goal
+use Rattle.evt2_decoder.proofs.RangeLaws.{bounded_step2}
 
 pub loop-i-init : goal.loop-i-init
 loop-i-init c = filling_start (omega arith) bounded_step2 (bounded_words (Evt2 c.args.d) c.args.bytes.now c.requires.bounded)

@@ -1,11 +1,11 @@
 use Rattle.std.proofs.Common.{ap, arith}
 use Rattle.evt3_decoder.specs.Evt3.{slimmed}
-use Rattle.evt3_decoder.specs.Range.{bounded_step3}
 use Rattle.evt_codec.specs.declared.codec.Codec.TheVariants.{Evt3}
 use Rattle.evt_codec.specs.Sound.{sound3, bounded_words}
 use Rattle.read_fill.specs.Iteration.{filling_start, filling_room, filling_next, filling_end}
 use Rattle.read_fill.specs.Loops.{iteration, word_narrow}
 use Rattle.read_fill.proofs.fill.evt3.Goals as goal
+use Rattle.evt3_decoder.proofs.RangeLaws.{bounded_step3}
 
 pub loop-i-init : goal.loop-i-init
 loop-i-init c = rw c.widen-s.ensures.0 (filling_start (omega arith) bounded_step3 (bounded_words (Evt3 c.args.d) c.args.bytes.now c.requires.bounded))

@@ -1,0 +1,3 @@
+pub mod Evt2Laws
+pub mod RangeLaws
+pub mod TriggersLaws

@@ -3,7 +3,7 @@
 use Rattle.std.specs.Prelude.{◌≡◌, refl, ◌⊎◌, Bool, true, false, List, [], ◌∷◌, ◌++◌, ℕ, ◌+◌, ◌-◌, ◌*◌, ◌/◌, ◌^◌, ◌≤◌, ◌<◌, length, take, drop}
 use Rattle.std.proofs.Common.{sym, ap, ◌∙◌, inl, inr, ⊎_elim, append_assoc, append-nil, arith, div-add-mod', take-add, take_at, drop_at, take-take}
 use Rattle.laws_stream.specs.Machine.{Machine, Note, Says, All, all_append, all-append-left, all_take, run, words, notes, notes-append}
-use Rattle.laws_stream.specs.{Machine.notes-split, Slice.sift-all, Stream.after}
+use Rattle.laws_stream.specs.{Machine.notes_split, Slice.sift-all, Stream.after}
 use Rattle.evt_types.specs.{Event.Event, Outcome.give}
 use Rattle.evt_codec.specs.Codec.{fresh_c, in_range_c, coarse_c, loops_c, events_from, codec_after}
 use Rattle.evt_types.specs.declared.{Encoding.Encoding, Encoding.TheVariants.Evt2, Encoding.TheVariants.Evt21, Encoding.TheVariants.Evt3}
@@ -23,7 +23,7 @@ use Rattle.laws_formats.specs.Appends.{after-left, whole-events, whole-past, cut
 use Rattle.laws_handover.specs.Handover.{Call, accepted_events, stream_of, stream_words, fresh, Front, bare, front_bytes, start_of, before_cut, whole, others}
 use Rattle.laws_handover.specs.Handover.{joined, left, decoder_left, resuming, resumed_from, InFirstLoop, Typed, IsGivenAlong, GivenAt, Suits, widest, Exact}
 use Rattle.laws_handover.specs.Handover.{Claim, DemandThree}
-use Rattle.laws_handover.specs.{Headed.front_of, Cut.whole_is, Cut.broken-is, Cut.cut_parts, Reading.exact, Fronts.front-bare, Fronts.stream-words}
+use Rattle.laws_handover.specs.{Headed.front_of, Cut.whole_is, Cut.broken_is, Cut.cut_parts, Reading.exact, Fronts.front_bare, Fronts.stream-words}
 use Rattle.laws_handover.specs.Calls.{stream-notes, stream_typed, groups_of, groups_events, groups_words, fresh_rise, stream_understood}
 
 -- a stream of these bytes and words, behind a front, that carries es

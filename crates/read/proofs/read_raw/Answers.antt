@@ -1,6 +1,6 @@
 use Rattle.std.proofs.Common.{sym, ◌∙◌, arith, length-drop}
 use Rattle.laws_stream.specs.Part.{rest_of}
-use Rattle.header.specs.Laws.{of_accepted}
+use Rattle.header.proofs.HeaderLaws.{of_accepted}
 use Rattle.read_rules.specs.Laws.{raw_refused, raw_read}
 use Rattle.read.proofs.read_raw.Goals as goal
 

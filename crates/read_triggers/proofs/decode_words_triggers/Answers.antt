@@ -1,0 +1,13 @@
+use Rattle.std.proofs.Common.{sym, ◌∙◌}
+use Rattle.trigger_rules.specs.Laws.{words-refused, words_read}
+use Rattle.read_triggers.proofs.decode_words_triggers.Goals as goal
+
+pub returns-in-Unfit : goal.returns-in-Unfit
+returns-in-Unfit c =
+    let a = c.args in
+    words-refused a.words.now a.encoding a.size a.limit _ (sym c.judge-judged.ensures ∙ c.in-Unfit.is)
+
+pub returns : goal.returns
+returns c =
+    let a = c.args in
+    words_read a.words.now a.encoding a.size a.limit (sym c.judge-judged.ensures ∙ c.in_default.is) c.read_body_triggers.ensures

@@ -1,6 +1,6 @@
 use Rattle.std.proofs.Common.{sym, ◌∙◌, arith, length-drop}
 use Rattle.laws_stream.specs.Part.{rest_of}
-use Rattle.header.specs.Laws.{of_accepted}
+use Rattle.header.proofs.HeaderLaws.{of_accepted}
 use Rattle.trigger_rules.specs.Laws.{raw_refused, raw_read}
 use Rattle.read_triggers.proofs.read_raw_triggers.Goals as goal
 

@@ -133,7 +133,8 @@ module _ (d : CountingDecoder) (w : ℕ) (column : d.base_x < 65536) where
 
   good5 : Good 5
   good5 =
-      record { next = refl; mask = rw (and_mask w 8) (omega arith); column = column; same = masked (vector_as vect8 (slimmed (decoder_of d)) w) _ (low_bits w 8) }
+      record
+      { next = refl; mask = rw (and_mask w 8) (omega arith); column = column; same = masked (vector_as vect8 (slimmed (decoder_of d)) w) _ (low_bits w 8) }
 
   good6 : Good 6
   good6 = record { next = rw still; mask = rw no_bits (omega arith); column = column; same = nil _ _ refl no_bits }
@@ -155,7 +156,8 @@ module _ (d : CountingDecoder) (w : ℕ) (column : d.base_x < 65536) where
   unfolding step3 vector3
   started_agrees e h =
       let is : kind_of (type3 w) d.initialised ≡ kind_on (type3 w) = rw e in
-      subst (λ (k : Kind). Agrees (step_as k (slimmed (decoder_of d)) w) (vector_as k (slimmed (decoder_of d)) w) (started_step d w)) (sym is) (good (type3 w) h)
+      subst (λ (k : Kind). Agrees (step_as k (slimmed (decoder_of d)) w) (vector_as k (slimmed (decoder_of d)) w) (started_step d w)) (sym is)
+      (good (type3 w) h)
 
 -- ---- the step itself, of any decoder
 

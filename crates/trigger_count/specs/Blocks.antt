@@ -1,6 +1,7 @@
 -- Words of n bytes counted by blocks of 64 bytes: each byte that is the last of a word and has the type of a trigger adds 1. What the sum over at most 64 bytes
 -- is, and the loop over blocks.
-use Rattle.std.specs.Prelude.{◌≡◌, refl, Bool, true, false, cond, List, [], ◌∷◌, ℕ, zero, suc, ◌+◌, ◌-◌, ◌*◌, ◌/◌, ◌%◌, ◌≤◌, ◌<◌, eqb, ltb, length, drop, get_or}
+use Rattle.std.specs.Prelude.{◌≡◌, refl, Bool, true, false, cond, List, [], ◌∷◌, ℕ, zero, suc, ◌+◌, ◌-◌, ◌*◌, ◌/◌, ◌%◌, ◌≤◌, ◌<◌}
+use Rattle.std.specs.Prelude.{eqb, ltb, length, drop, get_or}
 use Rattle.std.proofs.Common.{sym, ap, ◌∙◌, arith, zero-add, add-zero, zero-mul, add-one, ltb-true, ltb-false, length-take, drop_of_length-le, drop-cons}
 use Rattle.laws_stream.specs.{Part.between, Part.rest_of, Part.between-rest, Part.length-between, Words.words-end}
 use Rattle.evt_types.specs.Layout.{trigger_type}

@@ -1,5 +1,6 @@
 -- Words of n bytes by their type, which is the high half of the last byte.
-use Rattle.std.specs.Prelude.{◌≡◌, refl, Bool, true, false, cond, List, ◌++◌, ℕ, zero, suc, ◌+◌, ◌-◌, ◌*◌, ◌/◌, ◌%◌, ◌^◌, ◌≤◌, ◌<◌, eqb, ltb, length, take, drop, get_or}
+use Rattle.std.specs.Prelude.{◌≡◌, refl, Bool, true, false, cond, List, ◌++◌, ℕ, zero, suc, ◌+◌, ◌-◌, ◌*◌, ◌/◌, ◌%◌, ◌^◌, ◌≤◌, ◌<◌}
+use Rattle.std.specs.Prelude.{eqb, ltb, length, take, drop, get_or}
 use Rattle.std.proofs.Common.{ap, ◌∙◌, arith, add-zero, div-le_self, ltb-true, ltb-false, length-append, length-take, shr-shr, get_or-take, get_or-drop}
 use Rattle.std.proofs.Math.ListN.{get_or-eq_default}
 use Rattle.laws_stream.specs.{Part.between, Slice.onto, Slice.sift, Slice.sift-append}

@@ -158,7 +158,8 @@ abbrev pub handed_with : ReadAnswer → List Trigger → List Trigger
 handed_with (R.Read r) gs = gs
 handed_with (R.Refused q) gs = []
 
-pub done_none : (a : ReadAnswer) (gs : List Trigger) (n : ℕ) → n ≡ length gs → is_done a n ≡ true → (handed_with a gs ≡ []) × (answer_with a n ≡ answer_with a 0)
+pub done_none : (a : ReadAnswer) (gs : List Trigger) (n : ℕ) → n ≡ length gs → is_done a n ≡ true
+    → (handed_with a gs ≡ []) × (answer_with a n ≡ answer_with a 0)
 done_none (R.Read r) [] n is h = (refl, ap (answer_with (R.Read r)) is)
 done_none (R.Read r) (g ∷ gs) n is h = let z = eqb-true n 0 h in absurd (omega arith)
 done_none (R.Refused q) gs n is h = (refl, refl)

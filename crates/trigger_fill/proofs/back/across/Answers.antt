@@ -57,5 +57,5 @@ returns c =
 
 pub base-b-requires-clause-whole : goal.base-b-requires-clause-whole
 base-b-requires-clause-whole c =
-    whole-front whole_times c.requires.known c.args.front.now c.loop-k.invariant (c.loop-k.k - c.args.f.size) (omega (arith, c.loop-k-test.true)) c.word-w.result
-    c.word-w.ensures
+    whole-front whole_times c.requires.known c.args.front.now c.loop-k.invariant (c.loop-k.k - c.args.f.size) (omega (arith, c.loop-k-test.true))
+    c.word-w.result c.word-w.ensures

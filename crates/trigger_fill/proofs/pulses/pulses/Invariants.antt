@@ -5,7 +5,8 @@ use Rattle.trigger_fill.proofs.pulses.pulses.Given as goal
 
 abbrev pub invariant-loop-p : goal.invariant-loop-p
 invariant-loop-p l =
-    Pulse l.f l.bytes (pulses_from l.f l.initial.p.times l.initial.p.at l.bytes) l.initial.ts l.initial.ids l.initial.values l.ts l.ids l.values l.p.times l.n l.p.at
+    Pulse l.f l.bytes (pulses_from l.f l.initial.p.times l.initial.p.at l.bytes) l.initial.ts l.initial.ids l.initial.values
+    l.ts l.ids l.values l.p.times l.n l.p.at
 
 abbrev pub decreases-loop-p : goal.decreases-loop-p
 decreases-loop-p l = length l.bytes - l.p.at

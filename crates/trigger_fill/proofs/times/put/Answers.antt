@@ -1,8 +1,14 @@
 use Rattle.std.proofs.Common.{length, sym, ap, ◌∙◌, arith, w64}
 use Rattle.std.proofs.lemmas.Int.{to_z_pos}
-use Rattle.trigger_fill.specs.Form.{low_few, fields_few, small_trigger, trigger_in, trigger_word, no_trigger_lem}
+use Rattle.trigger_fill.specs.Form.{shift_few, low_few, fields_few, small_trigger, trigger_in, trigger_word, no_trigger_lem}
 use Rattle.trigger_fill.specs.Put.{put_one, put_none}
 use Rattle.trigger_fill.proofs.times.put.Goals as goal
+
+pub bits-kind-requires : goal.bits-kind-requires
+bits-kind-requires c = (shift_few c.requires.known, omega arith)
+
+pub overflow_add-f : goal.overflow_add-f
+overflow_add-f c = omega (arith, (fields_few c.requires.known).0)
 
 pub overflow_add-t : goal.overflow_add-t
 overflow_add-t c = omega (arith, (small_trigger c.requires.known c.requires.paced c.args.word).t<, c.bits.ensures)

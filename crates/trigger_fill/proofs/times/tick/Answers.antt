@@ -1,6 +1,9 @@
 use Rattle.std.proofs.Common.{sym, ◌∙◌}
-use Rattle.trigger_fill.specs.Form.{raw_fits, after_fits, fine_fits, tick_time, tick_fine, tick_other}
+use Rattle.trigger_fill.specs.Form.{low_few, raw_fits, after_fits, fine_fits, tick_time, tick_fine, tick_other}
 use Rattle.trigger_fill.proofs.times.tick.Goals as goal
+
+pub bits-low-requires : goal.bits-low-requires
+bits-low-requires c = low_few c.requires.known
 
 pub overflow_mul-raw : goal.overflow_mul-raw
 overflow_mul-raw c =

@@ -11,9 +11,10 @@ use Rattle.evt3_decoder.specs.{declared.Decoder.Decoder, Range.Regular3}
 use Rattle.read_fill.specs.Decode.{Bounded}
 use Rattle.index_build.specs.declared.{Builder.Builder}
 use Rattle.index_build.specs.{Index.Body, Index.firsts, Index.open_records, Build.front_of, Build.made_at, Build.first_of, Build.Begun, Laws.builder_fit}
-use Rattle.index_build.specs.Open.{Accepted, IfGiven, builds}
+use Rattle.index_build.specs.Open.{Accepted, IfGiven}
 use Rattle.c_values.specs.{Codec.Narrow}
 use Rattle.c_index.specs.{Back.checkpoint_back, Records.flat_record, Records.entries_of, Records.entries_all, Records.checkpoint_in}
+use Rattle.index_build.proofs.OpenLaws.{builds}
 
 -- ---- those of a builder
 

@@ -11,7 +11,7 @@ use Rattle.evt_types.specs.declared.SensorSize.TheVariants.{Unknown}
 use Rattle.read_rules.specs.Read.{ReadEvents, told_read, read_answer, read_verdict}
 use Rattle.index_build.specs.declared.{Checkpoint.Checkpoint, OpenAnswer.TheVariants.Opened, Opening.Opening}
 use Rattle.index_build.specs.Index.{Body, open_answer, open_records, told_open, told-answer, records_of, opening_of, need_of}
-use Rattle.index_build.specs.{Laws.length-firsts, Nth.blank, Open.Accepted, Open.IfGiven, Open.accepted-words, Open.accepted_raw}
+use Rattle.index_build.specs.{Laws.length-firsts, Nth.blank, Open.Accepted, Open.IfGiven}
 use Rattle.slice_rules.specs.{declared.SliceAnswer.SliceAnswer, declared.SliceAnswer.TheVariants.Sliced, Slice.told_slice, Slice.slice_answer}
 use Rattle.slice_rules.specs.Slice.{slice_verdict, Slices}
 use Rattle.laws_handover.specs.Handover.{Columns, room, HoldsEvents, numbered, during_times, Way, as_words, as_recording, encoding_by, read_by, open_by_lem, opening_as}
@@ -24,6 +24,7 @@ use Rattle.c_index.specs.{Opening.OpensC, Records.entries_all, Records.checkpoin
 use Rattle.c_index.specs.{Slicing.sliced_of, Slicing.SlicesC, Slicing.SlicesIndexC, Slicing.SlicesTimeC}
 use Rattle.c_handover.specs.{Made.made_back, Statement.ReadsByC, Statement.OpensByC, Statement.IndexC, Statement.source_c, Statement.reading_c}
 use Rattle.c_handover.specs.Statement.{GivesC, ReadBackC}
+use Rattle.index_build.proofs.OpenLaws.{accepted-words, accepted_raw}
 
 told_read_lem : (o : Outcome ReadEvents) → told_read (read_answer o) ≡ read_verdict o
 told_read_lem (refuse r) = refl

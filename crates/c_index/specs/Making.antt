@@ -9,12 +9,13 @@ use Rattle.index_build.specs.declared.{BuildStep.BuildStep, Builder.Builder, Che
 use Rattle.index_build.specs.declared.{OpenAnswer.TheVariants.Opened, Prepared.Prepared, Prepared.TheVariants.Ready}
 use Rattle.index_build.specs.{declared.Prepared.TheVariants.Refused as NotReady, Index.Body, Index.firsts, Index.open_answer, Index.open_records}
 use Rattle.index_build.specs.{Index.told_open, Index.told-answer, Index.open_words_outcome, Laws.builder_next, Laws.builder_fit, Laws.length-firsts}
-use Rattle.index_build.specs.Open.{Accepted, IfGiven, Builds, builds, accepted-words}
+use Rattle.index_build.specs.Open.{Accepted, IfGiven, Builds}
 use Rattle.index_build.specs.Build.{record_of, next_of, Fit, Advanced, Begun, builder_at, made_at, prepared_by, concluded}
 use Rattle.c_values.specs.{Encoding.is_known, Encoding.encoding_of, Encoding.behind_too_long}
 use Rattle.c_index.specs.{declared.opening.PropheseeOpenOptions.PropheseeOpenOptions, declared.opening.PropheseeOpening.PropheseeOpening}
 use Rattle.c_index.specs.{Opening.words_options_of, Opening.open_words_outcome_c, Opening.opened_of, Opening.OpensC, Records.flat_record}
 use Rattle.c_index.specs.{Records.entries_of, Records.entries_all}
+use Rattle.index_build.proofs.OpenLaws.{accepted-words, builds}
 
 -- the first n records in front, and behind them all as it was
 abbrev pub laid_to : List ℕ → Builder → List (List ℕ) → ℕ → List (List ℕ)

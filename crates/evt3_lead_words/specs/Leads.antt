@@ -1,12 +1,12 @@
 -- EVT3: the bytes of the words of time and row.
-use Rattle.std.specs.Prelude.{◌≡◌, refl, Bool, true, false, cond, List, ◌++◌, ℕ, ◌+◌, ◌*◌, ◌/◌, ◌%◌, ◌^◌, ◌≤◌, ◌<◌, eqb, length}
+use Rattle.std.specs.Prelude.{◌≡◌, Bool, cond, List, ◌++◌, ℕ, ◌+◌, ◌*◌, ◌/◌, ◌%◌, ◌≤◌, eqb, length}
 use Rattle.std.proofs.Common.{sym, ap, ◌∙◌, append_assoc, arith, length-append}
 use Rattle.std.proofs.lemmas.List.Edits.{sets}
 use Rattle.laws_stream.specs.{Machine.words, Machine.words_append, Words.stream, Words.bytes, Words.stream-append}
-use Rattle.evt_types.specs.{Layout.word_size3, Layout.grain3, declared.Sent.Sent}
-use Rattle.write_buffer.specs.{declared.EncoderState.EncoderState, Sent.due, Sent.sent_number, Sent.number_is}
+use Rattle.evt_types.specs.Layout.{word_size3, grain3}
+use Rattle.write_buffer.specs.{declared.EncoderState.EncoderState, Sent.due}
 use Rattle.write_buffer.specs.Due.{due_bytes, due_few, due-next}
-use Rattle.evt3_lead_words.specs.Evt3.{high_word3, low_word3, row_word3, low_kept, high_sent3, low_sent3, row_sent3, leads3}
+use Rattle.evt3_lead_words.specs.Evt3.{high_word3, low_word3, row_word3, high_sent3, low_sent3, row_sent3, leads3}
 
 abbrev pub due_bytes3 : (sent : Bool) → ℕ → List ℕ
 due_bytes3 = due_bytes word_size3
@@ -65,23 +65,9 @@ module _ (b₁ b₂ b₃ : Bool) (w₁ w₂ w₃ : ℕ) where
 
 -- ---- the words of time and row
 
-lead_parts : (v : EncoderState) (t y : ℕ) → lead_bytes v t y ≡ due_three (high_sent3 v t) (low_sent3 v t) (row_sent3 v y) (high_word3 t) (low_word3 t) (row_word3 y)
+pub lead_parts : (v : EncoderState) (t y : ℕ) → lead_bytes v t y ≡ due_three (high_sent3 v t) (low_sent3 v t) (row_sent3 v y) (high_word3 t) (low_word3 t) (row_word3 y)
 unfolding leads3
 lead_parts v t y = three-words (high_sent3 v t) (low_sent3 v t) (row_sent3 v y) (high_word3 t) (low_word3 t) (row_word3 y)
-
-low_as : (b : Bool) (l : Sent) → sent_number (low_kept b l) ≡ cond b (sent_number l) 0
-low_as true l = refl
-low_as false l = refl
-
-pub leads_number : (v : EncoderState) (high low row t y : ℕ) → t < 2 ^ 64 → y < 2 ^ 16
-    → high ≡ sent_number v.time_high → low ≡ sent_number v.time_low → row ≡ sent_number v.y → leads_bytes high low row t y ≡ lead_bytes v t y
-leads_number v high low row t y t< y< h l r =
-    let kept = low_kept (high_sent3 v t) v.time_low in
-    let hi : eqb high (t / grain3) ≡ high_sent3 v t = rw h (number_is v.time_high (t / grain3) (omega arith)) in
-    let number : low_number high low t ≡ sent_number kept = rw (hi, l) (sym (low_as (high_sent3 v t) v.time_low)) in
-    let lo : eqb (low_number high low t) (t % grain3) ≡ low_sent3 v t = rw number (number_is kept (t % grain3) (omega arith)) in
-    let ro : eqb row y ≡ row_sent3 v y = rw r (number_is v.y y (omega arith)) in
-    sym (lead_parts v t y ∙ rw (lo, hi, ro))
 
 module _ (high low row t y : ℕ) where
   abbrev is_high : Bool

@@ -1,12 +1,12 @@
 -- EVT3: the bytes of the words that take a writer into a later loop.
-use Rattle.std.specs.Prelude.{◌≡◌, Bool, false, List, ◌∷◌, ◌++◌, ℕ, zero, suc, ◌+◌, ◌-◌, ◌*◌, ◌≤◌, ◌<◌, length}
-use Rattle.std.proofs.Common.{ap, ◌∙◌, append_assoc, length-append}
+use Rattle.std.specs.Prelude.{◌≡◌, Bool, false, List, ◌∷◌, ◌++◌, ℕ, suc, ◌+◌, ◌*◌, ◌≤◌, length}
+use Rattle.std.proofs.Common.{ap, ◌∙◌, append_assoc}
 use native.Mathlib.Omega.{arith}
 use Rattle.std.proofs.lemmas.List.Edits.{sets}
 use Rattle.laws_stream.specs.{Machine.words, Machine.words_append, Words.stream, Words.bytes, Words.stream-append}
 use Rattle.evt_types.specs.{Layout.word_size3, Layout.word3}
-use Rattle.write_buffer.specs.{Sent.due, Due.due_bytes, Due.both_bytes, Due.both_few}
-use Rattle.write_buffer.specs.{Storing.Roomy, Storing.Storing, Storing.storing_start, Storing.storing_iteration, Storing.storing_room, Storing.storing_end}
+use Rattle.write_buffer.specs.{Sent.due, Due.due_bytes, Due.both_bytes}
+use Rattle.write_buffer.specs.Storing.{Storing, storing_start, storing_end}
 use Rattle.evt3_lead_words.specs.Evt3.{passes3}
 
 -- type 8 with FFF, unless that was sent, and with 000
@@ -34,18 +34,6 @@ passes_next n end =
     append-assoc⁻ : (a b c : List ℕ) → a ++ (b ++ c) ≡ (a ++ b) ++ c
     append-assoc⁻ a b c = simp append_assoc
 
-pub passes_few : (n : ℕ) (end : Bool) → length (passes_bytes n end) ≤ 4 * n
-unfolding passes_bytes passes3
-passes_few zero end = omega arith
-passes_few (suc n) end =
-    omega (
-      arith,
-      ap length (passes_next n end),
-      length-append (pass_bytes end) (passes_bytes n false),
-      both_few word_size3 end last_word first_word,
-      passes_few n false,
-    )
-
 -- on the way: `left` loops are to be passed
 pub record Passing (n : ℕ) (end : Bool) (at : ℕ) (out₀ out : List ℕ) (a : ℕ) (sent : Bool) (left : ℕ) : Type 0 where
   pub storing : Storing (passes_bytes n end) at out₀ (passes_bytes left sent) a out
@@ -57,20 +45,6 @@ module _ {n : ℕ} {end : Bool} {at : ℕ} {out₀ : List ℕ} where
   passing_start = record { storing = storing_start; fewer = omega arith; near = omega arith }
 
   module _ {out : List ℕ} {a : ℕ} {sent : Bool} {left : ℕ} (p : Passing n end at out₀ out a sent left) where
-    next_is : 0 < left → passes_bytes left sent ≡ pass_bytes sent ++ passes_bytes (left - 1) false
-    next_is h = let n : left ≡ suc (left - 1) = omega arith in ap (λ (k : ℕ). passes_bytes k sent) n ∙ passes_next (left - 1) sent
-
-    pub passing_room : 0 < left → Roomy out₀ at (length (passes_bytes n end)) → Roomy out a (length (pass_bytes sent))
-    passing_room h r = storing_room (pass_bytes sent) (passes_bytes (left - 1) false) (next_is h) p.storing r
-
-    pub passing_iteration : 0 < left → (b : ℕ) (out' : List ℕ) → b ≡ a + length (pass_bytes sent) → out' ≡ sets out a (pass_bytes sent)
-        → Passing n end at out₀ out' b false (left - 1)
-    passing_iteration h b out' e o = record {
-      storing = rw e (storing_iteration (pass_bytes sent) (passes_bytes (left - 1) false) (next_is h) o p.storing);
-      fewer = omega (arith, p.fewer);
-      near = omega (arith, p.near, both_few word_size3 sent last_word first_word);
-    }
-
     pub passing_end : left ≤ 0 → (a ≡ at + length (passes_bytes n end)) × (out ≡ sets out₀ at (passes_bytes n end))
     unfolding passes3 passes_bytes
     passing_end h = let z : left ≡ 0 = omega arith in storing_end (rw z at p.storing)

@@ -14,7 +14,8 @@ use Rattle.evt3_run_rules.specs.Runs.{Run, first_x, last_x}
 use Rattle.evt3_lead_words.specs.Evt3.{leads3, single_word3, base_word3, mask_word3, nearby, beyond, mask_count}
 use Rattle.evt3_lead_words.specs.Evt3.{vectored, singles, masks, vectors, body3, encode3, writer3}
 use Rattle.evt3_lead_words.specs.{Evt3.passes3, Evt3.ahead3, Evt3.at_end, Evt3.looped3, Leads.lead_bytes, Leads.lead_few}
-use Rattle.evt3_lead_words.specs.Loops.{passes_bytes, passes_few}
+use Rattle.evt3_lead_words.specs.Loops.{passes_bytes}
+use Rattle.evt3_lead_words.proofs.LoopsLaws.{passes_few}
 
 abbrev pub bytes3 : EncoderState → Run → List ℕ
 bytes3 = piece word_size3 writer3

@@ -1,23 +1,21 @@
 -- What opening comes to: a body that is accepted, and that what its builder yields is what specs/Index.antt defines.
 use Rattle.std.specs.Prelude.{◌≡◌, Bool, List, [], ◌∷◌, ◌++◌, ℕ, zero, suc, ◌+◌, ◌-◌, ◌*◌, ◌/◌, ◌%◌, ◌≤◌, ◌<◌, ◌^◌, eqb, drop}
 use Rattle.std.proofs.Math.Path.{refl, ap}
-use Rattle.std.proofs.Common.{sym, subst, ◌∙◌, true≢false, arith, length-drop, take_all}
+use Rattle.std.proofs.Common.{sym, ◌∙◌, true≢false, arith, length-drop}
 use Rattle.std.proofs.Math.Bool.{true, false, cond}
 use native.Mathlib.Nat.{zero-mul, suc-mul, div-add-mod', mod-lt}
 use Rattle.std.proofs.Math.Dec.{ltb}
-use Rattle.std.proofs.Math.IntN.{pos}
-use Rattle.std.proofs.Math.ListN.{length, take, length-take}
+use Rattle.std.proofs.Math.ListN.{length, take}
 use borrow.Author.Tests.{lt-ltb, le-ltb, ltb-false, eqb-true}
 use Rattle.laws_stream.specs.{Part.rest_of, Order.greatest}
 use Rattle.evt_types.specs.declared.{Encoding.Encoding, Encoding.TheVariants.Evt2, Encoding.TheVariants.Evt21, Encoding.TheVariants.Evt3, Refusal.Refusal}
 use Rattle.evt_types.specs.declared.{Refusal.TheVariants.InvalidSensorSize, Refusal.TheVariants.TooLong, Refusal.TheVariants.InvalidSpacing}
 use Rattle.evt_types.specs.declared.{Refusal.TheVariants.TooFewRecords, SensorSize.SensorSize, SensorSize.TheVariants.Unknown}
 use Rattle.evt_types.specs.{declared.SensorSize.TheVariants.Known, Event.Event, Num.most_bytes, Outcome.Outcome, Outcome.refuse, Outcome.give}
-use Rattle.evt_codec.specs.{declared.codec.Codec.Codec, Codec.fresh_c, Codec.word_size, Codec.events_from, Codec.codec_after}
-use Rattle.read_columns.specs.Inside.{clock}
+use Rattle.evt_codec.specs.{declared.codec.Codec.Codec, Codec.fresh_c, Codec.word_size, Codec.events_from}
 use Rattle.read_fill.specs.{Decode.inside_events, Laws.bounded_fresh, Laws.all-inside, Laws.inside-bytes}
 use Rattle.header.specs.declared.Header as header
-use Rattle.header.specs.declared.{HeaderAnswer.HeaderAnswer, HeaderAnswer.TheVariants.Header, HeaderAnswer.TheVariants.Refused as NoHeader}
+use Rattle.header.specs.declared.{HeaderAnswer.HeaderAnswer, HeaderAnswer.TheVariants.Header}
 use Rattle.header.specs.Header.{has_zero, header_of}
 use Rattle.read_select.specs.{declared.SurveyTotals.SurveyTotals, Pass.Ready as ReadyFor, Pass.handed_over, Pass.surveyed, Uses.numbered_over}
 use Rattle.read_select.specs.{Uses.over-all}
@@ -26,11 +24,11 @@ use Rattle.read_rules.specs.{Laws.ready_fresh, Read.width_of, Read.height_of, Re
 use Rattle.index_build.specs.declared.{Builder.Builder, Checkpoint.Checkpoint, OpenAnswer.OpenAnswer, OpenAnswer.TheVariants.Opened}
 use Rattle.index_build.specs.declared.{OpenAnswer.TheVariants.Refused, OpenOptions.OpenOptions, Prepared.Prepared, Prepared.TheVariants.Ready}
 use Rattle.index_build.specs.declared.{Prepared.TheVariants.Refused as NotReady, RawSliceSource.RawSliceSource, WordsOptions.WordsOptions}
-use Rattle.index_build.specs.Index.{kept_events, record_at, firsts, record_count, records_of, alignment, spacing_ok, Body, body_at, body_bytes}
+use Rattle.index_build.specs.Index.{kept_events, firsts, record_count, alignment, spacing_ok, Body, body_at, body_bytes}
 use Rattle.index_build.specs.Index.{body_kept, need_of}
-use Rattle.index_build.specs.Index.{opening_of, records_by, index_outcome, open_after_header, open_raw_outcome, words_body, open_words_outcome}
+use Rattle.index_build.specs.Index.{index_outcome, open_after_header, open_raw_outcome, words_body, open_words_outcome}
 use Rattle.index_build.specs.Index.{open_answer, open_records}
-use Rattle.index_build.specs.{Index.Opens, Index.told_open, Index.told-answer, Laws.builder_start, Laws.Laid, Laws.laid_end}
+use Rattle.index_build.specs.{Index.Opens, Index.told_open, Index.told-answer, Laws.Laid, Laws.laid_end}
 use Rattle.index_build.specs.Build.{Begun, builder_at, made_at, span_width, span_height, whole_window, first_for, uncounted, first_of, prepared_by, concluded}
 use Rattle.header.proofs.HeaderLaws.{of_accepted}
 
@@ -110,40 +108,6 @@ abbrev pub IfGiven : (Body → Type 0) → Outcome Body → Type 0
 IfGiven P (refuse r) = Unit
 IfGiven P (give b) = P b
 
-accepted-body : (b : Body) (room : ℕ) → length b.recording ≤ most_bytes → b.start ≤ length b.recording → has_zero b.size ≡ false
-    → IfGiven (Accepted b.recording room) (index_outcome b room)
-unfolding index_outcome
-accepted-body b room long within positive = go (spacing_ok b.encoding b.spacing) refl (ltb room (need_of b)) refl (sizeless b.size (body_kept b))
-  where
-    go : (x : Bool) → spacing_ok b.encoding b.spacing ≡ x → (y : Bool) → ltb room (need_of b) ≡ y → (z : Bool)
-        → IfGiven (Accepted b.recording room)
-        (cond x (cond y (refuse (TooFewRecords (need_of b))) (cond z (refuse InvalidSensorSize) (give b))) (refuse InvalidSpacing))
-    go false p y q z = tt
-    go true p true q z = tt
-    go true p false q true = tt
-    go true p false q false =
-        record { is_recording = refl; long = long; within = within; positive = positive; allowed = p; fits = ltb-false room (need_of b) q }
-
-pub accepted_raw : (l : List ℕ) (o : OpenOptions) (room : ℕ) → IfGiven (Accepted l room) (open_raw_outcome l o room)
-unfolding open_raw_outcome
-accepted_raw l o room = go (header_of l o.sensor_size) refl
-  where
-    go : (a : HeaderAnswer) → header_of l o.sensor_size ≡ a → IfGiven (Accepted l room) (open_after_header a l o.spacing room)
-    go (NoHeader r) p = tt
-    go (Header h) p =
-        let k = of_accepted l o.sensor_size h p in
-        accepted-body (body_at l h.data_offset h.encoding h.sensor_size o.spacing) room k.short k.within k.positive
-
-pub accepted-words : (l : List ℕ) (o : WordsOptions) (room : ℕ) → IfGiven (Accepted l room) (open_words_outcome l o room)
-unfolding open_words_outcome
-accepted-words l o room = go (ltb most_bytes (length l)) refl (has_zero o.sensor_size) refl
-  where
-    go : (x : Bool) → ltb most_bytes (length l) ≡ x → (y : Bool) → has_zero o.sensor_size ≡ y
-        → IfGiven (Accepted l room) (cond x (refuse TooLong) (cond y (refuse InvalidSensorSize) (index_outcome (words_body l o) room)))
-    go true p y q = tt
-    go false p true q = tt
-    go false p false q = accepted-body (words_body l o) room (ltb-false most_bytes (length l) p) (omega arith) q
-
 -- ---- what its builder comes to
 
 -- what a builder that was prepared makes is what the outcome says
@@ -153,87 +117,14 @@ pub record Builds (l : List ℕ) (room : ℕ) (outcome : Outcome Body) (t : Buil
   pub is_records : firsts (made_at l t) t.cap ≡ open_records outcome
 
 module _ (m : List ℕ) (b : Body) (room : ℕ) (ok : Accepted m room b) where
-  abbrev l : List ℕ
+  abbrev pub l : List ℕ
   l = b.recording
 
-  abbrev body : List ℕ
+  abbrev pub body : List ℕ
   body = body_bytes b
 
-  abbrev t : Builder
+  abbrev pub t : Builder
   t = first_of b
-
-  abbrev insides : List ℕ → List Event
-  insides = inside_events (span_width b.size) (span_height b.size) (fresh_c b.encoding)
-
-  its_spacing : Spaced b.spacing
-  its_spacing = spaced b.encoding b.spacing ok.allowed
-
-  body_long : length body ≤ most_bytes
-  body_long = omega (arith, length-drop b.start l, ok.long)
-
-  begun_body : Begun l room t
-  begun_body = record {
-    is_first = builder_start l t;
-    start = ok.within;
-    long = ok.long;
-    takes = bounded_fresh b.encoding most_bytes (omega arith);
-    words = b.spacing / word_size (fresh_c b.encoding);
-    aligned = aligned b.encoding b.spacing ok.allowed;
-    small = its_spacing.high;
-    within = λ j lt. omega (arith, count-within (length body) b.spacing its_spacing j lt, length-drop b.start l);
-    fits = ok.fits;
-    few = count_few (length body) b.spacing its_spacing body_long;
-  }
-
-  record_is : (j : ℕ) → made_at l t j ≡ record_at b.size b.encoding b.start b.spacing body j
-  unfolding record_at
-  record_is j =
-      let n = j * b.spacing in
-      let front = take n body in
-      let k : insides front ≡ kept_events b.size b.encoding front =
-      kept-inside b.size b.encoding front (omega (arith, length-take n body, body_long)) in
-      λ i. record {
-        byte_offset = b.start + n;
-        event_index = length (k i);
-        time = pos (greatest clock (k i));
-        codec = codec_after (fresh_c b.encoding) front;
-      }
-
-  firsts_is : (n : ℕ) → firsts (made_at l t) n ≡ firsts (record_at b.size b.encoding b.start b.spacing body) n
-  firsts_is zero = refl
-  firsts_is (suc n) = λ i. firsts_is n i ++ (record_is n i ∷ [])
-
-  records_is : firsts (made_at l t) (need_of b) ≡ records_by b
-  unfolding records_of
-  records_is = firsts_is (need_of b)
-
-  opening_is : concluded (builder_at l t (need_of b)) ≡ opening_of b
-  opening_is =
-      let all : take (need_of b * b.spacing) body ≡ body = take_all (need_of b * b.spacing) body (count_covers (length body) b.spacing its_spacing) in
-      let k : insides (take (need_of b * b.spacing) body) ≡ body_kept b = ap insides all ∙ kept-inside b.size b.encoding body body_long in
-      λ i. record {
-        source = record {
-          encoding = b.encoding;
-          spacing = b.spacing;
-          data_offset = b.start;
-          len = length l;
-          width = width_of b.size (body_kept b);
-          height = height_of b.size (body_kept b);
-          n_events = length (k i);
-        };
-        records = need_of b;
-      }
-
-  builds_body : Builds l room (give b) t
-  builds_body = record { begun = begun_body; is_answer = ap Opened opening_is; is_records = records_is }
-
-pub builds : (l : List ℕ) (room : ℕ) (outcome : Outcome Body) → IfGiven (Accepted l room) outcome → (t : Builder) → Ready t ≡ prepared_by outcome
-    → Builds l room outcome t
-builds l room (refuse r) ok t is = let z : ◌≡◌ {A = ℕ} 0 1 = cc in absurd (omega arith)
-builds l room (give b) ok t is =
-    let own : t ≡ first_of b = cc in
-    subst (λ (u : Builder). Builds l room (give b) u) (sym own)
-    (subst (λ (m : List ℕ). Builds m room (give b) (first_of b)) ok.is_recording (builds_body l b room ok))
 
 -- ---- what opening promises
 

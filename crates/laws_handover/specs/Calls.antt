@@ -7,11 +7,13 @@ use Rattle.write_buffer.specs.Columns.{events_in}
 use Rattle.write_words.specs.Encode.{encode_notes}
 use Rattle.laws_formats.specs.Either.{fresh_of}
 use Rattle.laws_formats.specs.Appends.{flat, append_notes, notes-all, Understood, fresh_understood}
-use Rattle.write_rules.specs.{declared.RawEventSink.RawEventSink, Rules.fresh_sink, Range.sink_not_before, Checks.Checked, Checks.checked_of}
+use Rattle.write_rules.specs.{declared.RawEventSink.RawEventSink, Rules.fresh_sink, Range.sink_not_before, Checks.Checked}
 use Rattle.write_append.specs.{Append.sends, Append.next_sink, Ends.accepts_checked, Ends.by_acceptance, Rising.clock, Rising.in_bounds, Rising.Rises}
-use Rattle.write_append.specs.Rising.{earliest, append_rise, append-last}
+use Rattle.write_append.specs.Rising.{earliest, append_rise}
 use Rattle.laws_handover.specs.Handover.{Call, is_accepted, next, call_bytes, accepted_events, stream_words, Typed}
 use Rattle.laws_handover.specs.EventWords.{append_typed}
+use Rattle.write_rules.proofs.ChecksLaws.{checked_of}
+use Rattle.write_append.proofs.RisingLaws.{append-last}
 
 -- ---- what an append that is refused, and one that is accepted, comes to
 

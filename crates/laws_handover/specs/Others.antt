@@ -12,13 +12,14 @@ use Rattle.write_words.specs.{Encode.encode_notes, Encode.encode_bytes, Encode.e
 use Rattle.laws_formats.specs.{Either.lawful_of, Either.ready_coarse, Either.ready_rises, Appends.note_bytes}
 use Rattle.write_rules.specs.declared.{LastTime.LastTime, LastTime.TheVariants.Never, LastTime.TheVariants.At, RawEventSink.RawEventSink}
 use Rattle.write_rules.specs.Range.{time_bound, grain_of, every, falls, falls_after, sink_in_range, sink_not_before}
-use Rattle.write_append.specs.{Append.last_after, Append.next_sink, Append.append_outcome, Laws.range_kept, Rising.clock, Rising.in_bounds, Rising.Rises}
+use Rattle.write_append.specs.{Append.last_after, Append.next_sink, Append.append_outcome, Rising.clock, Rising.in_bounds, Rising.Rises}
 use Rattle.write_append.specs.Rising.{earliest, rises_paced}
 use Rattle.write_rules.specs.Rules.{fresh_sink, held_state, resumed_sink}
 use Rattle.laws_handover.specs.Handover.{Call, is_accepted, next, call_bytes, accepted_events, stream_of, stream_words, fresh, Front, bare, start_of}
 use Rattle.laws_handover.specs.Handover.{whole, joined, resuming, Exact, Claim, single, singles, others_of, Resumable, Resumables, SecondListExists}
 use Rattle.laws_handover.specs.{Calls.by_call, Headed.front_of, Fronts.front_bare}
 use Rattle.laws_handover.specs.Proof.{Sent, sent-by, claim, there, resuming-is, rest-ready}
+use Rattle.write_append.proofs.KeptLaws.{range_kept}
 
 -- words that carry an event are some bytes
 some_bytes : (e : Encoding) (a : Event) (ns : List (Note ℕ Event)) → notes ns ≡ a ∷ [] → 0 < length (note_bytes e ns)

@@ -1,19 +1,17 @@
 -- A pass hands over no more than its bounds say, and what was written or needed is what specs/Deliver.antt defines.
-use Rattle.std.specs.Prelude.{◌≡◌, refl, Bool, true, false, ◌&&◌, List, [], ◌∷◌, ℕ, suc, ◌-◌, ◌≤◌, ◌<◌, min, max, leb, ltb, ℤ, length, take}
-use Rattle.std.proofs.Common.{ap, subst, arith, mul_comm, leb-true, ltb-true, le-leb}
-use Rattle.std.proofs.lemmas.Bool.{lt-leb}
+use Rattle.std.specs.Prelude.{◌≡◌, refl, Bool, true, false, ◌&&◌, List, [], ◌∷◌, ℕ, suc, ◌-◌, ◌≤◌, min, max, leb, ltb, ℤ, length, take}
+use Rattle.std.proofs.Common.{ap, subst, arith, mul_comm, leb-true, ltb-true}
 use Rattle.evt_types.specs.{Columns.col_x, Columns.col_y, Columns.col_t, Columns.col_p, Columns.Wrote, Columns.Fits}
 use Rattle.evt_types.specs.{Event.Event}
 use Rattle.laws_stream.specs.{Columns.written-front, Slice.onto, Words.words_of}
 use Rattle.laws_stream.specs.Select as Select
 use Rattle.evt_codec.specs.{declared.codec.Codec.Codec, Reader.view, Codec.word_size}
 use Rattle.read_count.specs.{declared.CountedAll.CountedAll, Count.counted_all_of}
-use Rattle.read_fill.specs.{declared.FilledAll.FilledAll, Decode.inside_events, Decode.filled_all_of, Laws.inside_few}
+use Rattle.read_fill.specs.{Decode.inside_events, Laws.inside_few}
 use Rattle.read_window.specs.{declared.Window.Window, Window.selection_of}
-use Rattle.read_select.specs.{declared.Filled.Filled, declared.SurveyTotals.SurveyTotals, Pass.reading_by, Pass.handed_over, Pass.surveyed, Pass.filled}
+use Rattle.read_select.specs.{declared.SurveyTotals.SurveyTotals, Pass.reading_by, Pass.handed_over, Pass.surveyed}
 use Rattle.read_select.specs.{Uses.numbered_over, Uses.over_few}
-use Rattle.read_capacity.specs.declared.Delivered.TheVariants.{Written, Needed}
-use Rattle.read_capacity.specs.Deliver.{shortest, Handed, Delivers, most_from, most_over, Enough}
+use Rattle.read_capacity.specs.Deliver.{Handed, most_from, most_over, Enough}
 
 -- ---- what was written
 
@@ -33,20 +31,6 @@ module _ {xs₀ ys₀ : List ℕ} {ts₀ : List ℤ} {ps₀ : List ℕ} where
   pub handed_none : Handed [] xs₀ ys₀ ts₀ ps₀ xs₀ ys₀ ts₀ ps₀
   handed_none = record { column-x = refl; column-y = refl; column-t = refl; column_p = refl }
 
-  pub delivers_all : (es : List Event) (room n m : ℕ) {xs ys : List ℕ} {ts : List ℤ} {ps : List ℕ} → room ≡ shortest xs₀ ys₀ ts₀ ps₀ → Enough es room n
-      → n ≤ room → m ≡ length es → Wrote es 0 xs₀ ys₀ ts₀ ps₀ xs ys ts ps
-      → Delivers es (Written m) xs₀ ys₀ ts₀ ps₀ xs ys ts ps
-  delivers_all es room n m r enough h e w =
-      let fits : leb (length es) (shortest xs₀ ys₀ ts₀ ps₀) ≡ true = le-leb (length es) (shortest xs₀ ys₀ ts₀ ps₀) (omega (arith, enough.holds)) in
-      record { answer = rw (fits, e); columns = rw fits (handed-wrote w) }
-
-  pub delivers_none : (es : List Event) (room n : ℕ) → room ≡ shortest xs₀ ys₀ ts₀ ps₀ → Enough es room n → room < n
-      → Delivers es (Needed n) xs₀ ys₀ ts₀ ps₀ xs₀ ys₀ ts₀ ps₀
-  delivers_none es room n r enough h =
-      let is : n ≡ length es = enough.exact h in
-      let short : leb (length es) (shortest xs₀ ys₀ ts₀ ps₀) ≡ false = lt-leb (length es) (shortest xs₀ ys₀ ts₀ ps₀) (omega arith) in
-      record { answer = rw (short, is); columns = rw short handed_none }
-
 -- what fits a room that holds enough
 pub enough_fits : (es : List Event) (room n a b c d : ℕ) → room ≡ min (min a b) (min c d) → Enough es room n → n ≤ room → Fits (length es) a b c d
 enough_fits es room n a b c d r enough h = fits_room (length es) a b c d (omega (arith, enough.holds))
@@ -60,7 +44,7 @@ enough_just es room n e = record { holds = omega arith; exact = λ m. e }
 -- ---- all events inside a sensor
 
 module _ (width height : ℕ) (c : Codec) (bytes : List ℕ) where
-  abbrev inner : List Event
+  abbrev pub inner : List Event
   inner = inside_events width height c bytes
 
   pub few_inside : length inner ≤ most_from c (length bytes)
@@ -71,11 +55,6 @@ module _ (width height : ℕ) (c : Codec) (bytes : List ℕ) where
 
   pub need-all-count : (room : ℕ) (t : CountedAll) → t ≡ counted_all_of width height c bytes → Enough inner room t.count
   need-all-count room t is = enough_just inner room t.count (ap (λ (t : CountedAll). t.count) is)
-
-  pub delivers_inside : (room n : ℕ) (t : FilledAll) {xs₀ ys₀ : List ℕ} {ts₀ : List ℤ} {ps₀ xs ys : List ℕ} {ts : List ℤ} {ps : List ℕ}
-      → room ≡ shortest xs₀ ys₀ ts₀ ps₀ → Enough inner room n → n ≤ room
-      → t ≡ filled_all_of width height c bytes → Wrote inner 0 xs₀ ys₀ ts₀ ps₀ xs ys ts ps → Delivers inner (Written t.count) xs₀ ys₀ ts₀ ps₀ xs ys ts ps
-  delivers_inside room n t r enough h is w = delivers_all inner room n t.count r enough h (ap (λ (t : FilledAll). t.count) is) w
 
 -- ---- a pass hands over no more than its window has numbers, nor than its bytes have events
 
@@ -97,7 +76,7 @@ module _ {S : Type 0} (R : Select.Reading S ℕ Event) (span : Select.Selection)
   handed-span k s ws = rw Select.handed-after (omega (arith, chosen-span k (Select.numbered R s (take (Select.ended R span k s ws).consumed ws))))
 
 module _ (win : Window) (k : ℕ) (c : Codec) (bytes : List ℕ) where
-  abbrev over : List Event
+  abbrev pub over : List Event
   over = handed_over win k c bytes
 
   over-span : length over ≤ win.n1 - win.n0
@@ -114,8 +93,3 @@ module _ (win : Window) (k : ℕ) (c : Codec) (bytes : List ℕ) where
 
   pub need-count : (room : ℕ) (t : SurveyTotals) → t ≡ surveyed win k c bytes → Enough over room t.count
   need-count room t is = enough_just over room t.count (ap (λ (t : SurveyTotals). t.count) is)
-
-  pub delivers_filled : (room n : ℕ) (t : Filled) {xs₀ ys₀ : List ℕ} {ts₀ : List ℤ} {ps₀ xs ys : List ℕ} {ts : List ℤ} {ps : List ℕ}
-      → room ≡ shortest xs₀ ys₀ ts₀ ps₀ → Enough over room n → n ≤ room
-      → t ≡ filled win k c bytes → Wrote over 0 xs₀ ys₀ ts₀ ps₀ xs ys ts ps → Delivers over (Written t.count) xs₀ ys₀ ts₀ ps₀ xs ys ts ps
-  delivers_filled room n t r enough h is w = delivers_all over room n t.count r enough h (ap (λ (t : Filled). t.count) is) w

@@ -11,7 +11,7 @@ use Rattle.read_fill.specs.{Decode.inside_events, Decode.Bounded, Decode.Fitting
 use Rattle.read_window.specs.declared.Window.{Window}
 use Rattle.read_select.specs.{Pass.Able, Pass.Ready, Pass.handed_over, Uses.over-all}
 use Rattle.read_seek.specs.{declared.Sought.Sought, Seek.sought_of, Laws.sought_within, Laws.sought_from_lem, Laws.sought_upto, Laws.ready_there}
-use Rattle.read_deliver.specs.PassOver.{passed-within, passed_few, handed-passed, ready_passed}
+use Rattle.read_deliver.specs.PassOver.{passed_few}
 use Rattle.read_capacity.specs.{declared.Delivered.Delivered, Deliver.Delivers}
 use Rattle.read_deliver.specs.declared.plan.Plan.{Plan}
 
@@ -99,7 +99,7 @@ module _ {es : List Event} {c : Codec} {l : List ℕ} {r : Delivered} {xs₀ ys�
 
 -- under the window, up to the end
 module _ (win : Window) (k : ℕ) (c : Codec) (l : List ℕ) where
-  to_the_end : (at k' : ℕ) (c' : Codec) → at ≤ length l → handed_over win k c l ≡ handed_over win k' c' (drop at l) → Ready c' k' (length (drop at l))
+  pub to_the_end : (at k' : ℕ) (c' : Codec) → at ≤ length l → handed_over win k c l ≡ handed_over win k' c' (drop at l) → Ready c' k' (length (drop at l))
       → Planned win k c l (record { plain = false; from = at; to = length l; codec = c'; number = k' })
   to_the_end at k' c' h same ready = record {
     order = h;
@@ -171,12 +171,3 @@ module _ (win : Window) (k : ℕ) (c : Codec) (l : List ℕ) (ready : Ready c k 
   module _ (numbered : Numbered win k) (p : CountedTo) (is : p ≡ counted_to_of win.width win.height (win.n0 - k) c l) where
     pub few_number : k + p.count ≤ win.n0
     few_number = let h : p.count ≤ win.n0 - k = rw is (passed_few win.width win.height (win.n0 - k) l c) in omega (arith, numbered.order)
-
-    within-number : p.at ≤ length l
-    within-number = rw is (passed-within win.width win.height (win.n0 - k) l c)
-
-    pub planned_number : Bounded (length (drop p.at l)) p.codec
-        → Planned win k c l (record { plain = false; from = p.at; to = length l; codec = p.codec; number = k + p.count })
-    planned_number b = to_the_end win k c l p.at (k + p.count) p.codec within-number
-        (handed-passed win numbered.no_end k (win.n0 - k) (omega arith) l c ready.able p is)
-        (ready_passed win.width win.height (win.n0 - k) k c l ready.long (omega (arith, numbered.order, numbered.low)) p is b)

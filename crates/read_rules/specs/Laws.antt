@@ -1,15 +1,15 @@
 -- What the parts of reading say, and that they come to what specs/Read.antt defines.
-use Rattle.std.specs.Prelude.{◌≡◌, refl, Bool, true, false, cond, List, [], ◌∷◌, ◌++◌, map, ℕ, ◌+◌, ◌≤◌, ◌<◌, ◌^◌, leb, ltb, eqb, ℤ, length, take, drop}
-use Rattle.std.proofs.Common.{sym, ap, ◌∙◌, arith, length-append, take_at, take_all, add-one, le-ltb, lt-ltb, leb-true, leb-false, ltb-false, ne_eqb}
+use Rattle.std.specs.Prelude.{◌≡◌, refl, Bool, true, false, cond, List, [], ◌++◌, map, ℕ, ◌+◌, ◌≤◌, ◌<◌, ◌^◌, leb, ltb, eqb, ℤ, length, take, drop}
+use Rattle.std.proofs.Common.{sym, ap, ◌∙◌, arith, length-append, le-ltb, lt-ltb, ltb-false}
 use Rattle.std.proofs.lemmas.List.{length-map}
-use Rattle.laws_stream.specs.{Mask.top, Order.greatest, Order.greatest-map}
+use Rattle.laws_stream.specs.Mask.{top}
 use Rattle.evt_types.specs.declared.{Encoding.Encoding, Limit.Limit}
 use Rattle.evt_types.specs.declared.{Limit.TheVariants.Unlimited, Limit.TheVariants.AtMost, Refusal.Refusal, Refusal.TheVariants.InvalidSensorSize}
 use Rattle.evt_types.specs.declared.{Refusal.TheVariants.TooLong, Refusal.TheVariants.ColumnsTooShort, SensorSize.SensorSize}
 use Rattle.evt_types.specs.{declared.SensorSize.TheVariants.Unknown, declared.SensorSize.TheVariants.Known, Columns.col_x, Columns.col_y, Event.Event}
 use Rattle.evt_types.specs.{Outcome.Outcome, Outcome.refuse, Outcome.give, Outcome.on_outcome, Outcome.given-unless, Num.most_bytes}
 use Rattle.evt_codec.specs.{declared.codec.Codec.Codec, Codec.fresh_c, Codec.events_from}
-use Rattle.read_fill.specs.{Decode.inside_events, Laws.bounded_fresh, Laws.range_fresh, Laws.all-inside, Laws.inside-bytes}
+use Rattle.read_fill.specs.{Decode.inside_events, Laws.bounded_fresh, Laws.range_fresh, Laws.all-inside}
 use Rattle.read_rules.specs.declared.{Judged.Judged, Judged.TheVariants.Fit, Judged.TheVariants.Unfit, LoadOptions.LoadOptions}
 use Rattle.read_rules.specs.declared.{ReadAnswer.ReadAnswer, ReadAnswer.TheVariants.Read, ReadAnswer.TheVariants.Refused, Sensor.Sensor}
 use Rattle.read_capacity.specs.declared.{Delivered.Delivered, Delivered.TheVariants.Written, Delivered.TheVariants.Needed}
@@ -20,8 +20,8 @@ use Rattle.read_select.specs.{Pass.Ready, Pass.handed_over, Uses.over-limit}
 use Rattle.evt_codec.specs.Sound.{able_range}
 use Rattle.header.specs.declared.Header as header
 use Rattle.header.specs.Header.{has_zero, header_of}
-use Rattle.read_rules.specs.Read.{kept, body_events, shortest, Handed, told_read, ReadEvents, body_outcome, words_check, words_outcome, raw_outcome}
-use Rattle.read_rules.specs.Read.{read_answer, read_verdict, handed_events, Reads, ReadsBody, DecodesWords, ReadsRaw}
+use Rattle.read_rules.specs.Read.{kept, body_events, shortest, Handed, body_outcome, words_check, words_outcome, raw_outcome}
+use Rattle.read_rules.specs.Read.{Reads, DecodesWords, ReadsRaw}
 
 abbrev pub sensor_of : SensorSize → Sensor
 sensor_of Unknown = record { width = 65536; height = 65536 }
@@ -46,7 +46,7 @@ handed-limit width height n e body h =
 -- ---- the events of a body
 
 -- with a size or without
-kept-inside : (size : SensorSize) (e : Encoding) (body : List ℕ) → length body ≤ 2 ^ 30
+pub kept-inside : (size : SensorSize) (e : Encoding) (body : List ℕ) → length body ≤ 2 ^ 30
     → kept size (events_from (fresh_c e) body) ≡ sensor_events (sensor_of size).width (sensor_of size).height e body
 kept-inside Unknown e body h = sym (all-inside (fresh_c e) body (bounded_fresh e (length body) h))
 kept-inside (Known w k) e body h = refl
@@ -67,21 +67,6 @@ window_of size limit = limit_window (sensor_of size).width (sensor_of size).heig
 pub window_parts : (size : SensorSize) (limit : Limit) (span : Sensor) (most : ℕ) → span ≡ sensor_of size → most ≡ most_of limit
     → limit_window span.width span.height most ≡ window_of size limit
 window_parts size limit span most s m = rw (s, m)
-
-body-most : (size : SensorSize) (e : Encoding) (limit : Limit) (body : List ℕ) → length body ≤ 2 ^ 30
-    → body_events e size limit body ≡ take (most_of limit) (sensor_events (sensor_of size).width (sensor_of size).height e body)
-unfolding body_events
-body-most size e Unlimited body h =
-    let es = sensor_events (sensor_of size).width (sensor_of size).height e body in
-    kept-inside size e body h
-    ∙ sym (take_all 18446744073709551615 es (omega (arith, inside-bytes (sensor_of size).width (sensor_of size).height (fresh_c e) body)))
-body-most size e (AtMost n) body h = ap (take n) (kept-inside size e body h)
-
--- what a pass under the window hands over
-pub body-handed : (size : SensorSize) (e : Encoding) (limit : Limit) (body : List ℕ) → length body ≤ 2 ^ 30
-    → handed_over (window_of size limit) 0 (fresh_c e) body ≡ body_events e size limit body
-body-handed size e limit body h =
-    handed-limit (sensor_of size).width (sensor_of size).height (most_of limit) e body h ∙ sym (body-most size e limit body h)
 
 -- ---- the size
 
@@ -124,14 +109,6 @@ module _ (n : ℕ) (size : SensorSize) where
   fit_judged j = ltb-false most_bytes n (given-unless tt (ltb most_bytes n) _ _ (judged-given (words_check n size) j)).0
 
 module _ (size : SensorSize) (e : Encoding) (limit : Limit) (codec : Codec) (is-fresh : codec ≡ fresh_c e) where
-  pub delivers_body : (body : List ℕ) (win : Window) {r : Delivered} {xs₀ ys₀ : List ℕ} {ts₀ : List ℤ} {ps₀ xs ys : List ℕ} {ts : List ℤ} {ps : List ℕ}
-      → length body ≤ 2 ^ 30 → win ≡ window_of size limit
-      → Delivers (handed_over win 0 codec body) r xs₀ ys₀ ts₀ ps₀ xs ys ts ps → Delivers (body_events e size limit body) r xs₀ ys₀ ts₀ ps₀ xs ys ts ps
-  delivers_body body win h w d =
-      let same : handed_over win 0 codec body ≡ body_events e size limit body =
-      (λ i. handed_over (w i) 0 (is-fresh i) body) ∙ body-handed size e limit body h in
-      rw same at d
-
   pub ready_new : (n : ℕ) → n ≤ 2 ^ 30 → Ready codec 0 n
   ready_new n h = rw is-fresh (ready_fresh e n h)
 
@@ -140,19 +117,9 @@ module _ (size : SensorSize) (e : Encoding) (limit : Limit) (codec : Codec) (is-
 length-handed : {E A : Type 0} (f : E → A) (es : List E) (old now : List A) → now ≡ map f es ++ drop (length es) old → length es ≤ length now
 length-handed f es old now e = omega (arith, ap length e ∙ length-append (map f es) (drop (length es) old), length-map es f)
 
-top-handed : (f : Event → ℕ) (es : List Event) (old now : List ℕ) → now ≡ map f es ++ drop (length es) old → top (take (length es) now) ≡ greatest f es
-top-handed f es old now e =
-    ap (λ (l : List ℕ). top (take (length es) l)) e ∙ ap top (take_at (map f es) (drop (length es) old) (length es) (length-map es f))
-    ∙ greatest-map (λ x. x) f es
-
--- what an answer tells is the verdict
-told-answer : (o : Outcome ReadEvents) → told_read (read_answer o) ≡ read_verdict o
-told-answer (refuse r) = refl
-told-answer (give g) = refl
-
 module _ {xs₀ ys₀ : List ℕ} {ts₀ : List ℤ} {ps₀ xs ys : List ℕ} {ts : List ℤ} {ps : List ℕ} (es : List Event) (r : Delivered)
     (d : Delivers es r xs₀ ys₀ ts₀ ps₀ xs ys ts ps) where
-  abbrev room : ℕ
+  abbrev pub room : ℕ
   room = shortest xs₀ ys₀ ts₀ ps₀
 
   pub holds_delivered : Holds r (length xs) (length ys)
@@ -161,51 +128,6 @@ module _ {xs₀ ys₀ : List ℕ} {ts₀ : List ℤ} {ps₀ xs ys : List ℕ} {t
       go : (b : Bool) → Handed (cond b es []) xs₀ ys₀ ts₀ ps₀ xs ys ts ps → Holds (cond b (Written (length es)) (Needed (length es))) (length xs) (length ys)
       go true h = (length-handed col_x es xs₀ xs h.column-x, length-handed col_y es ys₀ ys h.column-y)
       go false h = tt
-
-  module _ (e : Encoding) where
-    -- the answer to what was delivered, and the events in the columns
-    abbrev Settles : SensorSize → List Event → ReadAnswer → Type 0
-    Settles size es' a =
-        let o = body_outcome e size Unlimited es' room in
-        (a ≡ read_answer o) × Handed (handed_events o) xs₀ ys₀ ts₀ ps₀ xs ys ts ps
-
-    fits_go : (size : SensorSize) (es' : List Event) → es ≡ es' → length es ≤ room → Handed es xs₀ ys₀ ts₀ ps₀ xs ys ts ps
-        → Settles size es' (sized_of_lem e size (length es') xs ys)
-    fits_go (Known w k) es' q h c = let le : ltb room (length es') ≡ false = le-ltb room (length es') (rw (← q) h) in (rw le, rw (le, ← q) c)
-    fits_go Unknown [] q h c = (refl, rw q at c)
-    fits_go Unknown (a ∷ es') q h c =
-        let le : ltb room (length (a ∷ es')) ≡ false = le-ltb room (length (a ∷ es')) (rw q at h) in
-        let c' : Handed (a ∷ es') xs₀ ys₀ ts₀ ps₀ xs ys ts ps = rw q at c in (
-          rw (
-            ne_eqb (length (a ∷ es')) 0 (omega arith),
-            le,
-            top-handed col_x (a ∷ es') xs₀ xs c'.column-x,
-            top-handed col_y (a ∷ es') ys₀ ys c'.column-y,
-            add-one,
-            add-one,
-          ),
-          rw le c',
-        )
-
-    short_go : (size : SensorSize) (es' : List Event) → room < length es' → Handed [] xs₀ ys₀ ts₀ ps₀ xs ys ts ps
-        → Settles size es' (Refused (ColumnsTooShort (length es')))
-    short_go (Known w k) es' h c = let lt : ltb room (length es') ≡ true = lt-ltb room (length es') h in (rw lt, rw lt c)
-    short_go Unknown [] h c = absurd (omega arith)
-    short_go Unknown (a ∷ es') h c = let lt : ltb room (length (a ∷ es')) ≡ true = lt-ltb room (length (a ∷ es')) h in (rw lt, rw lt c)
-
-    settles : (size : SensorSize) → Settles size es (settled_of e size r xs ys)
-    settles size = rw d.answer (go (leb (length es) room) refl d.columns)
-      where
-        go : (b : Bool) → leb (length es) room ≡ b → Handed (cond b es []) xs₀ ys₀ ts₀ ps₀ xs ys ts ps
-            → Settles size es (settled_of e size (cond b (Written (length es)) (Needed (length es))) xs ys)
-        go true q h = fits_go size es refl (leb-true (length es) room q) h
-        go false q h = short_go size es (leb-false (length es) room q) h
-
-    pub reads_body : (size : SensorSize) (a : ReadAnswer) → a ≡ settled_of e size r xs ys → ReadsBody e size es a xs₀ ys₀ ts₀ ps₀ xs ys ts ps
-    reads_body size a is =
-        let s = settles size in
-        let o = body_outcome e size Unlimited es room in
-        record { is_told = ap told_read (is ∙ s.0) ∙ told-answer o; is_answer = is ∙ s.0; columns = s.1 }
 
 -- ---- the two entries
 
@@ -237,19 +159,9 @@ module _ {xs₀ ys₀ : List ℕ} {ts₀ : List ℤ} {ps₀ : List ℕ} where
   reads_refused q = record { is_told = refl; is_answer = refl; columns = handed_none }
 
   module _ (words : List ℕ) (e : Encoding) (size : SensorSize) (limit : Limit) where
-    pub words_read : {r : ReadAnswer} {xs ys : List ℕ} {ts : List ℤ} {ps : List ℕ} → judged_of (length words) size ≡ Fit
-        → ReadsBody e size (body_events e size limit words) r xs₀ ys₀ ts₀ ps₀ xs ys ts ps → DecodesWords words e size limit r xs₀ ys₀ ts₀ ps₀ xs ys ts ps
-    words_read j b = rw (words_fit words e size limit (shortest xs₀ ys₀ ts₀ ps₀) j) b
-
     pub words-refused : (q : Refusal) → judged_of (length words) size ≡ Unfit q → DecodesWords words e size limit (Refused q) xs₀ ys₀ ts₀ ps₀ xs₀ ys₀ ts₀ ps₀
     words-refused q j = rw (words_unfit words e size limit (shortest xs₀ ys₀ ts₀ ps₀) q j) (reads_refused q)
 
   module _ (recording : List ℕ) (o : LoadOptions) (a : HeaderAnswer) (is-header : a ≡ header_of recording o.sensor_size) where
     pub raw_refused : (q : Refusal) → a ≡ NoHeader q → ReadsRaw recording o (Refused q) xs₀ ys₀ ts₀ ps₀ xs₀ ys₀ ts₀ ps₀
     raw_refused q e = rw (raw_unfit recording o a is-header (shortest xs₀ ys₀ ts₀ ps₀) q e) (reads_refused q)
-
-    pub raw_read : (h : header.Header) → a ≡ Header h → {r : ReadAnswer} {xs ys : List ℕ} {ts : List ℤ} {ps : List ℕ}
-        → let es = body_events h.encoding h.sensor_size o.max_events (drop h.data_offset recording) in
-        ReadsBody h.encoding h.sensor_size es r xs₀ ys₀ ts₀ ps₀ xs ys ts ps
-        → ReadsRaw recording o r xs₀ ys₀ ts₀ ps₀ xs ys ts ps
-    raw_read h e b = rw (raw_fit recording o a is-header (shortest xs₀ ys₀ ts₀ ps₀) h e) b

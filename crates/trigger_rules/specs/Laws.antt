@@ -21,7 +21,7 @@ use Rattle.evt_codec.specs.{Triggers.triggers_before, Sound.sound, Sound.able_bo
 use Rattle.read_columns.specs.Inside.{inside, sift_few}
 use Rattle.read_fill.specs.{Laws.Small, Laws.vector_small, Laws.bounded_fresh}
 use Rattle.read_window.specs.{declared.Window.Window, Window.selection_of}
-use Rattle.read_select.specs.{declared.SurveyTotals.SurveyTotals, Pass.reading_by, Pass.end_over, Pass.surveyed, Uses.calm}
+use Rattle.read_select.specs.{Pass.reading_by, Pass.end_over, Uses.calm}
 use Rattle.read_rules.specs.declared.ReadAnswer.{ReadAnswer}
 use Rattle.read_rules.specs.declared.ReadAnswer.TheVariants as R
 use Rattle.read_rules.specs.Read.{kept, ReadEvents, Reads, body_outcome, body_events, shortest}
@@ -49,7 +49,7 @@ agree size v n = all_map Small _ (one size) (events_of v) (vector_small v n)
 
 -- a pass up to event m
 module _ (size : SensorSize) (m : ℕ) (c : Codec) (body : List ℕ) (short : length body ≤ 2 ^ 30) (b : Bounded (length body) c) where
-  abbrev win : Window
+  abbrev pub win : Window
   win = window_of size (AtMost m)
 
   abbrev passed : Reading (view c).reader.State ℕ Event
@@ -80,7 +80,7 @@ module _ (size : SensorSize) (m : ℕ) (c : Codec) (body : List ℕ) (short : le
 
 -- where the words that a pass up to the limit consumes end
 module _ (size : SensorSize) (body : List ℕ) (short : length body ≤ 2 ^ 30) where
-  abbrev EndsAt : Encoding → ℕ → ℕ → Type 0
+  abbrev pub EndsAt : Encoding → ℕ → ℕ → Type 0
   EndsAt e n at = (at ≤ length body) × (triggers_from (fresh_c e) (take at body) ≡ body_triggers e size (AtMost n) body)
 
   pub ends_none : (e : Encoding) → EndsAt e 0 0
@@ -97,11 +97,6 @@ module _ (size : SensorSize) (body : List ℕ) (short : length body ≤ 2 ^ 30) 
       → EndsAt e n ((end_over (window_of size (AtMost n)) 0 (fresh_c e) body).consumed * word_size (fresh_c e))
   unfolding body_triggers
   ends_at e n h = consumed_ends size n (fresh_c e) body short (bounded_fresh e (length body) short) h
-
-  -- by what the code has at hand
-  pub ends_by : (e : Encoding) (n : ℕ) → 0 < n → {c : Codec} → c ≡ fresh_c e → {win : Window} → win ≡ window_of size (AtMost n)
-      → {t : SurveyTotals} → t ≡ surveyed win 0 c body → {k : ℕ} → k ≡ word_size c → EndsAt e n (t.consumed * k)
-  ends_by e n h is_c is-win is_t is-k = rw (is_t, is-k, is-win, is_c) (ends_at e n h)
 
   pub ends-all : (e : Encoding) → (length body ≤ length body) × (triggers_from (fresh_c e) (take (length body) body) ≡ body_triggers e size Unlimited body)
   unfolding body_triggers

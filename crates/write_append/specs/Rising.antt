@@ -13,7 +13,7 @@ use Rattle.write_rules.specs.declared.{LastTime.LastTime, LastTime.TheVariants.N
 use Rattle.write_rules.specs.Range.{time_bound, time_in_range, every, at_most, falls, falls_after, belongs, not_before, sink_not_before}
 use Rattle.write_rules.specs.Range.{last_in_range, sink_in_range}
 use Rattle.write_rules.specs.Checks.{Checked, or_neither}
-use Rattle.write_append.specs.Append.{last_after, next_sink}
+use Rattle.write_append.specs.Append.{last_after}
 
 abbrev pub clock : Event → ℕ
 clock e = e.t
@@ -87,7 +87,7 @@ module _ (s : RawEventSink) (xs ys : List ℕ) (ts : List ℤ) (ps : List ℕ) (
   abbrev events : List Event
   events = events_in xs ys ts ps
 
-  checked_rise : Rises from events × (earliest (last_after (sink_not_before s) ts) ≡ last_of clock in_bounds from events)
+  pub checked_rise : Rises from events × (earliest (last_after (sink_not_before s) ts) ≡ last_of clock in_bounds from events)
   checked_rise =
       let z = k.sized in
       let a = and_both (every (at_most 2047) xs) _ k.events in
@@ -105,23 +105,6 @@ pub state_none : (e : Encoding) (v : EncoderState) → encode_state e v [] ≡ v
 state_none Evt2 v = refl
 state_none Evt21 v = refl
 state_none Evt3 v = refl
-
-after-some : (e : Encoding) (held : Sent) (l m : LastTime) (t : ℤ) (ts : List ℤ) → not_before e held (last_after l (t ∷ ts)) ≡ last_after m (t ∷ ts)
-unfolding last_after
-after-some e held l m t [] = refl
-after-some e held l m t (u ∷ ts) = after-some e held (At t) (At t) u ts
-
-next_time : (s : RawEventSink) (xs ys : List ℕ) (ts : List ℤ) (ps : List ℕ) → length ts ≡ length xs
-    → sink_not_before (next_sink s xs ys ts ps) ≡ last_after (sink_not_before s) ts
-unfolding last_after
-next_time s [] ys [] ps h = rw (state_none s.version s.state)
-next_time s (x ∷ xs) ys [] ps h = absurd (omega arith)
-next_time s xs ys (t ∷ ts) ps h =
-    after-some s.version (encode_state s.version s.state (events_in xs ys (t ∷ ts) ps)).time_high s.last_t (sink_not_before s) t ts
-
-pub append-last : (s : RawEventSink) (xs ys : List ℕ) (ts : List ℤ) (ps : List ℕ) → Checked s xs ys ts ps
-    → earliest (sink_not_before (next_sink s xs ys ts ps)) ≡ last_of clock in_bounds (earliest (sink_not_before s)) (events_in xs ys ts ps)
-append-last s xs ys ts ps k = rw (next_time s xs ys ts ps k.sized.same-t) (checked_rise s xs ys ts ps k).1
 
 -- ---- loops
 

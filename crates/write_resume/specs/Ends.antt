@@ -1,19 +1,17 @@
 -- What the functions keep, and which answer is right.
-use Rattle.std.specs.Prelude.{◌≡◌, Bool, cond, List, ℕ, ◌/◌, ltb, length}
+use Rattle.std.specs.Prelude.{◌≡◌, Bool, cond, ℕ, ◌/◌}
 use Rattle.std.proofs.Math.Path.{refl}
 use Rattle.std.proofs.Common.{sym, subst, ◌∙◌, arith}
 use Rattle.std.proofs.Math.Bool.{true, false}
 use Rattle.evt_types.specs.declared.{Encoding.Encoding, Refusal.Refusal, Refusal.TheVariants.StateOutOfRange}
-use Rattle.evt_types.specs.{declared.Refusal.TheVariants.TooLong, Num.most_bytes}
 use Rattle.evt_types.specs.declared.Sent.TheVariants.{Nothing, Value}
 use Rattle.evt_types.specs.{Outcome.Outcome, Outcome.refuse, Outcome.give}
-use Rattle.evt_codec.specs.{declared.codec.Codec.Codec, Codec.fresh_c, Codec.encoding_of, Codec.started_c, Codec.coarse_c, Codec.in_range_c}
-use Rattle.evt_codec.specs.Codec.{codec_after, encoding_after, encoding_fresh}
+use Rattle.evt_codec.specs.{declared.codec.Codec.Codec, Codec.encoding_of, Codec.started_c, Codec.coarse_c}
 use Rattle.read_after.specs.declared.{AfterAnswer.AfterAnswer, AfterAnswer.TheVariants.After, AfterAnswer.TheVariants.Refused as NotAfter}
-use Rattle.read_after.specs.After.{after_outcome, after_answer, Afters}
+use Rattle.read_after.specs.After.{after_answer, Afters}
 use Rattle.write_rules.specs.{declared.RawEventSink.RawEventSink, declared.LastTime.TheVariants.Never, Range.grain_of}
 use Rattle.write_resume.specs.declared.{Coarse.Coarse, Resumed.Resumed, ResumeAnswer.TheVariants.Ready}
-use Rattle.write_resume.specs.Resume.{resumable, resume_outcome, resume_after, resume_words_outcome, encoding_or, resume_answer, sink_or, Resumes}
+use Rattle.write_resume.specs.Resume.{resumable, resume_outcome, resume_after, encoding_or, resume_answer, sink_or, Resumes}
 
 abbrev pub coarse_of : Codec → Coarse
 coarse_of c = record { encoding = encoding_of c; started = started_c c; time = coarse_c c; half = coarse_c c / grain_of (encoding_of c) }
@@ -62,18 +60,3 @@ module _ (e : Encoding) {o : Outcome Codec} {a : AfterAnswer} (after : Afters o 
 
   pub behind-refused : {q : Refusal} → a ≡ NotAfter q → r ≡ resumed_by e (refuse q) → Resumes (encoding_or e o) (resume_after o) r
   behind-refused {q} h k = rw (refused_by o q (sym after.is_answer ∙ h)) (resumes_by e (refuse q) r k)
-
--- words leave the encoding as it is
-module _ (e : Encoding) (words : List ℕ) where
-  words_encoding : encoding_or e (after_outcome (fresh_c e) words) ≡ e
-  unfolding after_outcome
-  words_encoding = go (ltb most_bytes (length words)) (in_range_c (fresh_c e))
-    where
-      go : (long fit : Bool) → encoding_or e (cond long (refuse TooLong) (cond fit (give (codec_after (fresh_c e) words)) (refuse StateOutOfRange))) ≡ e
-      go true fit = refl
-      go false true = encoding_after (fresh_c e) words ∙ encoding_fresh e
-      go false false = refl
-
-  pub behind-words : {d : Codec} → d ≡ fresh_c e → {r : Resumed} → Resumes (encoding_or e (after_outcome d words)) (resume_after (after_outcome d words)) r
-      → Resumes e (resume_words_outcome words e) r
-  behind-words f {r} h = subst (λ (k : Encoding). Resumes k (resume_words_outcome words e) r) words_encoding (rw f at h)

@@ -4,28 +4,23 @@ use Rattle.std.proofs.Common.{sym, ap, ◌∙◌, arith}
 use borrow.Author.Tests.{lt-ltb, le-ltb, ltb-true}
 use Rattle.laws_stream.specs.Machine.{and_both}
 use Rattle.evt_types.specs.{declared.Encoding.Encoding, declared.Refusal.Refusal, declared.Refusal.TheVariants.StateOutOfRange, Num.most_bytes}
-use Rattle.evt_types.specs.{Outcome.Outcome, Outcome.refuse, Outcome.give, Outcome.given_if, Outcome.given_then}
+use Rattle.evt_types.specs.Outcome.{refuse, give, given_if}
 use Rattle.evt_types.specs.declared.Encoding.TheVariants as E
-use Rattle.evt2_decoder.specs.{declared.Evt2Decoder.Evt2Decoder, Range.bounded_range2}
+use Rattle.evt2_decoder.specs.Range.{bounded_range2}
 use Rattle.evt21_decoder.specs.Range.{bounded_range21}
-use Rattle.evt3_decoder.specs.{declared.Decoder.Decoder, Range.regular_range3}
+use Rattle.evt3_decoder.specs.Range.{regular_range3}
 use Rattle.evt_codec.specs.declared.{codec.Codec.Codec, codec.Codec.TheVariants.Evt2, codec.Codec.TheVariants.Evt21, codec.Codec.TheVariants.Evt3}
 use Rattle.evt_codec.specs.Codec.{fresh_c, encoding_of, started_c, coarse_c, in_range_c, codec_after, encoding_after, encoding_fresh}
-use Rattle.read_fill.specs.Laws.{range_fresh, fresh_range}
+use Rattle.read_fill.specs.Laws.{range_fresh}
 use Rattle.header.specs.declared.{HeaderAnswer.TheVariants.Header, HeaderAnswer.TheVariants.Refused as NoHeader}
 use Rattle.header.specs.declared.Header as header
 use Rattle.header.specs.Header.{header_of}
 use Rattle.read_after.specs.After.{after_outcome, after_raw_outcome, some_size}
 use Rattle.write_rules.specs.{declared.RawEventSink.RawEventSink, declared.LastTime.TheVariants.At, Range.time_bound, Range.grain_of, Range.sink_in_range}
-use Rattle.write_rules.specs.{Range.sink_not_before, Rules.fresh_sink, Rules.resumed_sink}
-use Rattle.write_resume.specs.Resume.{resumable, resume_outcome, resume_after, resume_words_outcome, resume_raw_outcome, raw_encoding}
+use Rattle.write_rules.specs.{Range.sink_not_before, Rules.resumed_sink}
+use Rattle.write_resume.specs.Resume.{resumable, resume_outcome, resume_words_outcome, resume_raw_outcome, raw_encoding}
 
 -- ---- the clock of a decoder in range
-
-unstarted_coarse : (c : Codec) → in_range_c c ≡ true → started_c c ≡ false → coarse_c c ≡ 0
-unstarted_coarse (Evt2 d) fit off = ap (λ (d : Evt2Decoder). d.time_high) ((bounded_range2 0 d fit (omega arith)).regular.unstarted off)
-unstarted_coarse (Evt21 d) fit off = ap (λ (d : Evt2Decoder). d.time_high) ((bounded_range21 0 d fit (omega arith)).regular.unstarted off)
-unstarted_coarse (Evt3 d) fit off = ap (λ (d : Decoder). d.time_base) ((regular_range3 d fit).0.unstarted off)
 
 -- the coarse time is a whole number of grains
 whole-coarse : (c : Codec) → in_range_c c ≡ true → started_c c ≡ true → coarse_c c / grain_of (encoding_of c) * grain_of (encoding_of c) ≡ coarse_c c
@@ -48,10 +43,6 @@ module _ (c : Codec) (fit : in_range_c c ≡ true) where
   pub resume-late : time_bound ≤ coarse_c c → resume_outcome c ≡ refuse StateOutOfRange
   unfolding resume_outcome
   resume-late h = rw (fit, le-ltb (coarse_c c) time_bound h)
-
-  -- BEFORE THE FIRST TIME WORD: a fresh writer that sends no header
-  pub resume-fresh : started_c c ≡ false → resume_outcome c ≡ give (fresh_sink (encoding_of c) false)
-  resume-fresh off = resume-given (omega (arith, unstarted_coarse c fit off)) ∙ rw off
 
   -- AFTER IT no event may be below the decoder's coarse time
   pub resume_not_before : started_c c ≡ true → sink_not_before (resumed_sink (encoding_of c) (started_c c) (coarse_c c)) ≡ At (pos (coarse_c c))
@@ -76,25 +67,15 @@ resumed_in_range c s h =
     let is : resumed_sink (encoding_of c) (started_c c) (coarse_c c) ≡ s = cc g.1 in
     ap sink_in_range (sym is) ∙ sink_fits (encoding_of c) (started_c c) (coarse_c c) late
 
--- behind words and recordings too
-pub behind_in_range : (o : Outcome Codec) (s : RawEventSink) → resume_after o ≡ give s → sink_in_range s ≡ true
-behind_in_range o s h = let g = given_then s o resume_outcome h in resumed_in_range g.0 s g.1.1
-
 -- ---- behind words
 
 module _ (e : Encoding) (words : List ℕ) (short : length words ≤ most_bytes) where
-  abbrev behind : Codec
+  abbrev pub behind : Codec
   behind = codec_after (fresh_c e) words
 
   pub words-behind : resume_words_outcome words e ≡ resume_outcome behind
   unfolding after_outcome
   words-behind = rw (le-ltb most_bytes (length words) short, range_fresh e)
-
-  -- then 10 comes for the coarse time alone
-  pub words-given : coarse_c behind < time_bound → resume_words_outcome words e ≡ give (resumed_sink e (started_c behind) (coarse_c behind))
-  words-given h =
-      words-behind ∙ resume-given behind (fresh_range e words short) h
-      ∙ ap (λ (k : Encoding). give (resumed_sink k (started_c behind) (coarse_c behind))) (encoding_after (fresh_c e) words ∙ encoding_fresh e)
 
 -- ---- behind a recording's body
 

@@ -1,5 +1,5 @@
 -- What the loops of a check keep, and what a check that is passed says.
-use Rattle.std.specs.Prelude.{◌≡◌, refl, Bool, true, false, cond, ◌&&◌, ◌||◌, List, [], ◌∷◌, ℕ, zero, suc, ◌+◌, ◌-◌, ◌*◌, ◌/◌, ◌^◌, ◌≤◌, ◌<◌, eqb, ltb, leb, length, get_or, drop, ℤ, pos, negsuc}
+use Rattle.std.specs.Prelude.{◌≡◌, refl, Bool, true, false, cond, ◌&&◌, ◌||◌, List, [], ◌∷◌, ℕ, zero, suc, ◌+◌, ◌-◌, ◌*◌, ◌/◌, ◌^◌, ◌≤◌, ◌<◌, ltb, leb, length, get_or, drop, ℤ, pos, negsuc}
 use Rattle.std.proofs.Common.{sym, ap, ◌∙◌, true≢false, arith, zero-add, add-one, drop_of_length-le, eqb-true, leb-true, ltb-true, ltb-false, lt-ltb, le-ltb}
 use Rattle.std.specs.Int.Bits.{bit_or}
 use Rattle.std.proofs.Math.Seq.{drop-cons}
@@ -8,12 +8,12 @@ use Rattle.laws_stream.specs.Machine.{and_both}
 use Rattle.evt_types.specs.declared.{Encoding.Encoding, Encoding.TheVariants.Evt2, Encoding.TheVariants.Evt21, Encoding.TheVariants.Evt3, Refusal.Refusal}
 use Rattle.evt_types.specs.declared.Refusal.TheVariants.{EventOutOfRange}
 use Rattle.evt_types.specs.declared.Sent.TheVariants.{Value}
-use Rattle.evt_types.specs.{Outcome.Outcome, Outcome.refuse, Outcome.give, Outcome.given_if, Outcome.given-unless, Outcome.given_then, Num.natural}
+use Rattle.evt_types.specs.{Outcome.Outcome, Outcome.refuse, Outcome.give, Outcome.given_if, Num.natural}
 use Rattle.write_buffer.specs.{declared.EncoderState.EncoderState, Columns.Sized, Columns.Whole, Every.every_from, Every.Gathered}
 use Rattle.write_buffer.specs.{Every.gathered_iteration, Every.gathered_end}
 use Rattle.write_rules.specs.declared.{Check.Check, Check.TheVariants.Passed, Check.TheVariants.Failed, LastTime.LastTime}
 use Rattle.write_rules.specs.declared.{LastTime.TheVariants.Never, LastTime.TheVariants.At, RawEventSink.RawEventSink}
-use Rattle.write_rules.specs.Range.{time_bound, time_in_range, every, at_most, events_in_range, falls, falls_after, same_lengths, is_nothing, sent_in_range}
+use Rattle.write_rules.specs.Range.{time_bound, time_in_range, every, at_most, events_in_range, falls, falls_after, same_lengths}
 use Rattle.write_rules.specs.Range.{grain_of, sink_not_before, held_in_range, last_in_range, sink_in_range}
 use Rattle.write_rules.specs.Rules.{lengths_outcome, check_outcome, check_of}
 
@@ -170,7 +170,7 @@ check_refused (give u) r e = let no : ◌≡◌ {A = ℕ} 0 1 = cc in absurd (om
 
 -- ---- what the check of the lengths says
 
-abbrev lengths : (xs ys : List ℕ) (ts : List ℤ) (ps : List ℕ) → Outcome Unit
+abbrev pub lengths : (xs ys : List ℕ) (ts : List ℤ) (ps : List ℕ) → Outcome Unit
 lengths xs ys ts ps = lengths_outcome (length xs) (length ys) (length ts) (length ps)
 
 module _ (xs ys : List ℕ) (ts : List ℤ) (ps : List ℕ) (c : Check) (is : c ≡ check_of (lengths xs ys ts ps)) where
@@ -230,17 +230,6 @@ sized_of xs ys ts ps h f =
       same_p = eqb-true (length ps) (length xs) b.1;
     }
 
-count_as : (e : Encoding) (v : EncoderState) (n : ℕ) (l : LastTime) → last_in_range e v n l ≡ true → n ≤ 2 ^ 62
-count_as e v n Never h =
-    let a = and_both (held_in_range e v.time_high) (is_nothing v.time_low && (is_nothing v.y && eqb n 0)) h in
-    let b = and_both (is_nothing v.time_low) (is_nothing v.y && eqb n 0) a.1 in
-    let c = and_both (is_nothing v.y) (eqb n 0) b.1 in
-    omega (arith, eqb-true n 0 c.1)
-count_as e v n (At t) h =
-    let a = and_both (time_in_range t) (leb n (2 ^ 62) && sent_in_range e v (natural t)) h in
-    let b = and_both (leb n (2 ^ 62)) (sent_in_range e v (natural t)) a.1 in
-    leb-true n (2 ^ 62) b.0
-
 -- a writer in range, and columns that it can be given
 pub record Checked (s : RawEventSink) (xs ys : List ℕ) (ts : List ℤ) (ps : List ℕ) : Type 0 where
   pub in_range_lem : sink_in_range s ≡ true
@@ -249,23 +238,6 @@ pub record Checked (s : RawEventSink) (xs ys : List ℕ) (ts : List ℤ) (ps : L
   pub whole : Whole ts
   pub rising : falls_after (sink_not_before s) ts ≡ false
   pub events : events_in_range xs ys ts ps ≡ true
-
-pub checked_of : (s : RawEventSink) (xs ys : List ℕ) (ts : List ℤ) (ps : List ℕ) → check_outcome s xs ys ts ps ≡ give tt → Checked s xs ys ts ps
-checked_of s xs ys ts ps h =
-    let a = given_if tt (sink_in_range s) _ _ h in
-    let b = (given_then tt (lengths xs ys ts ps) _ a.1).1 in
-    let l = given_if tt (same_lengths (length xs) (length ys) (length ts) (length ps)) _ _ b.0 in
-    let f = given_if tt (leb (length xs) (2 ^ 28)) _ _ l.1 in
-    let c = given-unless tt (falls_after (sink_not_before s) ts) _ _ b.1 in
-    let e = given_if tt (events_in_range xs ys ts ps) _ _ c.1 in
-    record {
-      in_range_lem = a.0;
-      count = count_as s.version s.state s.n_events s.last_t a.0;
-      sized = sized_of xs ys ts ps l.0 (leb-true (length xs) (2 ^ 28) f.0);
-      whole = λ i. (event_fine xs ys ts ps e.0 i).whole;
-      rising = c.0;
-      events = e.0;
-    }
 
 -- ---- a time, by its sign
 

@@ -9,10 +9,11 @@ use Rattle.write_buffer.specs.{Sent.state_at, Sent.state_some, Sent.sent_number,
 use Rattle.write_buffer.specs.Columns.{Sized, events_in, events_past, event_of, events-at, events-end, events-x, events-drop, events-length}
 use Rattle.write_buffer.specs.Storing.{Roomy, bytes_from, Going, going_start, going_iteration, going_room, going_end}
 use Rattle.evt3_run_rules.specs.Runs.{Run, Rising, runs, runs_are, run_of, runs-at, follow-le}
-use Rattle.evt3_lead_words.specs.{Evt3.state_of3, Evt3.writer3, Evt3.loop_of, Leads.leads_bytes, Leads.leads_number}
+use Rattle.evt3_lead_words.specs.{Evt3.state_of3, Evt3.writer3, Evt3.loop_of, Leads.leads_bytes}
 use Rattle.evt3_run_words.specs.Parts.{bytes3, bytes_still, body_bytes, Part}
 use Rattle.evt3_run_rules.specs.Marks.{go_on, Marked, marks_start}
 use Rattle.write_words.specs.Encode.{loop_time}
+use Rattle.evt3_lead_words.proofs.LeadsLaws.{leads_number}
 
 abbrev pub stream3 : EncoderState → List Event → List ℕ
 stream3 v es = bytes_from word_size3 writer3 v (runs es)

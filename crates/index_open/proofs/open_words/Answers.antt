@@ -1,7 +1,8 @@
 use Rattle.std.proofs.Common.{length}
 use Rattle.index_build.specs.Index.{open_words_outcome}
-use Rattle.index_build.specs.Open.{accepted-words, builds, opens_built}
+use Rattle.index_build.specs.Open.{opens_built}
 use Rattle.index_open.proofs.open_words.Goals as goal
+use Rattle.index_build.proofs.OpenLaws.{accepted-words, builds}
 
 pub make-requires : goal.make-requires
 make-requires c =

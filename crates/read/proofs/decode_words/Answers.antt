@@ -1,6 +1,7 @@
 use Rattle.std.proofs.Common.{sym, ◌∙◌}
-use Rattle.read_rules.specs.Laws.{words-refused, words_read}
+use Rattle.read_rules.specs.Laws.{words-refused}
 use Rattle.read.proofs.decode_words.Goals as goal
+use Rattle.read_rules.proofs.ReadLaws.{words_read}
 
 pub returns-in-Unfit : goal.returns-in-Unfit
 returns-in-Unfit c =

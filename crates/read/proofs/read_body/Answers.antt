@@ -1,7 +1,8 @@
 use Rattle.std.proofs.Common.{length}
 use Rattle.read_rules.specs.Read.{body_events}
-use Rattle.read_rules.specs.Laws.{ready_new, delivers_body, reads_body}
+use Rattle.read_rules.specs.Laws.{ready_new}
 use Rattle.read.proofs.read_body.Goals as goal
+use Rattle.read_rules.proofs.ReadLaws.{delivers_body, reads_body}
 
 pub deliver-d-requires : goal.deliver-d-requires
 deliver-d-requires c =

@@ -1,8 +1,9 @@
 use Rattle.std.proofs.Common.{sym, ◌∙◌, arith, length-drop}
 use Rattle.laws_stream.specs.Part.{rest_of}
 use Rattle.header.proofs.HeaderLaws.{of_accepted}
-use Rattle.read_rules.specs.Laws.{raw_refused, raw_read}
+use Rattle.read_rules.specs.Laws.{raw_refused}
 use Rattle.read.proofs.read_raw.Goals as goal
+use Rattle.read_rules.proofs.ReadLaws.{raw_read}
 
 pub returns-in_default : goal.returns-in_default
 returns-in_default c =

@@ -1,5 +1,5 @@
-use Rattle.read_capacity.specs.Laws.{delivers_inside}
 use Rattle.read_deliver.proofs.deliver_all.Goals as goal
+use Rattle.read_capacity.proofs.DeliverLaws.{delivers_inside}
 
 pub returns : goal.returns
 returns c =

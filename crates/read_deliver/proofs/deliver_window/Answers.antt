@@ -1,5 +1,5 @@
-use Rattle.read_capacity.specs.Laws.{delivers_filled}
 use Rattle.read_deliver.proofs.deliver_window.Goals as goal
+use Rattle.read_capacity.proofs.DeliverLaws.{delivers_filled}
 
 pub returns : goal.returns
 returns c =

@@ -1,8 +1,9 @@
 use Rattle.std.proofs.Common.{arith, length}
 use Rattle.read_rules.specs.Laws.{ready_new}
 use Rattle.evt_types.specs.declared.Limit.TheVariants.{AtMost}
-use Rattle.trigger_rules.specs.Laws.{ends_none, ends_by}
+use Rattle.trigger_rules.specs.Laws.{ends_none}
 use Rattle.trigger_rules.proofs.end_before.Goals as goal
+use Rattle.trigger_rules.proofs.EndLaws.{ends_by}
 
 pub returns-then-n-eq0 : goal.returns-then-n-eq0
 returns-then-n-eq0 c =

@@ -1,7 +1,8 @@
 use Rattle.std.proofs.Common.{ap, ◌∙◌, length}
-use Rattle.read_rules.specs.Laws.{ready_new, body-handed}
+use Rattle.read_rules.specs.Laws.{ready_new}
 use Rattle.trigger_rules.specs.{declared.TriggerReadAnswer.TheVariants.Refused, Laws.short_of}
 use Rattle.trigger_rules.proofs.refused_short.Goals as goal
+use Rattle.read_rules.proofs.ReadLaws.{body-handed}
 
 pub survey-events-requires : goal.survey-events-requires
 survey-events-requires c =

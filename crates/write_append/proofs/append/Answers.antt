@@ -2,8 +2,9 @@ use Rattle.std.proofs.Common.{sym, ap, ◌∙◌, arith, length}
 use Rattle.write_buffer.specs.declared.Put.{Put}
 use Rattle.write_append.specs.Append.{sends}
 use Rattle.write_append.specs.Ends.{ends_failed, ends-short, ends-written, sink_with, short_cases, fitting_of, suffices}
-use Rattle.write_rules.specs.Checks.{check_given, checked_of}
+use Rattle.write_rules.specs.Checks.{check_given}
 use Rattle.write_append.proofs.append.Goals as goal
+use Rattle.write_rules.proofs.ChecksLaws.{checked_of}
 
 pub shortfall-need-requires : goal.shortfall-need-requires
 shortfall-need-requires c =

@@ -1,5 +1,6 @@
-use Rattle.write_resume.specs.Ends.{behind-after, behind-words}
+use Rattle.write_resume.specs.Ends.{behind-after}
 use Rattle.write_resume.proofs.resume_words.Goals as goal
+use Rattle.write_resume.proofs.EndsLaws.{behind-words}
 
 pub returns-in-After : goal.returns-in-After
 returns-in-After c =

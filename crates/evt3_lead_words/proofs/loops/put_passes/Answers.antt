@@ -1,6 +1,7 @@
 use Rattle.std.proofs.Common.{arith}
-use Rattle.evt3_lead_words.specs.Loops.{passing_room, passing_iteration, passing_end}
+use Rattle.evt3_lead_words.specs.Loops.{passing_end}
 use Rattle.evt3_lead_words.proofs.loops.put_passes.Goals as goal
+use Rattle.evt3_lead_words.proofs.LoopsLaws.{passing_iteration, passing_room}
 
 pub put_pass-a-requires : goal.put_pass-a-requires
 put_pass-a-requires c =

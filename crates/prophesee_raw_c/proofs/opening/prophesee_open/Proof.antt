@@ -3,11 +3,11 @@ use lib.ListN.{length}
 use Rattle.index_build.specs.declared.OpenOptions.{OpenOptions}
 use Rattle.index_build.specs.Build.{prepared_by}
 use Rattle.index_build.specs.Index.{open_raw_outcome}
-use Rattle.index_build.specs.Open.{accepted_raw}
 use Rattle.c_index.specs.{Making.begins, Opening.open_options_of}
 use borrow.Author.Rules.{rules}
 use Rattle.prophesee_raw_c.proofs.opening.prophesee_open.Statement.{statement}
 use Rattle.prophesee_raw_c.proofs.opening.prophesee_open.Tie as tie
+use Rattle.index_build.proofs.OpenLaws.{accepted_raw}
 
 open-records-requires : tie.Need-open-records-requires
 open-records-requires c κs =

@@ -1,6 +1,7 @@
 use Rattle.std.proofs.Common.{arith}
-use Rattle.read_deliver.specs.Plan.{few_number, planned_number}
+use Rattle.read_deliver.specs.Plan.{few_number}
 use Rattle.read_deliver.proofs.plan.plan_number.Goals as goal
+use Rattle.read_deliver.proofs.PlanLaws.{planned_number}
 
 pub overflow_add-next : goal.overflow_add-next
 overflow_add-next c =

@@ -1,0 +1,2 @@
+pub mod LeadsLaws
+pub mod LoopsLaws

@@ -105,11 +105,14 @@ module _ (n : ℕ) where
   pub decimal_none : (p : ℕ → Bool) → ((b : ℕ) → 48 ≤ b → b ≤ 57 → p b ≡ false) → any p (decimal n) ≡ false
   decimal_none p others = digits_none p others (decimal n) (is_decimal n).all
 
+  pub decimal_read : ltb n (2 ^ 64) ≡ true → number_of (decimal n) ≡ some n
+  decimal_read fits =
+      let d = is_decimal n in
+      digits_number (decimal n) d.all decimal-some (rw d.value (ltb-true n (2 ^ 64) fits)) ∙ ap some d.value
+
   -- a number of 64 bits that is written is read back
   pub number-decimal : n < 2 ^ 64 → number_of (decimal n) ≡ some n
-  number-decimal fits =
-      let d = is_decimal n in
-      digits_number (decimal n) d.all decimal-some (rw d.value fits) ∙ ap some d.value
+  number-decimal fits = decimal_read (lt-ltb n (2 ^ 64) fits)
 
   -- it has no blank at its ends, whatever follows or goes before
   pub decimal_start : (t : List ℕ) → trim_start (decimal n ++ t) ≡ decimal n ++ t

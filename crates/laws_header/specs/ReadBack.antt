@@ -1,6 +1,6 @@
 -- A header that is written is read back, whatever body follows it: its encoding, its size, and where the body starts.
 use Rattle.std.proofs.Common.{◌≡◌, ◌⊎◌, Bool, false, cond, ◌||◌, ℕ, ◌^◌, ◌≤◌, ◌<◌, length, refl, sym, ◌∙◌, arith, ⊎_elim, true, List, [], ◌∷◌, ◌++◌}
-use Rattle.std.proofs.Common.{append_assoc, append-nil, eqb, le-ltb, eq-eqb, ne_eqb}
+use Rattle.std.proofs.Common.{append_assoc, append-nil, eqb, ltb, le-ltb, lt-ltb, eq-eqb, ne_eqb}
 use Rattle.std.proofs.Math.Bool.{or-true, and-false}
 use borrow.Author.Tests.{lt-leb}
 use Rattle.evt_types.specs.declared.{Encoding.Encoding, Encoding.TheVariants.Evt2, Encoding.TheVariants.Evt21, Encoding.TheVariants.Evt3}
@@ -17,7 +17,7 @@ use Rattle.evt_types.specs.Outcome.{refuse, give}
 use Rattle.write_text.specs.Text.{ascii, decimal}
 use Rattle.write_header.specs.Header.{format_text, format_line, header_text}
 use Rattle.laws_header.specs.Texts.{none_append, parted, header_line}
-use Rattle.laws_header.specs.Numbers.{decimal_none, number-decimal, decimal_start, decimal-end, decimal_trimmed}
+use Rattle.laws_header.specs.Numbers.{decimal_none, decimal_read, decimal_start, decimal-end, decimal_trimmed}
 
 -- ---- the lines
 
@@ -71,7 +71,7 @@ module _ (w h : ℕ) where
     unfolding geometry_of size_at both rest_of
     size_known old =
         let p = parted (is_byte 120) (decimal w) (decimal h) 120 (decimal_none w (is_byte 120) (λ b l u. ne_eqb b 120 (λ e. omega arith))) refl in
-        rw (p.found, p.front, p.rest, decimal_trimmed w, decimal_trimmed h, number-decimal w w<, number-decimal h h<)
+        rw (p.found, p.front, p.rest, decimal_trimmed w, decimal_trimmed h, decimal_read w (lt-ltb w _ w<), decimal_read h (lt-ltb h _ h<))
 
     size_read : (said : Said) → read_line said (size_line w h) ≡ record { format = said.format; evt = said.evt; size = Known w h }
     unfolding read_line same begins lower_of
@@ -154,12 +154,16 @@ module _ (e : Encoding) (w h : ℕ) (body : List ℕ) where
     unfolding read_all
     said_is = rw (lines_are, (format_line_lem e).read, size_read w h w< h<) (others_read _)
 
+    given_read : ltb (2 ^ 30) (length (header_text e w h ++ body)) ≡ false → (given : SensorSize)
+        → header_of (header_text e w h ++ body) given ≡ answer (length (header_text e w h)) (size_that_holds given (Known w h)) e
+    unfolding header_of lines_outcome
+    given_read few given = rw (few, bytes_are, text_ascii e w h, said_is) ((format_line_lem e).names _ _ _)
+
     module _ (fits : length (header_text e w h ++ body) ≤ 2 ^ 30) where
       -- the size that holds is the caller's, or without one the header's
       pub read_back_given : (given : SensorSize)
           → header_of (header_text e w h ++ body) given ≡ answer (length (header_text e w h)) (size_that_holds given (Known w h)) e
-      unfolding header_of lines_outcome
-      read_back_given given = rw (le-ltb (2 ^ 30) _ fits, bytes_are, text_ascii e w h, said_is) ((format_line_lem e).names _ _ _)
+      read_back_given given = given_read (le-ltb (2 ^ 30) _ fits) given
 
       -- a written header names its encoding and its size, and the body starts where it ends
       pub read_back : 0 < w → 0 < h
@@ -169,11 +173,11 @@ module _ (e : Encoding) (w h : ℕ) (body : List ℕ) where
       read_back w> h> =
           let a = ne_eqb w 0 (λ z. omega arith) in
           let b = ne_eqb h 0 (λ z. omega arith) in
-          rw (a, b) at (read_back_given Unknown)
+          rw (a, b) at (given_read (le-ltb (2 ^ 30) _ fits) Unknown)
 
       -- one with a zero in its size is refused (1)
       pub read_back_zero : (w ≡ 0) ⊎ (h ≡ 0) → header_of (header_text e w h ++ body) Unknown ≡ Refused InvalidSensorSize
       unfolding size_that_holds has_zero
       read_back_zero z =
           let a : eqb w 0 || eqb h 0 ≡ true = ⊎_elim (λ k. rw (eq-eqb w 0 k)) (λ k. rw (eq-eqb h 0 k, or-true)) z in
-          rw a at (read_back_given Unknown)
+          rw a at (given_read (le-ltb (2 ^ 30) _ fits) Unknown)

@@ -5,12 +5,12 @@ use Rattle.evt_types.specs.{Event.Event}
 use Rattle.index_build.specs.declared.{Checkpoint.Checkpoint, RawSliceSource.RawSliceSource}
 use Rattle.index_records.specs.{declared.Judging.Judging, BinarySearch.chosen_of, Choose.Chose, Judge.judged_all, Search.chosen, InRange.index_in_range}
 use Rattle.slice_rules.specs.{declared.Asked.Asked, declared.SliceAnswer.SliceAnswer, Slice.told_slice, From.asked_by_number, From.asked_by_time}
-use Rattle.slice_rules.specs.{From.passed_from, From.SlicesFrom, From.Startable, Laws.startable, Laws.began_index, Laws.slices_index, Laws.began_time}
-use Rattle.slice_rules.specs.{Laws.slices_time}
+use Rattle.slice_rules.specs.{From.passed_from, From.SlicesFrom, From.Startable, Laws.startable, Laws.began_index, Laws.began_time}
 use Rattle.slice_rules.specs.Slice as Slice
 use Rattle.c_index.specs.{declared.opening.PropheseeSource.PropheseeSource, declared.slices.PropheseeSlice.PropheseeSlice, Lookup.length-records}
 use Rattle.c_index.specs.{Records.checkpoints_in, Slicing.source_of, Slicing.used_records, Slicing.records_in, Slicing.sliced_of, Slicing.SlicesFromC}
 use Rattle.c_index.specs.{Slicing.SlicesIndexC, Slicing.SlicesTimeC}
+use Rattle.slice_rules.proofs.SliceLaws.{slices_index, slices_time}
 
 -- the first n records are judged, and one of them is chosen to start at
 pub record Begun (l : List (List ℕ)) (given : PropheseeSource) (s : RawSliceSource) (n : ℕ) (asked : Asked) (fine : Bool) (start : Checkpoint) : Type 0 where

@@ -4,6 +4,8 @@ use Rattle.evt_types.specs.Layout.{type2}
 use Rattle.std.proofs.Common.{arith}
 use Rattle.std.specs.Prelude.{ℕ, ◌<◌, ◌^◌}
 
+-- ---- which rule a word of type k goes by
+
 -- a word has at most one event
 pub few2 : (d : Evt2Decoder) (w : ℕ) → (vector2 d w).mask < 2 ^ 1
 unfolding vector2

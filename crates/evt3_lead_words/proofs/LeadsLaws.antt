@@ -6,6 +6,8 @@ use Rattle.std.proofs.Common.{arith, sym, ◌∙◌}
 use Rattle.std.specs.Prelude.{Bool, cond, eqb, false, refl, true, ℕ, ◌%◌, ◌/◌, ◌<◌, ◌^◌, ◌≡◌}
 use Rattle.write_buffer.specs.{Sent.number_is, Sent.sent_number, declared.EncoderState.EncoderState}
 
+-- ---- the words of time and row
+
 low_as : (b : Bool) (l : Sent) → sent_number (low_kept b l) ≡ cond b (sent_number l) 0
 low_as true l = refl
 low_as false l = refl

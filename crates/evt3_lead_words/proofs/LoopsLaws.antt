@@ -6,6 +6,8 @@ use Rattle.std.specs.Prelude.{Bool, List, false, length, suc, zero, ℕ, ◌*◌
 use Rattle.write_buffer.specs.{Due.both_few, Storing.Roomy, Storing.storing_iteration, Storing.storing_room}
 use native.Mathlib.Omega.{arith}
 
+-- ---- one loop after another
+
 pub passes_few : (n : ℕ) (end : Bool) → length (passes_bytes n end) ≤ 4 * n
 unfolding passes_bytes passes3
 passes_few zero end = omega arith

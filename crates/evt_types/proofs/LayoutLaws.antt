@@ -4,6 +4,8 @@ use Rattle.evt_types.specs.Layout.{upper, upper-value, upper_fits, upper_id, upp
 use Rattle.std.proofs.Common.{arith, ◌∙◌}
 use Rattle.std.specs.Prelude.{ℕ, ◌<◌, ◌^◌, ◌≡◌}
 
+-- ---- EVT 2.1: the fields of a word are those of its upper half
+
 module _ (w : ℕ) where
   upper_unused : (field 21 13 (upper w) ≡ field 53 45 w) × (field 7 1 (upper w) ≡ field 39 33 w)
   upper_unused = (omega arith, omega arith)

@@ -11,6 +11,8 @@ use Rattle.std.proofs.Common.{ap, append-nil, append_assoc, arith, length-take, 
 use Rattle.std.specs.Prelude.{List, [], false, length, ltb, refl, take, ℕ, ◌++◌, ◌∷◌, ◌≡◌, ◌≤◌}
 use Rattle.header.specs.declared.Header as header
 
+-- ---- the header is a part of the recording
+
 leading-part : (ls : List (List ℕ)) → (t : List ℕ) × (joined_lines ls ≡ joined_lines (leading ls) ++ t)
 unfolding joined_lines leading
 leading-part [] = ([], refl)
@@ -41,9 +43,13 @@ pub body-within : (s : List ℕ) → body_start s ≤ length s
 unfolding body_start
 body-within s = omega (arith, length-take (body_start s) s, ap length (header_part s))
 
+-- ---- where an end line stands
+
 pub as_before : (s : List ℕ) (given : SensorSize) → NoLineBehind (leading (lines_of s))
     → header_outcome s given ≡ lines_outcome (length s) (leading (lines_of s)) given
 as_before s given h = rw (lines_as_before s h)
+
+-- ---- what an acceptance says
 
 given_by : (o : Outcome header.Header) (h : header.Header) → answer_by o ≡ Header h → o ≡ give h
 given_by (refuse r) h e = let no : ◌≡◌ {A = ℕ} 0 1 = cc in absurd (omega arith)

@@ -9,6 +9,8 @@ use Rattle.std.proofs.{Math.Bool.false, Math.Bool.true, Math.Option.Option, Math
 use Rattle.std.specs.Prelude.{List, [], drop, eqb, length, ltb, refl, take, ◌++◌, ◌∷◌, ◌≡◌}
 use borrow.Author.Tests.{ltb-false, ltb-true}
 
+-- ---- numbers and answers
+
 bad_same : (j k : ℕ) → Bad j ≡ Bad k → j ≡ k
 bad_same j k e = cc
 
@@ -17,6 +19,8 @@ by_order j k l g = omega arith
 
 never : {A : Type 0} {o : Option ℕ} {n : ℕ} → o ≡ none → o ≡ some n → A
 never e h = absurd (let z : ◌≡◌ {A = ℕ} 0 1 = cc in omega arith)
+
+-- ---- digits: the byte at which the reader stops
 
 -- behind digits of value n, count bytes on: what stands before is a number, and with the byte there none begins so
 record Stops (place n : ℕ) (s : List ℕ) (k : ℕ) : Type 0 where
@@ -86,6 +90,8 @@ digits_place place (b ∷ s) k e =
       ended = λ l. absurd (omega (arith, r.within));
     }
 
+-- ---- the whole text
+
 nothing-begins : Begins []
 unfolding number_of digits_of number_from all_digits is_digit digits_value
 nothing-begins = record { rest = 48 ∷ []; value = 0; number = refl }
@@ -128,6 +134,8 @@ bad_place [] k e =
 bad_place (b ∷ s) k e =
     by_bool (eqb b 43) (λ p. place_plus b s k p (digits_place 1 s k (rw p at e)))
     (λ p. place_plain b s k p (digits_place 0 (b ∷ s) k (rw p at e)))
+
+-- ---- no other place
 
 module _ (s : List ℕ) where
   begins_less : (j k : ℕ) → j ≤ k → Begins (take k s) → Begins (take j s)

@@ -117,9 +117,3 @@ zeros_digits (suc k) = zero-first 48 (replicate k 48) ∙ zeros_digits k
 pub zeros_value : (k : ℕ) → read_of (replicate (suc k) 48) ≡ Value 0
 unfolding number_of
 zeros_value k = number-value (48 ∷ replicate k 48) 0 (zeros_digits k)
-
--- ---- digits: the byte at which the reader stops
-
--- ---- the whole text
-
--- ---- no other place

@@ -21,6 +21,8 @@ use Rattle.std.proofs.{Math.Dec.ltb, Math.IntN.pos, Math.ListN.length, Math.List
 use Rattle.std.specs.Prelude.{Bool, List, [], suc, zero, ℕ, ◌*◌, ◌++◌, ◌+◌, ◌/◌, ◌∷◌, ◌≡◌, ◌≤◌}
 use borrow.Author.Tests.{ltb-false}
 
+-- ---- a body that is accepted
+
 accepted-body : (b : Body) (room : ℕ) → length b.recording ≤ most_bytes → b.start ≤ length b.recording → has_zero b.size ≡ false
     → IfGiven (Accepted b.recording room) (index_outcome b room)
 unfolding index_outcome
@@ -54,6 +56,8 @@ accepted-words l o room = go (ltb most_bytes (length l)) refl (has_zero o.sensor
     go true p y q = tt
     go false p true q = tt
     go false p false q = accepted-body (words_body l o) room (ltb-false most_bytes (length l) p) (omega arith) q
+
+-- ---- what its builder comes to
 
 module _ (m : List ℕ) (b : Body) (room : ℕ) (ok : Accepted m room b) where
   abbrev insides : List ℕ → List Event

@@ -1,10 +1,10 @@
 -- Each encoding as a format whose writer is given an append's events at a time, over the definitions that contracts cite.
-use Rattle.std.specs.Prelude.{◌≡◌, refl, Bool, true, false, cond, List, [], ◌∷◌, ◌++◌, ℕ, ◌/◌, ◌≤◌, ◌<◌}
+use Rattle.std.specs.Prelude.{◌≡◌, refl, Bool, true, false, cond, List, ◌∷◌, ℕ, ◌/◌, ◌≤◌, ◌<◌}
 use Rattle.std.proofs.Common.{sym, ap, subst, ◌∙◌, arith}
 use Rattle.evt_types.specs.Event.{Event}
-use Rattle.laws_stream.specs.{Machine.Machine, Machine.Note, Machine.All, Machine.all_of, Machine.run, Machine.run-keeps, Words.words_of}
-use Rattle.laws_stream.specs.Format.{Format, Lawful, through}
-use Rattle.laws_stream.specs.{Format.givens, Stream.decode, Order.Rise, Order.rise_all, Slice.Past, Slice.reached, Slice.past_then}
+use Rattle.laws_stream.specs.{Machine.Machine, Machine.Note, Machine.All, Machine.run, Machine.run-keeps, Words.words_of}
+use Rattle.laws_stream.specs.Format.{Format}
+use Rattle.laws_stream.specs.{Stream.decode, Order.Rise, Order.rise_all, Slice.Past, Slice.reached, Slice.past_then}
 use Rattle.evt_types.specs.declared.{Encoding.Encoding, Encoding.TheVariants.Evt2, Encoding.TheVariants.Evt21, Encoding.TheVariants.Evt3}
 use Rattle.evt_types.specs.{declared.Sent.TheVariants.Nothing, declared.Sent.TheVariants.Value, Layout.grain2}
 use Rattle.evt2_decoder.specs.{declared.Evt2Decoder.Evt2Decoder, Evt2.period2, Range.Regular2}
@@ -16,12 +16,11 @@ use Rattle.read_columns.specs.Inside.{inside, clock}
 use Rattle.read_window.specs.declared.Window.{Window}
 use Rattle.read_select.specs.Uses.{is_timely, PastWords, PastOver}
 use Rattle.write_buffer.specs.{declared.EncoderState.EncoderState, Sent.fresh_state}
-use Rattle.evt3_run_rules.specs.Runs.{Run, runs, runs_are, given, given_by_lem}
-use Rattle.evt21_encoder.specs.Evt21.{runs21, runs_are21}
+use Rattle.evt3_run_rules.specs.Runs.{given}
 use Rattle.write_words.specs.Encode.{encode_notes, encode_state, encode_size}
 use Rattle.laws_formats.specs.{Ready.limit, Ready.sayable, Ready.IfSent, Lawful2.High2, Lawful3.Agree3, Lawful2.Ready2, Lawful2.format2}
-use Rattle.laws_formats.specs.{Lawful2.lawful2, Lawful21.Ready21}
-use Rattle.laws_formats.specs.{Lawful21.format21, Lawful21.lawful21, Lawful3.Ready3, Lawful3.format3, Lawful3.lawful3}
+use Rattle.laws_formats.specs.Lawful21.{Ready21}
+use Rattle.laws_formats.specs.{Lawful21.format21, Lawful3.Ready3, Lawful3.format3}
 
 -- a decoder of the encoding
 abbrev pub StateOf : Encoding → Type 0
@@ -59,21 +58,6 @@ format_of e = record {
   Ready = ReadyOf e;
   Agree = AgreeOf e;
 }
-
--- ---- all are lawful
-
-all_given2 : (g : List Event) → givens format2 g ≡ g
-all_given2 [] = refl
-all_given2 (a ∷ g) = ap {B = List Event} (λ (l : List Event). a ∷ l) (all_given2 g)
-
-all-given : {S : Type 0} (F : Format S EncoderState Run Event) → F.given ≡ given → (rs : List Run) → givens F rs ≡ given_by_lem rs
-all-given F same [] = refl
-all-given F same (r ∷ rs) = λ i. same i r ++ all-given F same rs i
-
-pub lawful_of : (e : Encoding) → Lawful (format_of e)
-lawful_of Evt2 = through format2 (λ g. g) (λ g. g) (λ g. Unit) lawful2 all_given2 (λ g va. all_of _ (λ a. tt) g)
-lawful_of Evt21 = through format21 runs21 (λ g. g) (λ g. Unit) lawful21 (λ g. all-given format21 refl (runs21 g) ∙ (runs_are21 g).1) (λ g va. (runs_are21 g).0)
-lawful_of Evt3 = through format3 runs (λ g. g) (λ g. Unit) lawful3 (λ g. all-given format3 refl (runs g) ∙ (runs_are g).1) (λ g va. (runs_are g).0)
 
 -- ---- in the words of a codec
 

@@ -1,18 +1,18 @@
 -- EVT2: the decoder understands the writer.
-use Rattle.std.specs.Prelude.{◌≡◌, refl, Bool, true, false, List, [], ◌∷◌, ◌++◌, ℕ, ◌+◌, ◌*◌, ◌/◌, ◌%◌, ◌^◌, ◌≤◌, ◌<◌}
-use Rattle.std.proofs.Common.{ap, ◌∙◌, arith}
-use Rattle.laws_stream.specs.{Machine.run, Machine.words, Format.Format, Format.Lawful, Format.Good, Order.rise_first}
-use Rattle.evt_types.specs.{declared.Encoding.TheVariants.Evt2, Event.Event, Event.events_of, Event.no_events}
+use Rattle.std.specs.Prelude.{◌≡◌, refl, true, List, [], ◌∷◌, ℕ, ◌+◌, ◌*◌, ◌/◌, ◌%◌, ◌^◌, ◌≤◌, ◌<◌}
+use Rattle.std.proofs.Common.{◌∙◌, arith}
+use Rattle.laws_stream.specs.{Format.Format, Order.rise_first}
+use Rattle.evt_types.specs.Event.{Event, no_events}
 use Rattle.evt2_decoder.specs.declared.Evt2Decoder.{Evt2Decoder}
-use Rattle.evt_types.specs.Layout.{type2, time_low2, x2, y2, event-type2, event_low2, event-x2, event-y2, event_fits2, time_type2, time_high2_lem, time_fits2}
+use Rattle.evt_types.specs.Layout.{type2, time_low2, x2, y2, event-type2, event_low2, event-x2, event-y2, time_type2, time_high2_lem}
 use Rattle.evt_types.specs.Layout.{grain2}
 use Rattle.evt2_decoder.specs.Evt2 as Reader
-use Rattle.evt2_decoder.specs.Evt2.{period2, threshold2, step2, vector2, reader2, time_word_lem, event-word}
+use Rattle.evt2_decoder.specs.Evt2.{period2, threshold2, step2, vector2, time_word_lem, event-word}
 use Rattle.read_columns.specs.Inside.{clock}
-use Rattle.write_buffer.specs.{declared.EncoderState.EncoderState, Sent.carries, Sent.due}
-use Rattle.evt2_encoder.specs.Evt2.{high_word2, word_of2, high_sent2, encode2, writer2, encode_notes2}
+use Rattle.write_buffer.specs.declared.EncoderState.{EncoderState}
+use Rattle.evt2_encoder.specs.Evt2.{high_word2, word_of2, writer2}
 use Rattle.evt_codec.specs.Reader.{evt2}
-use Rattle.laws_formats.specs.Ready.{format_by, limit, sayable, Ready, IfSent, holds_sent, Sayable, sayable-true, no_event, one-event}
+use Rattle.laws_formats.specs.Ready.{format_by, sayable, Ready, IfSent, Sayable, sayable-true}
 use Rattle.laws_stream.proofs.LoopLaws.{tracks_same}
 
 abbrev pub Ready2 : Evt2Decoder → List Event → Type 0
@@ -28,19 +28,19 @@ format2 = format_by evt2 writer2 (λ e. e ∷ []) (λ e. Unit) Ready2 (λ v d. I
 -- ---- an event's word, at the coarse time that the event has
 
 module _ (d : Evt2Decoder) (e : Event) (f : Sayable e) (on : d.initialised ≡ true) (at : d.time_high ≡ e.t / grain2 * grain2) where
-  abbrev w : ℕ
+  abbrev pub w : ℕ
   w = word_of2 e
 
-  p<2 : e.p % 2 < 2
+  pub p<2 : e.p % 2 < 2
   p<2 = omega arith
 
-  low< : e.t % grain2 < 64
+  pub low< : e.t % grain2 < 64
   low< = omega arith
 
-  x<2048 : e.x % 2048 < 2048
+  pub x<2048 : e.x % 2048 < 2048
   x<2048 = omega arith
 
-  y<2048 : e.y % 2048 < 2048
+  pub y<2048 : e.y % 2048 < 2048
   y<2048 = omega arith
 
   is_p : type2 w ≡ e.p
@@ -63,17 +63,6 @@ module _ (d : Evt2Decoder) (e : Event) (f : Sayable e) (on : d.initialised ≡ t
 
   pub event_steps : step2 d w ≡ record { initialised = d.initialised; time_high = d.time_high; time = e.t; high_loops = d.high_loops }
   event_steps = by_event.0 ∙ rw is_t
-
-  said_event : (more : List Event) → Ready2 d (e ∷ more) → Good format2 d (carries w e ∷ []) more × High2 (step2 d w) (e.t / grain2)
-  said_event more rd = (
-    record {
-      ready = rd;
-      fits = event_fits2 (e.p % 2) (e.t % grain2) (e.x % 2048) (e.y % 2048) p<2 low< x<2048 y<2048;
-      says = ap events_of event_vector ∙ one-event e.x e.y e.t e.p (omega (arith, f.x<));
-      rest = rw event_steps (record { counted = rd.counted; below = rd.below; past = omega (arith, at); rises = rd.rises.1 });
-    },
-    rw event_steps (on, at),
-  )
 
 -- ---- the word that sends the coarse half of an event's time, to a decoder that is ready for the event
 
@@ -112,29 +101,3 @@ module _ (d : Evt2Decoder) (e : Event) (more : List Event) (rd : Ready2 d (e ∷
         past = omega arith;
         rises = rise_first clock sayable d.time (e.t / grain2 * grain2) e more (omega arith) rd.rises;
       }
-
--- ---- the law
-
-group_as : (b : Bool) (d : Evt2Decoder) (e : Event) (more : List Event) → (b ≡ true → High2 d (e.t / grain2)) → Ready2 d (e ∷ more)
-    → let ns = due b (high_word2 e.t) ++ (carries (word_of2 e) e ∷ []) in Good format2 d ns more × High2 (run reader2 d (words ns)) (e.t / grain2)
-group_as true d e more h rd = said_event d e (sayable-true e rd.rises.0.fine) (h refl).0 (h refl).1 more rd
-group_as false d e more h rd =
-    let up = high_steps d e more rd in
-    let r = said_event (risen d e.t) e (sayable-true e rd.rises.0.fine) refl refl more (high_ready d e more rd) in (
-      record {
-        ready = rd;
-        fits = time_fits2 (e.t / grain2 % 2 ^ 28) (omega arith);
-        says = ap events_of (high_vector d e more rd) ∙ no_event;
-        rest = rw up r.0;
-      },
-      rw up r.1,
-    )
-
-pub lawful2 : Lawful format2
-unfolding encode2
-lawful2 = record {
-  sized = omega arith;
-  noted = λ v e va. encode_notes2 v e;
-  starts = tt;
-  group = λ v d e more va ag rd. group_as (high_sent2 v e) d e more (holds_sent v.time_high (High2 d) (e.t / grain2) ag) rd;
-}

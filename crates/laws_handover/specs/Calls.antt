@@ -6,7 +6,7 @@ use Rattle.evt_types.specs.{Event.Event, declared.Encoding.Encoding}
 use Rattle.write_buffer.specs.Columns.{events_in}
 use Rattle.write_words.specs.Encode.{encode_notes}
 use Rattle.laws_formats.specs.Either.{fresh_of}
-use Rattle.laws_formats.specs.Appends.{flat, append_notes, notes-all, Understood, fresh_understood}
+use Rattle.laws_formats.specs.Appends.{flat, append_notes, notes-all, Understood}
 use Rattle.write_rules.specs.{declared.RawEventSink.RawEventSink, Rules.fresh_sink, Range.sink_not_before, Checks.Checked}
 use Rattle.write_append.specs.{Append.sends, Append.next_sink, Ends.accepts_checked, Ends.by_acceptance, Rising.clock, Rising.in_bounds, Rising.Rises}
 use Rattle.write_append.specs.Rising.{earliest, append_rise}
@@ -14,6 +14,7 @@ use Rattle.laws_handover.specs.Handover.{Call, is_accepted, next, call_bytes, ac
 use Rattle.laws_handover.specs.EventWords.{append_typed}
 use Rattle.write_rules.proofs.ChecksLaws.{checked_of}
 use Rattle.write_append.proofs.RisingLaws.{append-last}
+use Rattle.laws_formats.proofs.Appends.{fresh_understood}
 
 -- ---- what an append that is refused, and one that is accepted, comes to
 

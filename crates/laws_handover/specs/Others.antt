@@ -9,7 +9,7 @@ use Rattle.evt_types.specs.declared.{Encoding.Encoding, Encoding.TheVariants.Evt
 use Rattle.evt_codec.specs.Reader.{reader_of}
 use Rattle.write_buffer.specs.{declared.EncoderState.EncoderState, Sent.fresh_state}
 use Rattle.write_words.specs.{Encode.encode_notes, Encode.encode_bytes, Encode.encode_size, Encode.encode_most, Laws.encode_few, Laws.encode_notes_lem}
-use Rattle.laws_formats.specs.{Either.lawful_of, Either.ready_coarse, Either.ready_rises, Appends.note_bytes}
+use Rattle.laws_formats.specs.{Either.ready_coarse, Either.ready_rises, Appends.note_bytes}
 use Rattle.write_rules.specs.declared.{LastTime.LastTime, LastTime.TheVariants.Never, LastTime.TheVariants.At, RawEventSink.RawEventSink}
 use Rattle.write_rules.specs.Range.{time_bound, grain_of, every, falls, falls_after, sink_in_range, sink_not_before}
 use Rattle.write_append.specs.{Append.last_after, Append.next_sink, Append.append_outcome, Rising.clock, Rising.in_bounds, Rising.Rises}
@@ -20,6 +20,7 @@ use Rattle.laws_handover.specs.Handover.{whole, joined, resuming, Exact, Claim, 
 use Rattle.laws_handover.specs.{Calls.by_call, Headed.front_of, Fronts.front_bare}
 use Rattle.laws_handover.specs.Proof.{Sent, sent-by, claim, there, resuming-is, rest-ready}
 use Rattle.write_append.proofs.KeptLaws.{range_kept}
+use Rattle.laws_formats.proofs.Either.{lawful_of}
 
 -- words that carry an event are some bytes
 some_bytes : (e : Encoding) (a : Event) (ns : List (Note ℕ Event)) → notes ns ≡ a ∷ [] → 0 < length (note_bytes e ns)

@@ -17,14 +17,15 @@ use Rattle.write_words.specs.Encode.{encode_notes, encode_state, encode_size}
 use Rattle.write_rules.specs.{declared.RawEventSink.RawEventSink, declared.LastTime.TheVariants.Never, Rules.fresh_sink, Rules.held_state, Rules.resumed_sink}
 use Rattle.write_append.specs.Rising.{Rises}
 use Rattle.write_resume.specs.{Resume.resume_outcome, Laws.resume-given}
-use Rattle.laws_formats.specs.Either.{StateOf, codec_of, fresh_of, lawful_of, ReadyOf, AgreeOf, held_agrees, fresh_agrees, ready_first, ready_coarse, regular_run}
-use Rattle.laws_formats.specs.Appends.{flat, append_notes, note_bytes, rise_inside, Understood, resumed_understood, resumed_none, resumed_bytes, ready_left}
-use Rattle.laws_formats.specs.Appends.{after-left, whole-events, whole-past, cut_events, cut_past}
+use Rattle.laws_formats.specs.Either.{StateOf, codec_of, fresh_of, ReadyOf, AgreeOf, held_agrees, fresh_agrees, ready_first, ready_coarse, regular_run}
+use Rattle.laws_formats.specs.Appends.{flat, append_notes, note_bytes, rise_inside, Understood, resumed_none}
 use Rattle.laws_handover.specs.Handover.{Call, accepted_events, stream_of, stream_words, fresh, Front, bare, front_bytes, start_of, before_cut, whole, others}
 use Rattle.laws_handover.specs.Handover.{joined, left, decoder_left, resuming, resumed_from, InFirstLoop, Typed, IsGivenAlong, GivenAt, Suits, widest, Exact}
 use Rattle.laws_handover.specs.Handover.{Claim, DemandThree}
 use Rattle.laws_handover.specs.{Headed.front_of, Cut.whole_is, Cut.broken_is, Cut.cut_parts, Reading.exact, Fronts.front_bare, Fronts.stream-words}
 use Rattle.laws_handover.specs.Calls.{stream-notes, stream_typed, groups_of, groups_events, groups_words, fresh_rise, stream_understood}
+use Rattle.laws_formats.proofs.{Appends.after-left, Appends.cut_events, Appends.cut_past, Appends.ready_left, Appends.resumed_bytes, Appends.resumed_understood}
+use Rattle.laws_formats.proofs.{Appends.whole-events, Appends.whole-past, Either.lawful_of}
 
 -- a stream of these bytes and words, behind a front, that carries es
 pub record Sent (e : Encoding) (f : Front) (bytes : List ℕ) (ws : List (Note ℕ Event)) (es : List Event) : Type 0 where

@@ -61,6 +61,8 @@ module _ (period threshold : ℕ) where
       → (loops_after period threshold old (old / period) (t % period) ≡ t / period) × (time_after period threshold old (old / period) (t % period) ≡ t)
   tracks old t = tracks_go (eqb (t / period) (old / period)) old t refl
 
+  -- ---- how many loops n time words can count
+
   -- two time words in a row never both count a loop
   pub never_twice : (old loops raw : ℕ) → period ≤ 2 * threshold → old < suc loops * period → loops_after period threshold old loops raw ≡ suc loops
       → (raw₂ : ℕ) → loops_after period threshold (time_after period threshold old loops raw) (suc loops) raw₂ ≡ suc loops

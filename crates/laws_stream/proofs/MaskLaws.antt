@@ -9,6 +9,8 @@ use Rattle.std.specs.{Int.Count.ones_step, Prelude.Bool, Prelude.List, Prelude.[
 use Rattle.std.specs.{Prelude.suc, Prelude.true, Prelude.zero, Prelude.ℕ, Prelude.◌%◌, Prelude.◌*◌, Prelude.◌+◌, Prelude.◌-◌, Prelude.◌/◌, Prelude.◌<◌}
 use Rattle.std.specs.{Prelude.◌^◌, Prelude.◌∷◌, Prelude.◌≡◌, Prelude.◌≤◌}
 
+-- ---- the lowest bit, and the rest
+
 bits_double : (k at n : ℕ) → bits (suc k) at (n * 2) ≡ bits k (suc at) n
 bits_double k at n =
     let a : n * 2 % 2 ≡ 0 = omega arith in
@@ -50,6 +52,8 @@ bits_below (suc k) at m w = go (ltb at w) refl (bits_below k (suc at) (m / 2) w)
         let t : sift (λ c. ltb c w) (bits k (suc at) (m / 2)) ≡ [] = ih ∙ rw (b, o) (bits-zero k (suc at)) in
         rw (a, n, bits-zero) (⊎_elim (λ (z : m % 2 ≡ 0). rw (bits_even k at m z) t) (λ (z : m % 2 ≡ 1). rw (bits_odd k at m z, q) t) (parity m))
 
+-- ---- a loop over the bits: the lowest goes first, and is then cleared from the mask
+
 clear_odd : (m : ℕ) → m % 2 ≡ 1 → bit_and m (m - 1) ≡ m / 2 * 2
 clear_odd m e =
     let a : (m - 1) / 2 ≡ m / 2 = omega arith in
@@ -71,6 +75,8 @@ low_bit (suc k) at m h l =
     ∙ sym (simp (trailing_even k m e, clear_even m e h, bits_double, add-suc, suc-add)))
     (λ (e : m % 2 ≡ 1). bits_odd k at m e ∙ sym (simp (trailing_odd k m e, clear_odd m e, bits_double, add-zero)))
     (parity m)
+
+-- ---- how many, between what, and the greatest
 
 ones_zero : ones 0 ≡ 0
 unfolding ones
@@ -130,6 +136,8 @@ module _ (f : ℕ → ℕ) (rises : (a b : ℕ) → a ≤ b → f a ≤ f b) whe
       let t = leading_top w m h b in
       let e : w - 1 - count_leading_zeros w m ≡ t.0 = omega (arith, t.1) in
       rw e (greatest-bits k t.0 at m t.2 t.3 a)
+
+-- ---- a mask that was made of rising numbers has these for its bits
 
 bits_go : (b : Bool) (k at to from x : ℕ) (xs : List ℕ) → eqb x at ≡ b → at ≤ from → to ≤ at + suc k → Inc from to (x ∷ xs)
     → ((from' : ℕ) (ys : List ℕ) → suc at ≤ from' → Inc from' to ys → bits k (suc at) (mask (suc at) ys) ≡ ys)

@@ -12,6 +12,9 @@ use mathlib.Core.List.{List, [], ◌++◌, ◌∷◌}
 
 module _ {S W E : Type 0} (R : Reading S W E) where
   module _ (win : Selection) where
+
+    -- ---- what is chosen
+
     spans-past : (k t : ℕ) → win.n1 ≤ k → spans win k t ≡ false
     spans-past k t h = rw (le-ltb k) (and-false (leb win.n0 k))
 
@@ -44,6 +47,8 @@ module _ {S W E : Type 0} (R : Reading S W E) where
             let m : win.n1 - max win.n0 k ≡ 0 = omega arith in
             rw (p, q, m) (chosen-past (suc k) es (omega arith))
 
+    -- ---- BY NUMBER, and THE LIMIT: a stop by number alone loses nothing
+
     pub handed-chosen : (k : ℕ) (s : S) (ws : List W) → Calm R win s ws → handed R win k s ws ≡ chosen R win k (numbered R s ws)
     unfolding handed
     handed-chosen k s [] c = refl
@@ -72,6 +77,8 @@ module _ {S W E : Type 0} (R : Reading S W E) where
         let d : win.n0 - 0 ≡ 0 = omega arith in
         handed_by-number 0 s ws c h ∙ rw (m, d)
 
+    -- ---- BY TIME: where the numbers run past no end
+
     pub handed_by_time : (k : ℕ) (s : S) (ws : List W) → win.n0 ≤ k → k + length (numbered R s ws) < win.n1
         → handed R win k s ws ≡ sift (in_time R win) (numbered R s (until R.machine (is_over R win) s ws))
     unfolding handed
@@ -95,9 +102,13 @@ module _ {S W E : Type 0} (R : Reading S W E) where
         go true ih = refl
         go false ih = ih
 
+    -- ---- ALL: nothing stops, and nothing is left out
+
     pub handed-all : (k : ℕ) (s : S) (ws : List W) → win.n0 ≤ k → k + length (numbered R s ws) ≤ win.n1 → Calm R win s ws → All (λ e. in_time R win e ≡ true) (numbered R s ws)
         → handed R win k s ws ≡ numbered R s ws
     handed-all k s ws a b c h = handed-chosen k s ws c ∙ chosen_time R win k (numbered R s ws) a b ∙ sift-all (in_time R win) (numbered R s ws) h
+
+    -- ---- from a record, the state and the number after the words a
 
     -- where none of the events before it is in time
     pub by_time_from : (s : S) (a b : List W) → All (λ e. in_time R win e ≡ false) (numbered R s a) → Past R.machine (and_then R.inside (in_time R win)) (is_over R win) s (a ++ b)

@@ -150,10 +150,6 @@ module _ {S W E : Type 0} (R : Reading S W E) where
         let j = keeps (length ws) s w i in
         (not_reached R.live R.time win.t1 u (below (length ws) u j), calm_bounded Inv keeps below u ws j)
 
-    -- ---- BY TIME: where the numbers run past no end
-
-    -- ---- ALL: nothing stops, and nothing is left out
-
     -- ---- the words consumed, whatever stops the pass
 
     pub handed-after : (k : ℕ) (s : S) (ws : List W) → handed k s ws ≡ chosen k (numbered s (take (ended k s ws).consumed ws))
@@ -169,4 +165,3 @@ module _ {S W E : Type 0} (R : Reading S W E) where
             → chosen k (numbered_of_lem s w) ++ unless t (handed j u ws) ≡ chosen k (numbered s (take (one_more (end_at t j u e)).consumed (w ∷ ws)))
         go true j u e f ih = f []
         go false j u e f ih = ap (λ (l : List E). chosen k (numbered_of_lem s w) ++ l) ih ∙ f (take e.consumed ws)
-        -- ---- from a record, the state and the number after the words a

@@ -9,6 +9,8 @@ use Rattle.read_window.specs.declared.Window.{Window}
 use Rattle.std.proofs.{Common.ap, Common.arith, Common.le-leb, lemmas.Bool.lt-leb}
 use Rattle.std.specs.Prelude.{List, false, leb, length, true, ℕ, ℤ, ◌<◌, ◌≡◌, ◌≤◌}
 
+-- ---- what was written
+
 module _ {xs₀ ys₀ : List ℕ} {ts₀ : List ℤ} {ps₀ : List ℕ} where
   pub delivers_all : (es : List Event) (room n m : ℕ) {xs ys : List ℕ} {ts : List ℤ} {ps : List ℕ} → room ≡ shortest xs₀ ys₀ ts₀ ps₀ → Enough es room n
       → n ≤ room → m ≡ length es → Wrote es 0 xs₀ ys₀ ts₀ ps₀ xs ys ts ps
@@ -24,11 +26,15 @@ module _ {xs₀ ys₀ : List ℕ} {ts₀ : List ℤ} {ps₀ : List ℕ} where
       let short : leb (length es) (shortest xs₀ ys₀ ts₀ ps₀) ≡ false = lt-leb (length es) (shortest xs₀ ys₀ ts₀ ps₀) (omega arith) in
       record { answer = rw (short, is); columns = rw short handed_none }
 
+-- ---- all events inside a sensor
+
 module _ (width height : ℕ) (c : Codec) (bytes : List ℕ) where
   pub delivers_inside : (room n : ℕ) (t : FilledAll) {xs₀ ys₀ : List ℕ} {ts₀ : List ℤ} {ps₀ xs ys : List ℕ} {ts : List ℤ} {ps : List ℕ}
       → room ≡ shortest xs₀ ys₀ ts₀ ps₀ → Enough (inner width height c bytes) room n → n ≤ room
       → t ≡ filled_all_of width height c bytes → Wrote (inner width height c bytes) 0 xs₀ ys₀ ts₀ ps₀ xs ys ts ps → Delivers (inner width height c bytes) (Written t.count) xs₀ ys₀ ts₀ ps₀ xs ys ts ps
   delivers_inside room n t r enough h is w = delivers_all (inner width height c bytes) room n t.count r enough h (ap (λ (t : FilledAll). t.count) is) w
+
+-- ---- a pass hands over no more than its window has numbers, nor than its bytes have events
 
 module _ (win : Window) (k : ℕ) (c : Codec) (bytes : List ℕ) where
   pub delivers_filled : (room n : ℕ) (t : Filled) {xs₀ ys₀ : List ℕ} {ts₀ : List ℤ} {ps₀ xs ys : List ℕ} {ts : List ℤ} {ps : List ℕ}

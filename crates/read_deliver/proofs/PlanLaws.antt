@@ -8,6 +8,8 @@ use Rattle.read_window.specs.declared.Window.{Window}
 use Rattle.std.proofs.Common.{arith}
 use Rattle.std.specs.Prelude.{List, drop, false, length, ℕ, ◌+◌, ◌-◌, ◌≡◌, ◌≤◌}
 
+-- ---- what is planned
+
 module _ (win : Window) (k : ℕ) (c : Codec) (l : List ℕ) (ready : Ready c k (length l)) where
   module _ (numbered : Numbered win k) (p : CountedTo) (is : p ≡ counted_to_of win.width win.height (win.n0 - k) c l) where
     within-number : p.at ≤ length l

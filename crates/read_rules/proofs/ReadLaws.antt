@@ -20,6 +20,8 @@ use Rattle.std.proofs.{Common.take_all, Common.take_at, Common.◌∙◌, lemmas
 use Rattle.std.specs.Prelude.{Bool, List, [], cond, drop, false, leb, length, ltb, map, refl, take, true, ℕ, ℤ, ◌++◌, ◌<◌, ◌^◌, ◌∷◌, ◌≡◌, ◌≤◌}
 use Rattle.header.specs.declared.Header as header
 
+-- ---- the events of a body
+
 body-most : (size : SensorSize) (e : Encoding) (limit : Limit) (body : List ℕ) → length body ≤ 2 ^ 30
     → body_events e size limit body ≡ take (most_of limit) (sensor_events (sensor_of size).width (sensor_of size).height e body)
 unfolding body_events
@@ -35,6 +37,8 @@ pub body-handed : (size : SensorSize) (e : Encoding) (limit : Limit) (body : Lis
 body-handed size e limit body h =
     handed-limit (sensor_of size).width (sensor_of size).height (most_of limit) e body h ∙ sym (body-most size e limit body h)
 
+-- ---- the size
+
 module _ (size : SensorSize) (e : Encoding) (limit : Limit) (codec : Codec) (is-fresh : codec ≡ fresh_c e) where
   pub delivers_body : (body : List ℕ) (win : Window) {r : Delivered} {xs₀ ys₀ : List ℕ} {ts₀ : List ℤ} {ps₀ xs ys : List ℕ} {ts : List ℤ} {ps : List ℕ}
       → length body ≤ 2 ^ 30 → win ≡ window_of size limit
@@ -43,6 +47,8 @@ module _ (size : SensorSize) (e : Encoding) (limit : Limit) (codec : Codec) (is-
       let same : handed_over win 0 codec body ≡ body_events e size limit body =
       (λ i. handed_over (w i) 0 (is-fresh i) body) ∙ body-handed size e limit body h in
       rw same at d
+
+-- ---- what was delivered comes to the answer
 
 top-handed : (f : Event → ℕ) (es : List Event) (old now : List ℕ) → now ≡ map f es ++ drop (length es) old → top (take (length es) now) ≡ greatest f es
 top-handed f es old now e =
@@ -100,6 +106,8 @@ module _ {xs₀ ys₀ : List ℕ} {ts₀ : List ℤ} {ps₀ xs ys : List ℕ} {t
         let s = settles size in
         let o = body_outcome e size Unlimited es (room es r d) in
         record { is_told = ap told_read (is ∙ s.0) ∙ told-answer o; is_answer = is ∙ s.0; columns = s.1 }
+
+-- ---- the two entries
 
 module _ {xs₀ ys₀ : List ℕ} {ts₀ : List ℤ} {ps₀ : List ℕ} where
   module _ (words : List ℕ) (e : Encoding) (size : SensorSize) (limit : Limit) where

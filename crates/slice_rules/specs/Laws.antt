@@ -1,35 +1,30 @@
 -- The parts of a slice come to what specs/Slice.antt defines.
-use Rattle.std.specs.Prelude.{◌≡◌, Bool, false, ℕ, ◌+◌, ◌-◌, ◌*◌, ◌≤◌, ◌<◌, ◌^◌, min, ltb, ℤ, take}
+use Rattle.std.specs.Prelude.{◌≡◌, Bool, false, ℕ, ◌-◌, ◌≤◌, ◌^◌, min, ltb, ℤ, take}
 use Rattle.std.proofs.Math.Path.{refl, sym, ap}
-use Rattle.std.proofs.Common.{subst, ◌∙◌, true≢false, mul_comm, drop_of_length-le, leb-true, leb-false, ltb-false, lt-ltb, le-ltb}
+use Rattle.std.proofs.Common.{◌∙◌, true≢false, drop_of_length-le, leb-true, leb-false, ltb-false, lt-ltb, le-ltb}
 use Rattle.std.proofs.Math.Bool.{true, cond}
 use mathlib.Core.List.{List, [], ◌∷◌}
 use native.Mathlib.Omega.{arith}
 use Rattle.std.proofs.Math.Dec.{leb}
-use Rattle.std.specs.Int.Signed.{lt_z}
 use Rattle.std.proofs.Math.ListN.{length, drop, length-drop}
-use Rattle.laws_stream.specs.{Slice.sift, Select.by_number_lem, Part.rest_of}
-use Rattle.evt_types.specs.declared.Refusal.TheVariants.{InvalidSensorSize, TooLong, ColumnsTooShort, InvalidSpacing, StateOutOfRange}
-use Rattle.evt_codec.specs.{declared.codec.Codec.Codec, Reader.view, Codec.events_from, Sound.sound, Sound.able_range}
+use Rattle.laws_stream.specs.Part.{rest_of}
+use Rattle.evt_types.specs.declared.Refusal.TheVariants.{ColumnsTooShort}
+use Rattle.evt_codec.specs.Sound.{able_range}
 use Rattle.evt_types.specs.{Event.Event, Num.most_bytes, Outcome.Outcome, Outcome.refuse, Outcome.give, Outcome.on_outcome, Outcome.given_if}
 use Rattle.evt_types.specs.{Outcome.given-unless, declared.Refusal.Refusal}
 use Rattle.header.specs.Header.{has_zero}
-use Rattle.read_window.specs.declared.Window.{Window}
-use Rattle.read_select.specs.{Pass.Ready, Pass.Able, Uses.numbered_over, Uses.over_by_number, Uses.over_by_time}
-use Rattle.read_rules.specs.Read.{kept}
+use Rattle.read_select.specs.Pass.{Ready}
 use Rattle.read_capacity.specs.declared.{Delivered.Delivered, Delivered.TheVariants.Written, Delivered.TheVariants.Needed}
-use Rattle.read_capacity.specs.{Deliver.shortest, Deliver.Handed, Deliver.Delivers, Deliver.most_from, Laws.numbered-most, Laws.handed_none}
+use Rattle.read_capacity.specs.{Deliver.shortest, Deliver.Handed, Deliver.Delivers, Laws.handed_none}
 use Rattle.index_build.specs.{declared.Checkpoint.Checkpoint, declared.RawSliceSource.RawSliceSource, Index.spacing_ok, Open.spaced}
 use Rattle.index_records.specs.{declared.Judging.Judging, InRange.index_in_range, Choose.passes_of, Choose.Chose, Judge.first_judging, Judge.judged_all}
-use Rattle.index_records.specs.{JudgeLaws.judged_in_range, JudgeLaws.Good, JudgeLaws.parted_passes, JudgeLaws.last_good, Start.last_passing}
+use Rattle.index_records.specs.{JudgeLaws.Good, Start.last_passing}
 use Rattle.slice_rules.specs.declared.{Asked.Asked, SliceAnswer.SliceAnswer, SliceAnswer.TheVariants.Refused, Start.TheVariants.At}
-use Rattle.slice_rules.specs.{declared.Start.TheVariants.Not, Slice.SlicesIndex, Slice.SlicesTime, Times.time_window, Times.time_over}
-use Rattle.slice_rules.specs.Slice.{starting_at, size_of, first_of, end_of, index_events, is_during, events_until, time_events}
+use Rattle.slice_rules.specs.declared.Start.TheVariants.{Not}
+use Rattle.slice_rules.specs.Slice.{size_of}
 use Rattle.slice_rules.specs.Slice.{slice_check, room_outcome, slice_outcome, told_slice, slice_verdict, slice_handed, slice_answer, Slices}
-use Rattle.slice_rules.specs.From.{number_window, asked_by_number, asked_by_time, passed_from, answer_of, start_of, SlicesFrom, Startable}
-
-most_small : (c : Codec) (n : ℕ) → most_from c n ≤ 6 * n
-most_small c n = subst (λ (k : ℕ). k ≤ 6 * n) (mul_comm (view c).reader.most _) ((sound c).spread n)
+use Rattle.slice_rules.specs.From.{asked_by_number, asked_by_time, answer_of, start_of, SlicesFrom, Startable}
+use Rattle.index_records.proofs.Judged.{judged_in_range, last_good, parted_passes}
 
 -- ---- an outcome's promises
 
@@ -112,33 +107,6 @@ module _ (recording : List ℕ) (s : RawSliceSource) (ok : Bool) (es : List Even
   unfolding slice_outcome
   from_at at e d r h f = rw ((start_given (slice_check (length recording) s ok) (min offset (length recording)) at e).1, f) (delivered h)
 
--- ---- with the records judged all is as specs/Slice.antt has it
-
-module _ (recording : List ℕ) (s : RawSliceSource) (records : List Checkpoint) (ok : Bool) (from es : List Event)
-    (judged : spacing_ok s.encoding s.spacing ≡ true → ok ≡ index_in_range s records)
-    (same : length recording ≤ most_bytes → index_in_range s records ≡ true → from ≡ es) where
-  same_outcome : (room : ℕ) → slice_outcome recording s ok from room ≡ slice_outcome recording s (index_in_range s records) es room
-  unfolding slice_outcome
-  same_outcome room =
-      go (ltb most_bytes (length recording)) refl (has_zero (size_of s)) (spacing_ok s.encoding s.spacing) refl (index_in_range s records) refl
-    where
-      checked : (long zero spaced ok : Bool) → Outcome Unit
-      checked long zero spaced ok =
-          cond long (refuse TooLong) (cond zero (refuse InvalidSensorSize) (cond spaced (cond ok (give tt) (refuse StateOutOfRange)) (refuse InvalidSpacing)))
-
-      go : (a : Bool) → ltb most_bytes (length recording) ≡ a → (b c : Bool) → spacing_ok s.encoding s.spacing ≡ c → (d : Bool) → index_in_range s records ≡ d
-          → on_outcome refuse (λ u. room_outcome from room) (checked a b c ok) ≡ on_outcome refuse (λ u. room_outcome es room) (checked a b c d)
-      go true p b c q d r = refl
-      go false p true c q d r = refl
-      go false p false false q d r = refl
-      go false p false true q true r = rw (judged q ∙ r) (ap (λ (l : List Event). room_outcome l room) (same (ltb-false most_bytes (length recording) p) r))
-      go false p false true q false r = rw (judged q ∙ r)
-
-  pub slices_from : {r : SliceAnswer} {xs₀ ys₀ : List ℕ} {ts₀ : List ℤ} {ps₀ xs ys : List ℕ} {ts : List ℤ} {ps : List ℕ}
-      → SlicesFrom recording s ok from r xs₀ ys₀ ts₀ ps₀ xs ys ts ps
-      → SlicesFrom recording s (index_in_range s records) es r xs₀ ys₀ ts₀ ps₀ xs ys ts ps
-  slices_from {r} {xs₀} {ys₀} {ts₀} {ps₀} h = rw (same_outcome (shortest xs₀ ys₀ ts₀ ps₀)) at h
-
 -- ---- the record that a slice starts at
 
 pub record Began (s : RawSliceSource) (records : List Checkpoint) (asked : Asked) (judged : Judging) (start : Checkpoint) : Type 0 where
@@ -147,17 +115,17 @@ pub record Began (s : RawSliceSource) (records : List Checkpoint) (asked : Asked
   pub chose : Chose asked.choice records start
 
 module _ (s : RawSliceSource) (records : List Checkpoint) (asked : Asked) (judged : Judging) (start : Checkpoint) (b : Began s records asked judged start) where
-  judged_is : spacing_ok s.encoding s.spacing ≡ true → judged.ok ≡ index_in_range s records
+  pub judged_is : spacing_ok s.encoding s.spacing ≡ true → judged.ok ≡ index_in_range s records
   judged_is p =
       ap (λ (j : Judging). j.ok) (b.all ∙ ap (λ (j : Judging). judged_all j records) b.first)
       ∙ judged_in_range s (spaced s.encoding s.spacing p).high records
 
   -- in range it is the one by the definition, and good
-  start_is : (p : Checkpoint → Bool) → passes_of asked.choice ≡ p → (c : Checkpoint) (cs : List Checkpoint) → records ≡ c ∷ cs
+  pub start_is : (p : Checkpoint → Bool) → passes_of asked.choice ≡ p → (c : Checkpoint) (cs : List Checkpoint) → records ≡ c ∷ cs
       → index_in_range s (c ∷ cs) ≡ true → start ≡ last_passing p c cs
   start_is p e c cs r ok = rw (← e) (rw r at b.chose (parted_passes s (c ∷ cs) ok asked.choice))
 
-  start_good : index_in_range s records ≡ true → Good s start
+  pub start_good : index_in_range s records ≡ true → Good s start
   unfolding index_in_range
   start_good = go records refl
     where
@@ -168,53 +136,6 @@ module _ (s : RawSliceSource) (records : List Checkpoint) (asked : Asked) (judge
   pub startable : Startable s judged.ok start
   startable p q = let g = start_good (sym (judged_is p) ∙ q) in (g.decoder, g.few)
 
-  -- what is decoded from there on
-  starting : (p : Checkpoint → Bool) (f : Checkpoint → List Event) → passes_of asked.choice ≡ p → index_in_range s records ≡ true
-      → f start ≡ starting_at p f records
-  unfolding index_in_range
-  starting p f e = go records refl
-    where
-      go : (l : List Checkpoint) → records ≡ l → index_in_range s l ≡ true → f start ≡ starting_at p f l
-      go [] r ok = absurd (true≢false (sym ok))
-      go (c ∷ cs) r ok = ap f (start_is p e c cs r ok)
-
-  module _ (recording : List ℕ) (short : length recording ≤ 2 ^ 30) (ok : index_in_range s records ≡ true) where
-    able_start : Able (length (drop start.byte_offset recording)) start.codec
-    able_start =
-        able_range start.codec (length (drop start.byte_offset recording)) (start_good ok).decoder
-        (omega (arith, length-drop start.byte_offset recording))
-
-    same_number : (i0 i1 : ℕ) → passes_of asked.choice ≡ (λ c. leb c.event_index (first_of s i0)) → asked.window ≡ number_window s i0 i1
-        → passed_from recording asked.window start ≡ index_events recording s records i0 i1
-    unfolding index_events
-    same_number i0 i1 e w =
-        let f : Checkpoint → List Event = λ c.
-        by_number_lem (first_of s i0) (end_of s i0 i1) c.event_index (kept (size_of s) (events_from c.codec (drop c.byte_offset recording))) in
-        ap (λ (win : Window). passed_from recording win start) w
-        ∙ over_by_number (number_window s i0 i1) start.codec (drop start.byte_offset recording) able_start refl (omega arith) start.event_index
-        ∙ starting (λ c. leb c.event_index (first_of s i0)) f e ok
-
-    same_time : (t0 t1 : ℤ) → passes_of asked.choice ≡ (λ c. lt_z c.time t0)
-        → asked.window ≡ time_window s.width s.height 0 18446744073709551615 t0 t1
-        → passed_from recording asked.window start ≡ time_events recording s records t0 t1
-    unfolding time_events
-    same_time t0 t1 e w =
-        let win = time_window s.width s.height 0 18446744073709551615 t0 t1 in
-        let rest = drop start.byte_offset recording in
-        let f : Checkpoint → List Event = λ c. sift (is_during t0 t1) (kept (size_of s) (events_until t1 c.codec (drop c.byte_offset recording))) in
-        let few : start.event_index + length (numbered_over win start.codec rest) < 18446744073709551615 =
-        omega (
-          arith,
-          (start_good ok).few,
-          numbered-most win 0 start.codec rest,
-          most_small start.codec (length rest),
-          length-drop start.byte_offset recording,
-        ) in
-        ap (λ (win : Window). passed_from recording win start) w
-        ∙ over_by_time win start.event_index start.codec rest (omega arith) few
-        ∙ sym (time_over s.width s.height 0 18446744073709551615 t0 t1 start.codec rest)
-        ∙ starting (λ c. lt_z c.time t0) f e ok
-
 -- ---- by number and by time
 
 module _ (recording : List ℕ) (s : RawSliceSource) (records : List Checkpoint) (asked : Asked) (judged : Judging) (start : Checkpoint) where
@@ -223,25 +144,7 @@ module _ (recording : List ℕ) (s : RawSliceSource) (records : List Checkpoint)
     pub began_index : Began s records asked judged start
     began_index = record { first = ap (λ (a : Asked). a.judging) is; all = all; chose = chose }
 
-    pub slices_index : {r : SliceAnswer} {xs₀ ys₀ : List ℕ} {ts₀ : List ℤ} {ps₀ xs ys : List ℕ} {ts : List ℤ} {ps : List ℕ}
-        → SlicesFrom recording s judged.ok (passed_from recording asked.window start) r xs₀ ys₀ ts₀ ps₀ xs ys ts ps
-        → SlicesIndex recording s records i0 i1 r xs₀ ys₀ ts₀ ps₀ xs ys ts ps
-    slices_index =
-        slices_from recording s records judged.ok (passed_from recording asked.window start) (index_events recording s records i0 i1)
-        (judged_is s records asked judged start began_index)
-        (λ short ok. same_number s records asked judged start began_index recording short ok i0 i1
-        (ap (λ (a : Asked). passes_of a.choice) is) (ap (λ (a : Asked). a.window) is))
-
   module _ (t0 t1 : ℤ) (is : asked ≡ asked_by_time s (length records) t0 t1) (all : judged ≡ judged_all asked.judging records)
       (chose : Chose asked.choice records start) where
     pub began_time : Began s records asked judged start
     began_time = record { first = ap (λ (a : Asked). a.judging) is; all = all; chose = chose }
-
-    pub slices_time : {r : SliceAnswer} {xs₀ ys₀ : List ℕ} {ts₀ : List ℤ} {ps₀ xs ys : List ℕ} {ts : List ℤ} {ps : List ℕ}
-        → SlicesFrom recording s judged.ok (passed_from recording asked.window start) r xs₀ ys₀ ts₀ ps₀ xs ys ts ps
-        → SlicesTime recording s records t0 t1 r xs₀ ys₀ ts₀ ps₀ xs ys ts ps
-    slices_time =
-        slices_from recording s records judged.ok (passed_from recording asked.window start) (time_events recording s records t0 t1)
-        (judged_is s records asked judged start began_time)
-        (λ short ok. same_time s records asked judged start began_time recording short ok t0 t1
-        (ap (λ (a : Asked). passes_of a.choice) is) (ap (λ (a : Asked). a.window) is))

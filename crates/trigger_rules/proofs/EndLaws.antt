@@ -8,6 +8,8 @@ use Rattle.std.specs.Prelude.{length, ℕ, ◌*◌, ◌<◌, ◌^◌, ◌≡◌,
 use Rattle.trigger_rules.specs.Laws.{EndsAt, ends_at, win}
 use mathlib.Core.List.{List}
 
+-- ---- where a limit ends the triggers
+
 module _ (size : SensorSize) (body : List ℕ) (short : length body ≤ 2 ^ 30) where
   -- by what the code has at hand
   pub ends_by : (e : Encoding) (n : ℕ) → 0 < n → {c : Codec} → c ≡ fresh_c e → {win : Window} → win ≡ window_of size (AtMost n)

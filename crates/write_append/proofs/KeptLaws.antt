@@ -18,6 +18,8 @@ use Rattle.write_rules.specs.{declared.LastTime.TheVariants.Never, declared.RawE
 use Rattle.write_words.specs.Encode.{encode_state}
 use borrow.Author.Tests.{eq-eqb, le-leb}
 
+-- ---- THE RANGE IS KEPT, the bound on the count aside
+
 abbrev last_event : Event → List Event → Event
 last_event e [] = e
 last_event e (f ∷ es) = last_event f es

@@ -9,6 +9,8 @@ use Rattle.write_rules.specs.{Checks.Checked, Range.not_before, Range.sink_not_b
 use Rattle.write_rules.specs.{declared.RawEventSink.RawEventSink}
 use Rattle.write_words.specs.Encode.{encode_state}
 
+-- ---- the writer's time after it
+
 after-some : (e : Encoding) (held : Sent) (l m : LastTime) (t : ℤ) (ts : List ℤ) → not_before e held (last_after l (t ∷ ts)) ≡ last_after m (t ∷ ts)
 unfolding last_after
 after-some e held l m t [] = refl

@@ -13,19 +13,27 @@ use Rattle.write_resume.specs.{Laws.behind, Laws.resume-given, Laws.resumed_in_r
 use Rattle.write_resume.specs.{Resume.resume_words_outcome}
 use Rattle.write_rules.specs.{Range.sink_in_range, Range.time_bound, Rules.fresh_sink, Rules.resumed_sink, declared.RawEventSink.RawEventSink}
 
+-- ---- the clock of a decoder in range
+
 unstarted_coarse : (c : Codec) → in_range_c c ≡ true → started_c c ≡ false → coarse_c c ≡ 0
 unstarted_coarse (Evt2 d) fit off = ap (λ (d : Evt2Decoder). d.time_high) ((bounded_range2 0 d fit (omega arith)).regular.unstarted off)
 unstarted_coarse (Evt21 d) fit off = ap (λ (d : Evt2Decoder). d.time_high) ((bounded_range21 0 d fit (omega arith)).regular.unstarted off)
 unstarted_coarse (Evt3 d) fit off = ap (λ (d : Decoder). d.time_base) ((regular_range3 d fit).0.unstarted off)
+
+-- ---- behind a decoder
 
 module _ (c : Codec) (fit : in_range_c c ≡ true) where
   -- BEFORE THE FIRST TIME WORD: a fresh writer that sends no header
   pub resume-fresh : started_c c ≡ false → resume_outcome c ≡ give (fresh_sink (encoding_of c) false)
   resume-fresh off = resume-given c fit (omega (arith, unstarted_coarse c fit off)) ∙ rw off
 
+-- ---- EVERY WRITER THAT IS GIVEN IS IN RANGE
+
 -- behind words and recordings too
 pub behind_in_range : (o : Outcome Codec) (s : RawEventSink) → resume_after o ≡ give s → sink_in_range s ≡ true
 behind_in_range o s h = let g = given_then s o resume_outcome h in resumed_in_range g.0 s g.1.1
+
+-- ---- behind words
 
 module _ (e : Encoding) (words : List ℕ) (short : length words ≤ most_bytes) where
   -- then 10 comes for the coarse time alone

@@ -9,6 +9,8 @@ use Rattle.write_rules.specs.{Range.is_nothing, Range.last_in_range, Range.same_
 use Rattle.write_rules.specs.{Range.time_in_range, Rules.check_outcome, declared.LastTime.LastTime, declared.LastTime.TheVariants.At}
 use Rattle.write_rules.specs.{declared.LastTime.TheVariants.Never, declared.RawEventSink.RawEventSink}
 
+-- ---- what a check that is passed says
+
 count_as : (e : Encoding) (v : EncoderState) (n : ℕ) (l : LastTime) → last_in_range e v n l ≡ true → n ≤ 2 ^ 62
 count_as e v n Never h =
     let a = and_both (held_in_range e v.time_high) (is_nothing v.time_low && (is_nothing v.y && eqb n 0)) h in

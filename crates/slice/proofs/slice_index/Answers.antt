@@ -1,6 +1,7 @@
 use Rattle.index_records.specs.Search.{chosen}
-use Rattle.slice_rules.specs.Laws.{startable, began_index, slices_index}
+use Rattle.slice_rules.specs.Laws.{startable, began_index}
 use Rattle.slice.proofs.slice_index.Goals as goal
+use Rattle.slice_rules.proofs.SliceLaws.{slices_index}
 
 pub slice_from-requires : goal.slice_from-requires
 slice_from-requires c =

@@ -4,8 +4,9 @@ use Rattle.index_build.specs.declared.RawSliceSource.{RawSliceSource}
 use Rattle.index_records.specs.Search.{chosen}
 use Rattle.slice_rules.specs.declared.Asked.{Asked}
 use Rattle.slice_rules.specs.From.{asked_by_time}
-use Rattle.slice_rules.specs.Laws.{startable, began_time, slices_time}
+use Rattle.slice_rules.specs.Laws.{startable, began_time}
 use Rattle.slice.proofs.slice_time.Goals as goal
+use Rattle.slice_rules.proofs.SliceLaws.{slices_time}
 
 -- the bounds are passed as they are
 as_passed : (s : RawSliceSource) (n : ℕ) (t0 t1 : ℤ) (r : Asked) → SFits w64 t0 → SFits w64 t1

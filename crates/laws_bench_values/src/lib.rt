@@ -2,4 +2,3 @@
 // specs/Bench.antt. The crate has no code of its own to run.
 
 #![tactic(auto)]
-

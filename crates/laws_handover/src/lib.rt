@@ -12,4 +12,3 @@
 // definitions; Fronts.antt has what a list sends before its words, and HeadedProof.antt proves it.
 
 #![tactic(auto)]
-

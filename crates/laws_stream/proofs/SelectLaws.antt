@@ -12,7 +12,6 @@ use mathlib.Core.List.{List, [], ◌++◌, ◌∷◌}
 
 module _ {S W E : Type 0} (R : Reading S W E) where
   module _ (win : Selection) where
-
     -- ---- what is chosen
 
     spans-past : (k t : ℕ) → win.n1 ≤ k → spans win k t ≡ false

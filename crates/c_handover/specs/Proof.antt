@@ -9,11 +9,11 @@ use Rattle.c_values.specs.Encoding.{number_known, encoding_back}
 use Rattle.c_resume.specs.{declared.resume.PropheseeResumed.PropheseeResumed, Resume.resumed_of}
 use Rattle.write_rules.specs.Rules.{fresh_sink}
 use Rattle.laws_handover.specs.Handover.{fresh, Front, bare, headed, Way, as_words, as_recording, widest, CutAndResumed, ResumedBy, ReadBack}
-use Rattle.laws_handover.specs.{Called.demand_three_ran, HeadedProof.demand_three_headed_ran}
 use Rattle.c_writer.specs.{Writer.flat_sink, Laws.sink_back}
 use Rattle.c_handover.specs.Statement.{RanC, ChainedC, fresh_numbers, all_written_c, ResumedByC, CutAndResumedC, DemandThreeC}
 use Rattle.c_handover.specs.Statement.{DemandThreeHeadedC}
 use Rattle.c_handover.specs.{Reading.read_back, Writing.chained, Writing.written, Writing.calls_are, Writing.ran_from}
+use Rattle.laws_handover.proofs.{Called.demand_three_ran, Headed.demand_three_headed_ran}
 
 -- the fresh writer is the library's
 fresh-is : (e : Encoding) (header : Bool) → fresh_numbers e header ≡ flat_sink (fresh_sink e header)

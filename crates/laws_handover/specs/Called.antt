@@ -1,12 +1,9 @@
 -- DEMAND 3 OF CALLS THAT RAN, proved: what appends wrote is the stream of their calls, of which `demand-three` speaks.
-use Rattle.std.specs.Prelude.{◌≡◌, refl, Bool, true, false, List, ◌++◌, map, ℕ, ◌^◌, ◌≤◌, ℤ, length, take, drop}
-use Rattle.std.proofs.Common.{sym, ap, ◌∙◌, le-ltb, take_at}
+use Rattle.std.specs.Prelude.{◌≡◌, Bool, List, ◌++◌, map, ℕ, ◌^◌, ◌≤◌, ℤ, length, take, drop}
+use Rattle.std.proofs.Common.{sym, ap, ◌∙◌, take_at}
 use Rattle.std.proofs.lemmas.List.{length-map}
-use Rattle.evt_types.specs.{Columns.col_x, Columns.col_y, Columns.col_t, Columns.col_p, Event.Event, declared.Encoding.Encoding, Num.most_bytes, Outcome.give}
-use Rattle.evt_types.specs.declared.Encoding.TheVariants.{Evt2, Evt21, Evt3}
-use Rattle.evt_codec.specs.Codec.{fresh_c, in_range_c, codec_after}
-use Rattle.read_after.specs.After.{after_outcome}
-use Rattle.write_resume.specs.{declared.Resumed.Resumed, Resume.resume_outcome, Resume.resume_words_outcome, Resume.Resumes}
+use Rattle.evt_types.specs.{Columns.col_x, Columns.col_y, Columns.col_t, Columns.col_p, Event.Event, declared.Encoding.Encoding}
+use Rattle.write_resume.specs.declared.Resumed.{Resumed}
 use Rattle.evt_types.specs.declared.{Limit.TheVariants.Unlimited, SensorSize.SensorSize, SensorSize.TheVariants.Unknown}
 use Rattle.read_rules.specs.Read as Outcomes
 use Rattle.read_rules.specs.{declared.ReadAnswer.ReadAnswer, Read.DecodesWords, Read.ReadsRaw, Read.shortest}
@@ -14,12 +11,11 @@ use Rattle.index_build.specs.declared.{Checkpoint.Checkpoint, OpenAnswer.OpenAns
 use Rattle.index_build.specs.Index.{Opens, OpensWords, OpensRaw}
 use Rattle.slice_rules.specs.declared.{SliceAnswer.SliceAnswer, SliceAnswer.TheVariants.Sliced}
 use Rattle.write_rules.specs.{declared.RawEventSink.RawEventSink, Rules.fresh_sink}
-use Rattle.laws_handover.specs.Handover.{accepted_events, stream_of, stream_words, fresh, Front, bare, widest, Way, as_words, as_recording, Suits}
-use Rattle.laws_handover.specs.Handover.{read_by, open_by_lem, options_of, Reads, Exact, Claim, opening_as, Indexed, Ran, Chained, calls_of, Columns, all_written}
+use Rattle.laws_handover.specs.Handover.{stream_of, Front, Way, as_words, as_recording}
+use Rattle.laws_handover.specs.Handover.{read_by, open_by_lem, options_of, Reads, opening_as, Indexed, Ran, calls_of, Columns, all_written}
 use Rattle.laws_handover.specs.Handover.{resuming, ResumedBy}
-use Rattle.laws_handover.specs.Handover.{HoldsEvents, Index, by_value, Alike, ReadBack, whole_ran}
-use Rattle.laws_handover.specs.Handover.{CutAndResumed, DemandThreeRan, numbered, during_times, NumberRan, TimeRan, room, ReadByValue, DemandThreeByValue}
-use Rattle.laws_handover.specs.{Proof.demand-three, Ran.ran_written}
+use Rattle.laws_handover.specs.Handover.{HoldsEvents, Index, by_value, Alike, ReadBack}
+use Rattle.laws_handover.specs.Handover.{numbered, during_times, NumberRan, TimeRan, room, ReadByValue}
 
 -- ---- two callers
 
@@ -106,58 +102,13 @@ module _ (way : Way) (bytes : List ℕ) (es : List Event) (reads : Reads way byt
 
 -- what holds of the stream of the calls holds of what they wrote
 module _ (e : Encoding) (f : Front) (header : Bool) (ran : List Ran) (cut : ℕ) where
-  abbrev writer : RawEventSink
+  abbrev pub writer : RawEventSink
   writer = fresh_sink e header
-
-  -- some bytes that hold es exactly are read so
-  abbrev ReadAs : (List ℕ → List Event → Type 0) → List Event → Type 0
-  ReadAs Read es = (bytes : List ℕ) → length bytes ≤ 2 ^ 30 → Exact e f bytes es → Read bytes es
 
   -- what resuming over what stands returned is the writer that resumes
   abbrev pub Resumer : Type 0
   Resumer = length (take cut (all_written ran)) ≤ 2 ^ 30 → (r : Resumed) → ResumedBy e f (take cut (all_written ran)) r
       → r.sink ≡ resuming e f cut (stream_of writer (calls_of ran))
-
-  pub ran_as : Chained writer ran
-      → Claim e f (stream_of writer (calls_of ran)) (stream_words writer (calls_of ran)) (accepted_events writer (calls_of ran)) cut → Resumer
-      → (Read : List ℕ → List Event → Type 0) → ReadAs Read (whole_ran writer f ran cut) → ReadAs Read (accepted_events writer (calls_of ran))
-      → CutAndResumed writer f ran cut Read
-  ran_as chained claim resumer Read part all =
-      let written = ran_written writer ran chained in
-      record {
-        of_cut = λ few. part _ few (rw written claim.of_cut);
-        of_joined = λ short r by second chained₂ rest few.
-            let is = resumer short r by in
-            let written₂ = ran_written r.sink second chained₂ in
-            all _ few (rw (written, written₂, is) (claim.of_joined (calls_of second) (rw is at rest)));
-        of_joined-first = λ first second chained₂ rest few.
-            let written₂ = ran_written (fresh e) second chained₂ in
-            all _ few (rw (written, written₂) (claim.of_joined-first first (calls_of second) rest));
-      }
-
-fresh_fine : (e : Encoding) → in_range_c (fresh_c e) ≡ true
-fresh_fine Evt2 = refl
-fresh_fine Evt21 = refl
-fresh_fine Evt3 = refl
-
--- `resume_words` over words from which can be resumed
-words_sink : (e : Encoding) (bytes : List ℕ) (s : RawEventSink) → length bytes ≤ 2 ^ 30 → resume_outcome (codec_after (fresh_c e) bytes) ≡ give s
-    → (r : Resumed) → Resumes e (resume_words_outcome bytes e) r → r.sink ≡ s
-unfolding after_outcome
-words_sink e bytes s few given r by =
-    rw (le-ltb most_bytes (length bytes) few, fresh_fine e, given) at by.is_sink_lem
-
-pub demand_three_ran : DemandThreeRan
-demand_three_ran e ran chained cut h =
-    let claim = demand-three e (calls_of ran) cut (rw (← ran_written (fresh e) ran chained) h) in
-    let way = as_words e widest in
-    let back : (es : List Event) → Suits widest es → (bytes : List ℕ) → length bytes ≤ 2 ^ 30 → Exact e bare bytes es → ReadBack way bytes es =
-    λ es suits bytes few exact. read_back way bytes es (exact few widest suits) in
-    let resumer : Resumer e bare false ran cut =
-    λ few r by. let written = ran_written (fresh e) ran chained in
-    words_sink e (take cut (all_written ran)) (resuming e bare cut (stream_of (fresh e) (calls_of ran))) few
-    (rw written (claim.resumes (rw (← written) few))) r by in
-    ran_as e bare false ran cut chained claim resumer (ReadBack way) (back _ claim.whole_suits) (back _ claim.all_suits)
 
 -- ---- BY VALUE
 
@@ -176,15 +127,3 @@ value_back way bytes es back spacing allowed room r records ran enough =
   where
     columns : List ℕ → List ℕ → List ℤ → List ℕ → Columns
     columns xs ys ts ps = record { xs = xs; ys = ys; ts = ts; ps = ps }
-
--- calls that read records lent read them by value too
-pub by_values : (way : Way) (s : RawEventSink) (f : Front) (ran : List Ran) (cut : ℕ)
-    → CutAndResumed s f ran cut (ReadBack way) → CutAndResumed s f ran cut (ReadByValue way)
-by_values way s f ran cut read = record {
-  of_cut = λ few. value_back way _ _ (read.of_cut few);
-  of_joined = λ short r by second chained₂ rest few. value_back way _ _ (read.of_joined short r by second chained₂ rest few);
-  of_joined-first = λ first second chained₂ rest few. value_back way _ _ (read.of_joined-first first second chained₂ rest few);
-}
-
-pub demand_three_by_value : DemandThreeByValue
-demand_three_by_value e ran chained cut h = by_values (as_words e widest) (fresh e) bare ran cut (demand_three_ran e ran chained cut h)

@@ -1,20 +1,17 @@
 -- Lists of appends to one writer, whatever writer they start from: what is sent is the words of the accepted events, and these are in order.
 use Rattle.std.specs.Prelude.{◌≡◌, refl, Bool, true, false, cond, List, [], ◌∷◌, ◌++◌, ℕ}
-use Rattle.std.proofs.Common.{ap, ◌∙◌}
-use Rattle.laws_stream.specs.{Machine.Note, Machine.All, Machine.notes, Order.last_of, Order.rise_append}
-use Rattle.evt_types.specs.{Event.Event, declared.Encoding.Encoding}
+use Rattle.std.proofs.Common.{ap}
+use Rattle.laws_stream.specs.{Machine.Note, Order.last_of, Order.rise_append}
+use Rattle.evt_types.specs.Event.{Event}
 use Rattle.write_buffer.specs.Columns.{events_in}
 use Rattle.write_words.specs.Encode.{encode_notes}
-use Rattle.laws_formats.specs.Either.{fresh_of}
-use Rattle.laws_formats.specs.Appends.{flat, append_notes, notes-all, Understood}
-use Rattle.write_rules.specs.{declared.RawEventSink.RawEventSink, Rules.fresh_sink, Range.sink_not_before, Checks.Checked}
+use Rattle.laws_formats.specs.Appends.{flat, append_notes}
+use Rattle.write_rules.specs.{declared.RawEventSink.RawEventSink, Range.sink_not_before, Checks.Checked}
 use Rattle.write_append.specs.{Append.sends, Append.next_sink, Ends.accepts_checked, Ends.by_acceptance, Rising.clock, Rising.in_bounds, Rising.Rises}
 use Rattle.write_append.specs.Rising.{earliest, append_rise}
-use Rattle.laws_handover.specs.Handover.{Call, is_accepted, next, call_bytes, accepted_events, stream_words, Typed}
-use Rattle.laws_handover.specs.EventWords.{append_typed}
+use Rattle.laws_handover.specs.Handover.{Call, is_accepted, next, call_bytes, accepted_events, stream_words}
 use Rattle.write_rules.proofs.ChecksLaws.{checked_of}
 use Rattle.write_append.proofs.RisingLaws.{append-last}
-use Rattle.laws_formats.proofs.Appends.{fresh_understood}
 
 -- ---- what an append that is refused, and one that is accepted, comes to
 
@@ -62,13 +59,6 @@ pub groups_words : (s : RawEventSink) (cs : List Call) → stream_words s cs ≡
 groups_words s [] = refl
 groups_words s (c ∷ cs) = rw (by_call s c).0 (words_go (is_accepted s c) s c cs (λ u. groups_words u cs))
 
--- EACH ACCEPTED EVENT stands in one of them
-pub stream-notes : (s : RawEventSink) (cs : List Call) → notes (stream_words s cs) ≡ accepted_events s cs
-stream-notes s cs = rw (groups_words s cs) (notes-all s.version s.state (groups_of s cs) ∙ groups_events s cs)
-
-pub stream_typed : (s : RawEventSink) (cs : List Call) → All (Typed s.version) (stream_words s cs)
-stream_typed s cs = rw (groups_words s cs) (append_typed s.version s.state (groups_of s cs))
-
 -- ---- the accepted events can be said, and their times never fall
 
 call_rise : (s : RawEventSink) (c : Call) → is_accepted s c ≡ true
@@ -91,15 +81,3 @@ rise_go false s c cs h ih = ih s
 pub accepted_rise : (s : RawEventSink) (cs : List Call) → Rises (earliest (sink_not_before s)) (accepted_events s cs)
 accepted_rise s [] = tt
 accepted_rise s (c ∷ cs) = rw (by_call s c).0 (rise_go (is_accepted s c) s c cs refl (λ u. accepted_rise u cs))
-
--- ---- of a fresh writer
-
-module _ (e : Encoding) (header : Bool) (cs : List Call) where
-  abbrev writer : RawEventSink
-  writer = fresh_sink e header
-
-  pub fresh_rise : Rises 0 (accepted_events writer cs)
-  fresh_rise = accepted_rise writer cs
-
-  pub stream_understood : Understood e (fresh_of e) (stream_words writer cs)
-  stream_understood = rw (groups_words writer cs) (fresh_understood e (groups_of writer cs) (rw (groups_events writer cs) fresh_rise))

@@ -1,14 +1,11 @@
 -- What each file is stands at its head.
 pub mod Handover
 pub mod Headed
-pub mod EventWords
 pub mod Cut
 pub mod Calls
 pub mod Fronts
 pub mod Reading
 pub mod Proof
 pub mod Again
-pub mod Others
 pub mod Ran
 pub mod Called
-pub mod HeadedProof

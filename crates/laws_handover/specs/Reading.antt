@@ -1,33 +1,10 @@
 -- Bytes are read, indexed and sliced as exactly their events, where none that is in time follows the stop of a slice by time.
-use Rattle.std.specs.Prelude.{◌≡◌, refl, Bool, false, List, ◌++◌, ℕ, ◌^◌, ◌≤◌, ◌<◌, ℤ, length, drop}
-use Rattle.std.proofs.Common.{subst, ◌∙◌, arith, drop_at}
-use borrow.Author.Tests.{le-ltb}
-use Rattle.std.proofs.Math.ListN.{length-append}
-use Rattle.evt_types.specs.{Event.Event, Outcome.give, declared.Encoding.Encoding, declared.Limit.TheVariants.Unlimited}
-use Rattle.evt_types.specs.declared.{SensorSize.SensorSize, SensorSize.TheVariants.Known, SensorSize.TheVariants.Unknown}
-use Rattle.evt_codec.specs.Codec.{fresh_c, events_from}
-use Rattle.header.specs.{declared.HeaderAnswer.TheVariants.Header, Header.has_zero, Header.header_of, Header.size_that_holds}
-use Rattle.write_header.specs.Header.{header_text}
-use Rattle.laws_header.specs.ReadBack.{read_back_given}
-use Rattle.read_window.specs.declared.Window.{Window}
-use Rattle.read_select.specs.Uses.{PastOver}
-use Rattle.read_rules.specs.Read.{words_outcome, raw_outcome, body_outcome, body_events, shortest, sizeless}
-use Rattle.index_build.specs.declared.RawSliceSource.{RawSliceSource}
-use Rattle.index_build.specs.Index.{kept_events, body_at, index_outcome, open_words_outcome, open_raw_outcome}
-use Rattle.slice_rules.specs.{declared.SliceAnswer.SliceAnswer, Slice.slice_check, Slice.slice_outcome, Slice.SlicesFrom}
-use Rattle.slice.specs.{Own.own_window, Opened.OpenedAs, Opened.opened_body, Opened.opened_rules, Opened.opened_number, Opened.opened_time}
-use Rattle.laws_handover.specs.Handover.{Front, bare, headed, front_bytes, Way, as_words, as_recording, encoding_by, size_by, start_by, read_by, open_by_lem}
-use Rattle.laws_handover.specs.Handover.{Suits, Gives, reading_as, Decodes, records_by, opening_as, Indexes, Reads, Exact}
-
--- a slice that no rule but 5 can refuse
-slice_gives : (bytes : List ℕ) (source : RawSliceSource) (ok : Bool) (passes : slice_check (length bytes) source ok ≡ give tt)
-    (asked part : List Event) (are : asked ≡ part)
-    (r : SliceAnswer) (xs₀ ys₀ : List ℕ) (ts₀ : List ℤ) (ps₀ xs ys : List ℕ) (ts : List ℤ) (ps : List ℕ)
-    → SlicesFrom bytes source ok asked r xs₀ ys₀ ts₀ ps₀ xs ys ts ps → length part ≤ shortest xs₀ ys₀ ts₀ ps₀ → Gives part r xs₀ ys₀ ts₀ ps₀ xs ys ts ps
-unfolding slice_outcome
-slice_gives bytes source ok passes asked part are r xs₀ ys₀ ts₀ ps₀ xs ys ts ps s fits =
-    let s' = rw (passes, are, le-ltb (shortest xs₀ ys₀ ts₀ ps₀) (length part) fits) at s in
-    record { count = s'.is_answer; columns = s'.columns }
+use Rattle.std.specs.Prelude.{◌≡◌, false, List, ℕ, ◌^◌, ◌≤◌, length, drop}
+use Rattle.evt_types.specs.declared.Limit.TheVariants.{Unlimited}
+use Rattle.header.specs.Header.{has_zero}
+use Rattle.read_rules.specs.Read.{body_outcome}
+use Rattle.index_build.specs.Index.{kept_events, body_at, index_outcome}
+use Rattle.laws_handover.specs.Handover.{Way, encoding_by, size_by, start_by, read_by, open_by_lem}
 
 -- ---- a way of reading that comes to what the body at its start comes to
 
@@ -38,86 +15,3 @@ pub record Comes (way : Way) (bytes : List ℕ) : Type 0 where
   pub reads : (room : ℕ) → read_by way bytes room
       ≡ body_outcome (encoding_by way) (size_by way) Unlimited (kept_events (size_by way) (encoding_by way) (drop (start_by way) bytes)) room
   pub opens : (spacing room : ℕ) → open_by_lem way bytes spacing room ≡ index_outcome (body_at bytes (start_by way) (encoding_by way) (size_by way) spacing) room
-
--- words do, and so does what follows a written header
-words_come : (e : Encoding) (size : SensorSize) (bytes : List ℕ) → length bytes ≤ 2 ^ 30 → has_zero size ≡ false → Comes (as_words e size) bytes
-unfolding words_outcome body_events open_words_outcome
-words_come e size bytes few no_zero = record {
-  within = omega arith;
-  few = few;
-  no_zero = no_zero;
-  reads = λ room. rw (le-ltb (2 ^ 30) (length bytes) few, no_zero);
-  opens = λ spacing room. rw (le-ltb (2 ^ 30) (length bytes) few, no_zero);
-}
-
-module _ (e : Encoding) (w h : ℕ) (body : List ℕ) (few : length (header_text e w h ++ body) ≤ 2 ^ 30) (narrow : w < 2 ^ 64) (low : h < 2 ^ 64)
-    (no_zero : has_zero (Known w h) ≡ false) where
-  abbrev recording : List ℕ
-  recording = header_text e w h ++ body
-
-  header_is : header_of recording Unknown ≡ Header (record { data_offset = length (header_text e w h); sensor_size = Known w h; encoding = e })
-  unfolding size_that_holds
-  header_is = read_back_given e w h body narrow low few Unknown ∙ rw no_zero
-
-  headed_come : Comes (as_recording e w h) recording
-  unfolding raw_outcome body_events open_raw_outcome
-  headed_come = record {
-    within = rw length-append (omega arith);
-    few = few;
-    no_zero = no_zero;
-    reads = λ room. rw header_is;
-    opens = λ spacing room. rw header_is;
-  }
-
--- ---- what comes so is read, indexed and sliced as the events that are kept
-
-module _ (way : Way) (bytes : List ℕ) (comes : Comes way bytes) where
-  abbrev size : SensorSize
-  size = size_by way
-
-  abbrev own : List Event
-  own = kept_events size (encoding_by way) (drop (start_by way) bytes)
-
-  module _ (is_sized : sizeless size own ≡ false) where
-    read_outcome : (room : ℕ) → length own ≤ room → read_by way bytes room ≡ give (record { reading = reading_as way bytes own; events = own })
-    read_outcome room fits = rw (comes.reads room, is_sized, le-ltb room (length own) fits)
-
-    decodes : Decodes way bytes own
-    decodes r xs₀ ys₀ ts₀ ps₀ xs ys ts ps d fits =
-        let d' = rw (read_outcome (shortest xs₀ ys₀ ts₀ ps₀) fits) at d in
-        (d'.is_answer, d'.columns)
-
-    module _ (past : (win : Window) → PastOver win (fresh_c (encoding_by way)) (drop (start_by way) bytes)) where
-      indexes : Indexes way bytes own
-      unfolding index_outcome
-      indexes spacing allowed room r records₀ records within ran fits =
-          let e = encoding_by way in
-          let start = start_by way in
-          let opening = opening_as way bytes own spacing in
-          let given : open_by_lem way bytes spacing room ≡ give (body_at bytes start e size spacing) =
-          comes.opens spacing room ∙ rw (allowed, le-ltb room (records_by way bytes own spacing) fits, is_sized) in
-          let o = rw given at ran in
-          let is : OpenedAs bytes start e size spacing opening records =
-          opened_body bytes start e size spacing opening records₀ records room comes.within comes.few comes.no_zero
-          (rw (← comes.opens spacing room, given) (refl, o.is_records)) in
-          let passes = opened_rules bytes start e size spacing opening records is in (
-            o.is_answer,
-            (λ i0 i1. slice_gives bytes opening.source _ passes _ _ (opened_number bytes start e size spacing opening records is i0 i1)),
-            (λ t0 t1. slice_gives bytes opening.source _ passes _ _
-                (opened_time bytes start e size spacing opening records is t0 t1 (past (own_window size e start bytes t0 t1)))),
-          )
-
--- THE WORDS BEHIND A FRONT, whose events are es
-module _ (e : Encoding) (body : List ℕ) (es : List Event) (are : events_from (fresh_c e) body ≡ es) (past : (win : Window) → PastOver win (fresh_c e) body) where
-  read_by_lem : (way : Way) (bytes : List ℕ) → encoding_by way ≡ e → drop (start_by way) bytes ≡ body → Comes way bytes → Suits (size_by way) es → Reads way bytes es
-  read_by_lem way bytes is-e is_IsBody comes suits =
-      let kept-are : kept_events (size_by way) (encoding_by way) (drop (start_by way) bytes) ≡ es = rw (is-e, is_IsBody, are) suits.keeps in
-      let is_sized : sizeless (size_by way) (kept_events (size_by way) (encoding_by way) (drop (start_by way) bytes)) ≡ false = rw kept-are suits.is_sized in
-      subst (λ (es : List Event). Reads way bytes es) kept-are
-      (record { decodes = decodes way bytes comes is_sized; indexes = indexes way bytes comes is_sized (rw (is-e, is_IsBody) past) })
-
-  pub exact : (f : Front) → Exact e f (front_bytes e f ++ body) es
-  exact bare few = λ size suits. read_by_lem (as_words e size) body refl refl (words_come e size body few suits.no_zero) suits
-  exact (headed w h) few = λ narrow low suits.
-      read_by_lem (as_recording e w h) (header_text e w h ++ body) refl (drop_at (header_text e w h) body _ refl)
-      (headed_come e w h body few narrow low suits.no_zero) suits

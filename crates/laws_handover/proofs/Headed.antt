@@ -1,23 +1,22 @@
 -- DEMAND 3 BEHIND A WRITTEN HEADER, proved: the claim over any front, at the header that was sent.
-use Rattle.std.specs.Prelude.{◌≡◌, refl, true, false, List, [], ◌∷◌, ◌++◌, ℕ, ◌^◌, ◌≤◌, ◌<◌, length}
-use Rattle.std.proofs.Common.{sym, ◌∙◌, arith, length-append, drop_at, ltb-true, ne_eqb}
-use Rattle.laws_stream.specs.{Machine.and_both, Machine.all-append-left, Slice.sift-all}
+use Rattle.evt_codec.specs.Codec.{codec_after, fresh_c}
 use Rattle.evt_types.specs.{Event.Event, Outcome.give, declared.Encoding.Encoding, declared.SensorSize.TheVariants.Known}
-use Rattle.evt_codec.specs.Codec.{fresh_c, codec_after}
-use Rattle.read_after.specs.After.{after_raw_outcome, some_size}
-use Rattle.write_header.specs.Header.{header_text}
-use Rattle.laws_header.specs.ReadBack.{read_back_given}
-use Rattle.write_rules.specs.declared.RawEventSink.{RawEventSink}
-use Rattle.write_resume.specs.{declared.Resumed.Resumed, Resume.resume_outcome, Resume.resume_raw_outcome, Resume.raw_encoding, Resume.Resumes}
 use Rattle.header.specs.Header.{has_zero, size_that_holds}
+use Rattle.laws_handover.proofs.{Called.by_values, Called.ran_as, DemandThree.claim, DemandThree.sent-by, Others.resumables}
+use Rattle.laws_handover.specs.{Called.Resumer, Called.read_back, Fronts.sending, Handover.Exact, Handover.ReadBack, Handover.Suits, Handover.accepted_events}
+use Rattle.laws_handover.specs.{Handover.as_recording, Handover.bare, Handover.calls_of, Handover.headed, Handover.left, Handover.others, Handover.resuming}
+use Rattle.laws_handover.specs.{Handover.stream_of, Handover.stream_words, Handover.whole, Headed.Covers, Headed.DemandThreeHeaded}
+use Rattle.laws_handover.specs.{Headed.DemandThreeHeadedByValue, Headed.DemandThreeHeadedRan, Headed.HeaderSent, Headed.SecondListExistsHeaded, Headed.due}
+use Rattle.laws_handover.specs.{Headed.front_of, Proof.front-left, Ran.ran_written}
+use Rattle.laws_header.specs.ReadBack.{read_back_given}
+use Rattle.laws_stream.specs.{Machine.all-append-left, Machine.and_both, Slice.sift-all}
+use Rattle.read_after.specs.After.{after_raw_outcome, some_size}
 use Rattle.read_columns.specs.Inside.{inside}
-use Rattle.laws_handover.specs.Handover.{accepted_events, stream_of, stream_words, bare, headed, whole, others, left, resuming, as_recording, Suits, Exact}
-use Rattle.laws_handover.specs.Handover.{calls_of, ReadBack}
-use Rattle.laws_handover.specs.Headed.{due, front_of, Covers, DemandThreeHeaded, HeaderSent, SecondListExistsHeaded, DemandThreeHeadedRan}
-use Rattle.laws_handover.specs.Headed.{DemandThreeHeadedByValue}
-use Rattle.laws_handover.specs.{Proof.sent-by, Proof.claim, Proof.front-left, Fronts.sending, Others.resumables, Ran.ran_written}
-use Rattle.laws_handover.specs.Called.{Resumer, read_back, ran_as}
-use Rattle.laws_handover.specs.Called.{by_values}
+use Rattle.std.proofs.Common.{arith, drop_at, length-append, ltb-true, ne_eqb, sym, ◌∙◌}
+use Rattle.std.specs.Prelude.{List, [], false, length, refl, true, ℕ, ◌++◌, ◌<◌, ◌^◌, ◌∷◌, ◌≡◌, ◌≤◌}
+use Rattle.write_header.specs.Header.{header_text}
+use Rattle.write_resume.specs.{Resume.Resumes, Resume.raw_encoding, Resume.resume_outcome, Resume.resume_raw_outcome, declared.Resumed.Resumed}
+use Rattle.write_rules.specs.declared.RawEventSink.{RawEventSink}
 
 pub demand_three_headed : DemandThreeHeaded
 demand_three_headed e calls w h is cut behind le =

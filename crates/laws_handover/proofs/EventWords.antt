@@ -1,20 +1,19 @@
 -- The words that carry events are event words, and each of a writer's other words carries none.
-use Rattle.std.specs.Prelude.{◌≡◌, Bool, cond, List, [], ◌∷◌, ◌++◌, ℕ, zero, suc, ◌+◌, ◌%◌, ◌^◌}
-use Rattle.std.proofs.Common.{sym, ap, ◌∙◌, arith, le-leb}
-use Rattle.std.proofs.Math.Bool.{true, false}
-use Rattle.laws_stream.specs.{Machine.All, Machine.all_append, Machine.emits, Mask.mask}
-use Rattle.evt_types.specs.{Event.Event, Layout.upper_type, Layout.built_upper, Layout.event-type2, Layout.word-type3}
-use Rattle.evt_types.specs.Layout.{type2, type21, word3, column-type3}
-use Rattle.evt_types.specs.declared.{Encoding.Encoding, Encoding.TheVariants.Evt2, Encoding.TheVariants.Evt21, Encoding.TheVariants.Evt3}
-use Rattle.write_buffer.specs.{declared.EncoderState.EncoderState, Columns.event, Sent.carries, Sent.quiet, Sent.due}
-use Rattle.evt2_encoder.specs.Evt2.{word_of2, high_word2, high_sent2, encode2, encoded2, writer2}
-use Rattle.evt3_run_rules.specs.Runs.{Run, runs, first_x, first_of, given}
-use Rattle.evt21_encoder.specs.Evt21.{runs21, block_of, mask_of, high_word21, word_of21, encode21, encoded21, writer21}
-use Rattle.evt3_lead_words.specs.Evt3.{nearby, beyond, mask_count, vectored, singles, masks, vectors, body3, leads3, high_word3, low_word3, row_word3, high_sent3}
-use Rattle.evt3_lead_words.specs.Evt3.{low_sent3, row_sent3, passes3, ahead3, at_end, looped3, encode3, encoded3, writer3}
-use Rattle.write_words.specs.Encode.{encode_notes, encode_state}
+use Rattle.evt21_encoder.specs.Evt21.{block_of, encode21, encoded21, high_word21, mask_of, runs21, word_of21, writer21}
+use Rattle.evt2_encoder.specs.Evt2.{encode2, encoded2, high_sent2, high_word2, word_of2, writer2}
+use Rattle.evt3_lead_words.specs.Evt3.{ahead3, at_end, beyond, body3, encode3, encoded3, high_sent3, high_word3, leads3, looped3, low_sent3, low_word3}
+use Rattle.evt3_lead_words.specs.Evt3.{mask_count, masks, nearby, passes3, row_sent3, row_word3, singles, vectored, vectors, writer3}
+use Rattle.evt3_run_rules.specs.Runs.{Run, first_of, first_x, given, runs}
+use Rattle.evt_types.specs.{Event.Event, Layout.built_upper, Layout.column-type3, Layout.event-type2, Layout.type2, Layout.type21, Layout.upper_type}
+use Rattle.evt_types.specs.{Layout.word-type3, Layout.word3, declared.Encoding.Encoding, declared.Encoding.TheVariants.Evt2}
+use Rattle.evt_types.specs.{declared.Encoding.TheVariants.Evt21, declared.Encoding.TheVariants.Evt3}
 use Rattle.laws_formats.specs.Appends.{append_notes}
-use Rattle.laws_handover.specs.Handover.{is_event_word, Typed}
+use Rattle.laws_handover.specs.Handover.{Typed, is_event_word}
+use Rattle.laws_stream.specs.{Machine.All, Machine.all_append, Machine.emits, Mask.mask}
+use Rattle.std.proofs.{Common.ap, Common.arith, Common.le-leb, Common.sym, Common.◌∙◌, Math.Bool.false, Math.Bool.true}
+use Rattle.std.specs.Prelude.{Bool, List, [], cond, suc, zero, ℕ, ◌%◌, ◌++◌, ◌+◌, ◌^◌, ◌∷◌, ◌≡◌}
+use Rattle.write_buffer.specs.{Columns.event, Sent.carries, Sent.due, Sent.quiet, declared.EncoderState.EncoderState}
+use Rattle.write_words.specs.Encode.{encode_notes, encode_state}
 
 due_typed : (e : Encoding) (b : Bool) (w : ℕ) → All (Typed e) (due b w)
 due_typed e true w = tt

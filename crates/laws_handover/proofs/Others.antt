@@ -1,26 +1,28 @@
 -- A SECOND LIST EXISTS, proved: events that can be said, with times that never fall, are all accepted by a fresh writer, one an append.
-use Rattle.std.specs.Prelude.{◌≡◌, refl, Bool, true, false, List, [], ◌∷◌, ◌++◌, ℕ, ◌+◌, ◌*◌, ◌/◌, ◌^◌, ◌≤◌, ◌<◌, min, leb, pos, negsuc, length}
-use Rattle.std.proofs.Common.{ap, ◌∙◌, arith, length-append}
-use borrow.Author.Tests.{le-leb, le-ltb, lt-ltb}
-use Rattle.laws_stream.specs.{Machine.Note, Machine.and_both, Machine.notes, Order.Fine, Order.rise_from, Order.rise_suffix, Words.bytes as word_bytes}
-use Rattle.laws_stream.specs.Words.{length-bytes}
-use Rattle.evt_types.specs.Event.{Event}
-use Rattle.evt_types.specs.declared.{Encoding.Encoding, Encoding.TheVariants.Evt2, Encoding.TheVariants.Evt21, Encoding.TheVariants.Evt3}
 use Rattle.evt_codec.specs.Reader.{reader_of}
-use Rattle.write_buffer.specs.{declared.EncoderState.EncoderState, Sent.fresh_state}
-use Rattle.write_words.specs.{Encode.encode_notes, Encode.encode_bytes, Encode.encode_size, Encode.encode_most, Laws.encode_few, Laws.encode_notes_lem}
-use Rattle.laws_formats.specs.{Either.ready_coarse, Either.ready_rises, Appends.note_bytes}
-use Rattle.write_rules.specs.declared.{LastTime.LastTime, LastTime.TheVariants.Never, LastTime.TheVariants.At, RawEventSink.RawEventSink}
-use Rattle.write_rules.specs.Range.{time_bound, grain_of, every, falls, falls_after, sink_in_range, sink_not_before}
-use Rattle.write_append.specs.{Append.last_after, Append.next_sink, Append.append_outcome, Rising.clock, Rising.in_bounds, Rising.Rises}
-use Rattle.write_append.specs.Rising.{earliest, rises_paced}
-use Rattle.write_rules.specs.Rules.{fresh_sink, held_state, resumed_sink}
-use Rattle.laws_handover.specs.Handover.{Call, is_accepted, next, call_bytes, accepted_events, stream_of, stream_words, fresh, Front, bare, start_of}
-use Rattle.laws_handover.specs.Handover.{whole, joined, resuming, Exact, Claim, single, singles, others_of, Resumable, Resumables, SecondListExists}
-use Rattle.laws_handover.specs.{Calls.by_call, Headed.front_of, Fronts.front_bare}
-use Rattle.laws_handover.specs.Proof.{Sent, sent-by, claim, there, resuming-is, rest-ready}
-use Rattle.write_append.proofs.KeptLaws.{range_kept}
+use Rattle.evt_types.specs.{Event.Event, declared.Encoding.Encoding, declared.Encoding.TheVariants.Evt2, declared.Encoding.TheVariants.Evt21}
+use Rattle.evt_types.specs.{declared.Encoding.TheVariants.Evt3}
 use Rattle.laws_formats.proofs.Either.{lawful_of}
+use Rattle.laws_formats.specs.{Appends.note_bytes, Either.ready_coarse, Either.ready_rises}
+use Rattle.laws_handover.proofs.DemandThree.{claim, sent-by}
+use Rattle.laws_handover.specs.{Calls.by_call, Fronts.front_bare, Handover.Call, Handover.Claim, Handover.Exact, Handover.Front, Handover.Resumable}
+use Rattle.laws_handover.specs.{Handover.Resumables, Handover.SecondListExists, Handover.accepted_events, Handover.bare, Handover.call_bytes, Handover.fresh}
+use Rattle.laws_handover.specs.{Handover.is_accepted, Handover.joined, Handover.next, Handover.others_of, Handover.resuming, Handover.single, Handover.singles}
+use Rattle.laws_handover.specs.{Handover.start_of, Handover.stream_of, Handover.stream_words, Handover.whole, Headed.front_of, Proof.Sent, Proof.rest-ready}
+use Rattle.laws_handover.specs.{Proof.resuming-is, Proof.there}
+use Rattle.laws_stream.specs.{Machine.Note, Machine.and_both, Machine.notes, Order.Fine, Order.rise_from, Order.rise_suffix, Words.bytes as word_bytes}
+use Rattle.laws_stream.specs.{Words.length-bytes}
+use Rattle.std.proofs.Common.{ap, arith, length-append, ◌∙◌}
+use Rattle.std.specs.Prelude.{Bool, List, [], false, leb, length, min, negsuc, pos, refl, true, ℕ, ◌*◌, ◌++◌, ◌+◌, ◌/◌, ◌<◌, ◌^◌, ◌∷◌, ◌≡◌, ◌≤◌}
+use Rattle.write_append.proofs.KeptLaws.{range_kept}
+use Rattle.write_append.specs.{Append.append_outcome, Append.last_after, Append.next_sink, Rising.Rises, Rising.clock, Rising.earliest, Rising.in_bounds}
+use Rattle.write_append.specs.{Rising.rises_paced}
+use Rattle.write_buffer.specs.{Sent.fresh_state, declared.EncoderState.EncoderState}
+use Rattle.write_rules.specs.{Range.every, Range.falls, Range.falls_after, Range.grain_of, Range.sink_in_range, Range.sink_not_before, Range.time_bound}
+use Rattle.write_rules.specs.{Rules.fresh_sink, Rules.held_state, Rules.resumed_sink, declared.LastTime.LastTime, declared.LastTime.TheVariants.At}
+use Rattle.write_rules.specs.{declared.LastTime.TheVariants.Never, declared.RawEventSink.RawEventSink}
+use Rattle.write_words.specs.{Encode.encode_bytes, Encode.encode_most, Encode.encode_notes, Encode.encode_size, Laws.encode_few, Laws.encode_notes_lem}
+use borrow.Author.Tests.{le-leb, le-ltb, lt-ltb}
 
 -- words that carry an event are some bytes
 some_bytes : (e : Encoding) (a : Event) (ns : List (Note ℕ Event)) → notes ns ≡ a ∷ [] → 0 < length (note_bytes e ns)

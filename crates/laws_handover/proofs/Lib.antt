@@ -1,0 +1,10 @@
+pub mod Again
+pub mod Called
+pub mod Calls
+pub mod Cut
+pub mod EventWords
+pub mod Fronts
+pub mod Headed
+pub mod Others
+pub mod DemandThree
+pub mod Reading

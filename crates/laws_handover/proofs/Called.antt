@@ -1,4 +1,4 @@
--- Laws of specs/Called.antt.
+-- DEMAND 3 OF CALLS THAT RAN, proved: what appends wrote is the stream of their calls, of which `demand-three` speaks.
 use Rattle.evt_codec.specs.Codec.{codec_after, fresh_c, in_range_c}
 use Rattle.evt_types.specs.{Event.Event, Num.most_bytes, Outcome.give, declared.Encoding.Encoding, declared.Encoding.TheVariants.Evt2}
 use Rattle.evt_types.specs.{declared.Encoding.TheVariants.Evt21, declared.Encoding.TheVariants.Evt3}

@@ -1,4 +1,5 @@
--- Laws of specs/Proof.antt.
+-- DEMAND 3, proved: what a fresh writer sends is a stream that a fresh decoder understands, so is what is left of such a stream and resumed by a writer that
+-- agrees with the decoder there, as one does that took loop and coarse time from it, and all such streams are as claimed.
 use Rattle.evt_codec.specs.{Codec.coarse_c, Codec.codec_after, Codec.events_from, Codec.fresh_c, Codec.in_range_c, Codec.loops_c, Reader.reader_of}
 use Rattle.evt_codec.specs.{Sound.sound_of}
 use Rattle.evt_types.specs.{Event.Event, Outcome.give, declared.Encoding.Encoding, declared.Encoding.TheVariants.Evt2, declared.Encoding.TheVariants.Evt21}

@@ -1,4 +1,4 @@
--- Laws of specs/Reading.antt.
+-- Bytes are read, indexed and sliced as exactly their events, where none that is in time follows the stop of a slice by time.
 use Rattle.evt_codec.specs.Codec.{events_from, fresh_c}
 use Rattle.evt_types.specs.{Event.Event, Outcome.give, declared.Encoding.Encoding, declared.SensorSize.SensorSize, declared.SensorSize.TheVariants.Known}
 use Rattle.evt_types.specs.{declared.SensorSize.TheVariants.Unknown}

@@ -1,5 +1,4 @@
--- DEMAND 3, proved: what a fresh writer sends is a stream that a fresh decoder understands, so is what is left of such a stream and resumed by a writer that
--- agrees with the decoder there, as one does that took loop and coarse time from it, and all such streams are as claimed.
+-- For the proof of DEMAND 3: streams behind a front, their parts at a cut, and the decoder that is left there.
 use Rattle.std.specs.Prelude.{◌≡◌, refl, ◌⊎◌, List, [], ◌++◌, ℕ, ◌+◌, ◌-◌, ◌/◌, ◌≤◌, ◌<◌, take, drop}
 use Rattle.std.proofs.Common.{sym, ap, ◌∙◌, inl, arith, take-add, take_at, drop_at}
 use Rattle.laws_stream.specs.Machine.{Note, All, run, words, notes}

@@ -1,4 +1,4 @@
--- Bytes are read, indexed and sliced as exactly their events, where none that is in time follows the stop of a slice by time.
+-- A way of reading that comes to what the body at its start comes to.
 use Rattle.std.specs.Prelude.{◌≡◌, false, List, ℕ, ◌^◌, ◌≤◌, length, drop}
 use Rattle.evt_types.specs.declared.Limit.TheVariants.{Unlimited}
 use Rattle.header.specs.Header.{has_zero}

@@ -6,4 +6,3 @@
 // specs/Writing.antt what is written, specs/Proof.antt that it follows from the theorem of `laws_handover`.
 
 #![tactic(auto)]
-

@@ -1,5 +1,5 @@
 -- What the library reads as some events the C interface does.
-use Rattle.std.specs.Prelude.{◌≡◌, refl, ℕ, ◌+◌, ◌≤◌, ℤ, take, drop, replicate}
+use Rattle.std.specs.Prelude.{◌≡◌, refl, ℕ, ◌≤◌, ℤ, take, drop, replicate}
 use Rattle.std.proofs.Math.Path.{sym, ap}
 use Rattle.std.proofs.Common.{◌∙◌, arith, length-append, take_at}
 use mathlib.Core.List.{List, ◌++◌, map}
@@ -14,7 +14,8 @@ use Rattle.index_build.specs.Index.{Body, open_answer, open_records, told_open, 
 use Rattle.index_build.specs.{Laws.length-firsts, Nth.blank, Open.Accepted, Open.IfGiven}
 use Rattle.slice_rules.specs.{declared.SliceAnswer.SliceAnswer, declared.SliceAnswer.TheVariants.Sliced, Slice.told_slice, Slice.slice_answer}
 use Rattle.slice_rules.specs.Slice.{slice_verdict, Slices}
-use Rattle.laws_handover.specs.Handover.{Columns, room, HoldsEvents, numbered, during_times, Way, as_words, as_recording, encoding_by, read_by, open_by_lem, opening_as}
+use Rattle.laws_handover.specs.Handover.{Columns, room, HoldsEvents, numbered, during_times, Way, as_words, as_recording, encoding_by}
+use Rattle.laws_handover.specs.Handover.{read_by, open_by_lem, opening_as}
 use Rattle.laws_handover.specs.Handover.{Index, ReadBack}
 use Rattle.c_values.specs.{declared.reading.PropheseeReading.PropheseeReading, Encoding.number_known, Encoding.encoding_back, Reading.reading_of}
 use Rattle.c_values.specs.Reading.{ReadsC}
@@ -160,7 +161,8 @@ module _ (way : Way) (bytes : List ℕ) (es : List Event) (back : ReadBack way b
         → SlicesTimeC bytes x.answer.source x.records t0 t1 r c₀.xs c₀.ys c₀.ts c₀.ps c.xs c.ys c.ts c.ps
         → length (during_times es t0 t1) ≤ room c₀ → GivesC (during_times es t0 t1) r c₀ c
     by_time_lem t0 t1 r c₀ c s fits =
-        sliced _ r c₀ c (during_times es t0 t1) (rw (is_source, source_is, records_are) at s) (λ a lib. back.by_time_lem index opening opened t0 t1 a c₀ c lib fits)
+        sliced _ r c₀ c (during_times es t0 t1) (rw (is_source, source_is, records_are) at s)
+        (λ a lib. back.by_time_lem index opening opened t0 t1 a c₀ c lib fits)
 
   pub read_back : ReadBackC way bytes es
   read_back = record { decoded = decodes; opened = is_source; by_number = by_number; by_time_lem = by_time_lem }

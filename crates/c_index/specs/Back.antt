@@ -1,5 +1,6 @@
 -- Between numbers and the records of an index nothing is lost, and nothing else is read as one: rule 10 refuses it.
-use Rattle.std.specs.Prelude.{◌≡◌, refl, Bool, true, false, cond, not, ◌&&◌, List, [], ◌∷◌, ◌++◌, map, ℕ, suc, ◌+◌, ◌<◌, ◌^◌, ltb, leb, eqb, pos, negsuc, length}
+use Rattle.std.specs.Prelude.{◌≡◌, refl, Bool, true, false, cond, not, ◌&&◌, List, [], ◌∷◌, ◌++◌, map, ℕ, suc, ◌+◌, ◌<◌, ◌^◌, ltb, leb, eqb}
+use Rattle.std.specs.Prelude.{pos, negsuc, length}
 use Rattle.std.proofs.Common.{sym, ap, subst, ◌∙◌, arith, take_at, lt-ltb}
 use Rattle.std.proofs.lemmas.List.{length-map}
 use Rattle.evt_types.specs.{declared.Encoding.Encoding, Num.natural}
@@ -63,7 +64,8 @@ record_numbers e r h =
 
 module _ (s : RawSliceSource) (e : Encoding) where
   -- it is out of range, wherever it stands
-  pub no_record : (r : PropheseeRecord) → is_record e r ≡ false → (offset count time : ℕ) → record_in_range s offset count (pos time) (checkpoint_of e r) ≡ false
+  pub no_record : (r : PropheseeRecord) → is_record e r ≡ false → (offset count time : ℕ)
+      → record_in_range s offset count (pos time) (checkpoint_of e r) ≡ false
   no_record r h offset count time =
       let c = checkpoint_of e r in
       end (ltb offset (2 ^ 64)) _ (end (eqb c.byte_offset offset) _ (end (not (is_other c.codec s.encoding)) _ (end (in_range_c c.codec) _

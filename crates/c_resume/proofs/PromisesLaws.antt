@@ -17,18 +17,19 @@ encoding_in Evt21 n = refl
 encoding_in Evt3 n = refl
 
 -- of a known encoding's number
-fresh-numbers : (n : ℕ) (o : Outcome RawEventSink) → is_known n ≡ true → resumed_of (flat_sink (fresh_sink (encoding_of n) false)) o ≡ resumed_of (writer_of n 0) o
+fresh-numbers : (n : ℕ) (o : Outcome RawEventSink) → is_known n ≡ true
+    → resumed_of (flat_sink (fresh_sink (encoding_of n) false)) o ≡ resumed_of (writer_of n 0) o
 fresh-numbers n o h = ap (λ (s : PropheseeSink). resumed_of s o) (sym (writer-fresh n 0 h))
 
 -- numbers that are a decoder's
-pub resumes_decoder : (d : PropheseeDecoder) → is_decoder d ≡ true → (c : Codec) → c ≡ codec_in d → (r : Resumed) → Resumes (codec_encoding c) (resume_outcome c) r
-    → resumed_numbers r ≡ resumed_of (writer_of d.encoding 0) (resume_outcome_c d)
+pub resumes_decoder : (d : PropheseeDecoder) → is_decoder d ≡ true → (c : Codec) → c ≡ codec_in d
+    → (r : Resumed) → Resumes (codec_encoding c) (resume_outcome c) r → resumed_numbers r ≡ resumed_of (writer_of d.encoding 0) (resume_outcome_c d)
 resumes_decoder d h c is r k =
     resumed_numbers_lem (rw is at k) ∙ rw (encoding_in (encoding_of d.encoding) (numbers_in d))
     (fresh-numbers d.encoding (resume_outcome (codec_in d)) (both (is_known d.encoding) _ h).0 ∙ rw h)
 
 -- words of a known encoding
-pub resumes_words : (words : List ℕ) (n : ℕ) → is_known n ≡ true → (e : Encoding) → e ≡ encoding_of n → (r : Resumed) → Resumes e (resume_words_outcome words e) r
-    → resumed_numbers r ≡ resumed_of (writer_of n 0) (resume_words_outcome_c words n)
+pub resumes_words : (words : List ℕ) (n : ℕ) → is_known n ≡ true → (e : Encoding) → e ≡ encoding_of n
+    → (r : Resumed) → Resumes e (resume_words_outcome words e) r → resumed_numbers r ≡ resumed_of (writer_of n 0) (resume_words_outcome_c words n)
 resumes_words words n h e is r k =
     resumed_numbers_lem (rw is at k) ∙ fresh-numbers n (resume_words_outcome words (encoding_of n)) h ∙ rw h

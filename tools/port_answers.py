@@ -3,7 +3,7 @@
 
 usage: python3 port_answers.py OLD REPO CRATE [ROUNDS]
 
-OLD is a folder with the crate as the scripts left it, REPO the repository that is worked on. For each function of the crate whose Proof.antt stands in OLD,
+OLD is a folder with crates/ as the scripts left them and renames.txt, what port_names.py printed; REPO is the repository that is worked on. For each function of the crate whose Proof.antt stands in OLD,
 it writes the invariants and measures of its loops, checks the crate, and answers the goals that the check leaves with what Proof.antt said of them,
 its paths turned to today's names. What is still open after ROUNDS is printed.
 """

@@ -1,19 +1,19 @@
 -- DEMAND 3 OF THE C INTERFACE, proved: it follows from that of the library's calls.
-use Rattle.std.specs.Prelude.{◌≡◌, refl, Bool, true, false, List, ℕ, take}
-use Rattle.std.proofs.Common.{ap, ◌∙◌}
-use Rattle.evt_types.specs.{declared.Encoding.Encoding, Outcome.Outcome, Outcome.refuse, Outcome.give}
-use Rattle.write_rules.specs.declared.RawEventSink.{RawEventSink}
-use Rattle.write_resume.specs.{declared.Resumed.Resumed, Resume.resume_words_outcome, Resume.resume_raw_outcome, Resume.raw_encoding, Resume.resume_answer}
-use Rattle.write_resume.specs.Resume.{sink_or, Resumes}
-use Rattle.c_values.specs.Encoding.{number_known, encoding_back}
-use Rattle.c_resume.specs.{declared.resume.PropheseeResumed.PropheseeResumed, Resume.resumed_of}
-use Rattle.write_rules.specs.Rules.{fresh_sink}
-use Rattle.laws_handover.specs.Handover.{fresh, Front, bare, headed, Way, as_words, as_recording, widest, CutAndResumed, ResumedBy, ReadBack}
-use Rattle.c_writer.specs.{Writer.flat_sink, Laws.sink_back}
-use Rattle.c_handover.specs.Statement.{RanC, ChainedC, fresh_numbers, all_written_c, ResumedByC, CutAndResumedC, DemandThreeC}
-use Rattle.c_handover.specs.Statement.{DemandThreeHeadedC}
-use Rattle.c_handover.specs.{Reading.read_back, Writing.chained, Writing.written, Writing.calls_are, Writing.ran_from}
+use Rattle.c_handover.proofs.Reading.{read_back}
+use Rattle.c_handover.specs.{Statement.ChainedC, Statement.CutAndResumedC, Statement.DemandThreeC, Statement.DemandThreeHeadedC, Statement.RanC}
+use Rattle.c_handover.specs.{Statement.ResumedByC, Statement.all_written_c, Statement.fresh_numbers, Writing.calls_are, Writing.chained, Writing.ran_from}
+use Rattle.c_handover.specs.{Writing.written}
+use Rattle.c_resume.specs.{Resume.resumed_of, declared.resume.PropheseeResumed.PropheseeResumed}
+use Rattle.c_values.specs.Encoding.{encoding_back, number_known}
+use Rattle.c_writer.specs.{Laws.sink_back, Writer.flat_sink}
+use Rattle.evt_types.specs.{Outcome.Outcome, Outcome.give, Outcome.refuse, declared.Encoding.Encoding}
 use Rattle.laws_handover.proofs.{Called.demand_three_ran, Headed.demand_three_headed_ran}
+use Rattle.laws_handover.specs.Handover.{CutAndResumed, Front, ReadBack, ResumedBy, Way, as_recording, as_words, bare, fresh, headed, widest}
+use Rattle.std.proofs.Common.{ap, ◌∙◌}
+use Rattle.std.specs.Prelude.{Bool, List, false, refl, take, true, ℕ, ◌≡◌}
+use Rattle.write_resume.specs.{Resume.Resumes, Resume.raw_encoding, Resume.resume_answer, Resume.resume_raw_outcome, Resume.resume_words_outcome}
+use Rattle.write_resume.specs.{Resume.sink_or, declared.Resumed.Resumed}
+use Rattle.write_rules.specs.{Rules.fresh_sink, declared.RawEventSink.RawEventSink}
 
 -- the fresh writer is the library's
 fresh-is : (e : Encoding) (header : Bool) → fresh_numbers e header ≡ flat_sink (fresh_sink e header)

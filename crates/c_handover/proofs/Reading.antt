@@ -1,31 +1,28 @@
 -- What the library reads as some events the C interface does.
-use Rattle.std.specs.Prelude.{◌≡◌, refl, ℕ, ◌≤◌, ℤ, take, drop, replicate}
-use Rattle.std.proofs.Math.Path.{sym, ap}
-use Rattle.std.proofs.Common.{◌∙◌, arith, length-append, take_at}
-use mathlib.Core.List.{List, ◌++◌, map}
-use Rattle.std.proofs.Math.ListN.{length, length-map}
-use Rattle.std.proofs.lemmas.List.{length-replicate}
-use borrow.Author.Tests.{le-leb}
-use Rattle.evt_types.specs.{Event.Event, Outcome.Outcome, Outcome.refuse, Outcome.give, declared.SensorSize.TheVariants.Known}
-use Rattle.evt_types.specs.declared.SensorSize.TheVariants.{Unknown}
-use Rattle.read_rules.specs.Read.{ReadEvents, told_read, read_answer, read_verdict}
-use Rattle.index_build.specs.declared.{Checkpoint.Checkpoint, OpenAnswer.TheVariants.Opened, Opening.Opening}
-use Rattle.index_build.specs.Index.{Body, open_answer, open_records, told_open, told-answer, records_of, opening_of, need_of}
-use Rattle.index_build.specs.{Laws.length-firsts, Nth.blank, Open.Accepted, Open.IfGiven}
-use Rattle.slice_rules.specs.{declared.SliceAnswer.SliceAnswer, declared.SliceAnswer.TheVariants.Sliced, Slice.told_slice, Slice.slice_answer}
-use Rattle.slice_rules.specs.Slice.{slice_verdict, Slices}
-use Rattle.laws_handover.specs.Handover.{Columns, room, HoldsEvents, numbered, during_times, Way, as_words, as_recording, encoding_by}
-use Rattle.laws_handover.specs.Handover.{read_by, open_by_lem, opening_as}
-use Rattle.laws_handover.specs.Handover.{Index, ReadBack}
-use Rattle.c_values.specs.{declared.reading.PropheseeReading.PropheseeReading, Encoding.number_known, Encoding.encoding_back, Reading.reading_of}
-use Rattle.c_values.specs.Reading.{ReadsC}
-use Rattle.c_index.specs.{declared.slices.PropheseeSlice.PropheseeSlice, declared.opening.PropheseeOpening.PropheseeOpening, Opening.opened_of}
-use Rattle.c_index.specs.{declared.opening.PropheseeSource.PropheseeSource}
-use Rattle.c_index.specs.{Opening.OpensC, Records.entries_all, Records.checkpoint_in, Records.checkpoints_in, Slicing.source_of, Slicing.records_in}
-use Rattle.c_index.specs.{Slicing.sliced_of, Slicing.SlicesC, Slicing.SlicesIndexC, Slicing.SlicesTimeC}
-use Rattle.c_handover.specs.{Made.made_back, Statement.ReadsByC, Statement.OpensByC, Statement.IndexC, Statement.source_c, Statement.reading_c}
-use Rattle.c_handover.specs.Statement.{GivesC, ReadBackC}
+use Rattle.c_handover.specs.{Made.made_back, Statement.GivesC, Statement.IndexC, Statement.OpensByC, Statement.ReadBackC, Statement.ReadsByC}
+use Rattle.c_handover.specs.{Statement.reading_c, Statement.source_c}
+use Rattle.c_index.specs.{Opening.OpensC, Opening.opened_of, Records.checkpoint_in, Records.checkpoints_in, Records.entries_all, Slicing.SlicesC}
+use Rattle.c_index.specs.{Slicing.SlicesIndexC, Slicing.SlicesTimeC, Slicing.records_in, Slicing.sliced_of, Slicing.source_of}
+use Rattle.c_index.specs.{declared.opening.PropheseeOpening.PropheseeOpening, declared.opening.PropheseeSource.PropheseeSource}
+use Rattle.c_index.specs.{declared.slices.PropheseeSlice.PropheseeSlice}
+use Rattle.c_values.specs.{Encoding.encoding_back, Encoding.number_known, Reading.ReadsC, Reading.reading_of}
+use Rattle.c_values.specs.{declared.reading.PropheseeReading.PropheseeReading}
+use Rattle.evt_types.specs.{Event.Event, Outcome.Outcome, Outcome.give, Outcome.refuse, declared.SensorSize.TheVariants.Known}
+use Rattle.evt_types.specs.{declared.SensorSize.TheVariants.Unknown}
 use Rattle.index_build.proofs.OpenLaws.{accepted-words, accepted_raw}
+use Rattle.index_build.specs.{Index.Body, Index.need_of, Index.open_answer, Index.open_records, Index.opening_of, Index.records_of, Index.told-answer}
+use Rattle.index_build.specs.{Index.told_open, Laws.length-firsts, Nth.blank, Open.Accepted, Open.IfGiven, declared.Checkpoint.Checkpoint}
+use Rattle.index_build.specs.{declared.OpenAnswer.TheVariants.Opened, declared.Opening.Opening}
+use Rattle.laws_handover.specs.Handover.{Columns, HoldsEvents, Index, ReadBack, Way, as_recording, as_words, during_times, encoding_by, numbered, open_by_lem}
+use Rattle.laws_handover.specs.Handover.{opening_as, read_by, room}
+use Rattle.read_rules.specs.Read.{ReadEvents, read_answer, read_verdict, told_read}
+use Rattle.slice_rules.specs.{Slice.Slices, Slice.slice_answer, Slice.slice_verdict, Slice.told_slice, declared.SliceAnswer.SliceAnswer}
+use Rattle.slice_rules.specs.{declared.SliceAnswer.TheVariants.Sliced}
+use Rattle.std.proofs.{Common.arith, Common.length-append, Common.take_at, Common.◌∙◌, Math.ListN.length, Math.ListN.length-map, Math.Path.ap, Math.Path.sym}
+use Rattle.std.proofs.{lemmas.List.length-replicate}
+use Rattle.std.specs.Prelude.{drop, refl, replicate, take, ℕ, ℤ, ◌≡◌, ◌≤◌}
+use borrow.Author.Tests.{le-leb}
+use mathlib.Core.List.{List, map, ◌++◌}
 
 told_read_lem : (o : Outcome ReadEvents) → told_read (read_answer o) ≡ read_verdict o
 told_read_lem (refuse r) = refl

@@ -1,0 +1,2 @@
+pub mod DemandThreeC
+pub mod Reading

@@ -42,7 +42,8 @@ pub fn source_of(s: PropheseeSource) -> RawSliceSource
 
 // How many of the lent records a slice uses.
 pub fn used_records(s: PropheseeSource, lent: usize) -> usize
-    ensures { (result ≡ used_records s lent) × (result ≤ lent) }
+    ensures used { result ≡ used_records s lent }
+    ensures within { result ≤ lent }
 {
     if is_known(s.encoding) {
         if s.records <= lent {

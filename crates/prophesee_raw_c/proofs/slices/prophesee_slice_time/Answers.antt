@@ -10,7 +10,7 @@ slice_from-answer-requires c =
     c.judge_records-in_range.result c.choose_record-start.result
     = record {
       is_s = c.source_of-s.ensures;
-      used = c.used_records-n.ensures;
+      used = (c.used_records-n.ensures.used, c.used_records-n.ensures.within);
       all = c.judge_records-in_range.ensures;
       is_start = c.choose_record-start.ensures;
     } in
@@ -24,7 +24,7 @@ returns c =
     c.judge_records-in_range.result c.choose_record-start.result
     = record {
       is_s = c.source_of-s.ensures;
-      used = c.used_records-n.ensures;
+      used = (c.used_records-n.ensures.used, c.used_records-n.ensures.within);
       all = c.judge_records-in_range.ensures;
       is_start = c.choose_record-start.ensures;
     } in

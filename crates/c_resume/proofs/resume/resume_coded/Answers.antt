@@ -1,5 +1,5 @@
 use Rattle.std.proofs.Common.{sym, ◌∙◌}
-use Rattle.c_resume.specs.Promises.{resumes_words}
+use Rattle.c_resume.proofs.PromisesLaws.{resumes_words}
 use Rattle.c_resume.proofs.resume.resume_coded.Goals as goal
 
 pub returns-then-is_known : goal.returns-then-is_known

@@ -2,8 +2,8 @@
 ghost use Rattle.std.specs.Prelude.{◌≡◌};
 ghost use Rattle.evt_types.specs.Event.{next_of};
 ghost use Rattle.read_after.specs.After.{after_raw_outcome};
-ghost use Rattle.c_decoder.specs.{Decoder.new_decoder, Decoder.vector_in, Decoder.next_numbers, Decoder.word_outcome_c, Decoder.decoded_of, Decoder.after_outcome_c};
-ghost use Rattle.c_decoder.specs.{Decoder.stepped_of};
+ghost use Rattle.c_decoder.specs.{Decoder.new_decoder, Decoder.vector_in, Decoder.next_numbers, Decoder.word_outcome_c, Decoder.decoded_of};
+ghost use Rattle.c_decoder.specs.{Decoder.after_outcome_c, Decoder.stepped_of};
 
 use c_decoder::decoder::{
     PropheseeDecoded, PropheseeDecoder, PropheseeNext, PropheseeStepped, PropheseeVector,

@@ -1,7 +1,7 @@
 // The records of an index: judging them (rule 10), and searching the one that a slice starts at.
 // specs/InRange.antt has when an index is in range, specs/Judge.antt the judging record by record, which
-// comes to it (specs/JudgeLaws.antt); specs/Choose.antt which record is looked for, specs/BinarySearch.antt
-// the binary search, which finds it (specs/Search.antt). The functions take a record by value, but for
+// comes to it (specs/JudgeLaws.antt, proofs/Judged.antt); specs/Choose.antt which record is looked for,
+// specs/BinarySearch.antt the binary search, which finds it (specs/Search.antt). The functions take a record by value, but for
 // `judge_all` and `choose`, which are lent records.
 
 #![tactic(auto)]

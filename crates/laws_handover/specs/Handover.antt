@@ -1,6 +1,6 @@
 -- DEMAND 3, stated once, of the definitions that the contracts of `append`, `decode_words`, `open_words`, `slice_index` and `slice_time` cite.
--- `DemandThree` speaks of lists of appends (specs/Proof.antt proves it), `DemandThreeRan`, at the end, of calls that ran, `DemandThreeByValue` of those of
--- `index_fixed` (specs/Called.antt proves both), `SecondListExists` of the list that resumes (specs/Others.antt).
+-- `DemandThree` speaks of lists of appends (proofs/DemandThree.antt proves it), `DemandThreeRan`, at the end, of calls that ran, `DemandThreeByValue` of those of
+-- `index_fixed` (proofs/Called.antt proves both), `SecondListExists` of the list that resumes (proofs/Others.antt).
 --
 --   a list of appends, each given the writer that the last one returned    `Call`, `next`; as they ran: `Ran`, `Chained`
 --   a fresh writer that sends no header                                    `fresh`

@@ -17,7 +17,7 @@
 --   of calls that ran, records lent or by value                            `DemandThreeHeadedRan`, `DemandThreeHeadedByValue`
 --   a second list always exists                                            `SecondListExistsHeaded`
 --
--- specs/HeadedProof.antt proves all of them, by specs/Fronts.antt (what a list sends) and the proofs of demand 3.
+-- proofs/Headed.antt proves all of them, by Fronts.antt of specs/ and proofs/ (what a list sends) and the proofs of demand 3.
 use Rattle.std.specs.Prelude.{◌≡◌, true, cond, ◌&&◌, List, [], ◌∷◌, ℕ, ◌^◌, ◌≤◌, ◌<◌, length}
 use Rattle.laws_stream.specs.Machine.{All}
 use Rattle.evt_types.specs.{Event.Event, declared.Encoding.Encoding}

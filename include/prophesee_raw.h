@@ -1,7 +1,7 @@
 /* Prophesee RAW recordings (EVT2, EVT2.1 and EVT3): numbers, reading, triggers, indexes, slices, writing, single words.
  *
  * `rt lib` in crates/prophesee_raw_c proves the library and writes out/libprophesee_raw_c.a there
- * (x86-64 Linux). Every function is proved to return and to write exactly what its contract says
+ * (x86-64-v2 Linux). Every function is proved to return and to write exactly what its contract says
  * (crates/prophesee_raw_c/src cites it, the specs of the crates c_values, c_decoder, c_triggers, c_index,
  * c_writer and c_resume define it), whatever numbers it is given.
  *

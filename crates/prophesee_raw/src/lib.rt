@@ -30,9 +30,8 @@
 // `slice_index` hands over the events from number i0 to before i1, `slice_time` those with
 // t0 <= t < t1, by the source and the records that were made, `&records[..n]`; both decode from a
 // checkpoint on. A slice by time ends at the first word that brings the time to t1 or more: of a
-// recording whose times step back, what stands behind it isn't handed over. In Rattle a caller that
-// lends records is proved by hand; the module `fixed` has the same four calls over an array of 64
-// records by value, whose callers aren't. Example: `slice_recording`.
+// recording whose times step back, what stands behind it isn't handed over. The module `fixed` has the
+// same four calls over an array of 64 records by value. Example: `slice_recording`.
 //
 // Writing. `RawEventSink::to_writer` is a fresh writer, which sends a header before its first words or
 // none. `append` writes events in four columns into an output that the caller lends, and answers how

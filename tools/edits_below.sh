@@ -59,7 +59,7 @@ try() { # NAME
     echo "    $error"
     [ "$crate" = "$by" ] || { echo "    NOT AS IT SHOULD BE: $by is to refuse it"; return 1; }
     case $error in
-    *'expected type'* | *'types differ'* | *'the two types are'* | *'the goal does not follow'* | *'no proof of'* | *'missing equation'* | *'what is missing'* | *'is not proved that'*) ;;
+    *'expected type'* | *'types differ'* | *'types first differ'* | *'the two types are'* | *'the goal does not follow'* | *'no proof of'* | *'missing equation'* | *'what is missing'* | *'is not proved that'*) ;;
     *) echo "    NOT AS IT SHOULD BE: no fact that fails"; return 1 ;;
     esac
 }

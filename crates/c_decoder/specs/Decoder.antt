@@ -1,7 +1,7 @@
 -- A decoder, the events of a word and one of them as numbers and back, and what decoding promises.
 use Rattle.std.specs.Prelude.{Bool, cond, ◌&&◌, List, ℕ, pos, length}
-use Rattle.evt_types.specs.declared.{Refusal.TheVariants.StateOutOfRange, RawEvent.RawEvent, vector.EventVector.EventVector, vector.NextEvent.NextEvent}
-use Rattle.evt_types.specs.declared.{vector.NextEvent.TheVariants.Nothing, vector.NextEvent.TheVariants.Event as First}
+use Rattle.std.specs.Prelude.{Option, Some, None}
+use Rattle.evt_types.specs.declared.{Refusal.TheVariants.StateOutOfRange, RawEvent.RawEvent, vector.EventVector.EventVector}
 use Rattle.evt_types.specs.{Event.narrowed, Num.encoding_number, Outcome.Outcome, Outcome.refuse, Outcome.give, Told.told}
 use Rattle.evt_codec.specs.{declared.codec.Codec.Codec, Codec.encoding_of as codec_encoding, Codec.in_range_c, Codec.step_c, Codec.vector_c}
 use Rattle.read_after.specs.After.{after_outcome}
@@ -64,9 +64,9 @@ abbrev pub event_of : RawEvent → PropheseeEvent
 event_of e = record { t = e.t; x = e.x; y = e.y; p = e.p }
 
 -- all 0 where the vector has no event
-abbrev pub next_numbers : NextEvent → PropheseeNext
-next_numbers Nothing = record { rest = no_vector; event = record { t = pos 0; x = 0; y = 0; p = 0 }; some = 0 }
-next_numbers (First e v) = record { rest = vector_of v; event = event_of e; some = 1 }
+abbrev pub next_numbers : Option (RawEvent × EventVector) → PropheseeNext
+next_numbers None = record { rest = no_vector; event = record { t = pos 0; x = 0; y = 0; p = 0 }; some = 0 }
+next_numbers (Some (e, v)) = record { rest = vector_of v; event = event_of e; some = 1 }
 
 -- ---- one word
 

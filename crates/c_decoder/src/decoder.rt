@@ -1,25 +1,21 @@
 // A decoder, the events of a word and one of them, in numbers.
-ghost use Rattle.std.specs.Prelude.{◌≡◌};
+ghost use Rattle.std.specs.Prelude.{◌≡◌, cond, Ok, Err};
 ghost use Rattle.evt_types.specs.Outcome.{refuse};
+ghost use Rattle.evt_types.specs.declared.Refusal.TheVariants.{StateOutOfRange};
+ghost use Rattle.evt_codec.specs.declared.codec.Codec.TheVariants.{Evt2};
 ghost use Rattle.read_after.specs.After.{after_raw_outcome};
 ghost use Rattle.c_decoder.specs.{Decoder.numbers_in, Decoder.is_decoder, Decoder.codec_in, Decoder.decoder_of, Decoder.new_decoder, Decoder.vector_of};
-ghost use Rattle.c_decoder.specs.{Decoder.vector_in, Decoder.no_vector, Decoder.event_of, Decoder.next_numbers, Decoder.decoded_of, Decoder.stepped_of};
+ghost use Rattle.c_decoder.specs.{Decoder.vector_in, Decoder.event_of, Decoder.next_numbers, Decoder.decoded_of, Decoder.stepped_of};
 ghost use Rattle.c_decoder.specs.{Stepping.word_by, Stepping.codec_by};
 
 use c_values::codec::{DecoderNumbers, codec_of, is_codec};
-use c_values::encoding::{encoding_of, is_known};
-use c_values::flags::bit_of;
 use evt_codec::Codec;
-use evt_types::vector::NextEvent;
-use evt_types::{DecodeAnswer, EventVector, RawEvent, Refusal, refusal_number};
+use evt_types::{Encoding, EventVector, RawEvent, Refusal};
 use evt2_decoder::Evt2Decoder;
-use evt3_decoder::Decoder;
-use evt21_decoder::Evt21Decoder;
-use read_after::AfterAnswer;
 
 // `initialised` and `polarity` are 0 or 1. `y`, `base_x` and `polarity` are EVT3's.
 #[repr(C)]
-#[derive(Clone, Copy)]
+#[derive(Clone, Copy, Default)]
 pub struct PropheseeDecoder {
     pub time_base: u64,
     pub time: u64,
@@ -32,7 +28,7 @@ pub struct PropheseeDecoder {
 }
 
 #[repr(C)]
-#[derive(Clone, Copy)]
+#[derive(Clone, Copy, Default)]
 pub struct PropheseeVector {
     pub t: i64,
     pub mask: u32,
@@ -59,7 +55,7 @@ pub struct PropheseeStepped {
 }
 
 #[repr(C)]
-#[derive(Clone, Copy)]
+#[derive(Clone, Copy, Default)]
 pub struct PropheseeEvent {
     pub t: i64,
     pub x: u16,
@@ -69,99 +65,78 @@ pub struct PropheseeEvent {
 
 // `some` 1: the first event, and the vector without it.
 #[repr(C)]
-#[derive(Clone, Copy)]
+#[derive(Clone, Copy, Default)]
 pub struct PropheseeNext {
     pub rest: PropheseeVector,
     pub event: PropheseeEvent,
     pub some: u8,
 }
 
-fn numbers_in(d: PropheseeDecoder) -> DecoderNumbers
-    ensures { result ≡ numbers_in d }
-{
-    DecoderNumbers {
-        initialised: d.initialised as u64,
-        time_base: d.time_base,
-        time: d.time,
-        high_loops: d.high_loops,
-        y: d.y as u64,
-        base_x: d.base_x as u64,
-        polarity: d.polarity as u64,
+impl From<PropheseeDecoder> for DecoderNumbers {
+    ghost from_gives = { λ d n. n ≡ numbers_in d };
+
+    fn from(d: PropheseeDecoder) -> DecoderNumbers {
+        DecoderNumbers {
+            initialised: u64::from(d.initialised),
+            time_base: d.time_base,
+            time: d.time,
+            high_loops: d.high_loops,
+            y: u64::from(d.y),
+            base_x: u64::from(d.base_x),
+            polarity: u64::from(d.polarity),
+        }
     }
 }
 
-// Whether some decoder has these numbers.
-pub fn is_decoder(d: PropheseeDecoder) -> bool
-    ensures { result ≡ is_decoder d }
-{
-    if is_known(d.encoding) {
-        let encoding = encoding_of(d.encoding);
-        let numbers = numbers_in(d);
-        return is_codec(encoding, numbers);
+// The decoder that has these numbers; 10 where none has.
+impl TryFrom<PropheseeDecoder> for Codec {
+    type Error = Refusal;
+
+    ghost try_from_gives = { λ d r. r ≡ cond (is_decoder d) (Ok (codec_in d)) (Err StateOutOfRange) };
+
+    fn try_from(d: PropheseeDecoder) -> Result<Codec, Refusal> {
+        let numbers = DecoderNumbers::from(d);
+        match Encoding::try_from(d.encoding) {
+            Ok(encoding) if is_codec(encoding, numbers) => Ok(codec_of(encoding, numbers)),
+            _ => Err(Refusal::StateOutOfRange),
+        }
     }
-    false
 }
 
-pub fn codec_in(d: PropheseeDecoder) -> Codec
-    ensures { result ≡ codec_in d }
-{
-    let encoding = encoding_of(d.encoding);
-    let numbers = numbers_in(d);
-    codec_of(encoding, numbers)
-}
-
-fn evt2_decoder_of(d: Evt2Decoder) -> PropheseeDecoder
-    ensures { result ≡ decoder_of (Codec.Evt2 d) }
+fn evt2_numbers(d: Evt2Decoder) -> PropheseeDecoder
+    ensures { result ≡ decoder_of (Evt2 d) }
 {
     PropheseeDecoder {
         time_base: d.time_high,
         time: d.time,
         high_loops: d.high_loops,
         encoding: 2,
-        y: 0,
-        base_x: 0,
-        initialised: bit_of(d.initialised),
-        polarity: 0,
+        initialised: u8::from(d.initialised),
+        ..PropheseeDecoder::default()
     }
 }
 
-fn evt21_decoder_of(d: Evt21Decoder) -> PropheseeDecoder
-    ensures { result ≡ decoder_of (Codec.Evt21 d) }
-{
-    PropheseeDecoder {
-        time_base: d.time_high,
-        time: d.time,
-        high_loops: d.high_loops,
-        encoding: 21,
-        y: 0,
-        base_x: 0,
-        initialised: bit_of(d.initialised),
-        polarity: 0,
-    }
-}
+impl From<Codec> for PropheseeDecoder {
+    ghost from_gives = { λ c d. d ≡ decoder_of c };
 
-fn evt3_decoder_of(d: Decoder) -> PropheseeDecoder
-    ensures { result ≡ decoder_of (Codec.Evt3 d) }
-{
-    PropheseeDecoder {
-        time_base: d.time_base,
-        time: d.time,
-        high_loops: d.high_loops,
-        encoding: 3,
-        y: d.y,
-        base_x: d.base_x,
-        initialised: bit_of(d.initialised),
-        polarity: bit_of(d.polarity),
-    }
-}
-
-fn decoder_of(codec: Codec) -> PropheseeDecoder
-    ensures { result ≡ decoder_of codec }
-{
-    match codec {
-        Codec::Evt2(d) => evt2_decoder_of(d),
-        Codec::Evt21(d) => evt21_decoder_of(d),
-        Codec::Evt3(d) => evt3_decoder_of(d),
+    fn from(codec: Codec) -> PropheseeDecoder {
+        match codec {
+            Codec::Evt2(d) => evt2_numbers(d),
+            Codec::Evt21(d) => PropheseeDecoder {
+                encoding: 21,
+                ..evt2_numbers(d.evt2())
+            },
+            Codec::Evt3(d) => PropheseeDecoder {
+                time_base: d.time_base,
+                time: d.time,
+                high_loops: d.high_loops,
+                encoding: 3,
+                y: d.y,
+                base_x: d.base_x,
+                initialised: u8::from(d.initialised),
+                polarity: u8::from(d.polarity),
+            },
+        }
     }
 }
 
@@ -169,90 +144,63 @@ pub fn new_decoder(encoding: u32) -> PropheseeDecoder
     ensures { result ≡ new_decoder encoding }
 {
     PropheseeDecoder {
-        time_base: 0,
-        time: 0,
-        high_loops: 0,
         encoding,
-        y: 0,
-        base_x: 0,
-        initialised: 0,
-        polarity: 0,
+        ..PropheseeDecoder::default()
     }
 }
 
-fn vector_of(v: EventVector) -> PropheseeVector
-    ensures { result ≡ vector_of v }
-{
-    PropheseeVector {
-        t: v.t,
-        mask: v.mask,
-        x: v.x,
-        y: v.y,
-        p: v.p,
-    }
-}
+impl From<EventVector> for PropheseeVector {
+    ghost from_gives = { λ v n. n ≡ vector_of v };
 
-pub fn vector_in(v: PropheseeVector) -> EventVector
-    ensures { result ≡ vector_in v }
-{
-    EventVector {
-        x: v.x,
-        y: v.y,
-        t: v.t,
-        p: v.p,
-        mask: v.mask,
-    }
-}
-
-fn no_vector() -> PropheseeVector
-    ensures { result ≡ no_vector }
-{
-    PropheseeVector {
-        t: 0,
-        mask: 0,
-        x: 0,
-        y: 0,
-        p: 0,
-    }
-}
-
-fn event_of(e: RawEvent) -> PropheseeEvent
-    ensures { result ≡ event_of e }
-{
-    PropheseeEvent {
-        t: e.t,
-        x: e.x,
-        y: e.y,
-        p: e.p,
-    }
-}
-
-pub fn next_numbers(next: NextEvent) -> PropheseeNext
-    ensures { result ≡ next_numbers next }
-{
-    match next {
-        NextEvent::Event(e, v) => {
-            let event = event_of(e);
-            let rest = vector_of(v);
-            PropheseeNext {
-                rest,
-                event,
-                some: 1,
-            }
+    fn from(v: EventVector) -> PropheseeVector {
+        PropheseeVector {
+            t: v.t,
+            mask: v.mask,
+            x: v.x,
+            y: v.y,
+            p: v.p,
         }
-        NextEvent::Nothing => {
-            let rest = no_vector();
-            let event = PropheseeEvent {
-                t: 0,
-                x: 0,
-                y: 0,
-                p: 0,
-            };
-            PropheseeNext {
-                rest,
-                event,
-                some: 0,
-            }
+    }
+}
+
+impl From<PropheseeVector> for EventVector {
+    ghost from_gives = { λ n v. v ≡ vector_in n };
+
+    fn from(v: PropheseeVector) -> EventVector {
+        EventVector {
+            x: v.x,
+            y: v.y,
+            t: v.t,
+            p: v.p,
+            mask: v.mask,
+        }
+    }
+}
+
+impl From<RawEvent> for PropheseeEvent {
+    ghost from_gives = { λ e n. n ≡ event_of e };
+
+    fn from(e: RawEvent) -> PropheseeEvent {
+        PropheseeEvent {
+            t: e.t,
+            x: e.x,
+            y: e.y,
+            p: e.p,
+        }
+    }
+}
+
+impl From<Option<(RawEvent, EventVector)>> for PropheseeNext {
+    ghost from_gives = { λ o n. n ≡ next_numbers o };
+
+    fn from(next: Option<(RawEvent, EventVector)>) -> PropheseeNext {
+        match next {
+            Some((event, rest)) => PropheseeNext {
+                rest: PropheseeVector::from(rest),
+                event: PropheseeEvent::from(event),
+                some: 1,
+            },
+            None => PropheseeNext::default(),
         }
     }
 }
@@ -260,52 +208,42 @@ pub fn next_numbers(next: NextEvent) -> PropheseeNext
 pub fn refused_decoded(given: PropheseeDecoder, refusal: Refusal) -> PropheseeDecoded
     ensures { result ≡ decoded_of given (refuse refusal) }
 {
-    let events = no_vector();
     PropheseeDecoded {
         decoder: given,
-        events,
-        refusal: refusal_number(refusal),
+        events: PropheseeVector::default(),
+        refusal: u32::from(refusal),
     }
 }
 
-pub fn decoded_of(given: PropheseeDecoder, next: Codec, answer: DecodeAnswer) -> PropheseeDecoded
+pub fn decoded_of(
+    given: PropheseeDecoder,
+    next: Codec,
+    answer: Result<EventVector, Refusal>,
+) -> PropheseeDecoded
     ensures { result ≡ decoded_of given (word_by next answer) }
 {
     match answer {
-        DecodeAnswer::Events(v) => {
-            let decoder = decoder_of(next);
-            let events = vector_of(v);
-            PropheseeDecoded {
-                decoder,
-                events,
-                refusal: 0,
-            }
-        }
-        DecodeAnswer::Refused(r) => refused_decoded(given, r),
+        Ok(v) => PropheseeDecoded {
+            decoder: PropheseeDecoder::from(next),
+            events: PropheseeVector::from(v),
+            refusal: 0,
+        },
+        Err(r) => refused_decoded(given, r),
     }
 }
 
-pub fn refused_stepped(given: PropheseeDecoder, refusal: Refusal) -> PropheseeStepped
-    ensures { result ≡ stepped_of given (refuse refusal) }
-{
-    PropheseeStepped {
-        decoder: given,
-        refusal: refusal_number(refusal),
-    }
-}
-
-pub fn stepped_of(given: PropheseeDecoder, answer: AfterAnswer) -> PropheseeStepped
+pub fn stepped_of(given: PropheseeDecoder, answer: Result<Codec, Refusal>) -> PropheseeStepped
     ensures { result ≡ stepped_of given (codec_by answer) }
 {
     match answer {
-        AfterAnswer::After(c) => {
-            let decoder = decoder_of(c);
-            PropheseeStepped {
-                decoder,
-                refusal: 0,
-            }
-        }
-        AfterAnswer::Refused(r) => refused_stepped(given, r),
+        Ok(c) => PropheseeStepped {
+            decoder: PropheseeDecoder::from(c),
+            refusal: 0,
+        },
+        Err(r) => PropheseeStepped {
+            decoder: given,
+            refusal: u32::from(r),
+        },
     }
 }
 

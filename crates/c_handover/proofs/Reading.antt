@@ -7,17 +7,17 @@ use Rattle.c_index.specs.{declared.opening.PropheseeOpening.PropheseeOpening, de
 use Rattle.c_index.specs.{declared.slices.PropheseeSlice.PropheseeSlice}
 use Rattle.c_values.specs.{Encoding.encoding_back, Encoding.number_known, Reading.ReadsC, Reading.reading_of}
 use Rattle.c_values.specs.{declared.reading.PropheseeReading.PropheseeReading}
-use Rattle.evt_types.specs.{Event.Event, Outcome.Outcome, Outcome.give, Outcome.refuse, declared.SensorSize.TheVariants.Known}
-use Rattle.evt_types.specs.{declared.SensorSize.TheVariants.Unknown}
+use Rattle.std.specs.Prelude.{Some, None, Result, Ok}
+use Rattle.evt_types.specs.declared.Refusal.{Refusal}
+use Rattle.evt_types.specs.{Event.Event, Outcome.Outcome, Outcome.give, Outcome.refuse}
 use Rattle.index_build.proofs.OpenLaws.{accepted-words, accepted_raw}
 use Rattle.index_build.specs.{Index.Body, Index.need_of, Index.open_answer, Index.open_records, Index.opening_of, Index.records_of, Index.told-answer}
 use Rattle.index_build.specs.{Index.told_open, Laws.length-firsts, Nth.blank, Open.Accepted, Open.IfGiven, declared.Checkpoint.Checkpoint}
-use Rattle.index_build.specs.{declared.OpenAnswer.TheVariants.Opened, declared.Opening.Opening}
+use Rattle.index_build.specs.{declared.Opening.Opening}
 use Rattle.laws_handover.specs.Handover.{Columns, HoldsEvents, Index, ReadBack, Way, as_recording, as_words, during_times, encoding_by, numbered, open_by_lem}
 use Rattle.laws_handover.specs.Handover.{opening_as, read_by, room}
 use Rattle.read_rules.specs.Read.{ReadEvents, read_answer, read_verdict, told_read}
-use Rattle.slice_rules.specs.{Slice.Slices, Slice.slice_answer, Slice.slice_verdict, Slice.told_slice, declared.SliceAnswer.SliceAnswer}
-use Rattle.slice_rules.specs.{declared.SliceAnswer.TheVariants.Sliced}
+use Rattle.slice_rules.specs.{Slice.Slices, Slice.slice_answer, Slice.slice_verdict, Slice.told_slice}
 use Rattle.std.proofs.{Common.arith, Common.length-append, Common.take_at, Common.◌∙◌, Math.ListN.length, Math.ListN.length-map, Math.Path.ap, Math.Path.sym}
 use Rattle.std.proofs.{lemmas.List.length-replicate}
 use Rattle.std.specs.Prelude.{drop, refl, replicate, take, ℕ, ℤ, ◌≡◌, ◌≤◌}
@@ -33,13 +33,13 @@ told-slice (refuse r) = refl
 told-slice (give es) = refl
 
 -- as many records as an opening tells
-made-count : (q : Outcome Body) (o : Opening) → open_answer q ≡ Opened o → length (open_records q) ≡ o.records
+made-count : (q : Outcome Body) (o : Opening) → open_answer q ≡ Ok o → length (open_records q) ≡ o.records
 unfolding records_of
 made-count (refuse r) o h = let z : ◌≡◌ {A = ℕ} 0 1 = cc in absurd (omega arith)
 made-count (give b) o h = let is : opening_of b ≡ o = cc in length-firsts _ (need_of b) ∙ ap (λ (p : Opening). p.records) is
 
 -- and what it tells of the encoding
-of_encoding : (q : Outcome Body) (o : Opening) → open_answer q ≡ Opened o → IfGiven (λ b. b.encoding ≡ o.source.encoding) q
+of_encoding : (q : Outcome Body) (o : Opening) → open_answer q ≡ Ok o → IfGiven (λ b. b.encoding ≡ o.source.encoding) q
 of_encoding (refuse r) o h = tt
 of_encoding (give b) o h = let is : opening_of b ≡ o = cc in ap (λ (p : Opening). p.source.encoding) is
 
@@ -48,14 +48,14 @@ of_encoding (give b) o h = let is : opening_of b ≡ o = cc in ap (λ (p : Openi
 module _ (bytes : List ℕ) where
   read_by_lem : (way : Way) (r : PropheseeReading) (c₀ c : Columns) → ReadsByC way bytes r c₀ c
       → ReadsC (read_by way bytes (room c₀)) r c₀.xs c₀.ys c₀.ts c₀.ps c.xs c.ys c.ts c.ps
-  read_by_lem (as_words e Unknown) r c₀ c d = rw (number_known e, encoding_back e) at d
-  read_by_lem (as_words e (Known w h)) r c₀ c d = rw (number_known e, encoding_back e) at d
+  read_by_lem (as_words e None) r c₀ c d = rw (number_known e, encoding_back e) at d
+  read_by_lem (as_words e (Some s)) r c₀ c d = rw (number_known e, encoding_back e) at d
   read_by_lem (as_recording e w h) r c₀ c d = d
 
   open_by : (way : Way) (spacing : ℕ) (r : PropheseeOpening) (records₀ records : List (List ℕ)) → OpensByC way bytes spacing r records₀ records
       → OpensC (open_by_lem way bytes spacing (length records₀)) r records₀ records
-  open_by (as_words e Unknown) spacing r records₀ records d = rw (number_known e, encoding_back e) at d
-  open_by (as_words e (Known w h)) spacing r records₀ records d = rw (number_known e, encoding_back e) at d
+  open_by (as_words e None) spacing r records₀ records d = rw (number_known e, encoding_back e) at d
+  open_by (as_words e (Some s)) spacing r records₀ records d = rw (number_known e, encoding_back e) at d
   open_by (as_recording e w h) spacing r records₀ records d = d
 
   accepted_by : (way : Way) (spacing room : ℕ) → IfGiven (Accepted bytes room) (open_by_lem way bytes spacing room)
@@ -65,8 +65,8 @@ module _ (bytes : List ℕ) where
 -- a slice by C is what the library's is
 sliced : (outcome : Outcome (List Event)) (r : PropheseeSlice) (c₀ c : Columns) (part : List Event)
     → SlicesC outcome r c₀.xs c₀.ys c₀.ts c₀.ps c.xs c.ys c.ts c.ps
-    → ((a : SliceAnswer) → Slices outcome a c₀.xs c₀.ys c₀.ts c₀.ps c.xs c.ys c.ts c.ps
-    → (a ≡ Sliced (length part)) × HoldsEvents part c₀ c) → GivesC part r c₀ c
+    → ((a : Result ℕ Refusal) → Slices outcome a c₀.xs c₀.ys c₀.ts c₀.ps c.xs c.ys c.ts c.ps
+    → (a ≡ Ok (length part)) × HoldsEvents part c₀ c) → GivesC part r c₀ c
 sliced outcome r c₀ c part s lib =
     let got = lib (slice_answer outcome) (record { is_told = told-slice outcome; is_answer = refl; columns = s.columns }) in
     (s.is_answer ∙ ap sliced_of (sym (told-slice outcome) ∙ ap told_slice got.0), got.1)
@@ -121,7 +121,7 @@ module _ (way : Way) (bytes : List ℕ) (es : List Event) (back : ReadBack way b
       enough = x.enough;
     }
 
-    opened : open_answer outcome ≡ Opened opening
+    opened : open_answer outcome ≡ Ok opening
     opened = back.opened index
 
     is_source : x.answer ≡ record { source = source; told = 0; refusal = 0 }

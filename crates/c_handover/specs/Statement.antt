@@ -2,8 +2,9 @@
 -- `prophesee_decode_words`, `prophesee_open_words`, `prophesee_slice_index` and `prophesee_slice_time` alone, at a sensor of 2048 by 2048 (`DemandThreeC`); and
 -- behind a written header by those of `prophesee_resume_raw`, `prophesee_read_raw` and `prophesee_open` with no size (`DemandThreeHeadedC`).
 use Rattle.std.specs.Prelude.{◌≡◌, Bool, true, false, List, [], ◌∷◌, ◌++◌, map, ℕ, ◌+◌, ◌^◌, ◌≤◌, ℤ, length, take, drop}
-use Rattle.evt_types.specs.{declared.Encoding.Encoding, Event.Event, Num.encoding_number, declared.SensorSize.SensorSize}
-use Rattle.evt_types.specs.declared.SensorSize.TheVariants.{Known, Unknown}
+use Rattle.std.specs.Prelude.{Option, Some, None}
+use Rattle.evt_types.specs.declared.SensorSize.{SensorSize}
+use Rattle.evt_types.specs.{declared.Encoding.Encoding, Event.Event, Num.encoding_number}
 use Rattle.read_rules.specs.Read.{width_of, height_of}
 use Rattle.index_build.specs.Index.{record_count, spacing_ok}
 use Rattle.write_rules.specs.Rules.{fresh_sink}
@@ -24,23 +25,23 @@ use Rattle.c_writer.specs.{Writer.AppendOwedC}
 -- ---- what is read
 
 -- a size or none, and no limit
-abbrev pub options_for : SensorSize → PropheseeOptions
-options_for Unknown = record { width = 0; height = 0; max_events = 0; sized = 0; limited = 0 }
-options_for (Known w h) = record { width = w; height = h; max_events = 0; sized = 1; limited = 0 }
+abbrev pub options_for : Option SensorSize → PropheseeOptions
+options_for None = record { width = 0; height = 0; max_events = 0; sized = 0; limited = 0 }
+options_for (Some s) = record { width = s.width; height = s.height; max_events = 0; sized = 1; limited = 0 }
 
-abbrev pub spaced_for : SensorSize → (spacing : ℕ) → PropheseeOpenOptions
-spaced_for Unknown spacing = record { width = 0; height = 0; spacing = spacing; sized = 0 }
-spaced_for (Known w h) spacing = record { width = w; height = h; spacing = spacing; sized = 1 }
+abbrev pub spaced_for : Option SensorSize → (spacing : ℕ) → PropheseeOpenOptions
+spaced_for None spacing = record { width = 0; height = 0; spacing = spacing; sized = 0 }
+spaced_for (Some s) spacing = record { width = s.width; height = s.height; spacing = spacing; sized = 1 }
 
 -- words by `prophesee_decode_words` and `prophesee_open_words`, a recording by `prophesee_read_raw` and `prophesee_open` with no size
 abbrev pub ReadsByC : Way → List ℕ → PropheseeReading → (c₀ c : Columns) → Type 0
 ReadsByC (as_words e size) bytes r c₀ c =
     DecodesWordsC bytes (encoding_number e) (options_for size) r c₀.xs c₀.ys c₀.ts c₀.ps c.xs c.ys c.ts c.ps
-ReadsByC (as_recording e w h) bytes r c₀ c = ReadsRawC bytes (options_for Unknown) r c₀.xs c₀.ys c₀.ts c₀.ps c.xs c.ys c.ts c.ps
+ReadsByC (as_recording e w h) bytes r c₀ c = ReadsRawC bytes (options_for None) r c₀.xs c₀.ys c₀.ts c₀.ps c.xs c.ys c.ts c.ps
 
 abbrev pub OpensByC : Way → List ℕ → (spacing : ℕ) → PropheseeOpening → (records₀ records : List (List ℕ)) → Type 0
 OpensByC (as_words e size) bytes spacing = OpensWordsC bytes (encoding_number e) (spaced_for size spacing)
-OpensByC (as_recording e w h) bytes spacing = OpensRawC bytes (spaced_for Unknown spacing)
+OpensByC (as_recording e w h) bytes spacing = OpensRawC bytes (spaced_for None spacing)
 
 -- an index that was built from just these bytes, at an allowed spacing, into records that suffice
 pub record IndexC (way : Way) (bytes : List ℕ) : Type 0 where

@@ -2,7 +2,6 @@
 pub mod Records
 pub mod Opening
 pub mod Slicing
-pub mod Lookup
 pub mod Making
 pub mod Back
 pub mod Promises

@@ -4,7 +4,7 @@ use Rattle.std.proofs.Common.{ltb-true}
 use Rattle.evt_types.specs.{declared.Encoding.Encoding, Num.natural}
 use Rattle.index_build.specs.declared.Checkpoint.{Checkpoint}
 use Rattle.c_values.specs.{Codec.numbers_of, Codec.is_codec, Codec.codec_of, Flags.both}
-use Rattle.c_index.specs.{declared.records.PropheseeRecord.PropheseeRecord}
+use Rattle.c_index.specs.declared.records.{LentRecords.LentRecords, PropheseeRecord.PropheseeRecord}
 
 -- ---- a record
 
@@ -58,6 +58,10 @@ checkpoint_in e a = checkpoint_of e (record_in a)
 -- the first n
 unfoldable pub checkpoints_in : Encoding → (n : ℕ) → List (List ℕ) → List Checkpoint
 checkpoints_in e n l = map (checkpoint_in e) (take n l)
+
+-- all
+abbrev pub listed : LentRecords → List Checkpoint
+listed r = map (checkpoint_in r.encoding) r.entries.now
 
 -- ---- laws
 

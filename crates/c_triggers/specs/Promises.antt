@@ -4,7 +4,9 @@ use Rattle.std.proofs.Common.{ap, subst, ◌∙◌}
 use Rattle.evt_types.specs.{declared.Encoding.Encoding, declared.Refusal.Refusal, declared.Refusal.TheVariants.UnknownEncoding}
 use Rattle.evt_types.specs.{Outcome.Outcome, Outcome.refuse, Told.told, Trigger.shortest3, Trigger.triggers_none}
 use Rattle.read_rules.specs.{declared.LoadOptions.LoadOptions, Read.shortest}
-use Rattle.trigger_rules.specs.{declared.TriggerReadAnswer.TriggerReadAnswer, Read.ReadTriggers, Read.words_triggers_outcome}
+use Rattle.std.specs.Prelude.{Result}
+use Rattle.trigger_rules.specs.declared.TriggerReading.{TriggerReading}
+use Rattle.trigger_rules.specs.{Read.ReadTriggers, Read.words_triggers_outcome}
 use Rattle.trigger_rules.specs.Read as Read
 use Rattle.c_values.specs.{declared.options.PropheseeOptions.PropheseeOptions, Encoding.is_known, Encoding.encoding_of, Encoding.behind_too_long}
 use Rattle.c_values.specs.{Encoding.coded_known, Encoding.coded_unknown, Options.options_of}
@@ -15,7 +17,7 @@ abbrev asked : List ℕ → (room places : ℕ) → Encoding → LoadOptions →
 asked words room places e g = words_triggers_outcome words e g.sensor_size g.max_events room places
 
 module _ (o : PropheseeOptions) {xs₀ ys₀ : List ℕ} {ts₀ : List ℤ} {ps₀ : List ℕ} {times₀ : List ℤ} {ids₀ values₀ : List ℕ} where
-  module _ (given : LoadOptions) (is-given : given ≡ options_of o) (a : TriggerReadAnswer) (r : PropheseeTriggerReading)
+  module _ (given : LoadOptions) (is-given : given ≡ options_of o) (a : Result TriggerReading Refusal) (r : PropheseeTriggerReading)
       (is-r : r ≡ trigger_reading_of (Read.told_trigger_read a)) {xs ys : List ℕ} {ts : List ℤ} {ps : List ℕ} {times : List ℤ} {ids values : List ℕ} where
     reads : {outcome : Outcome ReadTriggers} → Read.ReadsTriggers outcome a xs₀ ys₀ ts₀ ps₀ times₀ ids₀ values₀ xs ys ts ps times ids values
         → ReadsTriggersC outcome r xs₀ ys₀ ts₀ ps₀ times₀ ids₀ values₀ xs ys ts ps times ids values

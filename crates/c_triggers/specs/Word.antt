@@ -1,7 +1,9 @@
 -- The trigger of one word as numbers, and what a decoder's numbers and some bytes come to.
 use Rattle.std.specs.Prelude.{cond, List, ℕ, pos}
-use Rattle.evt_types.specs.declared.{Refusal.TheVariants.StateOutOfRange, TriggerAnswer.TriggerAnswer, TriggerAnswer.TheVariants.Nothing}
-use Rattle.evt_types.specs.declared.{TriggerAnswer.TheVariants.Trigger as Pulse, TriggerAnswer.TheVariants.Refused}
+use Rattle.std.specs.Prelude.{Option, Some, None, Result, Ok, Err}
+use Rattle.evt_types.specs.declared.Refusal.{Refusal}
+use Rattle.evt_types.specs.declared.RawTrigger.{RawTrigger}
+use Rattle.evt_types.specs.declared.{Refusal.TheVariants.StateOutOfRange}
 use Rattle.evt_types.specs.{Outcome.Outcome, Outcome.refuse, Told.told, Trigger.Trigger, Trigger.trigger_outcome, Trigger.trigger_answer}
 use Rattle.evt_codec.specs.{Codec.in_range_c, Triggers.trigger_c}
 use Rattle.c_decoder.specs.{declared.decoder.PropheseeDecoder.PropheseeDecoder, Decoder.is_decoder, Decoder.codec_in}
@@ -16,10 +18,10 @@ trigger_outcome_c d bytes = cond (is_decoder d) (trigger_outcome (in_range_c (co
 abbrev pub no_trigger : (refusal : ℕ) → PropheseeTrigger
 no_trigger n = record { t = pos 0; refusal = n; id = 0; value = 0; some = 0 }
 
-abbrev pub answer_numbers : TriggerAnswer → PropheseeTrigger
-answer_numbers (Pulse g) = record { t = g.t; refusal = 0; id = g.id; value = g.value; some = 1 }
-answer_numbers Nothing = no_trigger 0
-answer_numbers (Refused r) = no_trigger (told r).number
+abbrev pub answer_numbers : Result (Option RawTrigger) Refusal → PropheseeTrigger
+answer_numbers (Ok (Some g)) = record { t = g.t; refusal = 0; id = g.id; value = g.value; some = 1 }
+answer_numbers (Ok None) = no_trigger 0
+answer_numbers (Err r) = no_trigger (told r).number
 
 -- the first of the triggers, which are at most one
 abbrev pub trigger_numbers : Outcome (List Trigger) → PropheseeTrigger

@@ -1,13 +1,14 @@
 // The trigger of one word, in numbers.
 ghost use Rattle.std.specs.Prelude.{◌≡◌};
-ghost use Rattle.c_triggers.specs.{Word.no_trigger, Word.answer_numbers, Word.trigger_numbers, Word.trigger_outcome_c};
+ghost use Rattle.c_triggers.specs.{Word.answer_numbers, Word.trigger_numbers, Word.trigger_outcome_c};
 
-use c_decoder::decoder::{PropheseeDecoder, codec_in, is_decoder};
-use evt_types::{RawTrigger, Refusal, TriggerAnswer, refusal_number};
+use c_decoder::decoder::PropheseeDecoder;
+use evt_codec::Codec;
+use evt_types::{RawTrigger, Refusal};
 
 // `refusal` 0: `some` 1 with the word's trigger, or 0 where it has none. Else the table's number.
 #[repr(C)]
-#[derive(Clone, Copy)]
+#[derive(Clone, Copy, Default)]
 pub struct PropheseeTrigger {
     pub t: i64,
     pub refusal: u32,
@@ -16,38 +17,24 @@ pub struct PropheseeTrigger {
     pub some: u8,
 }
 
-fn some_numbers(g: RawTrigger) -> PropheseeTrigger
-    ensures { result ≡ answer_numbers (TriggerAnswer.Trigger g) }
-{
-    PropheseeTrigger {
-        t: g.t,
-        refusal: 0,
-        id: g.id,
-        value: g.value,
-        some: 1,
-    }
-}
+impl From<Result<Option<RawTrigger>, Refusal>> for PropheseeTrigger {
+    ghost from_gives = { λ a t. t ≡ answer_numbers a };
 
-// No trigger, and a refusal's number or 0.
-fn none_numbers(refusal: u32) -> PropheseeTrigger
-    ensures { result ≡ no_trigger refusal }
-{
-    PropheseeTrigger {
-        t: 0,
-        refusal,
-        id: 0,
-        value: 0,
-        some: 0,
-    }
-}
-
-fn answer_numbers(answer: TriggerAnswer) -> PropheseeTrigger
-    ensures { result ≡ answer_numbers answer }
-{
-    match answer {
-        TriggerAnswer::Trigger(g) => some_numbers(g),
-        TriggerAnswer::Nothing => none_numbers(0),
-        TriggerAnswer::Refused(r) => none_numbers(refusal_number(r)),
+    fn from(answer: Result<Option<RawTrigger>, Refusal>) -> PropheseeTrigger {
+        match answer {
+            Ok(Some(g)) => PropheseeTrigger {
+                t: g.t,
+                refusal: 0,
+                id: g.id,
+                value: g.value,
+                some: 1,
+            },
+            Ok(None) => PropheseeTrigger::default(),
+            Err(r) => PropheseeTrigger {
+                refusal: u32::from(r),
+                ..PropheseeTrigger::default()
+            },
+        }
     }
 }
 
@@ -55,9 +42,8 @@ fn answer_numbers(answer: TriggerAnswer) -> PropheseeTrigger
 pub fn word_trigger(decoder: PropheseeDecoder, bytes: &[u8]) -> PropheseeTrigger
     ensures { result ≡ trigger_numbers (trigger_outcome_c decoder bytes.now) }
 {
-    if is_decoder(decoder) {
-        let answer = codec_in(decoder).trigger(bytes);
-        return answer_numbers(answer);
+    match Codec::try_from(decoder) {
+        Ok(codec) => PropheseeTrigger::from(codec.trigger(bytes)),
+        Err(refusal) => PropheseeTrigger::from(Err(refusal)),
     }
-    answer_numbers(TriggerAnswer::Refused(Refusal::StateOutOfRange))
 }

@@ -1,5 +1,5 @@
 -- An encoding as a number, and what a call comes to that is given one.
-use Rattle.std.specs.Prelude.{◌≡◌, refl, Bool, true, false, cond, ◌||◌, List, ℕ, eqb, ltb, length}
+use Rattle.std.specs.Prelude.{◌≡◌, refl, Bool, true, false, cond, ◌||◌, List, ℕ, eqb, ltb, length, Result, Ok, Err}
 use Rattle.std.proofs.Common.{sym, eqb-true, arith}
 use Rattle.evt_types.specs.declared.{Encoding.Encoding, Encoding.TheVariants.Evt2, Encoding.TheVariants.Evt21, Encoding.TheVariants.Evt3, Refusal.Refusal}
 use Rattle.evt_types.specs.declared.{Refusal.TheVariants.UnknownEncoding, Refusal.TheVariants.TooLong}
@@ -18,6 +18,10 @@ behind_too_long n r = cond (ltb most_bytes n) TooLong r
 -- an unknown encoding gets 2, behind 4 and before everything else
 abbrev pub coded_outcome : {A : Type 0} → (n : ℕ) → (words : List ℕ) → (Encoding → Outcome A) → Outcome A
 coded_outcome n words f = cond (is_known n) (f (encoding_of n)) (refuse (behind_too_long (length words) UnknownEncoding))
+
+-- the encoding of a known number; else the refusal of that many bytes
+abbrev pub coded : (n bytes : ℕ) → Result Encoding Refusal
+coded n bytes = cond (is_known n) (Ok (encoding_of n)) (Err (behind_too_long bytes UnknownEncoding))
 
 -- ---- laws: what an encoding's number makes of a call
 

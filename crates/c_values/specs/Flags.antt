@@ -1,5 +1,5 @@
 -- Flags: truth as a number, and back.
-use Rattle.std.specs.Prelude.{◌≡◌, refl, Bool, true, false, cond, not, ◌&&◌, ℕ, eqb, ltb}
+use Rattle.std.specs.Prelude.{◌≡◌, refl, Bool, true, false, cond, not, ◌&&◌, ℕ, eqb, ltb, Ok, Err}
 use Rattle.std.proofs.Common.{sym, arith, eqb-true, ltb-true}
 use Rattle.std.proofs.lemmas.Bool.{eqb-false}
 
@@ -35,3 +35,12 @@ pub both : (a b : Bool) → (a && b) ≡ true → (a ≡ true) × (b ≡ true)
 both true true h = (refl, refl)
 both true false h = let z : ◌≡◌ {A = ℕ} 0 1 = cc in absurd (omega arith)
 both false b h = let z : ◌≡◌ {A = ℕ} 0 1 = cc in absurd (omega arith)
+
+-- a value that a test accepted
+pub passed : {A E : Type 0} (b : Bool) (x y : A) (e : E) → cond b (Ok x) (Err e) ≡ Ok y → (b ≡ true) × (y ≡ x)
+passed true x y e h = (refl, cc)
+passed false x y e h = let z : ◌≡◌ {A = ℕ} 0 1 = cc in absurd (omega arith)
+
+pub not_passed : {A E : Type 0} (b : Bool) (x : A) (e f : E) → cond b (Ok x) (Err e) ≡ Err f → (b ≡ false) × (f ≡ e)
+not_passed true x e f h = let z : ◌≡◌ {A = ℕ} 0 1 = cc in absurd (omega arith)
+not_passed false x e f h = (refl, cc)

@@ -3,13 +3,15 @@ use Rattle.std.specs.Prelude.{◌≡◌, refl, true, false, List, ℕ, ℤ, leng
 use Rattle.std.proofs.Common.{ap, subst, ◌∙◌}
 use Rattle.evt_types.specs.{declared.Encoding.Encoding, declared.Refusal.Refusal}
 use Rattle.evt_types.specs.{declared.Refusal.TheVariants.UnknownEncoding, Outcome.Outcome, Outcome.refuse, Told.told}
-use Rattle.read_rules.specs.{declared.LoadOptions.LoadOptions, declared.ReadAnswer.ReadAnswer, Read.ReadEvents, Read.shortest, Read.words_outcome}
+use Rattle.std.specs.Prelude.{Result}
+use Rattle.read_rules.specs.declared.Reading.{Reading}
+use Rattle.read_rules.specs.{declared.LoadOptions.LoadOptions, Read.ReadEvents, Read.shortest, Read.words_outcome}
 use Rattle.read_rules.specs.Read as Read
 use Rattle.c_values.specs.{declared.options.PropheseeOptions.PropheseeOptions, declared.reading.PropheseeReading.PropheseeReading, Encoding.is_known}
 use Rattle.c_values.specs.{Encoding.encoding_of, Encoding.behind_too_long, Encoding.coded_known, Encoding.coded_unknown, Options.options_of}
 use Rattle.c_values.specs.{Reading.reading_of, Reading.ReadsC, Reading.ReadsRawC, Reading.DecodesWordsC}
 
-module _ (o : PropheseeOptions) (given : LoadOptions) (is-given : given ≡ options_of o) (a : ReadAnswer) (r : PropheseeReading)
+module _ (o : PropheseeOptions) (given : LoadOptions) (is-given : given ≡ options_of o) (a : Result Reading Refusal) (r : PropheseeReading)
     (is-r : r ≡ reading_of (Read.told_read a)) where
   reads : {outcome : Outcome ReadEvents} {xs₀ ys₀ : List ℕ} {ts₀ : List ℤ} {ps₀ xs ys : List ℕ} {ts : List ℤ} {ps : List ℕ}
       → Read.Reads outcome a xs₀ ys₀ ts₀ ps₀ xs ys ts ps → ReadsC outcome r xs₀ ys₀ ts₀ ps₀ xs ys ts ps

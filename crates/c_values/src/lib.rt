@@ -1,5 +1,5 @@
-// Values of the C interface: flags, encodings, options, the answers of reading, of a header and of the
-// number reader, and a decoder's seven numbers. specs/Options.antt and Encoding.antt have what the numbers
+// Values of the C interface: encodings, options, the answers of reading, of a header and of the number
+// reader, and a decoder's seven numbers. specs/Options.antt and Encoding.antt have what the numbers
 // of an option and of an encoding mean, specs/Reading.antt and Number.antt which numbers reading and the
 // number reader return and what reading promises, specs/Codec.antt how a decoder is held in numbers;
 // specs/Flags.antt and Promises.antt are for the proofs.
@@ -8,7 +8,6 @@
 
 pub mod codec;
 pub mod encoding;
-pub mod flags;
 pub mod number;
 pub mod options;
 pub mod reading;

@@ -2,8 +2,6 @@
 ghost use Rattle.std.specs.Prelude.{◌≡◌};
 ghost use Rattle.c_values.specs.{Number.answer_of};
 
-use header_text::number::Number;
-
 // `valid` 1: the text is a number, of this value. 0: it is none, and `place` tells where.
 #[repr(C)]
 #[derive(Clone, Copy)]
@@ -13,19 +11,21 @@ pub struct PropheseeNumber {
     pub valid: u8,
 }
 
-pub fn answer_of(number: Number) -> PropheseeNumber
-    ensures { result ≡ answer_of number }
-{
-    match number {
-        Number::Value(value) => PropheseeNumber {
-            value,
-            place: 0,
-            valid: 1,
-        },
-        Number::Bad(place) => PropheseeNumber {
-            value: 0,
-            place,
-            valid: 0,
-        },
+impl From<Result<usize, usize>> for PropheseeNumber {
+    ghost from_gives = { λ r n. n ≡ answer_of r };
+
+    fn from(number: Result<usize, usize>) -> PropheseeNumber {
+        match number {
+            Ok(value) => PropheseeNumber {
+                value,
+                place: 0,
+                valid: 1,
+            },
+            Err(place) => PropheseeNumber {
+                value: 0,
+                place,
+                valid: 0,
+            },
+        }
     }
 }

@@ -5,14 +5,14 @@ ghost use Rattle.read_rules.specs.Read.{told_read};
 ghost use Rattle.c_values.specs.{Reading.parsed_of, Reading.reading_of};
 
 use crate::refusal::count_of;
-use evt_types::{Refusal, SensorSize, encoding_number, refusal_number};
-use header::{Header, HeaderAnswer};
-use read::{ReadAnswer, Reading};
+use evt_types::{Refusal, SensorSize};
+use header::Header;
+use read::Reading;
 
-// `refusal` 0: parsed, and the others tell what; `sized` 1: the size is known. Else the table's
-// number.
+// `refusal` 0: parsed, and the others tell what; `sized` 1: the size is known. Else the number in the
+// table of docs/RULES.md.
 #[repr(C)]
-#[derive(Clone, Copy)]
+#[derive(Clone, Copy, Default)]
 pub struct PropheseeHeader {
     pub refusal: u32,
     pub encoding: u32,
@@ -22,10 +22,10 @@ pub struct PropheseeHeader {
     pub sized: u8,
 }
 
-// `refusal` 0: read, and `encoding` (2 or 3), `width`, `height` and `count` tell what. Else document
-// 01's number, `told` being the count that a 5 tells.
+// `refusal` 0: read, and `encoding` (2, 21 or 3), `width`, `height` and `count` tell what. Else the
+// number in the table of docs/RULES.md, `told` being the count that a 5 tells.
 #[repr(C)]
-#[derive(Clone, Copy)]
+#[derive(Clone, Copy, Default)]
 pub struct PropheseeReading {
     pub refusal: u32,
     pub encoding: u32,
@@ -35,86 +35,57 @@ pub struct PropheseeReading {
     pub count: usize,
 }
 
-pub fn reading_of(answer: ReadAnswer) -> PropheseeReading
-    ensures { result ≡ reading_of (told_read answer) }
-{
-    match answer {
-        ReadAnswer::Read(r) => read_numbers(r),
-        ReadAnswer::Refused(r) => refused_numbers(r),
-    }
-}
+impl From<Result<Reading, Refusal>> for PropheseeReading {
+    ghost from_gives = { λ a r. r ≡ reading_of (told_read a) };
 
-fn read_numbers(r: Reading) -> PropheseeReading
-    ensures { result ≡ reading_of (told_read (ReadAnswer.Read r)) }
-{
-    let encoding = r.encoding;
-    PropheseeReading {
-        refusal: 0,
-        encoding: encoding_number(encoding),
-        told: 0,
-        width: r.width,
-        height: r.height,
-        count: r.count,
-    }
-}
-
-fn refused_numbers(r: Refusal) -> PropheseeReading
-    ensures { result ≡ reading_of (told_read (ReadAnswer.Refused r)) }
-{
-    PropheseeReading {
-        refusal: refusal_number(r),
-        encoding: 0,
-        told: count_of(r),
-        width: 0,
-        height: 0,
-        count: 0,
+    fn from(answer: Result<Reading, Refusal>) -> PropheseeReading {
+        match answer {
+            Ok(r) => PropheseeReading {
+                refusal: 0,
+                encoding: u32::from(r.encoding),
+                told: 0,
+                width: r.width,
+                height: r.height,
+                count: r.count,
+            },
+            Err(r) => PropheseeReading {
+                refusal: u32::from(r),
+                told: count_of(r),
+                ..PropheseeReading::default()
+            },
+        }
     }
 }
 
 fn header_numbers(h: Header) -> PropheseeHeader
-    ensures { result ≡ parsed_of (told_header (HeaderAnswer.Header h)) }
+    ensures { result ≡ parsed_of (told_header (Ok h)) }
 {
-    let named = h.encoding;
-    let size = h.sensor_size;
-    let encoding = encoding_number(named);
-    match size {
-        SensorSize::Unknown => PropheseeHeader {
-            refusal: 0,
-            encoding,
-            data_offset: h.data_offset,
-            width: 0,
-            height: 0,
-            sized: 0,
-        },
-        SensorSize::Known(width, height) => PropheseeHeader {
-            refusal: 0,
-            encoding,
-            data_offset: h.data_offset,
+    let unsized_header = PropheseeHeader {
+        encoding: u32::from(h.encoding),
+        data_offset: h.data_offset,
+        ..PropheseeHeader::default()
+    };
+    match h.sensor_size {
+        None => unsized_header,
+        Some(SensorSize { width, height }) => PropheseeHeader {
             width,
             height,
             sized: 1,
+            ..unsized_header
         },
     }
 }
 
-fn refused_header(r: Refusal) -> PropheseeHeader
-    ensures { result ≡ parsed_of (told_header (HeaderAnswer.Refused r)) }
-{
-    PropheseeHeader {
-        refusal: refusal_number(r),
-        encoding: 0,
-        data_offset: 0,
-        width: 0,
-        height: 0,
-        sized: 0,
-    }
-}
+impl From<Result<Header, Refusal>> for PropheseeHeader {
+    ghost from_gives = { λ a h. h ≡ parsed_of (told_header a) };
 
-pub fn parsed_of(answer: HeaderAnswer) -> PropheseeHeader
-    ensures { result ≡ parsed_of (told_header answer) }
-{
-    match answer {
-        HeaderAnswer::Header(h) => header_numbers(h),
-        HeaderAnswer::Refused(r) => refused_header(r),
+    fn from(answer: Result<Header, Refusal>) -> PropheseeHeader {
+        match answer {
+            Ok(h) => header_numbers(h),
+            Err(r) => PropheseeHeader {
+                refusal: u32::from(r),
+                ..PropheseeHeader::default()
+            },
+        }
     }
 }

@@ -3,9 +3,8 @@ use Rattle.std.specs.Prelude.{◌≡◌, refl, Bool, true, false, cond, not, ◌
 use Rattle.std.proofs.Common.{sym, ap, arith, of_z, eqb-true, ne_eqb}
 use Rattle.std.specs.Int.Signed.{mag}
 use Rattle.std.specs.Int.{w64}
-use Rattle.evt_types.specs.declared.{Sent.Sent}
-use Rattle.evt_types.specs.{declared.Sent.TheVariants.Nothing, declared.Sent.TheVariants.Value}
-use Rattle.write_rules.specs.declared.{LastTime.LastTime, LastTime.TheVariants.Never, LastTime.TheVariants.At, RawEventSink.RawEventSink}
+use Rattle.std.specs.Prelude.{Option, Some, None}
+use Rattle.write_rules.specs.declared.{RawEventSink.RawEventSink}
 use Rattle.write_rules.specs.Rules.{fresh_sink}
 use Rattle.c_values.specs.{Encoding.is_known}
 use Rattle.c_values.specs.{Encoding.encoding_of, Encoding.number_known, Encoding.encoding_back, Encoding.number_back, Flags.flag, Flags.bit, Flags.is_flag}
@@ -19,13 +18,13 @@ pub zero_bits : (t : ℤ) → mag t < 2 ^ 63 → eqb (of_z w64 t) 0 ≡ is_zero 
 zero_bits (pos n) h = refl
 zero_bits (negsuc n) h = ne_eqb (of_z w64 (negsuc n)) 0 (λ e. omega (arith, e))
 
-sent_back : (s : Sent) → sent_of (has_sent s) (sent_value s) ≡ s
-sent_back Nothing = refl
-sent_back (Value v) = refl
+sent_back : (s : Option ℕ) → sent_of (has_sent s) (sent_value s) ≡ s
+sent_back None = refl
+sent_back (Some v) = refl
 
-last_back : (l : LastTime) → last_of (has_last l) (last_value l) ≡ l
-last_back Never = refl
-last_back (At t) = refl
+last_back : (l : Option ℤ) → last_of (has_last l) (last_value l) ≡ l
+last_back None = refl
+last_back (Some t) = refl
 
 -- a writer as numbers loses nothing
 pub sink_back : (s : RawEventSink) → sink_of (flat_sink s) ≡ s
@@ -53,13 +52,13 @@ sink_flat s =
       sent s.state.y,
     )
   where
-    sent : (s : Sent) → is_held (has_sent s) (sent_value s) ≡ true
-    sent Nothing = refl
-    sent (Value v) = refl
+    sent : (s : Option ℕ) → is_held (has_sent s) (sent_value s) ≡ true
+    sent None = refl
+    sent (Some v) = refl
 
-    last : (l : LastTime) → is_last_held (has_last l) (last_value l) ≡ true
-    last Never = refl
-    last (At t) = refl
+    last : (l : Option ℤ) → is_last_held (has_last l) (last_value l) ≡ true
+    last None = refl
+    last (Some t) = refl
 
 -- nothing else is read as that writer
 pub sink_numbers : (f : PropheseeSink) → is_sink f ≡ true → flat_sink (sink_of f) ≡ f
@@ -91,7 +90,7 @@ sink_numbers f h =
     held has value = go (eqb has 0) (eqb-true has 0)
       where
         go : (b : Bool) → (b ≡ true → has ≡ 0) → cond b (eqb value 0) (eqb has 1) ≡ true
-            → (has_sent (cond (not b) (Value value) Nothing) ≡ has) × (sent_value (cond (not b) (Value value) Nothing) ≡ value)
+            → (has_sent (cond (not b) (Some value) None) ≡ has) × (sent_value (cond (not b) (Some value) None) ≡ value)
         go true p h = (sym (p refl), sym (eqb-true value 0 h))
         go false p h = (sym (eqb-true has 1 h), refl)
 
@@ -103,7 +102,7 @@ sink_numbers f h =
     last-held has t = go (eqb has 0) (eqb-true has 0)
       where
         go : (b : Bool) → (b ≡ true → has ≡ 0) → cond b (is_zero t) (eqb has 1) ≡ true
-            → (has_last (cond (not b) (At t) Never) ≡ has) × (last_value (cond (not b) (At t) Never) ≡ t)
+            → (has_last (cond (not b) (Some t) None) ≡ has) × (last_value (cond (not b) (Some t) None) ≡ t)
         go true p h = (sym (p refl), zero_is t h)
         go false p h = (sym (eqb-true has 1 h), refl)
 

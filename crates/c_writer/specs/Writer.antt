@@ -1,10 +1,11 @@
 -- A writer's state as numbers and back, and what appending promises.
 use Rattle.std.specs.Prelude.{◌≡◌, Bool, false, cond, not, ◌&&◌, List, ◌++◌, ℕ, eqb, ℤ, pos, negsuc, length, drop}
 use Rattle.std.proofs.Common.{sym}
-use Rattle.evt_types.specs.declared.{Refusal.Refusal, Refusal.TheVariants.StateOutOfRange, Sent.Sent, Sent.TheVariants.Nothing, Sent.TheVariants.Value}
+use Rattle.std.specs.Prelude.{Option, Some, None}
+use Rattle.evt_types.specs.declared.{Refusal.Refusal, Refusal.TheVariants.StateOutOfRange}
 use Rattle.evt_types.specs.{Num.encoding_number, Outcome.Outcome, Outcome.refuse, Told.Told, Told.told}
 use Rattle.write_buffer.specs.declared.EncoderState.{EncoderState}
-use Rattle.write_rules.specs.declared.{LastTime.LastTime, LastTime.TheVariants.Never, LastTime.TheVariants.At, RawEventSink.RawEventSink}
+use Rattle.write_rules.specs.declared.{RawEventSink.RawEventSink}
 use Rattle.write_append.specs.Append.{AppendedBytes, append_outcome, append_verdict, handed_over, sink_after}
 use Rattle.c_values.specs.{Encoding.is_known, Encoding.encoding_of, Flags.flag, Flags.bit, Flags.is_flag, Reading.value_of, Reading.count_of}
 use Rattle.c_values.specs.{Reading.refused_not, Reading.no_value}
@@ -34,11 +35,11 @@ is_sink f =
 -- ---- what the numbers mean
 
 -- a value counts only where its flag is set
-abbrev pub sent_of : (has value : ℕ) → Sent
-sent_of has value = cond (flag has) (Value value) Nothing
+abbrev pub sent_of : (has value : ℕ) → Option ℕ
+sent_of has value = cond (flag has) (Some value) None
 
-abbrev pub last_of : (has : ℕ) → (t : ℤ) → LastTime
-last_of has t = cond (flag has) (At t) Never
+abbrev pub last_of : (has : ℕ) → (t : ℤ) → Option ℤ
+last_of has t = cond (flag has) (Some t) None
 
 abbrev pub state_of : PropheseeSink → EncoderState
 state_of f = record {
@@ -58,21 +59,21 @@ sink_of f = record {
 
 -- ---- the numbers of a writer: specs/Laws.antt has that `sink_of` reads them back
 
-abbrev pub has_sent : Sent → ℕ
-has_sent Nothing = 0
-has_sent (Value v) = 1
+abbrev pub has_sent : Option ℕ → ℕ
+has_sent None = 0
+has_sent (Some v) = 1
 
-abbrev pub sent_value : Sent → ℕ
-sent_value Nothing = 0
-sent_value (Value v) = v
+abbrev pub sent_value : Option ℕ → ℕ
+sent_value None = 0
+sent_value (Some v) = v
 
-abbrev pub has_last : LastTime → ℕ
-has_last Never = 0
-has_last (At t) = 1
+abbrev pub has_last : Option ℤ → ℕ
+has_last None = 0
+has_last (Some t) = 1
 
-abbrev pub last_value : LastTime → ℤ
-last_value Never = pos 0
-last_value (At t) = t
+abbrev pub last_value : Option ℤ → ℤ
+last_value None = pos 0
+last_value (Some t) = t
 
 abbrev pub flat_sink : RawEventSink → PropheseeSink
 flat_sink s = record {

@@ -1,21 +1,18 @@
 // The writer and what an append answers, in numbers.
-ghost use Rattle.std.specs.Prelude.{◌≡◌};
+ghost use Rattle.std.specs.Prelude.{◌≡◌, Bool, cond, eqb, Ok, Err};
 ghost use Rattle.write_append.specs.Append.{told_append};
-ghost use Rattle.c_writer.specs.{Writer.is_held, Writer.is_last_held, Writer.is_state_held, Writer.is_sink, Writer.sent_of, Writer.last_of, Writer.state_of};
-ghost use Rattle.c_writer.specs.{Writer.sink_of, Writer.has_sent, Writer.sent_value, Writer.has_last, Writer.last_value, Writer.flat_sink, Writer.writer_of};
-ghost use Rattle.c_writer.specs.{Writer.appended_of};
+ghost use Rattle.evt_types.specs.declared.Refusal.TheVariants.{StateOutOfRange};
+ghost use Rattle.c_writer.specs.{Writer.is_sink, Writer.sink_of, Writer.flat_sink, Writer.writer_of, Writer.appended_of};
 
 use c_values::encoding::{encoding_of, is_known};
-use c_values::flags::{bit_of, is_flag, is_set};
 use c_values::refusal::count_of;
-use evt_types::num::{and2, and3};
-use evt_types::{Refusal, Sent, encoding_number, refusal_number};
-use write_append::{AppendAnswer, Appended, LastTime, RawEventSink};
+use evt_types::Refusal;
+use write_append::{Appended, RawEventSink};
 use write_buffer::EncoderState;
 
 // A writer. `last_t`, `time_high`, `time_low` and `y` are 0 where the flag `has_..` beside is.
 #[repr(C)]
-#[derive(Clone, Copy)]
+#[derive(Clone, Copy, Default)]
 pub struct PropheseeSink {
     pub n_events: usize,
     pub last_t: i64,
@@ -41,148 +38,71 @@ pub struct PropheseeAppended {
     pub refusal: u32,
 }
 
-fn is_held(has: u8, value: u64) -> bool
-    ensures { result ≡ is_held has value }
+// Whether some value is held by a flag and the number beside it, `zero` telling that this is 0.
+fn is_held(has: u8, zero: bool) -> bool
+    ensures { result ≡ cond (eqb has 0) zero (eqb has 1) }
 {
-    if has == 0 {
-        return value == 0;
-    }
-    has == 1
-}
-
-fn is_last_held(flag: u8, t: i64) -> bool
-    ensures { result ≡ is_last_held flag t }
-{
-    if flag == 0 {
-        return t == 0;
-    }
-    flag == 1
-}
-
-fn is_state_held(flat: PropheseeSink) -> bool
-    ensures { result ≡ is_state_held flat }
-{
-    let high = is_held(flat.has_time_high, flat.time_high);
-    let low = is_held(flat.has_time_low, flat.time_low);
-    let row = is_held(flat.has_y, flat.y);
-    and3(high, low, row)
+    if has == 0 { zero } else { has == 1 }
 }
 
 // Whether some writer has these numbers.
 pub fn is_sink(flat: PropheseeSink) -> bool
     ensures { result ≡ is_sink flat }
 {
-    let known = is_known(flat.encoding);
-    let header = is_flag(flat.header_written);
-    let last = is_last_held(flat.has_last_t, flat.last_t);
-    let state = is_state_held(flat);
-    and2(and3(known, header, last), state)
+    is_known(flat.encoding)
+        && flat.header_written < 2
+        && is_held(flat.has_last_t, flat.last_t == 0)
+        && is_held(flat.has_time_high, flat.time_high == 0)
+        && is_held(flat.has_time_low, flat.time_low == 0)
+        && is_held(flat.has_y, flat.y == 0)
 }
 
-fn sent_of(has: u8, value: u64) -> Sent
-    ensures { result ≡ sent_of has value }
-{
-    if is_set(has) {
-        return Sent::Value(value);
-    }
-    Sent::Nothing
-}
+// The writer that has these numbers; 10 where none has.
+impl TryFrom<PropheseeSink> for RawEventSink {
+    type Error = Refusal;
 
-fn last_of(has: u8, t: i64) -> LastTime
-    ensures { result ≡ last_of has t }
-{
-    if is_set(has) {
-        return LastTime::At(t);
-    }
-    LastTime::Never
-}
+    ghost try_from_gives = { λ f r. r ≡ cond (is_sink f) (Ok (sink_of f)) (Err StateOutOfRange) };
 
-fn state_of(flat: PropheseeSink) -> EncoderState
-    ensures { result ≡ state_of flat }
-{
-    let time_high = sent_of(flat.has_time_high, flat.time_high);
-    let time_low = sent_of(flat.has_time_low, flat.time_low);
-    let y = sent_of(flat.has_y, flat.y);
-    EncoderState {
-        time_high,
-        time_low,
-        y,
+    fn try_from(flat: PropheseeSink) -> Result<RawEventSink, Refusal> {
+        if !is_sink(flat) {
+            return Err(Refusal::StateOutOfRange);
+        }
+        let state = EncoderState {
+            time_high: (flat.has_time_high != 0).then_some(flat.time_high),
+            time_low: (flat.has_time_low != 0).then_some(flat.time_low),
+            y: (flat.has_y != 0).then_some(flat.y),
+        };
+        Ok(RawEventSink {
+            version: encoding_of(flat.encoding),
+            header_written: flat.header_written != 0,
+            n_events: flat.n_events,
+            last_t: (flat.has_last_t != 0).then_some(flat.last_t),
+            state,
+        })
     }
 }
 
-pub fn sink_of(flat: PropheseeSink) -> RawEventSink
-    ensures { result ≡ sink_of flat }
-{
-    let version = encoding_of(flat.encoding);
-    let header_written = is_set(flat.header_written);
-    let last_t = last_of(flat.has_last_t, flat.last_t);
-    let state = state_of(flat);
-    RawEventSink {
-        version,
-        header_written,
-        n_events: flat.n_events,
-        last_t,
-        state,
-    }
-}
+impl From<RawEventSink> for PropheseeSink {
+    ghost from_gives = { λ s f. f ≡ flat_sink s };
 
-fn has_sent(sent: Sent) -> u8
-    ensures { result ≡ has_sent sent }
-{
-    match sent {
-        Sent::Nothing => 0,
-        Sent::Value(_) => 1,
-    }
-}
-
-fn sent_value(sent: Sent) -> u64
-    ensures { result ≡ sent_value sent }
-{
-    match sent {
-        Sent::Nothing => 0,
-        Sent::Value(v) => v,
-    }
-}
-
-fn has_last(last: LastTime) -> u8
-    ensures { result ≡ has_last last }
-{
-    match last {
-        LastTime::Never => 0,
-        LastTime::At(_) => 1,
-    }
-}
-
-fn last_value(last: LastTime) -> i64
-    ensures { result ≡ last_value last }
-{
-    match last {
-        LastTime::Never => 0,
-        LastTime::At(t) => t,
-    }
-}
-
-pub fn flat_of(s: RawEventSink) -> PropheseeSink
-    ensures { result ≡ flat_sink s }
-{
-    let version = s.version;
-    let last = s.last_t;
-    let state = s.state;
-    let high = state.time_high;
-    let low = state.time_low;
-    let row = state.y;
-    PropheseeSink {
-        n_events: s.n_events,
-        last_t: last_value(last),
-        time_high: sent_value(high),
-        time_low: sent_value(low),
-        y: sent_value(row),
-        encoding: encoding_number(version),
-        header_written: bit_of(s.header_written),
-        has_last_t: has_last(last),
-        has_time_high: has_sent(high),
-        has_time_low: has_sent(low),
-        has_y: has_sent(row),
+    fn from(s: RawEventSink) -> PropheseeSink {
+        let last = s.last_t;
+        let high = s.state.time_high;
+        let low = s.state.time_low;
+        let row = s.state.y;
+        PropheseeSink {
+            n_events: s.n_events,
+            last_t: last.unwrap_or(0),
+            time_high: high.unwrap_or(0),
+            time_low: low.unwrap_or(0),
+            y: row.unwrap_or(0),
+            encoding: u32::from(s.version),
+            header_written: u8::from(s.header_written),
+            has_last_t: u8::from(last.is_some()),
+            has_time_high: u8::from(high.is_some()),
+            has_time_low: u8::from(low.is_some()),
+            has_y: u8::from(row.is_some()),
+        }
     }
 }
 
@@ -190,45 +110,35 @@ pub fn flat_of(s: RawEventSink) -> PropheseeSink
 pub fn writer_of(encoding: u32, header: u8) -> PropheseeSink
     ensures { result ≡ writer_of encoding header }
 {
-    let header_written = bit_of(!is_set(header));
     PropheseeSink {
-        n_events: 0,
-        last_t: 0,
-        time_high: 0,
-        time_low: 0,
-        y: 0,
         encoding,
-        header_written,
-        has_last_t: 0,
-        has_time_high: 0,
-        has_time_low: 0,
-        has_y: 0,
+        header_written: u8::from(header == 0),
+        ..PropheseeSink::default()
     }
 }
 
-pub fn refused_of(flat: PropheseeSink, next: RawEventSink, refusal: Refusal) -> PropheseeAppended
-    ensures { result ≡ appended_of flat (told_append (AppendAnswer.Refused refusal)) next }
+// A refused append: the sink is as it was, whatever the library's is.
+pub fn refused_of(flat: PropheseeSink, refusal: Refusal) -> PropheseeAppended
+    ensures { (next : RawEventSink) → result ≡ appended_of flat (told_append (Err refusal)) next }
 {
     PropheseeAppended {
         sink: flat,
         told: count_of(refusal),
         written: 0,
-        refusal: refusal_number(refusal),
+        refusal: u32::from(refusal),
     }
 }
 
 pub fn appended_of(flat: PropheseeSink, a: Appended) -> PropheseeAppended
     ensures { result ≡ appended_of flat (told_append a.answer) a.sink }
 {
-    let answer = a.answer;
-    let next = a.sink;
-    match answer {
-        AppendAnswer::Written(n) => PropheseeAppended {
-            sink: flat_of(next),
+    match a.answer {
+        Ok(n) => PropheseeAppended {
+            sink: PropheseeSink::from(a.sink),
             told: 0,
             written: n,
             refusal: 0,
         },
-        AppendAnswer::Refused(r) => refused_of(flat, next, r),
+        Err(r) => refused_of(flat, r),
     }
 }

@@ -1,6 +1,6 @@
 // Single words, as they come in.
 use crate::print;
-use prophesee_raw::{AfterAnswer, Codec, Decoder, Encoding, decoder_after};
+use prophesee_raw::{Codec, Decoder, Encoding, decoder_after};
 use std::io;
 use std::io::Write;
 
@@ -11,17 +11,15 @@ pub fn decode_singly(stdout: &mut impl Write) -> io::Result<()> {
     let first = decoder.step(0x8001);
     let second = first.next.step(0x300A);
     let third = second.next.step(0x4003);
-    let answer = third.answer;
-    print::first(stdout, b"decode_singly: ", answer)
+    print::first(stdout, "decode_singly: ", third.answer)
 }
 
 // The decoder after the words 8001 300A: the next word, 4003, has the same two events.
 pub fn decode_after(stdout: &mut impl Write) -> io::Result<()> {
     let codec = Codec::new(Encoding::Evt3);
-    if let AfterAnswer::After(there) = decoder_after(b"\x01\x80\x0a\x30", codec) {
+    if let Ok(there) = decoder_after(b"\x01\x80\x0a\x30", codec) {
         let decoded = there.step(b"\x03\x40");
-        let answer = decoded.answer;
-        print::first(stdout, b"decode_after: ", answer)?;
+        print::first(stdout, "decode_after: ", decoded.answer)?;
     }
     Ok(())
 }

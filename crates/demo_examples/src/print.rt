@@ -1,32 +1,11 @@
 // Printing what a call answered, behind the name of the example.
-use prophesee_raw::{
-    AppendAnswer, Appended, DecodeAnswer, NextEvent, Number, OpenAnswer, RawEventSink, ReadAnswer,
-    Reading, Refusal, SliceAnswer, TriggerAnswer, TriggerReadAnswer,
-};
+use evt_types::{EventVector, RawTrigger};
+use index_build::Opening;
+use prophesee_raw::{Reading, Refusal};
 use std::io;
 use std::io::Write;
 use test_text::{columns, show, text};
-
-fn needed(why: Refusal) -> usize {
-    match why {
-        Refusal::ColumnsTooShort(n) => n,
-        Refusal::TooFewRecords(n) => n,
-        Refusal::OutputTooShort(n) => n,
-        Refusal::TriggerColumnsTooShort(n) => n,
-        _ => 0,
-    }
-}
-
-// The number, and the count that four of them tell.
-fn refusal(stdout: &mut impl Write, why: Refusal) -> io::Result<()> {
-    show::text(stdout, b"refused")?;
-    show::next(stdout, b' ', prophesee_raw::refusal_number(why) as u64)?;
-    let n = needed(why);
-    if n > 0 {
-        show::next(stdout, b' ', n as u64)?;
-    }
-    Ok(())
-}
+use trigger_rules::TriggerReading;
 
 // The first n events of the columns.
 pub fn events(
@@ -38,60 +17,31 @@ pub fn events(
     ps: [u8; 4],
 ) -> io::Result<()> {
     columns::show_events(stdout, &xs, &ys, &ts, &ps, n)?;
-    show::text(stdout, b"\n")
+    writeln!(stdout)
 }
 
 // The encoding, the size, and how many events.
-fn read(stdout: &mut impl Write, r: Reading) -> io::Result<usize> {
-    let encoding = r.encoding;
-    show::encoding(stdout, encoding)?;
-    show::next(stdout, b' ', r.width as u64)?;
-    show::next(stdout, b' ', r.height as u64)?;
-    show::next(stdout, b' ', r.count as u64)?;
-    Ok(r.count)
-}
-
-pub fn reading(stdout: &mut impl Write, name: &[u8], answer: ReadAnswer) -> io::Result<usize> {
-    show::text(stdout, name)?;
+pub fn reading(
+    stdout: &mut impl Write,
+    name: &str,
+    answer: Result<Reading, Refusal>,
+) -> io::Result<()> {
+    write!(stdout, "{name}")?;
     match answer {
-        ReadAnswer::Read(r) => read(stdout, r),
-        ReadAnswer::Refused(why) => {
-            refusal(stdout, why)?;
-            Ok(0)
+        Ok(r) => {
+            show::encoding(stdout, r.encoding)?;
+            write!(stdout, " {} {} {}", r.width, r.height, r.count)
         }
+        Err(why) => show::refusal(stdout, why),
     }
-}
-
-// How many events and triggers were read.
-#[derive(Clone, Copy)]
-pub struct Counts {
-    pub events: usize,
-    pub triggers: usize,
 }
 
 pub fn reading_triggers(
     stdout: &mut impl Write,
-    name: &[u8],
-    answer: TriggerReadAnswer,
-) -> io::Result<Counts> {
-    show::text(stdout, name)?;
-    match answer {
-        TriggerReadAnswer::Read(r) => {
-            let reading = r.reading;
-            let events = read(stdout, reading)?;
-            Ok(Counts {
-                events,
-                triggers: r.triggers,
-            })
-        }
-        TriggerReadAnswer::Refused(why) => {
-            refusal(stdout, why)?;
-            Ok(Counts {
-                events: 0,
-                triggers: 0,
-            })
-        }
-    }
+    name: &str,
+    answer: Result<TriggerReading, Refusal>,
+) -> io::Result<()> {
+    reading(stdout, name, answer.map(|r| r.reading))
 }
 
 // The first n triggers of the columns, which have two at most, in a line of their own.
@@ -102,101 +52,99 @@ pub fn triggers(
     ids: [u8; 2],
     values: [u8; 2],
 ) -> io::Result<()> {
-    if 0 < n {
-        show::text(stdout, b"triggers: ")?;
-        show::trigger(stdout, times[0], ids[0], values[0])?;
-        if 1 < n {
-            show::text(stdout, b" ")?;
-            show::trigger(stdout, times[1], ids[1], values[1])?;
-        }
-        end(stdout)?;
+    if n == 0 {
+        return Ok(());
     }
-    Ok(())
+    write!(stdout, "triggers:")?;
+    for i in 0..n.min(2) {
+        write!(stdout, " ")?;
+        let trigger = RawTrigger {
+            t: times[i],
+            id: ids[i],
+            value: values[i],
+        };
+        show::trigger(stdout, trigger)?;
+    }
+    writeln!(stdout)
 }
 
-pub fn trigger(stdout: &mut impl Write, name: &[u8], answer: TriggerAnswer) -> io::Result<()> {
-    show::text(stdout, name)?;
-    if let TriggerAnswer::Trigger(g) = answer {
-        show::trigger(stdout, g.t, g.id, g.value)?;
+pub fn trigger(
+    stdout: &mut impl Write,
+    name: &str,
+    answer: Result<Option<RawTrigger>, Refusal>,
+) -> io::Result<()> {
+    write!(stdout, "{name}")?;
+    if let Ok(Some(g)) = answer {
+        show::trigger(stdout, g)?;
     }
-    end(stdout)
-}
-
-fn end(stdout: &mut impl Write) -> io::Result<()> {
-    show::text(stdout, b"\n")
+    writeln!(stdout)
 }
 
 // How many events, and how many records.
-pub fn opening(stdout: &mut impl Write, name: &[u8], answer: OpenAnswer) -> io::Result<()> {
-    show::text(stdout, name)?;
+pub fn opening(
+    stdout: &mut impl Write,
+    name: &str,
+    answer: Result<Opening, Refusal>,
+) -> io::Result<()> {
+    write!(stdout, "{name}")?;
     match answer {
-        OpenAnswer::Opened(o) => {
-            show::number(stdout, o.source.n_events as u64)?;
-            show::next(stdout, b' ', o.records as u64)?;
-        }
-        OpenAnswer::Refused(why) => refusal(stdout, why)?,
+        Ok(o) => write!(stdout, "{} {}", o.source.n_events, o.records)?,
+        Err(why) => show::refusal(stdout, why)?,
     }
-    show::text(stdout, b"\n")
+    writeln!(stdout)
 }
 
 // How many events.
-pub fn slice(stdout: &mut impl Write, name: &[u8], answer: SliceAnswer) -> io::Result<usize> {
-    show::text(stdout, name)?;
+pub fn slice(
+    stdout: &mut impl Write,
+    name: &str,
+    answer: Result<usize, Refusal>,
+) -> io::Result<()> {
+    write!(stdout, "{name}")?;
     match answer {
-        SliceAnswer::Sliced(n) => {
-            show::number(stdout, n as u64)?;
-            Ok(n)
-        }
-        SliceAnswer::Refused(why) => {
-            refusal(stdout, why)?;
-            Ok(0)
-        }
+        Ok(n) => write!(stdout, "{n}"),
+        Err(why) => show::refusal(stdout, why),
     }
 }
 
-// The bytes written. Answers the next writer.
+// The bytes written.
 pub fn append(
     stdout: &mut impl Write,
-    name: &[u8],
-    appended: Appended,
+    name: &str,
+    answer: Result<usize, Refusal>,
     output: &[u8],
-) -> io::Result<RawEventSink> {
-    let answer = appended.answer;
-    show::text(stdout, name)?;
+) -> io::Result<()> {
+    write!(stdout, "{name}")?;
     match answer {
-        AppendAnswer::Written(n) => show::hex(stdout, text::part(output, 0, n))?,
-        AppendAnswer::Refused(why) => refusal(stdout, why)?,
+        Ok(n) => show::hex(stdout, text::part(output, 0, n))?,
+        Err(why) => show::refusal(stdout, why)?,
     }
-    show::text(stdout, b"\n")?;
-    Ok(appended.sink)
+    writeln!(stdout)
 }
 
 // The value, or the place.
-pub fn number(stdout: &mut impl Write, name: &[u8], answer: Number) -> io::Result<()> {
-    show::text(stdout, name)?;
+pub fn number(stdout: &mut impl Write, name: &str, answer: Result<usize, usize>) -> io::Result<()> {
     match answer {
-        Number::Value(n) => show::number(stdout, n as u64)?,
-        Number::Bad(k) => {
-            show::text(stdout, b"bad at")?;
-            show::next(stdout, b' ', k as u64)?;
-        }
+        Ok(n) => writeln!(stdout, "{name}{n}"),
+        Err(place) => writeln!(stdout, "{name}bad at {place}"),
     }
-    end(stdout)
 }
 
-pub fn bytes(stdout: &mut impl Write, name: &[u8], s: &[u8]) -> io::Result<()> {
-    show::text(stdout, name)?;
+pub fn bytes(stdout: &mut impl Write, name: &str, s: &[u8]) -> io::Result<()> {
+    write!(stdout, "{name}")?;
     show::hex(stdout, s)?;
-    end(stdout)
+    writeln!(stdout)
 }
 
 // The first event of a word, if it has one.
-pub fn first(stdout: &mut impl Write, name: &[u8], answer: DecodeAnswer) -> io::Result<()> {
-    show::text(stdout, name)?;
-    if let DecodeAnswer::Events(v) = answer {
-        if let NextEvent::Event(e, _) = v.next() {
-            show::event(stdout, e)?;
-        }
+pub fn first(
+    stdout: &mut impl Write,
+    name: &str,
+    answer: Result<EventVector, Refusal>,
+) -> io::Result<()> {
+    write!(stdout, "{name}")?;
+    if let Some((e, _)) = answer.ok().and_then(|v| v.next()) {
+        show::event(stdout, e)?;
     }
-    show::text(stdout, b"\n")
+    writeln!(stdout)
 }

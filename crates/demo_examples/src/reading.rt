@@ -1,13 +1,13 @@
 // Reading into four columns that the caller lends.
 use crate::{given, print};
-use prophesee_raw::{Encoding, Limit, LoadOptions, SensorSize};
+use prophesee_raw::{Encoding, LoadOptions, SensorSize};
 use std::io;
 use std::io::Write;
 
 // Answers how many events there are.
 pub fn read(
     stdout: &mut impl Write,
-    name: &[u8],
+    name: &str,
     recording: &[u8],
     options: LoadOptions,
 ) -> io::Result<usize> {
@@ -16,7 +16,8 @@ pub fn read(
     let mut ts = [0; 4];
     let mut ps = [0; 4];
     let answer = prophesee_raw::read_raw(recording, options, &mut xs, &mut ys, &mut ts, &mut ps);
-    let count = print::reading(stdout, name, answer)?;
+    print::reading(stdout, name, answer)?;
+    let count = answer.map_or(0, |r| r.count);
     print::events(stdout, count, xs, ys, ts, ps)?;
     Ok(count)
 }
@@ -24,14 +25,14 @@ pub fn read(
 // All events; encoding and size are those that the header names.
 pub fn whole() -> LoadOptions {
     LoadOptions {
-        sensor_size: SensorSize::Unknown,
-        max_events: Limit::Unlimited,
+        sensor_size: None,
+        max_events: None,
     }
 }
 
 pub fn read_recording(stdout: &mut impl Write) -> io::Result<()> {
     let recording = given::recording();
-    read(stdout, b"read_recording: ", &recording, whole())?;
+    read(stdout, "read_recording: ", &recording, whole())?;
     Ok(())
 }
 
@@ -40,7 +41,7 @@ pub fn read_recording(stdout: &mut impl Write) -> io::Result<()> {
 pub fn read_past_end_line(stdout: &mut impl Write) -> io::Result<()> {
     read(
         stdout,
-        b"read_past_end_line: ",
+        "read_past_end_line: ",
         b"% evt 3\n% end\n\x25\x80\x07\x00\x05\x28",
         whole(),
     )?;
@@ -51,10 +52,13 @@ pub fn read_past_end_line(stdout: &mut impl Write) -> io::Result<()> {
 pub fn read_limited(stdout: &mut impl Write) -> io::Result<()> {
     let recording = given::recording();
     let options = LoadOptions {
-        sensor_size: SensorSize::Known(32, 32),
-        max_events: Limit::AtMost(2),
+        sensor_size: Some(SensorSize {
+            width: 32,
+            height: 32,
+        }),
+        max_events: Some(2),
     };
-    read(stdout, b"read_limited: ", &recording, options)?;
+    read(stdout, "read_limited: ", &recording, options)?;
     Ok(())
 }
 
@@ -62,7 +66,7 @@ pub fn read_limited(stdout: &mut impl Write) -> io::Result<()> {
 // size is the minimum that holds them. Answers how many events there are.
 pub fn decode(
     stdout: &mut impl Write,
-    name: &[u8],
+    name: &str,
     words: &[u8],
     encoding: Encoding,
 ) -> io::Result<usize> {
@@ -71,16 +75,10 @@ pub fn decode(
     let mut ts = [0; 4];
     let mut ps = [0; 4];
     let answer = prophesee_raw::decode_words(
-        words,
-        encoding,
-        SensorSize::Unknown,
-        Limit::Unlimited,
-        &mut xs,
-        &mut ys,
-        &mut ts,
-        &mut ps,
+        words, encoding, None, None, &mut xs, &mut ys, &mut ts, &mut ps,
     );
-    let count = print::reading(stdout, name, answer)?;
+    print::reading(stdout, name, answer)?;
+    let count = answer.map_or(0, |r| r.count);
     print::events(stdout, count, xs, ys, ts, ps)?;
     Ok(count)
 }
@@ -89,7 +87,7 @@ pub fn decode(
 pub fn read_words(stdout: &mut impl Write) -> io::Result<()> {
     decode(
         stdout,
-        b"read_words: ",
+        "read_words: ",
         b"\x01\x00\x00\x80\x07\x28\x00\x19",
         Encoding::Evt2,
     )?;
@@ -102,7 +100,7 @@ pub fn read_words(stdout: &mut impl Write) -> io::Result<()> {
 pub fn read_evt21(stdout: &mut impl Write) -> io::Result<()> {
     read(
         stdout,
-        b"read_evt21: ",
+        "read_evt21: ",
         b"% format EVT21\n% geometry 64x48\n\0\0\0\0\x40\0\0\x80\0\x2c\0\0\x07\0\x40\0\0\0\0\0\x09\0\0\x11\0\0\x10\0\x09\0\x41\x11",
         whole(),
     )?;
@@ -111,10 +109,10 @@ pub fn read_evt21(stdout: &mut impl Write) -> io::Result<()> {
 
 // `64o` for `640`: the place is that of the `o`.
 pub fn bad_number(stdout: &mut impl Write) -> io::Result<()> {
-    print::number(stdout, b"bad_number: ", prophesee_raw::read_number(b"64o"))?;
+    print::number(stdout, "bad_number: ", prophesee_raw::read_number(b"64o"))?;
     print::number(
         stdout,
-        b"bad_number, mended: ",
+        "bad_number, mended: ",
         prophesee_raw::read_number(b"640"),
     )
 }

@@ -7,7 +7,7 @@ use std::io::Write;
 
 // No header that names an encoding: 2.
 pub fn no_encoding(stdout: &mut impl Write) -> io::Result<()> {
-    reading::read(stdout, b"no_encoding: ", b"", reading::whole())?;
+    reading::read(stdout, "no_encoding: ", b"", reading::whole())?;
     Ok(())
 }
 
@@ -15,7 +15,7 @@ pub fn no_encoding(stdout: &mut impl Write) -> io::Result<()> {
 pub fn columns_too_short(stdout: &mut impl Write) -> io::Result<()> {
     reading::decode(
         stdout,
-        b"columns_too_short: ",
+        "columns_too_short: ",
         b"\x01\x80\xff\x4f",
         Encoding::Evt3,
     )?;
@@ -26,8 +26,7 @@ pub fn columns_too_short(stdout: &mut impl Write) -> io::Result<()> {
 pub fn records_too_few(stdout: &mut impl Write) -> io::Result<()> {
     let recording = given::recording();
     let index = slicing::open(&recording, 3);
-    let answer = index.answer;
-    print::opening(stdout, b"records_too_few: ", answer)
+    print::opening(stdout, "records_too_few: ", index.answer)
 }
 
 // Times that fall: 6. The writer that comes back is the one that was given.
@@ -35,8 +34,8 @@ pub fn times_fall(stdout: &mut impl Write) -> io::Result<()> {
     let mut output = [0; 32];
     let writer = RawEventSink::to_writer(Encoding::Evt3, false);
     let first = writing::append(writer, 5000, &mut output);
-    let next = writing::append_told(stdout, b"times_fall: ", first.sink, 4097, &mut output)?;
-    writing::append_told(stdout, b"times_fall, in order: ", next, 5000, &mut output)?;
+    let next = writing::append_told(stdout, "times_fall: ", first.sink, 4097, &mut output)?;
+    writing::append_told(stdout, "times_fall, in order: ", next, 5000, &mut output)?;
     Ok(())
 }
 
@@ -44,6 +43,6 @@ pub fn times_fall(stdout: &mut impl Write) -> io::Result<()> {
 pub fn output_too_short(stdout: &mut impl Write) -> io::Result<()> {
     let mut output = [0; 3];
     let writer = RawEventSink::to_writer(Encoding::Evt3, false);
-    writing::append_told(stdout, b"output_too_short: ", writer, 4097, &mut output)?;
+    writing::append_told(stdout, "output_too_short: ", writer, 4097, &mut output)?;
     Ok(())
 }

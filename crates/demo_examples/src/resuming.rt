@@ -1,21 +1,11 @@
 // A stream that breaks off, and is resumed: words alone, and a recording with a header, each by a fresh
 // second writer and by one that stands behind what has arrived. The contracts say that every number is
-// within bounds here; `at_most` spares the proof.
+// within bounds here; `min` spares the proof.
 use crate::{print, reading, slicing};
-use prophesee_raw::{
-    AppendAnswer, Decoder, Encoding, HeaderAnswer, OpenAnswer, RawEventSink, SensorSize,
-};
+use prophesee_raw::{Decoder, Encoding, RawEventSink};
 use std::io;
 use std::io::Write;
-use test_text::columns::at_most;
 use test_text::text;
-
-fn written(answer: AppendAnswer) -> usize {
-    match answer {
-        AppendAnswer::Written(n) => n,
-        AppendAnswer::Refused(_) => 0,
-    }
-}
 
 // A writer appends the events from number `from` on. Answers how many bytes it wrote.
 fn append_from(writer: RawEventSink, from: usize, output: &mut [u8]) -> usize {
@@ -23,7 +13,7 @@ fn append_from(writer: RawEventSink, from: usize, output: &mut [u8]) -> usize {
     let ys = [7, 7, 7, 9];
     let ts = [4097, 4097, 4097, 5000];
     let ps = [0, 0, 0, 1];
-    let k = at_most(from, 4);
+    let k = from.min(4);
     let appended = prophesee_raw::append(
         writer,
         64,
@@ -34,8 +24,7 @@ fn append_from(writer: RawEventSink, from: usize, output: &mut [u8]) -> usize {
         &ps[k..],
         &mut *output,
     );
-    let answer = appended.answer;
-    written(answer)
+    appended.answer.unwrap_or(0)
 }
 
 // A fresh writer of all events, which sends a header or none.
@@ -46,7 +35,7 @@ fn write(header: bool, output: &mut [u8]) {
 
 // A second writer appends behind the bytes of a stream that are kept.
 fn go_on(writer: RawEventSink, from: usize, stream: &mut [u8], kept: usize) -> usize {
-    let at = at_most(kept, stream.len());
+    let at = kept.min(stream.len());
     append_from(writer, from, &mut stream[at..])
 }
 
@@ -57,15 +46,13 @@ fn fresh() -> RawEventSink {
 // An index of just these bytes: event 2, by number.
 fn slice_arrived(stdout: &mut impl Write, arrived: &[u8]) -> io::Result<()> {
     let index = slicing::open_words(arrived, Encoding::Evt3);
-    let answer = index.answer;
-    let records = index.records;
-    if let OpenAnswer::Opened(opened) = answer {
+    if let Ok(opened) = index.answer {
         slicing::by_number(
             stdout,
-            b"cut_and_resume, number 2: ",
+            "cut_and_resume, number 2: ",
             arrived,
             opened,
-            records,
+            index.records,
             2,
             3,
         )?;
@@ -81,32 +68,23 @@ pub fn cut_and_resume(stdout: &mut impl Write) -> io::Result<()> {
     let mut stream = [0; 32];
     write(false, &mut stream);
     let arrived = text::part(&stream, 0, 13);
-    let n = reading::decode(
-        stdout,
-        b"cut_and_resume, arrived: ",
-        arrived,
-        Encoding::Evt3,
-    )?;
+    let n = reading::decode(stdout, "cut_and_resume, arrived: ", arrived, Encoding::Evt3)?;
     slice_arrived(stdout, arrived)?;
     let kept = 13 - 13 % Decoder::WORD_SIZE;
-    let m = at_most(go_on(fresh(), n, &mut stream, kept), 20);
+    let m = go_on(fresh(), n, &mut stream, kept).min(20);
     let joined = text::part(&stream, 0, kept + m);
-    reading::decode(stdout, b"cut_and_resume, joined: ", joined, Encoding::Evt3)?;
+    reading::decode(stdout, "cut_and_resume, joined: ", joined, Encoding::Evt3)?;
     Ok(())
 }
 
 fn body_start(recording: &[u8]) -> usize {
-    let answer = prophesee_raw::parse_header(recording, SensorSize::Unknown);
-    let HeaderAnswer::Header(header) = answer else {
-        return 0;
-    };
-    header.data_offset
+    prophesee_raw::parse_header(recording, None).map_or(0, |header| header.data_offset)
 }
 
 // How long a recording is without a broken last word. Words are counted from where the body starts.
 fn whole_words(recording: &[u8]) -> usize {
     let len = recording.len();
-    let at = at_most(body_start(recording), len);
+    let at = body_start(recording).min(len);
     len - (len - at) % Decoder::WORD_SIZE
 }
 
@@ -117,14 +95,14 @@ pub fn cut_recording(stdout: &mut impl Write) -> io::Result<()> {
     let arrived = text::part(&stream, 0, 70);
     let n = reading::read(
         stdout,
-        b"cut_recording, arrived: ",
+        "cut_recording, arrived: ",
         arrived,
         reading::whole(),
     )?;
-    let kept = at_most(whole_words(arrived), 70);
-    let m = at_most(go_on(fresh(), n, &mut stream, kept), 20);
+    let kept = whole_words(arrived).min(70);
+    let m = go_on(fresh(), n, &mut stream, kept).min(20);
     let joined = text::part(&stream, 0, kept + m);
-    reading::read(stdout, b"cut_recording, joined: ", joined, reading::whole())?;
+    reading::read(stdout, "cut_recording, joined: ", joined, reading::whole())?;
     Ok(())
 }
 
@@ -135,17 +113,17 @@ pub fn resume_stream(stdout: &mut impl Write) -> io::Result<()> {
     let mut stream = [0; 32];
     write(false, &mut stream);
     let arrived = text::part(&stream, 0, 13);
-    let n = reading::decode(stdout, b"resume_stream, arrived: ", arrived, Encoding::Evt3)?;
+    let n = reading::decode(stdout, "resume_stream, arrived: ", arrived, Encoding::Evt3)?;
     let resumed = prophesee_raw::resume_words(arrived, Encoding::Evt3);
     let kept = 13 - 13 % Decoder::WORD_SIZE;
-    let m = at_most(go_on(resumed.sink, n, &mut stream, kept), 20);
+    let m = go_on(resumed.sink, n, &mut stream, kept).min(20);
     print::bytes(
         stdout,
-        b"resume_stream: ",
+        "resume_stream: ",
         text::part(&stream, kept, kept + m),
     )?;
     let joined = text::part(&stream, 0, kept + m);
-    reading::decode(stdout, b"resume_stream, joined: ", joined, Encoding::Evt3)?;
+    reading::decode(stdout, "resume_stream, joined: ", joined, Encoding::Evt3)?;
     Ok(())
 }
 
@@ -156,22 +134,22 @@ pub fn resume_recording(stdout: &mut impl Write) -> io::Result<()> {
     let arrived = text::part(&stream, 0, 70);
     let n = reading::read(
         stdout,
-        b"resume_recording, arrived: ",
+        "resume_recording, arrived: ",
         arrived,
         reading::whole(),
     )?;
     let resumed = prophesee_raw::resume_raw(arrived);
-    let kept = at_most(whole_words(arrived), 70);
-    let m = at_most(go_on(resumed.sink, n, &mut stream, kept), 20);
+    let kept = whole_words(arrived).min(70);
+    let m = go_on(resumed.sink, n, &mut stream, kept).min(20);
     print::bytes(
         stdout,
-        b"resume_recording: ",
+        "resume_recording: ",
         text::part(&stream, kept, kept + m),
     )?;
     let joined = text::part(&stream, 0, kept + m);
     reading::read(
         stdout,
-        b"resume_recording, joined: ",
+        "resume_recording, joined: ",
         joined,
         reading::whole(),
     )?;

@@ -1,16 +1,14 @@
 // An index of a recording, and slices by number and by time. Its records are held by value.
 use crate::{given, print};
 use prophesee_raw::fixed::FixedIndex;
-use prophesee_raw::{
-    Checkpoint, Encoding, OpenAnswer, OpenOptions, Opening, SensorSize, WordsOptions, fixed,
-};
+use prophesee_raw::{Checkpoint, Encoding, OpenOptions, Opening, WordsOptions, fixed};
 use std::io;
 use std::io::Write;
 
 // A record for every 4 bytes of the body, with room for so many.
 pub fn open(recording: &[u8], room: usize) -> FixedIndex {
     let options = OpenOptions {
-        sensor_size: SensorSize::Unknown,
+        sensor_size: None,
         spacing: 4,
     };
     fixed::open(recording, options, room)
@@ -20,7 +18,7 @@ pub fn open(recording: &[u8], room: usize) -> FixedIndex {
 pub fn open_words(words: &[u8], encoding: Encoding) -> FixedIndex {
     let options = WordsOptions {
         encoding,
-        sensor_size: SensorSize::Unknown,
+        sensor_size: None,
         spacing: 4,
     };
     fixed::open_words(words, options, 8)
@@ -29,7 +27,7 @@ pub fn open_words(words: &[u8], encoding: Encoding) -> FixedIndex {
 // The events from number i0 to before i1.
 pub fn by_number(
     stdout: &mut impl Write,
-    name: &[u8],
+    name: &str,
     recording: &[u8],
     opened: Opening,
     records: [Checkpoint; 64],
@@ -45,14 +43,14 @@ pub fn by_number(
     let answer = fixed::slice_index(
         recording, source, records, n, i0, i1, &mut xs, &mut ys, &mut ts, &mut ps,
     );
-    let count = print::slice(stdout, name, answer)?;
-    print::events(stdout, count, xs, ys, ts, ps)
+    print::slice(stdout, name, answer)?;
+    print::events(stdout, answer.unwrap_or(0), xs, ys, ts, ps)
 }
 
 // The events with t0 <= t < t1.
 fn by_time(
     stdout: &mut impl Write,
-    name: &[u8],
+    name: &str,
     recording: &[u8],
     opened: Opening,
     records: [Checkpoint; 64],
@@ -68,8 +66,8 @@ fn by_time(
     let answer = fixed::slice_time(
         recording, source, records, n, t0, t1, &mut xs, &mut ys, &mut ts, &mut ps,
     );
-    let count = print::slice(stdout, name, answer)?;
-    print::events(stdout, count, xs, ys, ts, ps)
+    print::slice(stdout, name, answer)?;
+    print::events(stdout, answer.unwrap_or(0), xs, ys, ts, ps)
 }
 
 // The last two events, by number, an end past the total being the total; and the first three, by time.
@@ -81,7 +79,7 @@ fn slices(
 ) -> io::Result<()> {
     by_number(
         stdout,
-        b"slice_recording, by number: ",
+        "slice_recording, by number: ",
         recording,
         opened,
         records,
@@ -90,7 +88,7 @@ fn slices(
     )?;
     by_time(
         stdout,
-        b"slice_recording, by time: ",
+        "slice_recording, by time: ",
         recording,
         opened,
         records,
@@ -102,11 +100,9 @@ fn slices(
 pub fn slice_recording(stdout: &mut impl Write) -> io::Result<()> {
     let recording = given::recording();
     let index = open(&recording, 8);
-    let answer = index.answer;
-    let records = index.records;
-    print::opening(stdout, b"slice_recording: ", answer)?;
-    if let OpenAnswer::Opened(opened) = answer {
-        slices(stdout, &recording, opened, records)?;
+    print::opening(stdout, "slice_recording: ", index.answer)?;
+    if let Ok(opened) = index.answer {
+        slices(stdout, &recording, opened, index.records)?;
     }
     Ok(())
 }

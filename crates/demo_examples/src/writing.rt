@@ -1,6 +1,6 @@
 // Writing into an output that the caller lends.
 use crate::{print, reading};
-use prophesee_raw::{AppendAnswer, Appended, Encoding, RawEventSink};
+use prophesee_raw::{Appended, Encoding, RawEventSink};
 use std::io;
 use std::io::Write;
 use test_text::text;
@@ -17,13 +17,14 @@ pub fn append(writer: RawEventSink, t: i64, output: &mut [u8]) -> Appended {
 // The same, and what it answered. Answers the next writer.
 pub fn append_told(
     stdout: &mut impl Write,
-    name: &[u8],
+    name: &str,
     writer: RawEventSink,
     t: i64,
     output: &mut [u8],
 ) -> io::Result<RawEventSink> {
     let appended = append(writer, t, &mut *output);
-    print::append(stdout, name, appended, output)
+    print::append(stdout, name, appended.answer, output)?;
+    Ok(appended.sink)
 }
 
 // Words without a header. An append answers the next writer, which knows the time and the
@@ -31,8 +32,8 @@ pub fn append_told(
 pub fn write_words(stdout: &mut impl Write) -> io::Result<()> {
     let mut output = [0; 32];
     let writer = RawEventSink::to_writer(Encoding::Evt3, false);
-    let next = append_told(stdout, b"write_words: ", writer, 4097, &mut output)?;
-    append_told(stdout, b"write_words, next: ", next, 5000, &mut output)?;
+    let next = append_told(stdout, "write_words: ", writer, 4097, &mut output)?;
+    append_told(stdout, "write_words, next: ", next, 5000, &mut output)?;
     Ok(())
 }
 
@@ -41,10 +42,9 @@ pub fn write_recording(stdout: &mut impl Write) -> io::Result<()> {
     let mut output = [0; 96];
     let writer = RawEventSink::to_writer(Encoding::Evt2, true);
     let appended = append(writer, 4097, &mut output);
-    let answer = appended.answer;
-    if let AppendAnswer::Written(n) = answer {
+    if let Ok(n) = appended.answer {
         let recording = text::part(&output, 0, n);
-        reading::read(stdout, b"write_recording: ", recording, reading::whole())?;
+        reading::read(stdout, "write_recording: ", recording, reading::whole())?;
     }
     Ok(())
 }
@@ -59,8 +59,7 @@ pub fn write_evt21(stdout: &mut impl Write) -> io::Result<()> {
     let mut output = [0; 32];
     let writer = RawEventSink::to_writer(Encoding::Evt21, false);
     let appended = prophesee_raw::append(writer, 64, 48, &xs, &ys, &ts, &ps, &mut output);
-    print::append(stdout, b"write_evt21: ", appended, &output)?;
-    Ok(())
+    print::append(stdout, "write_evt21: ", appended.answer, &output)
 }
 
 // EVT3 counts 2^24 microseconds and starts anew: for each such loop that passes the writer sends
@@ -74,12 +73,11 @@ pub fn long_show(stdout: &mut impl Write) -> io::Result<()> {
     let mut output = [0; 32];
     let writer = RawEventSink::to_writer(Encoding::Evt3, false);
     let appended = prophesee_raw::append(writer, 64, 48, &xs, &ys, &ts, &ps, &mut output);
-    print::append(stdout, b"long_show: ", appended, &output)?;
-    let answer = appended.answer;
-    if let AppendAnswer::Written(n) = answer {
+    print::append(stdout, "long_show: ", appended.answer, &output)?;
+    if let Ok(n) = appended.answer {
         reading::decode(
             stdout,
-            b"long_show, read: ",
+            "long_show, read: ",
             text::part(&output, 0, n),
             Encoding::Evt3,
         )?;

@@ -1,7 +1,6 @@
 -- The events that are given, and where the event word of each ends in the stream, counted from the body's start.
-use Rattle.std.specs.Prelude.{List, [], ◌∷◌, ℕ, leb, ℤ, pos, length}
+use Rattle.std.specs.Prelude.{List, [], ◌∷◌, ℕ, leb, ℤ, pos, count_by}
 use Rattle.std.specs.Int.Signed.{lt_z}
-use Rattle.laws_stream.specs.Slice.{sift}
 use Rattle.demo_handover.specs.declared.given.When.{When, TheVariants.Early, TheVariants.Later2, TheVariants.Later3, TheVariants.Long}
 use Rattle.evt_types.specs.declared.{Encoding.Encoding, Encoding.TheVariants.Evt2, Encoding.TheVariants.Evt21, Encoding.TheVariants.Evt3}
 
@@ -42,7 +41,7 @@ ends_of Long e = 8 ∷ 10 ∷ 16 ∷ 16 ∷ 16 ∷ 16 ∷ 20 ∷ 28 ∷ 36 ∷ 3
 
 -- how many of some ends are at most `cut`, and of some times before t
 abbrev pub up_to : (cut : ℕ) → List ℕ → ℕ
-up_to cut ends = length (sift (λ end. leb end cut) ends)
+up_to cut ends = count_by (λ end. leb end cut) ends
 
 abbrev pub earlier_than : (t : ℤ) → List ℤ → ℕ
-earlier_than t ts = length (sift (λ u. lt_z u t) ts)
+earlier_than t ts = count_by (λ u. lt_z u t) ts

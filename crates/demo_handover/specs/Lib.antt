@@ -1,4 +1,3 @@
 -- The root of the demonstration's definitions and laws: what each file is stands at its head.
 pub mod Given
 pub mod Compare
-pub mod Laws

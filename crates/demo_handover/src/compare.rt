@@ -1,99 +1,59 @@
 // Comparing what was read with the given events.
-ghost use Rattle.std.specs.Prelude.{◌≤◌, ◌+◌, take, drop};
-ghost use Rattle.demo_handover.specs.Compare.{Same, Judges};
+ghost use Rattle.std.specs.Prelude.{◌≤◌};
+ghost use Rattle.demo_handover.specs.Compare.{Judges};
 
 use crate::given;
 use crate::given::When;
+use evt_types::Refusal;
+use std::fmt;
 
-// What a call handed over: the number of its refusal (0 if there was none), the count, the columns.
+// What a call handed over: how many events, or its refusal, and the columns.
 #[derive(Clone, Copy)]
 pub struct Got {
-    pub refused: u64,
-    pub count: usize,
+    pub count: Result<usize, Refusal>,
     pub xs: [u16; 16],
     pub ys: [u16; 16],
     pub ts: [i64; 16],
     pub ps: [u8; 16],
 }
 
-// Whether the first n of one column are those of another from number `from` on.
-fn same_shorts(got: [u16; 16], given: [u16; 16], from: usize, n: usize) -> bool
-    requires { from + n ≤ 16 }
-    ensures { Same result (take n got) (take n (drop from given)) }
-{
-    let mut i = 0;
-    while i < n {
-        if got[i] != given[from + i] {
-            return false;
-        }
-        i += 1;
-    }
-    true
-}
-
-fn same_longs(got: [i64; 16], given: [i64; 16], from: usize, n: usize) -> bool
-    requires { from + n ≤ 16 }
-    ensures { Same result (take n got) (take n (drop from given)) }
-{
-    let mut i = 0;
-    while i < n {
-        if got[i] != given[from + i] {
-            return false;
-        }
-        i += 1;
-    }
-    true
-}
-
-fn same_bytes(got: [u8; 16], given: [u8; 16], from: usize, n: usize) -> bool
-    requires { from + n ≤ 16 }
-    ensures { Same result (take n got) (take n (drop from given)) }
-{
-    let mut i = 0;
-    while i < n {
-        if got[i] != given[from + i] {
-            return false;
-        }
-        i += 1;
-    }
-    true
-}
-
-#[derive(Clone, Copy)]
+#[derive(Clone, Copy, Debug, PartialEq, Eq)]
 pub enum Difference {
-    Nothing,
-    Refusal(u64),
+    Refusal(Refusal),
     Count(usize),
-    Column(u8),
+    Column(char),
+}
+
+impl fmt::Display for Difference {
+    fn fmt<W: fmt::Write>(&self, f: &mut fmt::Formatter<W>) -> fmt::Result {
+        match *self {
+            Difference::Refusal(why) => write!(f, "refused {}", u32::from(why)),
+            Difference::Count(n) => write!(f, "count {n}"),
+            Difference::Column(name) => write!(f, "column {name}"),
+        }
+    }
 }
 
 // How what was got differs from the given events from number `from` on, up to `to`.
-pub fn judge(when: When, got: Got, from: usize, to: usize) -> Difference
+pub fn judge(when: When, got: Got, from: usize, to: usize) -> Result<(), Difference>
     requires { (from ≤ to) × (to ≤ 16) }
     ensures { Judges when got from to result }
 {
-    if got.refused != 0 {
-        return Difference::Refusal(got.refused);
+    let n = got.count.map_err(Difference::Refusal)?;
+    if n != to - from {
+        return Err(Difference::Count(n));
     }
-    let n = to - from;
-    if got.count != n {
-        return Difference::Count(got.count);
+    if got.xs[..n] != given::columns()[from..to] {
+        return Err(Difference::Column('x'));
     }
-    let xs = got.xs;
-    if same_shorts(xs, given::columns(), from, n) {} else {
-        return Difference::Column(b'x');
+    if got.ys[..n] != given::rows()[from..to] {
+        return Err(Difference::Column('y'));
     }
-    let ys = got.ys;
-    if same_shorts(ys, given::rows(), from, n) {} else {
-        return Difference::Column(b'y');
+    if got.ts[..n] != given::times(when)[from..to] {
+        return Err(Difference::Column('t'));
     }
-    let ts = got.ts;
-    if same_longs(ts, given::times(when), from, n) {} else {
-        return Difference::Column(b't');
+    if got.ps[..n] != given::polarities()[from..to] {
+        return Err(Difference::Column('p'));
     }
-    let ps = got.ps;
-    if same_bytes(ps, given::polarities(), from, n) {} else {
-        return Difference::Column(b'p');
-    }
-    Difference::Nothing
+    Ok(())
 }

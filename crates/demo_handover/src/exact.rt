@@ -3,40 +3,25 @@ ghost use Rattle.std.specs.Prelude.{◌≤◌};
 
 use crate::compare::Difference;
 use crate::given::{Case, When};
-use crate::{given, print, reading};
-use prophesee_raw::{Checkpoint, OpenAnswer, Opening};
+use crate::{given, reading};
+use prophesee_raw::{Checkpoint, Opening};
 use std::io;
 use std::io::Write;
-use test_text::show;
 
 // Where the second slice by time ends: no event may have this time (7).
 const LATE: i64 = 17179869184;
 
-pub fn both(a: bool, b: bool) -> bool {
-    if a { b } else { false }
-}
-
-fn what(stdout: &mut impl Write, d: Difference) -> io::Result<()> {
-    match d {
-        Difference::Nothing => Ok(()),
-        Difference::Refusal(n) => print::told(stdout, b" refused ", n),
-        Difference::Count(n) => print::told(stdout, b" count ", n as u64),
-        Difference::Column(b) => {
-            show::text(stdout, b" column ")?;
-            show::byte(stdout, b)
-        }
-    }
-}
-
 // Whether nothing differs. Else says where, and what.
-fn told(stdout: &mut impl Write, d: Difference, bytes: &[u8], call: &[u8]) -> io::Result<bool> {
-    if let Difference::Nothing = d {
-        return Ok(true);
+fn told(
+    stdout: &mut impl Write,
+    judged: Result<(), Difference>,
+    bytes: &str,
+    call: &str,
+) -> io::Result<bool> {
+    if let Err(difference) = judged {
+        write!(stdout, "{bytes} {call} {difference}")?;
     }
-    show::text(stdout, bytes)?;
-    show::text(stdout, call)?;
-    what(stdout, d)?;
-    Ok(false)
+    Ok(judged.is_ok())
 }
 
 fn by_number(
@@ -46,16 +31,16 @@ fn by_number(
     opened: Opening,
     records: [Checkpoint; 64],
     count: usize,
-    name: &[u8],
+    name: &str,
 ) -> io::Result<bool>
     requires { count ≤ 16 }
 {
     let half = count / 2;
     let a = reading::by_number(when, bytes, opened, records, 0, half, half);
-    let first = told(stdout, a, name, b" first by number")?;
+    let first = told(stdout, a, name, "first by number")?;
     let b = reading::by_number(when, bytes, opened, records, half, 16, count);
-    let second = told(stdout, b, name, b" second by number")?;
-    Ok(both(first, second))
+    let second = told(stdout, b, name, "second by number")?;
+    Ok(first && second)
 }
 
 fn by_time(
@@ -65,17 +50,17 @@ fn by_time(
     opened: Opening,
     records: [Checkpoint; 64],
     count: usize,
-    name: &[u8],
+    name: &str,
 ) -> io::Result<bool>
     requires { count ≤ 16 }
 {
     let middle = given::middle(when);
     let part = given::earlier(when, count, middle);
     let a = reading::by_time(when, bytes, opened, records, 0, middle, 0, part);
-    let first = told(stdout, a, name, b" first by time")?;
+    let first = told(stdout, a, name, "first by time")?;
     let b = reading::by_time(when, bytes, opened, records, middle, LATE, part, count);
-    let second = told(stdout, b, name, b" second by time")?;
-    Ok(both(first, second))
+    let second = told(stdout, b, name, "second by time")?;
+    Ok(first && second)
 }
 
 fn indexed(
@@ -84,26 +69,20 @@ fn indexed(
     bytes: &[u8],
     spacing: usize,
     count: usize,
-    name: &[u8],
+    name: &str,
 ) -> io::Result<bool>
     requires { count ≤ 16 }
 {
     let when = case.when;
     let made = reading::open(case, bytes, spacing);
-    let answer = made.answer;
-    let records = made.records;
-    match answer {
-        OpenAnswer::Opened(opened) => {
+    match made.answer {
+        Ok(opened) => {
+            let records = made.records;
             let first = by_number(stdout, when, bytes, opened, records, count, name)?;
             let second = by_time(stdout, when, bytes, opened, records, count, name)?;
-            Ok(both(first, second))
+            Ok(first && second)
         }
-        OpenAnswer::Refused(why) => told(
-            stdout,
-            Difference::Refusal(prophesee_raw::refusal_number(why) as u64),
-            name,
-            b" opened",
-        ),
+        Err(why) => told(stdout, Err(Difference::Refusal(why)), name, "opened"),
     }
 }
 
@@ -112,15 +91,14 @@ pub fn reads(
     case: Case,
     bytes: &[u8],
     count: usize,
-    name: &[u8],
+    name: &str,
 ) -> io::Result<bool>
     requires { count ≤ 16 }
 {
     let all = reading::decode(case, bytes, count);
-    let decoded = told(stdout, all, name, b" decoded")?;
-    let encoding = case.encoding;
-    let spacing = given::spacing(encoding);
+    let decoded = told(stdout, all, name, "decoded")?;
+    let spacing = given::spacing(case.encoding);
     let narrow = indexed(stdout, case, bytes, spacing, count, name)?;
     let wide = indexed(stdout, case, bytes, spacing * 2, count, name)?;
-    Ok(both(decoded, both(narrow, wide)))
+    Ok(decoded && narrow && wide)
 }

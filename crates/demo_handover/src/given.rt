@@ -142,40 +142,14 @@ fn ends(when: When, encoding: Encoding) -> [usize; 16]
     }
 }
 
-fn count_to(ends: &[usize], cut: usize) -> usize
-    ensures { (result ≡ up_to cut ends.now) × (result ≤ length ends.now) }
-{
-    let mut n = 0;
-    let mut i = 0;
-    while i < ends.len() {
-        if ends[i] <= cut {
-            n += 1;
-        }
-        i += 1;
-    }
-    n
-}
-
 // How many events have their event word whole before a cut of the body.
 pub fn whole_before(when: When, encoding: Encoding, cut: usize) -> usize
     ensures { (result ≡ up_to cut (ends_of when encoding)) × (result ≤ 16) }
 {
-    let ends = ends(when, encoding);
-    count_to(&ends, cut)
-}
-
-fn count_earlier(ts: &[i64], t: i64) -> usize
-    ensures { (result ≡ earlier_than t ts.now) × (result ≤ length ts.now) }
-{
-    let mut n = 0;
-    let mut i = 0;
-    while i < ts.len() {
-        if ts[i] < t {
-            n += 1;
-        }
-        i += 1;
-    }
-    n
+    ends(when, encoding)
+        .iter()
+        .filter(|&&end| end <= cut)
+        .count()
 }
 
 // How many of the first `count` events are before a time.
@@ -183,6 +157,5 @@ pub fn earlier(when: When, count: usize, t: i64) -> usize
     requires { count ≤ 16 }
     ensures { (result ≡ earlier_than t (take count (given_ts when))) × (result ≤ count) }
 {
-    let ts = times(when);
-    count_earlier(&ts[..count], t)
+    times(when)[..count].iter().filter(|&&u| u < t).count()
 }

@@ -29,8 +29,7 @@ mod write;
 fn word_size(encoding: Encoding) -> usize
     ensures { 0 < result }
 {
-    let codec = Codec::new(encoding);
-    codec.word_size()
+    Codec::new(encoding).word_size()
 }
 
 // The stream, cut, and then joined with what the writer behind the cut makes of the events that are
@@ -44,19 +43,18 @@ fn check_cut(
 ) -> io::Result<bool>
     requires { (start ≤ cut) × (cut ≤ length stream.now) × (length stream.now ≤ 256) }
 {
-    let encoding = case.encoding;
     let body = cut - start;
-    let when = case.when;
-    let whole = given::whole_before(when, encoding, body);
-    let kept = cut - body % word_size(encoding);
+    let whole = given::whole_before(case.when, case.encoding, body);
+    let kept = cut - body % word_size(case.encoding);
     let mut joined = write::room();
     write::copy(&stream[..kept], &mut joined);
     let left = &stream[..cut];
     let end = write::resume(stdout, case, left, whole, &mut joined, kept)?;
-    print::cut(stdout, cut, whole, end)?;
-    let first = exact::reads(stdout, case, left, whole, b" before the cut")?;
-    let second = exact::reads(stdout, case, &joined[..end], given::total(when), b" joined")?;
-    let exact = exact::both(first, second);
+    write!(stdout, "cut {cut}: {whole} whole, joined {end} bytes,")?;
+    let first = exact::reads(stdout, case, left, whole, " before the cut")?;
+    let total = given::total(case.when);
+    let second = exact::reads(stdout, case, &joined[..end], total, " joined")?;
+    let exact = first && second;
     print::end(stdout, exact)?;
     Ok(exact)
 }
@@ -65,25 +63,22 @@ fn check_cuts(stdout: &mut impl Write, case: Case, stream: &[u8], start: usize) 
     requires { length stream.now ≤ 256 }
 {
     let mut all = true;
-    let mut cut = start;
-    while cut <= stream.len() {
+    for cut in start..=stream.len() {
         let exact = check_cut(stdout, case, stream, start, cut)?;
-        all = exact::both(all, exact);
-        cut += 1;
+        all = all && exact;
     }
     Ok(all)
 }
 
 fn show(stdout: &mut impl Write, case: Case) -> io::Result<()> {
     print::case(stdout, case)?;
-    test_text::show::text(stdout, b"\n")?;
+    writeln!(stdout)?;
     let mut out = write::room();
     let n = write::appends(stdout, case, &mut out)?;
     let stream = &out[..n];
     let start = reading::body_start(case, stream);
     print::header(stdout, &stream[..start])?;
-    let encoding = case.encoding;
-    print::stream(stdout, &stream[start..], word_size(encoding))?;
+    print::stream(stdout, &stream[start..], word_size(case.encoding))?;
     let exact = check_cuts(stdout, case, stream, start)?;
     print::all(stdout, case, exact)
 }

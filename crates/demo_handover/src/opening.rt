@@ -4,10 +4,10 @@ ghost use Rattle.std.specs.Prelude.{◌≡◌, length};
 
 use crate::given::{Case, When};
 use crate::{print, reading};
-use prophesee_raw::{Encoding, ReadAnswer, refusal_number};
+use prophesee_raw::Encoding;
 use std::io;
 use std::io::Write;
-use test_text::{columns, show};
+use test_text::columns;
 
 fn recording() -> [u8; 24]
     ensures { 24 ≡ length result }
@@ -28,12 +28,12 @@ pub fn tell(stdout: &mut impl Write) -> io::Result<()> {
     let mut ts = [0; 16];
     let mut ps = [0; 16];
     let answer = reading::read(case, &bytes, &mut xs, &mut ys, &mut ts, &mut ps);
-    show::text(stdout, b"% evt 3, % end,")?;
+    write!(stdout, "% evt 3, % end,")?;
     print::words(stdout, &bytes[14..], 2)?;
-    show::text(stdout, b": reads as")?;
+    write!(stdout, ": reads as")?;
     match answer {
-        ReadAnswer::Read(r) => columns::show_events(stdout, &xs, &ys, &ts, &ps, r.count)?,
-        ReadAnswer::Refused(why) => print::told(stdout, b" refused ", refusal_number(why) as u64)?,
+        Ok(r) => columns::show_events(stdout, &xs, &ys, &ts, &ps, r.count)?,
+        Err(why) => write!(stdout, " refused {}", u32::from(why))?,
     }
-    show::text(stdout, b"\n")
+    writeln!(stdout)
 }

@@ -6,57 +6,22 @@ ghost use Rattle.std.specs.Prelude.{◌≤◌, length};
 use crate::compare;
 use crate::compare::{Difference, Got};
 use crate::given::{Case, When};
+use evt_types::Refusal;
 use prophesee_raw::fixed::FixedIndex;
 use prophesee_raw::{
-    Checkpoint, HeaderAnswer, Limit, LoadOptions, OpenOptions, Opening, ReadAnswer, SensorSize,
-    SliceAnswer, WordsOptions, fixed,
+    Checkpoint, LoadOptions, OpenOptions, Opening, SensorSize, WordsOptions, fixed,
 };
-use test_text::columns;
-
-// A refusal's number, or 0, and a count.
-#[derive(Clone, Copy)]
-struct Outcome {
-    refused: u64,
-    count: usize,
-}
-
-fn read_outcome(answer: ReadAnswer) -> Outcome {
-    match answer {
-        ReadAnswer::Read(r) => Outcome {
-            refused: 0,
-            count: r.count,
-        },
-        ReadAnswer::Refused(why) => Outcome {
-            refused: prophesee_raw::refusal_number(why) as u64,
-            count: 0,
-        },
-    }
-}
-
-fn slice_outcome(answer: SliceAnswer) -> Outcome {
-    match answer {
-        SliceAnswer::Sliced(n) => Outcome {
-            refused: 0,
-            count: n,
-        },
-        SliceAnswer::Refused(why) => Outcome {
-            refused: prophesee_raw::refusal_number(why) as u64,
-            count: 0,
-        },
-    }
-}
+use read_rules::Reading;
 
 // Where the body starts.
 pub fn body_start(case: Case, bytes: &[u8]) -> usize
     ensures { result ≤ length bytes.now }
 {
-    if case.headed {
-        let answer = prophesee_raw::parse_header(bytes, SensorSize::Unknown);
-        if let HeaderAnswer::Header(h) = answer {
-            return columns::at_most(h.data_offset, bytes.len());
-        }
+    if !case.headed {
+        return 0;
     }
-    0
+    let header = prophesee_raw::parse_header(bytes, None);
+    header.map_or(0, |h| h.data_offset).min(bytes.len())
 }
 
 // Into the columns lent.
@@ -67,20 +32,22 @@ pub fn read(
     ys: &mut [u16],
     ts: &mut [i64],
     ps: &mut [u8],
-) -> ReadAnswer {
+) -> Result<Reading, Refusal> {
     if case.headed {
         let options = LoadOptions {
-            sensor_size: SensorSize::Unknown,
-            max_events: Limit::Unlimited,
+            sensor_size: None,
+            max_events: None,
         };
         return prophesee_raw::read_raw(bytes, options, &mut *xs, &mut *ys, &mut *ts, &mut *ps);
     }
-    let encoding = case.encoding;
     prophesee_raw::decode_words(
         bytes,
-        encoding,
-        SensorSize::Known(2048, 2048),
-        Limit::Unlimited,
+        case.encoding,
+        Some(SensorSize {
+            width: 2048,
+            height: 2048,
+        }),
+        None,
         &mut *xs,
         &mut *ys,
         &mut *ts,
@@ -88,39 +55,53 @@ pub fn read(
     )
 }
 
-pub fn decode(case: Case, bytes: &[u8], to: usize) -> Difference
-    requires { to ≤ 16 }
+// What a call hands over into columns of 16, judged.
+fn judged<F: FnOnce(&mut [u16], &mut [u16], &mut [i64], &mut [u8]) -> Result<usize, Refusal>>(
+    when: When,
+    from: usize,
+    to: usize,
+    call: F,
+) -> Result<(), Difference>
+    requires bounds { (from ≤ to) × (to ≤ 16) }
+    requires callable { F.IsAlwaysCallable call }
 {
-    let when = case.when;
     let mut xs = [0; 16];
     let mut ys = [0; 16];
     let mut ts = [0; 16];
     let mut ps = [0; 16];
-    let answer = read(case, bytes, &mut xs, &mut ys, &mut ts, &mut ps);
-    let o = read_outcome(answer);
+    let count = call(&mut xs, &mut ys, &mut ts, &mut ps);
     let got = Got {
-        refused: o.refused,
-        count: o.count,
+        count,
         xs,
         ys,
         ts,
         ps,
     };
-    compare::judge(when, got, 0, to)
+    compare::judge(when, got, from, to)
+}
+
+pub fn decode(case: Case, bytes: &[u8], to: usize) -> Result<(), Difference>
+    requires { to ≤ 16 }
+{
+    judged(case.when, 0, to, |xs, ys, ts, ps| {
+        read(case, bytes, xs, ys, ts, ps).map(|r| r.count)
+    })
 }
 
 pub fn open(case: Case, bytes: &[u8], spacing: usize) -> FixedIndex {
     if case.headed {
         let options = OpenOptions {
-            sensor_size: SensorSize::Unknown,
+            sensor_size: None,
             spacing,
         };
         return fixed::open(bytes, options, 64);
     }
-    let encoding = case.encoding;
     let words = WordsOptions {
-        encoding,
-        sensor_size: SensorSize::Known(2048, 2048),
+        encoding: case.encoding,
+        sensor_size: Some(SensorSize {
+            width: 2048,
+            height: 2048,
+        }),
         spacing,
     };
     fixed::open_words(bytes, words, 64)
@@ -134,28 +115,14 @@ pub fn by_number(
     i0: usize,
     i1: usize,
     to: usize,
-) -> Difference
+) -> Result<(), Difference>
     requires { (i0 ≤ to) × (to ≤ 16) }
 {
     let source = opened.source;
     let n = opened.records;
-    let mut xs = [0; 16];
-    let mut ys = [0; 16];
-    let mut ts = [0; 16];
-    let mut ps = [0; 16];
-    let answer = fixed::slice_index(
-        bytes, source, records, n, i0, i1, &mut xs, &mut ys, &mut ts, &mut ps,
-    );
-    let o = slice_outcome(answer);
-    let got = Got {
-        refused: o.refused,
-        count: o.count,
-        xs,
-        ys,
-        ts,
-        ps,
-    };
-    compare::judge(when, got, i0, to)
+    judged(when, i0, to, |xs, ys, ts, ps| {
+        fixed::slice_index(bytes, source, records, n, i0, i1, xs, ys, ts, ps)
+    })
 }
 
 pub fn by_time(
@@ -167,26 +134,12 @@ pub fn by_time(
     t1: i64,
     from: usize,
     to: usize,
-) -> Difference
+) -> Result<(), Difference>
     requires { (from ≤ to) × (to ≤ 16) }
 {
     let source = opened.source;
     let n = opened.records;
-    let mut xs = [0; 16];
-    let mut ys = [0; 16];
-    let mut ts = [0; 16];
-    let mut ps = [0; 16];
-    let answer = fixed::slice_time(
-        bytes, source, records, n, t0, t1, &mut xs, &mut ys, &mut ts, &mut ps,
-    );
-    let o = slice_outcome(answer);
-    let got = Got {
-        refused: o.refused,
-        count: o.count,
-        xs,
-        ys,
-        ts,
-        ps,
-    };
-    compare::judge(when, got, from, to)
+    judged(when, from, to, |xs, ys, ts, ps| {
+        fixed::slice_time(bytes, source, records, n, t0, t1, xs, ys, ts, ps)
+    })
 }

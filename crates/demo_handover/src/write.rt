@@ -3,10 +3,10 @@ ghost use Rattle.std.specs.Prelude.{◌≡◌, ◌++◌, ◌≤◌, length, drop
 
 use crate::given::{Case, When};
 use crate::{given, print};
-use prophesee_raw::{AppendAnswer, RawEventSink, Resumed};
+use prophesee_raw::{RawEventSink, Resumed};
 use std::io;
 use std::io::Write;
-use test_text::{columns, text};
+use test_text::text;
 
 // A writer, how many bytes of the output are written, and whether the answers are told.
 #[derive(Clone, Copy)]
@@ -23,22 +23,6 @@ pub fn room() -> [u8; 256]
     [0; 256]
 }
 
-fn written(answer: AppendAnswer) -> usize {
-    match answer {
-        AppendAnswer::Written(n) => n,
-        AppendAnswer::Refused(_) => 0,
-    }
-}
-
-// Behind what was written at `at`, within the output.
-fn behind(at: usize, answer: AppendAnswer, len: usize) -> usize
-    requires { at ≤ len }
-    ensures { result ≤ len }
-{
-    let n = written(answer);
-    if n <= len - at { at + n } else { len }
-}
-
 // Appends behind what is written.
 fn append(
     stdout: &mut impl Write,
@@ -52,17 +36,14 @@ fn append(
     requires { w.at ≤ length out.old }
     ensures { IfOk result (λ w. w.at ≤ length out.old) }
 {
-    let sink = w.sink;
-    let at = w.at;
-    let len = out.len();
-    let appended = prophesee_raw::append(sink, 2048, 2048, xs, ys, ts, ps, &mut out[at..]);
-    let next = appended.sink;
-    let answer = appended.answer;
-    print::append(stdout, w.told, xs.len() as u64, answer)?;
-    let end = behind(at, answer, len);
+    let appended = prophesee_raw::append(w.sink, 2048, 2048, xs, ys, ts, ps, &mut out[w.at..]);
+    if w.told {
+        print::append(stdout, xs.len(), appended.answer)?;
+    }
+    let n = appended.answer.unwrap_or(0);
     Ok(Progress {
-        sink: next,
-        at: end,
+        sink: appended.sink,
+        at: w.at.saturating_add(n).min(out.len()),
         told: w.told,
     })
 }
@@ -86,9 +67,9 @@ fn append_given(
     append(
         stdout,
         w,
-        columns::part_of_shorts(&xs, from, to),
-        columns::part_of_shorts(&ys, from, to),
-        columns::part_of_longs(&ts, from, to),
+        text::part(&xs, from, to),
+        text::part(&ys, from, to),
+        text::part(&ts, from, to),
         text::part(&ps, from, to),
         &mut *out,
     )
@@ -111,10 +92,8 @@ pub fn appends(stdout: &mut impl Write, case: Case, out: &mut [u8]) -> io::Resul
     ensures { IfOk result (λ n. n ≤ length out.old) }
 {
     let when = case.when;
-    let encoding = case.encoding;
-    let sink = RawEventSink::to_writer(encoding, case.headed);
     let writer = Progress {
-        sink,
+        sink: RawEventSink::to_writer(case.encoding, case.headed),
         at: 0,
         told: true,
     };
@@ -129,8 +108,7 @@ fn behind_left(case: Case, left: &[u8]) -> Resumed {
     if case.headed {
         return prophesee_raw::resume_raw(left);
     }
-    let encoding = case.encoding;
-    prophesee_raw::resume_words(left, encoding)
+    prophesee_raw::resume_words(left, case.encoding)
 }
 
 // That writer goes on at `at` with the given events from number `from` on. Answers where it ends.
@@ -147,11 +125,9 @@ pub fn resume(
 {
     let when = case.when;
     let resumed = behind_left(case, left);
-    let answer = resumed.answer;
-    print::resumed(stdout, answer)?;
-    let sink = resumed.sink;
+    print::resumed(stdout, resumed.answer)?;
     let writer = Progress {
-        sink,
+        sink: resumed.sink,
         at,
         told: false,
     };
@@ -164,9 +140,5 @@ pub fn copy(from: &[u8], to: &mut [u8])
     requires { length from.now ≤ length to.old }
     ensures { to.new ≡ from.now ++ drop (length from.now) to.old }
 {
-    let mut i = 0;
-    while i < from.len() {
-        to[i] = from[i];
-        i += 1;
-    }
+    to[..from.len()].copy_from_slice(from);
 }

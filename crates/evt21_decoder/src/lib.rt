@@ -13,22 +13,15 @@ ghost use Rattle.evt_types.specs.Owed.{Owed};
 ghost use Rattle.evt_types.specs.Trigger.{trigger_outcome, OwedTrigger};
 
 use evt_types::fields::bits;
-use evt_types::{DecodeAnswer, Refusal, TriggerAnswer, vector};
-use evt2_decoder::{Evt2Decoder, Evt2Step};
+use evt_types::{Decoded, EventVector, RawTrigger, Refusal, Step, vector};
+use evt2_decoder::Evt2Decoder;
 
-#[derive(Clone, Copy)]
+#[derive(Clone, Copy, Debug, PartialEq, Eq)]
 pub struct Evt21Decoder {
     pub initialised: bool,
     pub time_high: u64,
     pub time: u64,
     pub high_loops: u64,
-}
-
-// What `step` leaves: the next decoder, and the answer.
-#[derive(Clone, Copy)]
-pub struct Evt21Decoded {
-    pub next: Evt21Decoder,
-    pub answer: DecodeAnswer,
 }
 
 impl Evt21Decoder {
@@ -64,28 +57,24 @@ impl Evt21Decoder {
     }
 
     // One word, by value. A decoder out of range is refused, and comes back as it was.
-    pub fn step(self, word: u64) -> Evt21Decoded
+    pub fn step(self, word: u64) -> Decoded<Self>
         ensures { Decoded21 self word result }
     {
         if self.in_range() {
             let s = advance(self.evt2(), word);
-            let d = s.next;
-            let events = s.events;
-            let next = of_evt2(d);
-            let v = vector::narrow(events);
-            return Evt21Decoded {
-                next,
-                answer: DecodeAnswer::Events(v),
+            return Decoded {
+                next: of_evt2(s.next),
+                answer: Ok(vector::narrow(s.events)),
             };
         }
-        Evt21Decoded {
+        Decoded {
             next: self,
-            answer: DecodeAnswer::Refused(Refusal::StateOutOfRange),
+            answer: Err(Refusal::StateOutOfRange),
         }
     }
 
     // One word, into a lent decoder. Out of range, it is refused and left as it was.
-    pub fn decode(&mut self, word: u64) -> DecodeAnswer
+    pub fn decode(&mut self, word: u64) -> Result<EventVector, Refusal>
         ensures { Owed (in_range21 self.old) self.old (step21 self.old word)
             (vector21 self.old word) self.new result }
     {
@@ -96,7 +85,7 @@ impl Evt21Decoder {
 
     // The trigger that a word carries, if it does. No word's trigger alters the decoder, so a by-value
     // method is enough. A decoder out of range is refused.
-    pub fn trigger(self, word: u64) -> TriggerAnswer
+    pub fn trigger(self, word: u64) -> Result<Option<RawTrigger>, Refusal>
         ensures { OwedTrigger (trigger_outcome (in_range21 self) (trigger21 self word)) result }
     {
         let upper = word >> 32;
@@ -117,7 +106,7 @@ pub fn of_evt2(d: Evt2Decoder) -> Evt21Decoder
 
 // One word, for loops: they keep a decoder of EVT 2.0, and its numbers small enough that no sum wraps.
 // It is no method, since nothing that `prophesee_raw` passes on has a `requires`.
-pub fn advance(decoder: Evt2Decoder, word: u64) -> Evt2Step
+pub fn advance(decoder: Evt2Decoder, word: u64) -> Step<Evt2Decoder>
     requires { Sane2 decoder }
     ensures { (result.next ≡ step2 decoder (upper word)) × (result.events ≡ wide (vector2 decoder (upper word)) (mask21 word)) }
 {
@@ -126,5 +115,5 @@ pub fn advance(decoder: Evt2Decoder, word: u64) -> Evt2Step
     let mut events = s.events;
     // EVT 2.0 says 1 of an event word, and 0 of others.
     events.mask = events.mask * bits(word, 0, 32);
-    Evt2Step { next, events }
+    Step { next, events }
 }

@@ -7,15 +7,15 @@
 ghost use Rattle.std.specs.Prelude.{◌≡◌, true, cond, ◌+◌, ◌-◌, ◌/◌, ◌^◌, ◌≤◌, ◌<◌, eqb, ltb, length};
 ghost use Rattle.std.proofs.lemmas.List.Edits.{sets};
 ghost use Rattle.evt_types.specs.Layout.{word_size21, grain2};
-ghost use Rattle.write_buffer.specs.Columns.{Sized, Whole, events_in};
+ghost use Rattle.write_buffer.specs.Columns.{events_in};
+ghost use Rattle.write_buffer.specs.Lent.{of};
 ghost use Rattle.write_buffer.specs.Storing.{Roomy};
 ghost use Rattle.evt2_encoder.specs.Pass2.{Fitting2};
 ghost use Rattle.evt21_encoder.specs.Evt21.{high_word21, stream21};
 ghost use Rattle.evt21_encoder.specs.Pass21.{upper_half, key_word, key_bytes, joins21, bit_of, passed21};
 
-use evt_types::Sent;
 use evt2_decoder::Evt2Decoder;
-use write_buffer::{EncoderState, Put, sent_number, state_after, time_at};
+use write_buffer::{Columns, EncoderState, Put, sent_number, state_after};
 
 const WORD_SIZE: usize = 8;
 
@@ -51,7 +51,8 @@ fn no_rise(last: u32, key: u32) -> u64
 }
 
 // Whether an event goes on a run: its word in EVT 2.0 and the high half of its time, beside those of
-// the run's last event. All is compared at once, without a branch for each.
+// the run's last event. All is compared at once, without a branch for each. (Tried: `==` joined by `&`,
+// slower, 4.84 against 4.52 ns an event.)
 fn joined(last: u32, key: u32, sent: u64, high: u64) -> bool
     ensures { result ≡ joins21 last key sent high }
 {
@@ -95,47 +96,35 @@ fn put_words(high: u64, t: u64, key: u32, mask: u32, out: &mut [u8], at: usize) 
 // The words of all events, from `start` on. The word of a run is stored at each of its events, and
 // the next event's word takes its place where that goes on the run: no event needs a branch. No
 // word is above 2^32 - 1, so the first event goes on no run. The bounds keep `at` from wrapping.
-pub fn pass(
-    state: EncoderState,
-    xs: &[u16],
-    ys: &[u16],
-    ts: &[i64],
-    ps: &[u8],
-    out: &mut [u8],
-    start: usize,
-) -> Put
-    requires { Sized xs.now ys.now ts.now ps.now × (start ≤ 2 ^ 32) × Whole ts.now
-        × Roomy out.old start (length (stream21 state (events_in xs.now ys.now ts.now ps.now)))
-        × Fitting2 xs.now ys.now ts.now ps.now }
-    ensures passed { result ≡ passed21 state (events_in xs.now ys.now ts.now ps.now) start }
-    ensures stores { out.new ≡ sets out.old start (stream21 state (events_in
-        xs.now ys.now ts.now ps.now)) }
+pub fn pass(state: EncoderState, events: Columns, out: &mut [u8], start: usize) -> Put
+    requires { (start ≤ 2 ^ 32)
+        × Roomy out.old start (length (stream21 state (of events_in events)))
+        × of Fitting2 events }
+    ensures passed { result ≡ passed21 state (of events_in events.entry) start }
+    ensures stores { out.new ≡ sets out.old start (stream21 state (of events_in events.entry)) }
 {
     let sent = state.time_high;
     let mut high = sent_number(sent);
     let mut last: u32 = 4294967295;
     let mut mask: u32 = 0;
     let mut at = start;
-    let mut i: usize = 0;
-    while i < xs.len() {
-        let x = xs[i];
-        let t = time_at(ts, i);
-        let key = evt2_encoder::event_word(x, ys[i], t, ps[i]);
+    for (i, &x) in events.xs.iter().enumerate() {
+        let t = events.time(i);
+        let key = evt2_encoder::event_word(x, events.ys[i], t, events.ps[i]);
         let on = joined(last, key, high, t / Evt2Decoder::GRAIN);
         mask = with_bit(on, mask, x);
         let place = place_of(on, at);
         at = put_words(high, t, key, mask, &mut *out, place);
         high = t / Evt2Decoder::GRAIN;
         last = key;
-        i += 1;
     }
     let low = state.time_low;
     let row = state.y;
     let sent_now = EncoderState {
-        time_high: Sent::Value(high),
+        time_high: Some(high),
         time_low: low,
         y: row,
     };
-    let after = state_after(xs.len(), state, sent_now);
+    let after = state_after(events.xs.len(), state, sent_now);
     Put { state: after, at }
 }

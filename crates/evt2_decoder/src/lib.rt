@@ -11,28 +11,14 @@ ghost use Rattle.evt_types.specs.Trigger.{trigger_outcome, OwedTrigger};
 
 use evt_types::fields::bits;
 use evt_types::vector::Vector;
-use evt_types::{DecodeAnswer, Refusal, TriggerAnswer, clock, trigger, vector};
+use evt_types::{Decoded, EventVector, RawTrigger, Refusal, Step, clock, trigger, vector};
 
-#[derive(Clone, Copy)]
+#[derive(Clone, Copy, Debug, PartialEq, Eq)]
 pub struct Evt2Decoder {
     pub initialised: bool,
     pub time_high: u64,
     pub time: u64,
     pub high_loops: u64,
-}
-
-// The decoder after a word, and the word's events.
-#[derive(Clone, Copy)]
-pub struct Evt2Step {
-    pub next: Evt2Decoder,
-    pub events: Vector,
-}
-
-// What `step` leaves: the next decoder, and the answer.
-#[derive(Clone, Copy)]
-pub struct Evt2Decoded {
-    pub next: Evt2Decoder,
-    pub answer: DecodeAnswer,
 }
 
 impl Evt2Decoder {
@@ -71,37 +57,28 @@ impl Evt2Decoder {
                 self.high_loops,
             );
         }
-        if self.time_high != 0 {
-            return false;
-        }
-        if self.time != 0 {
-            return false;
-        }
-        self.high_loops == 0
+        self.time_high == 0 && self.time == 0 && self.high_loops == 0
     }
 
     // One word, by value. A decoder out of range is refused, and comes back as it was.
-    pub fn step(self, word: u32) -> Evt2Decoded
+    pub fn step(self, word: u32) -> Decoded<Self>
         ensures { Decoded2 self word result }
     {
         if self.in_range() {
             let s = advance(self, word as u64);
-            let next = s.next;
-            let events = s.events;
-            let v = vector::narrow(events);
-            return Evt2Decoded {
-                next,
-                answer: DecodeAnswer::Events(v),
+            return Decoded {
+                next: s.next,
+                answer: Ok(vector::narrow(s.events)),
             };
         }
-        Evt2Decoded {
+        Decoded {
             next: self,
-            answer: DecodeAnswer::Refused(Refusal::StateOutOfRange),
+            answer: Err(Refusal::StateOutOfRange),
         }
     }
 
     // One word, into a lent decoder. Out of range, it is refused and left as it was.
-    pub fn decode(&mut self, word: u32) -> DecodeAnswer
+    pub fn decode(&mut self, word: u32) -> Result<EventVector, Refusal>
         ensures { Owed (in_range2 self.old) self.old (step2 self.old word)
             (vector2 self.old word) self.new result }
     {
@@ -112,27 +89,27 @@ impl Evt2Decoder {
 
     // The trigger that a word carries, if it does. No word's trigger alters the decoder, so a by-value
     // method is enough. A decoder out of range is refused.
-    pub fn trigger(self, word: u32) -> TriggerAnswer
+    pub fn trigger(self, word: u32) -> Result<Option<RawTrigger>, Refusal>
         ensures { OwedTrigger (trigger_outcome (in_range2 self) (trigger2 self word)) result }
     {
         if self.in_range() {
             let w = word as u64;
             let t = self.time_high + bits(w, 22, 6);
-            return trigger::of_word(
+            return Ok(trigger::of_word(
                 self.initialised,
                 bits(w, 28, 4),
                 t,
                 bits(w, 8, 5),
                 bits(w, 0, 1),
-            );
+            ));
         }
-        TriggerAnswer::Refused(Refusal::StateOutOfRange)
+        Err(Refusal::StateOutOfRange)
     }
 }
 
 // One word, for loops: they keep the decoder's numbers small enough that no sum wraps. It is no
 // method, since nothing that `prophesee_raw` passes on has a `requires`.
-pub fn advance(decoder: Evt2Decoder, word: u64) -> Evt2Step
+pub fn advance(decoder: Evt2Decoder, word: u64) -> Step<Evt2Decoder>
     requires { Sane2 decoder }
     ensures { (result.next ≡ step2 decoder word) × (result.events ≡ vector2 decoder word) }
 {
@@ -170,5 +147,5 @@ pub fn advance(decoder: Evt2Decoder, word: u64) -> Evt2Step
         2..=7 | 9..=15 => {}
         _ => {}
     }
-    Evt2Step { next: d, events: v }
+    Step { next: d, events: v }
 }

@@ -2,7 +2,8 @@
 use Rattle.std.specs.Prelude.{◌≡◌, refl, Bool, true, false, List, [], ◌∷◌, ◌++◌, ℕ, ◌/◌, ◌%◌, ◌^◌, ◌<◌}
 use Rattle.std.proofs.Common.{arith}
 use Rattle.laws_stream.specs.{Machine.Machine, Machine.Note, Machine.All, Machine.words, Machine.notes, Words.Fits}
-use Rattle.evt_types.specs.{Event.Event, Layout.word_size2, Layout.grain2, Layout.event_word2, Layout.time_word2, declared.Sent.TheVariants.Value}
+use Rattle.std.specs.Prelude.{Some}
+use Rattle.evt_types.specs.{Event.Event, Layout.word_size2, Layout.grain2, Layout.event_word2, Layout.time_word2}
 use Rattle.write_buffer.specs.{declared.EncoderState.EncoderState, Sent.sent_is, Sent.carries, Sent.due}
 
 abbrev pub high_word2 : (t : ℕ) → ℕ
@@ -20,7 +21,7 @@ encode2 v e = due (high_sent2 v e) (high_word2 e.t) ++ (carries (word_of2 e) e �
 
 -- a state whose high half was sent
 abbrev pub state_of2 : EncoderState → (high : ℕ) → EncoderState
-state_of2 v high = record { time_high = Value high; time_low = v.time_low; y = v.y }
+state_of2 v high = record { time_high = Some high; time_low = v.time_low; y = v.y }
 
 abbrev pub encoded2 : EncoderState → Event → EncoderState
 encoded2 v e = state_of2 v (e.t / grain2)

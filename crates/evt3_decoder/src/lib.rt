@@ -12,9 +12,9 @@ ghost use Rattle.evt_types.specs.Trigger.{trigger_outcome, OwedTrigger};
 use evt_types::fields::bits;
 use evt_types::num::saturating_add;
 use evt_types::vector::Vector;
-use evt_types::{DecodeAnswer, Refusal, TriggerAnswer, clock, trigger, vector};
+use evt_types::{Decoded, EventVector, RawTrigger, Refusal, Step, clock, trigger, vector};
 
-#[derive(Clone, Copy)]
+#[derive(Clone, Copy, Debug, PartialEq, Eq)]
 pub struct Decoder {
     pub initialised: bool,
     pub time_base: u64,
@@ -35,20 +35,6 @@ pub struct WideDecoder {
     pub base_x: u64,
     pub polarity: bool,
     pub high_loops: u64,
-}
-
-// The decoder after a word, and the word's events.
-#[derive(Clone, Copy)]
-pub struct WideStep {
-    pub next: WideDecoder,
-    pub events: Vector,
-}
-
-// What `step` leaves: the next decoder, and the answer.
-#[derive(Clone, Copy)]
-pub struct Decoded {
-    pub next: Decoder,
-    pub answer: DecodeAnswer,
 }
 
 impl Decoder {
@@ -81,17 +67,14 @@ impl Decoder {
         ensures { result ≡ in_range3 self }
     {
         if self.initialised {
-            if clock::in_range(
+            return clock::in_range(
                 Self::PERIOD,
                 Self::GRAIN,
                 Self::MOST_LOOPS,
                 self.time_base,
                 self.time,
                 self.high_loops,
-            ) {
-                return self.y <= 2047;
-            }
-            return false;
+            ) && self.y <= 2047;
         }
         self.is_zero()
     }
@@ -100,47 +83,33 @@ impl Decoder {
     fn is_zero(self) -> bool
         ensures { result ≡ is_zero self }
     {
-        if self.time_base != 0 {
-            return false;
-        }
-        if self.time != 0 {
-            return false;
-        }
-        if self.y != 0 {
-            return false;
-        }
-        if self.base_x != 0 {
-            return false;
-        }
-        if self.polarity {
-            return false;
-        }
-        self.high_loops == 0
+        self.time_base == 0
+            && self.time == 0
+            && self.y == 0
+            && self.base_x == 0
+            && !self.polarity
+            && self.high_loops == 0
     }
 
     // One word, by value. A decoder out of range is refused, and comes back as it was.
-    pub fn step(self, word: u16) -> Decoded
+    pub fn step(self, word: u16) -> Decoded<Self>
         ensures { Decoded3 self word result }
     {
         if self.in_range() {
             let s = widen(self).advance(word as u64);
-            let wide = s.next;
-            let next = wide.slim();
-            let events = s.events;
-            let v = vector::narrow(events);
             return Decoded {
-                next,
-                answer: DecodeAnswer::Events(v),
+                next: s.next.slim(),
+                answer: Ok(vector::narrow(s.events)),
             };
         }
         Decoded {
             next: self,
-            answer: DecodeAnswer::Refused(Refusal::StateOutOfRange),
+            answer: Err(Refusal::StateOutOfRange),
         }
     }
 
     // One word, into a lent decoder. Out of range, it is refused and left as it was.
-    pub fn decode(&mut self, word: u16) -> DecodeAnswer
+    pub fn decode(&mut self, word: u16) -> Result<EventVector, Refusal>
         ensures { Owed (in_range3 self.old) self.old (step3 self.old word)
             (vector3 self.old word) self.new result }
     {
@@ -151,20 +120,20 @@ impl Decoder {
 
     // The trigger that a word carries, if it does. No word's trigger alters the decoder, so a by-value
     // method is enough. A decoder out of range is refused.
-    pub fn trigger(self, word: u16) -> TriggerAnswer
+    pub fn trigger(self, word: u16) -> Result<Option<RawTrigger>, Refusal>
         ensures { OwedTrigger (trigger_outcome (in_range3 self) (trigger3 self word)) result }
     {
         if self.in_range() {
             let w = word as u64;
-            return trigger::of_word(
+            return Ok(trigger::of_word(
                 self.initialised,
                 bits(w, 12, 4),
                 self.time,
                 bits(w, 8, 4),
                 bits(w, 0, 1),
-            );
+            ));
         }
-        TriggerAnswer::Refused(Refusal::StateOutOfRange)
+        Err(Refusal::StateOutOfRange)
     }
 }
 
@@ -226,7 +195,7 @@ impl WideDecoder {
     }
 
     // One word, for loops: they keep the decoder's numbers small enough that no sum wraps.
-    pub fn advance(self, word: u64) -> WideStep
+    pub fn advance(self, word: u64) -> Step<Self>
         requires { Sane3 self }
         ensures { (result.next ≡ widened (step3 (slimmed self) word)) × (result.events ≡ vector3 (slimmed self) word) }
     {
@@ -286,6 +255,6 @@ impl WideDecoder {
                 _ => {}
             }
         }
-        WideStep { next: d, events: v }
+        Step { next: d, events: v }
     }
 }

@@ -1,14 +1,15 @@
 -- Laws of specs/Leads.antt.
 use Rattle.evt3_lead_words.specs.{Evt3.high_sent3, Evt3.low_kept, Evt3.low_sent3, Evt3.row_sent3, Leads.lead_bytes, Leads.lead_parts, Leads.leads_bytes}
 use Rattle.evt3_lead_words.specs.{Leads.low_number}
-use Rattle.evt_types.specs.{Layout.grain3, declared.Sent.Sent}
+use Rattle.std.specs.Prelude.{Option}
+use Rattle.evt_types.specs.{Layout.grain3}
 use Rattle.std.proofs.Common.{arith, sym, ◌∙◌}
 use Rattle.std.specs.Prelude.{Bool, cond, eqb, false, refl, true, ℕ, ◌%◌, ◌/◌, ◌<◌, ◌^◌, ◌≡◌}
 use Rattle.write_buffer.specs.{Sent.number_is, Sent.sent_number, declared.EncoderState.EncoderState}
 
 -- ---- the words of time and row
 
-low_as : (b : Bool) (l : Sent) → sent_number (low_kept b l) ≡ cond b (sent_number l) 0
+low_as : (b : Bool) (l : Option ℕ) → sent_number (low_kept b l) ≡ cond b (sent_number l) 0
 low_as true l = refl
 low_as false l = refl
 

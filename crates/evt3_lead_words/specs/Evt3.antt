@@ -1,8 +1,8 @@
 -- EVT3: the words that a writer sends of a run.
 use Rattle.std.specs.Prelude.{Bool, true, false, cond, ◌&&◌, List, [], ◌∷◌, ◌++◌, ℕ, zero, suc, ◌+◌, ◌-◌, ◌*◌, ◌/◌, ◌%◌, ◌^◌, eqb, ltb, length}
 use Rattle.laws_stream.specs.{Machine.Machine, Machine.Note, Mask.mask}
-use Rattle.evt_types.specs.{Event.Event, Layout.grain3, Layout.word3, Layout.column_word3, declared.Sent.Sent, declared.Sent.TheVariants.Value}
-use Rattle.evt_types.specs.declared.Sent.TheVariants.{Nothing}
+use Rattle.std.specs.Prelude.{Option, Some, None}
+use Rattle.evt_types.specs.{Event.Event, Layout.grain3, Layout.word3, Layout.column_word3}
 use Rattle.evt3_decoder.specs.Evt3.{period3}
 use Rattle.write_buffer.specs.{declared.EncoderState.EncoderState, Columns.event, Sent.sent_is, Sent.quiet, Sent.carries, Sent.due}
 use Rattle.evt3_run_rules.specs.Runs.{Run, spread, first_x, last_x}
@@ -19,13 +19,13 @@ row_word3 y = word3 0 (y % 2048)
 -- ---- loops
 
 -- the loop of the half that is held: a writer that holds none is in loop 0
-abbrev pub loop_of : Sent → ℕ
-loop_of Nothing = 0
-loop_of (Value h) = h / 2 ^ 12
+abbrev pub loop_of : Option ℕ → ℕ
+loop_of None = 0
+loop_of (Some h) = h / 2 ^ 12
 
-abbrev pub at_end : Sent → Bool
-at_end Nothing = false
-at_end (Value h) = eqb (h % 2 ^ 12) 4095
+abbrev pub at_end : Option ℕ → Bool
+at_end None = false
+at_end (Some h) = eqb (h % 2 ^ 12) 4095
 
 -- to pass n loops: for each type 8 with FFF, unless the half that is held is that, and type 8 with 000
 unfoldable pub passes3 : (n : ℕ) (end : Bool) → List (Note ℕ Event)
@@ -39,7 +39,7 @@ ahead3 v t = t / period3 - loop_of v.time_high
 -- what is held then: if any was passed, the half 000 of t's loop, and the low half counts as 0
 abbrev pub looped_by : EncoderState → (t passed : ℕ) → EncoderState
 looped_by v t zero = v
-looped_by v t (suc n) = record { time_high = Value (t / period3 * 2 ^ 12); time_low = Value 0; y = v.y }
+looped_by v t (suc n) = record { time_high = Some (t / period3 * 2 ^ 12); time_low = Some 0; y = v.y }
 
 abbrev pub looped3 : EncoderState → (t : ℕ) → EncoderState
 looped3 v t = looped_by v t (ahead3 v t)
@@ -47,9 +47,9 @@ looped3 v t = looped_by v t (ahead3 v t)
 -- ---- time and row in their loop
 
 -- after a type 8 the low half counts as 0
-abbrev pub low_kept : (sent : Bool) → Sent → Sent
+abbrev pub low_kept : (sent : Bool) → Option ℕ → Option ℕ
 low_kept true l = l
-low_kept false l = Value 0
+low_kept false l = Some 0
 
 abbrev pub high_sent3 : EncoderState → (t : ℕ) → Bool
 high_sent3 v t = sent_is v.time_high (t / grain3)
@@ -120,7 +120,7 @@ encode3 v r =
     passes3 (ahead3 v r.t) (at_end v.time_high) ++ (leads3 (looped3 v r.t) r.t r.y ++ body3 r.t r.y r.p r.xs)
 
 abbrev pub state_of3 : (high low row : ℕ) → EncoderState
-state_of3 high low row = record { time_high = Value high; time_low = Value low; y = Value row }
+state_of3 high low row = record { time_high = Some high; time_low = Some low; y = Some row }
 
 abbrev pub encoded3 : EncoderState → Run → EncoderState
 encoded3 v r = state_of3 (r.t / grain3) (r.t % grain3) r.y

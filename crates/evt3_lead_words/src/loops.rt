@@ -26,11 +26,9 @@ pub fn put_passes(n: u64, end: bool, out: &mut [u8], at: usize) -> usize
 {
     let mut a = at;
     let mut sent = end;
-    let mut left = n;
-    while 0 < left {
+    for _ in 0..n {
         a = put_pass(sent, &mut *out, a);
         sent = false;
-        left -= 1;
     }
     a
 }

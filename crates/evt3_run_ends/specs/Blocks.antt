@@ -1,8 +1,9 @@
 -- Blocks of 64 events that all go on a run, told from the four columns one by one.
-use Rattle.std.specs.Prelude.{◌≡◌, refl, Bool, true, false, ◌&&◌, List, ℕ, zero, suc, ◌+◌, ◌<◌, eqb, ltb, ℤ, length, get_or}
+use Rattle.std.specs.Prelude.{◌≡◌, refl, Bool, true, false, ◌&&◌, List, ℕ, zero, suc, ◌+◌, ◌-◌, ◌≤◌, ◌<◌, eqb, ltb, ℤ, length, get_or}
 use Rattle.std.proofs.Common.{sym, ap, ◌∙◌, arith, add-zero, lt-ltb}
+use Rattle.std.proofs.Math.Bool.{and-true, and_assoc}
 use Rattle.laws_stream.specs.Machine.{and_both}
-use Rattle.write_buffer.specs.{Columns.Sized, Every.every_from, Every.every_from-some, Every.every_from_and, Every.every_from-same}
+use Rattle.write_buffer.specs.{Columns.Sized, Every.every_from, Every.every_from_none, Every.every_from-some, Every.every_from_and, Every.every_from-same}
 use Rattle.evt3_run_rules.specs.Marks.{time_at, go_on, joins_next, stop_at, Along, goes_on}
 
 -- a row or a polarity
@@ -14,6 +15,37 @@ is_time ts t i = eqb (time_at ts i) t
 
 abbrev pub rises_after : List ℕ → ℕ → Bool
 rises_after xs i = ltb (get_or xs i 0) (get_or xs (i + 1) 0)
+
+-- ---- a loop that asks of n places from i on: j of them are asked
+
+module _ (f : ℕ → Bool) (n i : ℕ) where
+  pub record Asked (all : Bool) (j : ℕ) : Type 0 where
+    pub below : j ≤ n
+    pub so_far : (all && every_from f (n - j) (i + j)) ≡ every_from f n i
+
+  pub asked_start : Asked true 0
+  asked_start = record { below = omega arith; so_far = let all : n - 0 ≡ n = omega arith in rw (add-zero, all) }
+
+  pub asked_iteration : {all : Bool} {j : ℕ} → Asked all j → j < n → (b : Bool) → b ≡ f (i + j) → Asked (all && b) (j + 1)
+  asked_iteration {all} {j} a h b e =
+      let left : n - j ≡ suc (n - (j + 1)) = omega arith in
+      let to : i + j + 1 ≡ i + (j + 1) = omega arith in
+      let split : every_from f (n - j) (i + j) ≡ (f (i + j) && every_from f (n - (j + 1)) (i + (j + 1))) = rw (left, every_from-some f, to) in
+      record { below = omega arith; so_far = rw (e, and_assoc all (f (i + j))) (ap (λ (b : Bool). all && b) (sym split) ∙ a.so_far) }
+
+  pub asked_end : {all : Bool} {j : ℕ} → Asked all j → n ≤ j → all ≡ every_from f n i
+  asked_end {all} {j} a h =
+      let left : n - j ≡ 0 = omega (arith, a.below) in
+      sym (and-true all) ∙ (rw (left, every_from_none f) at a.so_far)
+
+-- what `&&` gives, where its second part is told only if the first is true
+pub then_told : {a b v : Bool} → (r : Bool) → r ≡ a → r ≡ true → v ≡ b → v ≡ (a && b)
+then_told r e t f = rw (sym e ∙ t) f
+
+pub else_told : {a v : Bool} → (b r : Bool) → r ≡ a → r ≡ false → v ≡ r → v ≡ (a && b)
+else_told b r e n f = rw (sym e ∙ n) (f ∙ n)
+
+-- ---- 64 events go on a run
 
 -- the times are told last
 last_of : (t y p x : Bool) → (t && (y && (p && x))) ≡ (y && (p && (x && t)))
@@ -43,12 +75,20 @@ module _ (xs ys : List ℕ) (ts : List ℤ) (ps : List ℕ) where
         every_from-same (λ j. get_or ps j 0) (get_or ps i 0) n i refl,
       )
 
-  -- told by the rows, the polarities, the columns and the times
-  pub block-told : (n i : ℕ) (y p x t : Bool)
-      → every_from (is_at ys (get_or ys i 0)) n (i + 1) ≡ y → every_from (is_at ps (get_or ps i 0)) n (i + 1) ≡ p → every_from (rises_after xs) n i ≡ x
-      → every_from (is_time ts (time_at ts i)) n (i + 1) ≡ t
-      → (y && (p && (x && t))) ≡ every_from (joins_next xs ys ts ps) n i
-  block-told n i y p x t ey ep ex et = sym (block_is n i ∙ rw (ey, ep, ex, et))
+  -- told by the rows, then the polarities, then the columns, and then the times
+  pub block-told : (n i : ℕ) {yp ypx r : Bool}
+      → yp ≡ (every_from (is_at ys (get_or ys i 0)) n (i + 1) && every_from (is_at ps (get_or ps i 0)) n (i + 1))
+      → ypx ≡ (yp && every_from (rises_after xs) n i) → r ≡ (ypx && every_from (is_time ts (time_at ts i)) n (i + 1))
+      → r ≡ every_from (joins_next xs ys ts ps) n i
+  block-told n i {yp} {ypx} {r} e f g =
+      g ∙ rw (
+        f,
+        e,
+        and_assoc (every_from (is_at ys (get_or ys i 0)) n (i + 1) && every_from (is_at ps (get_or ps i 0)) n (i + 1)) (every_from (rises_after xs) n i)
+            (every_from (is_time ts (time_at ts i)) n (i + 1)),
+        and_assoc (every_from (is_at ys (get_or ys i 0)) n (i + 1)) (every_from (is_at ps (get_or ps i 0)) n (i + 1))
+            (every_from (rises_after xs) n i && every_from (is_time ts (time_at ts i)) n (i + 1)),
+      ) (sym (block_is n i))
 
   module _ (sized : Sized xs ys ts ps) where
     -- a block of them leads along the run

@@ -1,11 +1,9 @@
 -- A flag for each of 64 events, 1 where a run ends, and the first 63 of them as the bits of a number.
-use Rattle.std.specs.Prelude.{◌≡◌, refl, Bool, true, false, cond, ◌&&◌, List, ℕ, zero, suc, ◌+◌, ◌-◌, ◌*◌, ◌^◌, ◌≤◌, ◌<◌, eqb, ltb, leb, ℤ, length, get_or, set}
-use Rattle.std.proofs.Common.{sym, ap, ◌∙◌, arith, add-zero, pow-suc, lt-ltb, le-leb, eqb-true, length-set, get_or-set_same, get_or-set_other}
-use Rattle.std.proofs.Math.Bool.{and_assoc}
+use Rattle.std.specs.Prelude.{◌≡◌, refl, Bool, true, false, cond, ◌&&◌, List, ℕ, zero, suc, ◌+◌, ◌-◌, ◌*◌, ◌^◌, ◌≤◌, ◌<◌, eqb, ltb, ℤ, length, get_or, set}
+use Rattle.std.proofs.Common.{sym, ap, ◌∙◌, arith, add-zero, pow-suc, lt-ltb, eqb-true, length-set, get_or-set_same, get_or-set_other}
 use Rattle.std.proofs.Math.Nat.{pow-le-pow_right}
-use Rattle.std.proofs.lemmas.Bool.{lt-leb, eqb-false}
-use Rattle.std.specs.Int.Bits.{bit_or, bit_xor}
-use Rattle.write_buffer.specs.Every.{or_most, xor_none, flag_none}
+use Rattle.std.proofs.lemmas.Bool.{eqb-false}
+use Rattle.std.specs.Int.Bits.{bit_or}
 use Rattle.evt3_run_rules.specs.Marks.{time_at, joins_next, stop_at, marks, marks_none, marks-some, marks_from, left_full}
 
 -- 1 where a run doesn't go on
@@ -43,22 +41,6 @@ abbrev pub flag_at : List ℕ → ℕ → ℕ
 flag_at flags j = get_or flags j 0
 
 -- ---- laws
-
--- compared at once
-module _ (last y p x y₂ p₂ : ℕ) where
-  abbrev pub parted : ℕ
-  parted = bit_or (bit_or (bit_xor y₂ y) (bit_xor p₂ p)) (ends (ltb last x))
-
-  place_is : leb parted 0 ≡ place_goes last y p x y₂ p₂
-  place_is =
-      or_most 0 0 (bit_or (bit_xor y₂ y) (bit_xor p₂ p)) (ends (ltb last x)) refl
-      ∙ rw (or_most 0 0 (bit_xor y₂ y) (bit_xor p₂ p) refl, xor_none y₂ y, xor_none p₂ p, flag_none (ltb last x)) (and_assoc (eqb y₂ y) (eqb p₂ p) (ltb last x))
-
-  pub place_goes_lem : parted ≡ 0 → 0 ≡ ends (place_goes last y p x y₂ p₂)
-  place_goes_lem e = ap ends (sym (le-leb parted 0 (omega arith)) ∙ place_is)
-
-  pub place_ends_lem : (parted ≡ 0 → ⊥) → 1 ≡ ends (place_goes last y p x y₂ p₂)
-  place_ends_lem e = ap ends (sym (lt-leb parted 0 (omega arith)) ∙ place_is)
 
 -- ---- flags stored one by one
 

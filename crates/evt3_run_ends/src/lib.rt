@@ -6,75 +6,70 @@
 #![tactic(auto)]
 
 ghost use Rattle.std.specs.Prelude.{◌≡◌, ◌+◌, ◌<◌, length};
-ghost use Rattle.write_buffer.specs.Columns.{Sized, Whole};
+ghost use Rattle.write_buffer.specs.Lent.{of};
 ghost use Rattle.evt3_run_rules.specs.Marks.{stop_at, marks_from, Marked, Finds};
 
 use blocks::skip_blocks;
 use evt3_run_rules::{Found, goes_on};
 use flags::marks_at_once;
-use write_buffer::time_at;
+use write_buffer::Columns;
 
 mod blocks;
 mod flags;
 
 // Whether the event after k doesn't go on its run: 1, or 0.
-fn stops(xs: &[u16], ys: &[u16], ts: &[i64], ps: &[u8], k: usize) -> u64
-    requires { Sized xs.now ys.now ts.now ps.now × (k + 1 < length xs.now) × Whole ts.now }
-    ensures { result ≡ stop_at xs.now ys.now ts.now ps.now k }
+fn stops(events: Columns, k: usize) -> u64
+    requires { k + 1 < length events.xs.now }
+    ensures { result ≡ of stop_at events.entry k }
 {
     let j = k + 1;
-    let t = time_at(ts, k);
-    let t2 = time_at(ts, j);
-    if goes_on(t, ys[k], ps[k], xs[k], xs[j], ys[j], t2, ps[j]) {
-        0
-    } else {
-        1
-    }
+    let Columns { xs, ys, ps, .. } = events;
+    let (t, t2) = (events.time(k), events.time(j));
+    u64::from(!goes_on(t, ys[k], ps[k], xs[k], xs[j], ys[j], t2, ps[j]))
 }
 
 // The marks of up to 63 events, one by one.
-fn marks_one_by_one(xs: &[u16], ys: &[u16], ts: &[i64], ps: &[u8], i: usize) -> u64
-    requires { Sized xs.now ys.now ts.now ps.now × (i < length xs.now) × Whole ts.now }
-    ensures { result ≡ marks_from xs.now ys.now ts.now ps.now i }
+fn marks_one_by_one(events: Columns, i: usize) -> u64
+    requires { i < length events.xs.now }
+    ensures { result ≡ of marks_from events.entry i }
 {
-    let mut j = xs.len() - 1;
-    let mut mask: u64 = 1;
-    if 63 <= j - i {
-        j = i + 63;
-        mask = 0;
-    }
-    while i < j {
-        j -= 1;
-        mask = 2 * mask + stops(xs, ys, ts, ps, j);
+    let last = events.xs.len() - 1;
+    let (end, mut mask): (usize, u64) = if 63 <= last - i {
+        (i + 63, 0)
+    } else {
+        (last, 1)
+    };
+    for j in (i..end).rev() {
+        mask = 2 * mask + stops(events, j);
     }
     mask
 }
 
 // Where the runs from i on end, a bit for each event, as far as 63 events go: the bits are found
 // without a branch for each, and the ends are then read off them.
-fn marks(xs: &[u16], ys: &[u16], ts: &[i64], ps: &[u8], i: usize) -> u64
-    requires { Sized xs.now ys.now ts.now ps.now × (i < length xs.now) × Whole ts.now }
-    ensures { result ≡ marks_from xs.now ys.now ts.now ps.now i }
+fn marks(events: Columns, i: usize) -> u64
+    requires { i < length events.xs.now }
+    ensures { result ≡ of marks_from events.entry i }
 {
-    if 64 < xs.len() - i {
-        marks_at_once(xs, ys, ts, ps, i)
+    if 64 < events.xs.len() - i {
+        marks_at_once(events, i)
     } else {
-        marks_one_by_one(xs, ys, ts, ps, i)
+        marks_one_by_one(events, i)
     }
 }
 
 // The end of the run at i, and the marks from there on. Where no mark is found the run is long,
 // and goes on by blocks.
-pub fn run_at(mask: u64, xs: &[u16], ys: &[u16], ts: &[i64], ps: &[u8], i: usize) -> Found
-    requires { Sized xs.now ys.now ts.now ps.now × (i < length xs.now) × Whole ts.now × Marked xs.now ys.now ts.now ps.now i mask }
-    ensures { Finds xs.now ys.now ts.now ps.now i result }
+pub fn run_at(mask: u64, events: Columns, i: usize) -> Found
+    requires { (i < length events.xs.now) × of Marked events i mask }
+    ensures { of Finds events.entry i result }
 {
     let mut j = i;
     let mut m = mask;
     while m == 0 {
-        m = marks(xs, ys, ts, ps, j);
+        m = marks(events, j);
         if m == 0 {
-            j = skip_blocks(xs, ys, ts, ps, j + 63);
+            j = skip_blocks(events, j + 63);
         }
     }
     let z = u64::trailing_zeros(m);

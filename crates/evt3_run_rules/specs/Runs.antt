@@ -1,17 +1,15 @@
 -- Runs: events that share time, row and polarity, where a rule says which column may come next. In EVT 3.0 x rises strictly.
 use Rattle.std.specs.Prelude.{◌≡◌, Bool, ◌&&◌, eqb, ltb, get_or, take, drop}
 use Rattle.std.proofs.Math.Path.{refl, ap}
-use Rattle.std.proofs.Common.{sym, ◌∙◌, eq-eqb, eqb-true, ltb-true}
+use Rattle.std.proofs.Common.{sym, ◌∙◌, eqb-true, ltb-true}
 use Rattle.std.proofs.Math.Bool.{true, false, cond}
 use mathlib.Core.List.{List, [], ◌∷◌, ◌++◌, map}
 use Prim.Native.Nat.{ℕ, suc, ◌-◌, ◌≤◌, ◌<◌}
 use native.Mathlib.Omega.{arith}
-use Rattle.std.specs.Int.Bits.{bit_or, bit_xor, xor_self, or_add_and}
-use Rattle.std.proofs.lemmas.Nat.{and_le_l, and_le_r}
 use Rattle.std.proofs.Math.ListN.{length}
 use Rattle.laws_stream.specs.{Machine.All, Machine.and_both, Mask.Inc}
 use Rattle.evt_types.specs.{Event.Event, Columns.col_x}
-use Rattle.write_buffer.specs.{Columns.event, Emits.concat_map, Every.xor_equal}
+use Rattle.write_buffer.specs.{Columns.event, Emits.concat_map}
 
 pub record Run : Type 0 where
   pub t : ℕ
@@ -163,29 +161,6 @@ runs-at = runs_by-at ltb
 
 pub follow-le : (t y p last : ℕ) (es : List Event) → follow t y p last es ≤ length es
 follow-le = follow_by-le ltb
-
--- compared at once
-or_zero : (a b : ℕ) → bit_or a b ≡ 0 → (a ≡ 0) × (b ≡ 0)
-or_zero a b h = (omega (arith, or_add_and a b, and_le_l a b, and_le_r a b), omega (arith, or_add_and a b, and_le_l a b, and_le_r a b))
-
-module _ (t y p last x t₂ y₂ p₂ : ℕ) where
-  abbrev pub differ : ℕ
-  differ = bit_or (bit_or (bit_xor t₂ t) (bit_xor y₂ y)) (bit_xor p₂ p)
-
-  pub goes_same : differ ≡ 0 → ltb last x ≡ goes t y p last (event x y₂ t₂ p₂)
-  goes_same h =
-      let a = or_zero (bit_or (bit_xor t₂ t) (bit_xor y₂ y)) (bit_xor p₂ p) h in
-      let b = or_zero (bit_xor t₂ t) (bit_xor y₂ y) a.0 in
-      rw (eq-eqb t₂ t (xor_equal t₂ t b.0), eq-eqb y₂ y (xor_equal y₂ y b.1), eq-eqb p₂ p (xor_equal p₂ p a.1))
-
-  pub goes-differ : (differ ≡ 0 → ⊥) → false ≡ goes t y p last (event x y₂ t₂ p₂)
-  goes-differ h = go (goes t y p last (event x y₂ t₂ p₂)) refl
-    where
-      go : (b : Bool) → goes t y p last (event x y₂ t₂ p₂) ≡ b → false ≡ b
-      go false q = refl
-      go true q =
-          let g = goes-true t y p last (event x y₂ t₂ p₂) q in
-          absurd (h (rw (g.is_t, g.is_y, g.is_p, xor_self, xor_self, xor_self)))
 
 -- some numbers that rise
 pub record Rising (xs : List ℕ) : Type 0 where

@@ -4,7 +4,7 @@
 
 #![tactic(auto)]
 
-ghost use Rattle.std.specs.Prelude.{◌≡◌, cond, ltb};
+ghost use Rattle.std.specs.Prelude.{◌≡◌};
 ghost use Rattle.write_buffer.specs.Columns.{event};
 ghost use Rattle.evt3_run_rules.specs.Runs.{goes};
 
@@ -15,19 +15,9 @@ pub struct Found {
     pub mask: u64,
 }
 
-// Whether an event goes on a run: what must be equal is compared at once, without a branch for each.
+// Whether an event goes on a run: all is compared, without a branch for each.
 pub fn goes_on(t: u64, y: u16, p: u8, last: u16, x: u16, y2: u16, t2: u64, p2: u8) -> bool
     ensures { result ≡ goes t y p last (event x y2 t2 p2) }
 {
-    let rows = (y2 ^ y) as u64;
-    let polarities = (p2 ^ p) as u64;
-    let differ = (t2 ^ t) | rows | polarities;
-    if differ == 0 { last < x } else { false }
-}
-
-// 1 where a column isn't above the one before it, else 0.
-pub fn no_rise(last: u16, x: u16) -> u16
-    ensures { result ≡ cond (ltb last x) 0 1 }
-{
-    if last < x { 0 } else { 1 }
+    (t2 == t) & (y2 == y) & (p2 == p) & (last < x)
 }

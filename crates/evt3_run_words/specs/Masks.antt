@@ -1,7 +1,7 @@
 -- EVT3: the masks of a run's vector words, five at a time: 60 columns are the bits of one number.
 use Rattle.std.specs.Prelude.{◌≡◌, Bool, true, false, cond, ltb, get_or}
 use Rattle.std.proofs.Math.Path.{refl, ap}
-use Rattle.std.proofs.Common.{sym, ◌∙◌, zero-add, suc-add, pow-add, ltb-true, ltb-false}
+use Rattle.std.proofs.Common.{sym, subst, ◌∙◌, zero-add, suc-add, pow-add, ltb-true, ltb-false}
 use mathlib.Core.List.{List, [], ◌∷◌, ◌++◌}
 use Prim.Native.Nat.{ℕ, zero, suc, ◌+◌, ◌-◌, ◌*◌, ◌/◌, ◌%◌, ◌^◌, ◌≤◌, ◌<◌}
 use native.Mathlib.Omega.{arith}
@@ -180,9 +180,11 @@ module _ {xs : List ℕ} {from e b top : ℕ} (part : Part xs from e 0) (rising 
         stop (ap (nearby (b + 60)) (here h) ∙ nearby_out (b + 60) x (between xs (c + 1) e) k)
         (ap (beyond (b + 60)) (here h) ∙ beyond_out (b + 60) x (between xs (c + 1) e) k ∙ sym (here h))
 
-    pub scan_end : e ≤ c → NextMasks xs from e b (record { mask = m; next = c })
+    pub scan_end : e ≤ c → NextMasks xs from e b (record { mask = m; next = e })
     unfolding nearby beyond
-    scan_end h = stop (rw (between-end xs c e h)) (rw (between-end xs c e h))
+    scan_end h =
+        let all : c ≡ e = omega (arith, s.below) in
+        subst (λ (n : ℕ). NextMasks xs from e b (record { mask = m; next = n })) all (stop (rw (between-end xs c e h)) (rw (between-end xs c e h)))
 
 -- ---- the digits of one number
 
@@ -244,7 +246,7 @@ module _ {xs : List ℕ} {i e b₀ k top : ℕ} {out₀ : List ℕ} {at : ℕ} (
         rw (← digits-length n w.mask) (storing_room (digit_bytes n w.mask) (mask_bytes (left - n) (b + 12 * n) (beyond (b + 12 * n) (between xs c e)))
         (front n h k w wd) s.storing r)
 
-    pub masking_iteration : 5 < left → (w : MaskBits) → NextMasks xs c e b w → (r : ℕ) (out' : List ℕ) → r ≡ a + word_size3 * 5
+    pub masking_iteration : 5 ≤ left → (w : MaskBits) → NextMasks xs c e b w → (r : ℕ) (out' : List ℕ) → r ≡ a + word_size3 * 5
         → out' ≡ sets out a (digit_bytes 5 w.mask)
         → Masking xs i e b₀ k top out₀ at out' r w.next (b + 60) (left - 5)
     masking_iteration h w wd r out' q o =

@@ -18,7 +18,6 @@ ghost use Rattle.evt3_run_words.specs.Parts.{single_bytes, mask_bytes, body_byte
 ghost use Rattle.evt3_run_words.specs.Masks.{digit_bytes, NextMasks};
 
 use evt_types::fields::bits;
-use evt_types::num::saturating_sub;
 use evt3_decoder::Decoder;
 use evt3_lead_words::put_leads;
 
@@ -64,11 +63,9 @@ fn put_singles(p: u8, xs: &[u16], i: usize, end: usize, out: &mut [u8], at: usiz
     ensures stores { out.new ≡ sets out.old at (single_bytes p (between xs.now i end)) }
 {
     let mut a = at;
-    let mut j = i;
-    while j < end {
+    for j in i..end {
         write_buffer::put16(&mut *out, a, single_word(p, xs[j]));
         a += Decoder::WORD_SIZE;
-        j += 1;
     }
     a
 }
@@ -86,17 +83,14 @@ fn next_masks(xs: &[u16], from: usize, end: usize, base: u64) -> MaskBits
     ensures { NextMasks xs.now from end base result }
 {
     let mut mask: u64 = 0;
-    let mut c = from;
-    while c < end {
-        let x = xs[c] as u64;
-        if x < base + 60 {
-            mask += bit(x - base);
-            c += 1;
-        } else {
-            return MaskBits { mask, next: c };
+    for next in from..end {
+        let x = xs[next] as u64;
+        if base + 60 <= x {
+            return MaskBits { mask, next };
         }
+        mask += bit(x - base);
     }
-    MaskBits { mask, next: c }
+    MaskBits { mask, next: end }
 }
 
 // The words of k masks of 12 columns, whose bits are those of `mask`.
@@ -107,12 +101,10 @@ fn put_digits(mask: u64, k: u64, out: &mut [u8], at: usize) -> usize
 {
     let mut a = at;
     let mut m = mask;
-    let mut left = k;
-    while 0 < left {
+    for _ in 0..k {
         write_buffer::put16(&mut *out, a, mask_word(m));
-        m = m >> 12;
+        m >>= 12;
         a += Decoder::WORD_SIZE;
-        left -= 1;
     }
     a
 }
@@ -135,16 +127,14 @@ fn put_masks(
     let mut a = at;
     let mut c = i;
     let mut b = base;
-    let mut left = k;
-    while 5 < left {
+    for _ in 0..k / 5 {
         let five = next_masks(xs, c, end, b);
         a = put_digits(five.mask, 5, &mut *out, a);
         c = five.next;
         b += 60;
-        left -= 5;
     }
     let last = next_masks(xs, c, end, b);
-    put_digits(last.mask, left, &mut *out, a)
+    put_digits(last.mask, k % 5, &mut *out, a)
 }
 
 // How many masks of 12 columns reach from the first column to the last.
@@ -152,7 +142,7 @@ fn mask_count(first: u64, last: u64) -> u64
     requires { last < 2 ^ 16 }
     ensures { result ≡ (last - first + 12) / 12 }
 {
-    (saturating_sub(last, first) + 12) / 12
+    (last.saturating_sub(first) + 12) / 12
 }
 
 // Whether n events are more than the words of a vector.
@@ -204,12 +194,8 @@ fn body_size(n: u64, first: u64, last: u64) -> usize
     requires { (last < 2 ^ 16) × (n ≤ 2 ^ 28) }
     ensures { result ≡ word_size3 * cond (ltb (1 + (last - first + 12) / 12) n) (1 + (last - first + 12) / 12) n }
 {
-    let words = 1 + mask_count(first, last);
-    if words < n {
-        Decoder::WORD_SIZE * words as usize
-    } else {
-        Decoder::WORD_SIZE * n as usize
-    }
+    let words = n.min(1 + mask_count(first, last));
+    Decoder::WORD_SIZE * words as usize
 }
 
 // The words of the run from i up to end.

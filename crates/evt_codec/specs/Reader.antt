@@ -135,3 +135,6 @@ abbrev pub view : Codec → View
 view (Evt2 d) = record { reader = evt2; state = d }
 view (Evt21 d) = record { reader = evt21; state = d }
 view (Evt3 d) = record { reader = evt3; state = d }
+
+abbrev pub viewed : (R : Reader) → R.State → View
+viewed R s = record { reader = R; state = s }

@@ -30,6 +30,7 @@ use Rattle.evt3_decoder.proofs.{TriggersLaws.trigger_alone3}
 
 pub record Sound (R : Reader) : Type 0 where
   pub some : 0 < R.size
+  pub small : R.size ≤ 8
   pub emits : (s : R.State) (w : ℕ) → R.machine.emit s w ≡ events_of (R.vector s w)
   pub few : (s : R.State) (w : ℕ) → (R.vector s w).mask < 2 ^ R.most
   pub spread : (n : ℕ) → R.most * (n / R.size) ≤ 6 * n
@@ -96,6 +97,7 @@ stays2 d w h = Evt2.by_kinds (λ k. (Evt2.step_as k d w).initialised ≡ true) (
 pub sound2 : Sound evt2
 sound2 = record {
   some = omega arith;
+  small = omega arith;
   emits = λ d w. refl;
   few = few2;
   spread = λ n. omega arith;
@@ -144,6 +146,7 @@ apart21 d w = alone d.initialised (type2 (upper w)) (trigger_in2 (as2 d) (upper 
 pub sound21 : Sound evt21
 sound21 = record {
   some = omega arith;
+  small = omega arith;
   emits = λ d w. refl;
   few = few21;
   spread = λ n. omega arith;
@@ -235,6 +238,7 @@ stays3 d w h = Evt3.by_kinds (λ k. (Evt3.step_as k d w).initialised ≡ true) (
 pub sound3 : Sound evt3
 sound3 = record {
   some = omega arith;
+  small = omega arith;
   emits = λ d w. refl;
   few = few3;
   spread = λ n. omega arith;
@@ -272,6 +276,13 @@ sound (Evt2 d) = sound2
 sound (Evt21 d) = sound21
 sound (Evt3 d) = sound3
 
+module _ (R : Reader) (l : List ℕ) {s : R.State} where
+  pub reader_bounded : R.Bounded (length l / R.size) s → R.Bounded (length (words_of R.size l)) s
+  reader_bounded b = subst (λ (n : ℕ). R.Bounded n s) (sym (length-words R.size l)) b
+
+  pub reader_able : R.Able (length l / R.size) s → R.Able (length (words_of R.size l)) s
+  reader_able a = subst (λ (n : ℕ). R.Able n s) (sym (length-words R.size l)) a
+
 module _ (c : Codec) where
   pub able_range : (bytes : ℕ) → in_range_c c ≡ true → bytes ≤ 2 ^ 30 → Able bytes c
   able_range bytes r h = (sound c).range bytes (view c).state r h
@@ -285,7 +296,7 @@ module _ (c : Codec) where
   -- by the number of words
   module _ (l : List ℕ) where
     pub bounded_words : Bounded (length l) c → (view c).reader.Bounded (length (words_of (word_size c) l)) (view c).state
-    bounded_words b = subst (λ (n : ℕ). (view c).reader.Bounded n (view c).state) (sym (length-words (word_size c) l)) b
+    bounded_words b = reader_bounded (view c).reader l b
 
     pub able_words : Able (length l) c → (view c).reader.Able (length (words_of (word_size c) l)) (view c).state
-    able_words a = subst (λ (n : ℕ). (view c).reader.Able n (view c).state) (sym (length-words (word_size c) l)) a
+    able_words a = reader_able (view c).reader l a

@@ -6,12 +6,11 @@
 #![tactic(auto)]
 
 pub mod codec;
+pub mod word_loop;
 
 pub use codec::Codec;
-pub use evt_types::{
-    DecodeAnswer, Encoding, EventVector, EvtVersion, Limit, RawEvent, RawTrigger, Refusal,
-    SensorSize, Sent, TriggerAnswer,
-};
+pub use evt_types::{Encoding, EventVector, EvtVersion, RawEvent, RawTrigger, Refusal, SensorSize};
 pub use evt2_decoder::Evt2Decoder;
 pub use evt3_decoder::Decoder;
 pub use evt21_decoder::Evt21Decoder;
+pub use word_loop::WordLoop;

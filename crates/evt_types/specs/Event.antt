@@ -5,8 +5,9 @@ use Rattle.std.specs.Int.Bits.{bit_and}
 use Rattle.std.specs.Int.Count.{count_trailing_zeros}
 use Rattle.std.proofs.lemmas.Bool.{eqb-false}
 use Rattle.laws_stream.specs.{Machine.All, Machine.all_of, Machine.all_mapped, Mask.bits, Mask.bits-zero}
-use Rattle.evt_types.specs.declared.{RawEvent.RawEvent, vector.EventVector.EventVector, vector.NextEvent.NextEvent}
-use Rattle.evt_types.specs.declared.{vector.NextEvent.TheVariants.Nothing, vector.NextEvent.TheVariants.Event as First, vector.Vector.Vector}
+use Rattle.std.specs.Prelude.{Option, Some, None}
+use Rattle.evt_types.specs.declared.{RawEvent.RawEvent, vector.EventVector.EventVector}
+use Rattle.evt_types.specs.declared.{vector.Vector.Vector}
 use Rattle.laws_stream.proofs.MaskLaws.{low_bit}
 
 -- column x, row y, time t in microseconds, polarity p (0 or 1)
@@ -64,19 +65,19 @@ abbrev pub with_mask : EventVector → ℕ → EventVector
 with_mask v m = record { x = v.x; y = v.y; t = v.t; p = v.p; mask = m }
 
 -- the lowest bit's event, and the vector with that bit cleared
-abbrev pub next_of : EventVector → NextEvent
-next_of v = cond (eqb v.mask 0) Nothing (First (raw_at v (v.x + count_trailing_zeros 32 v.mask)) (with_mask v (bit_and v.mask (v.mask - 1))))
+abbrev pub next_of : EventVector → Option (RawEvent × EventVector)
+next_of v = cond (eqb v.mask 0) None (Some (raw_at v (v.x + count_trailing_zeros 32 v.mask), with_mask v (bit_and v.mask (v.mask - 1))))
 
-abbrev pub listed : NextEvent → List RawEvent
-listed Nothing = []
-listed (First e v) = e ∷ raw_events v
+abbrev pub listed : Option (RawEvent × EventVector) → List RawEvent
+listed None = []
+listed (Some (e, v)) = e ∷ raw_events v
 
 -- so `next` hands over the events in order
 pub next_lists : (v : EventVector) → v.mask < 2 ^ 32 → raw_events v ≡ listed (next_of v)
 next_lists v h = go (eqb v.mask 0) refl
   where
     go : (b : Bool) → eqb v.mask 0 ≡ b
-        → raw_events v ≡ listed (cond b Nothing (First (raw_at v (v.x + count_trailing_zeros 32 v.mask)) (with_mask v (bit_and v.mask (v.mask - 1)))))
+        → raw_events v ≡ listed (cond b None (Some (raw_at v (v.x + count_trailing_zeros 32 v.mask), with_mask v (bit_and v.mask (v.mask - 1)))))
     go true e = rw (eqb-true v.mask 0 e, bits-zero)
     go false e = let ne = eqb-false v.mask 0 e in ap (map (raw_at v)) (low_bit 32 v.x v.mask (omega arith) h)
 

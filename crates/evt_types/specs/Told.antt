@@ -1,7 +1,8 @@
 -- What a call tells: the table's number, 0 for an acceptance, and the values that go with it.
 -- Every promise about an answer goes through a function into `Told`.
-use Rattle.std.specs.Prelude.{◌≡◌, refl, cond, List, [], ◌∷◌, map, ℕ, ◌<◌, eqb, ℤ, pos, negsuc}
+use Rattle.std.specs.Prelude.{Result, Ok, Err, ◌≡◌, refl, cond, List, [], ◌∷◌, map, ℕ, ◌<◌, eqb, ℤ, pos, negsuc}
 use Rattle.std.proofs.Common.{sym, ap, ◌∙◌, arith}
+use Rattle.evt_types.specs.declared.{Encoding.Encoding, Encoding.TheVariants.Evt2, Encoding.TheVariants.Evt21, Encoding.TheVariants.Evt3}
 use Rattle.evt_types.specs.declared.Refusal.{Refusal}
 use Rattle.evt_types.specs.declared.Refusal.TheVariants.{InvalidSensorSize, UnknownEncoding, HeaderNotAscii, TooLong, ColumnsTooShort, TimeOrder}
 use Rattle.evt_types.specs.declared.Refusal.TheVariants.{EventOutOfRange, InvalidSpacing, TooFewRecords, StateOutOfRange, OutputTooShort, ColumnLengths}
@@ -97,3 +98,8 @@ naturals (negsuc n ∷ vs) = 0 ∷ naturals vs
 pub accepted-naturals : (vs : List ℕ) → naturals (accepted vs).values ≡ vs
 accepted-naturals [] = refl
 accepted-naturals (v ∷ vs) = ap (λ (l : List ℕ). v ∷ l) (accepted-naturals vs)
+
+-- ---- an encoding of its number, back: 2 where there is none of that number
+abbrev pub encoding_numbered : ℕ → Result Encoding Refusal
+encoding_numbered n =
+    cond (eqb n 2) (Ok Evt2) (cond (eqb n 21) (Ok Evt21) (cond (eqb n 3) (Ok Evt3) (Err UnknownEncoding)))

@@ -3,8 +3,9 @@ use Rattle.std.specs.Prelude.{◌≡◌, refl, Bool, true, false, cond, List, []
 use Rattle.std.proofs.Common.{subst, sym, arith, eq-eqb, ne_eqb, eqb-true}
 use Rattle.laws_stream.specs.{Machine.Machine, Machine.run, Machine.emits, Beside.others, Beside.without_idle}
 use Rattle.laws_stream.specs.Columns.{Column, column_start, column-one, column-end, written-front}
-use Rattle.evt_types.specs.declared.{RawTrigger.RawTrigger, TriggerAnswer.TriggerAnswer}
-use Rattle.evt_types.specs.declared.TriggerAnswer.TheVariants as A
+use Rattle.std.specs.Prelude.{Option, Some, None, Result, Ok, Err}
+use Rattle.evt_types.specs.declared.Refusal.{Refusal}
+use Rattle.evt_types.specs.declared.{RawTrigger.RawTrigger}
 use Rattle.evt_types.specs.declared.Refusal.TheVariants.{StateOutOfRange}
 use Rattle.evt_types.specs.{Outcome.Outcome, Outcome.refuse, Outcome.give, Outcome.on_outcome, Outcome.verdict, Told.Told, Told.told, Told.accepted}
 use Rattle.evt_types.specs.{Event.Event, Layout.trigger_type}
@@ -34,12 +35,12 @@ trigger_if started type g = cond started (cond (eqb type trigger_type) (g ∷ []
 abbrev pub trigger_outcome : (ok : Bool) → List Trigger → Outcome (List Trigger)
 trigger_outcome ok gs = cond ok (give gs) (refuse StateOutOfRange)
 
-abbrev pub first_trigger : List Trigger → TriggerAnswer
-first_trigger [] = A.Nothing
-first_trigger (g ∷ gs) = A.Trigger (raw_trigger g)
+abbrev pub first_trigger : List Trigger → Option RawTrigger
+first_trigger [] = None
+first_trigger (g ∷ gs) = Some (raw_trigger g)
 
-abbrev pub trigger_answer : Outcome (List Trigger) → TriggerAnswer
-trigger_answer = on_outcome A.Refused first_trigger
+abbrev pub trigger_answer : Outcome (List Trigger) → Result (Option RawTrigger) Refusal
+trigger_answer = on_outcome Err (λ gs. Ok (first_trigger gs))
 
 -- time, channel and value, or nothing
 abbrev pub trigger_values : List Trigger → List ℕ
@@ -47,16 +48,16 @@ trigger_values [] = []
 trigger_values (g ∷ gs) = g.t ∷ g.id ∷ g.value ∷ []
 
 -- what an answer tells
-abbrev pub told_trigger : TriggerAnswer → Told
-told_trigger (A.Trigger g) = record { number = 0; values = g.t ∷ pos g.id ∷ pos g.value ∷ [] }
-told_trigger A.Nothing = accepted []
-told_trigger (A.Refused r) = told r
+abbrev pub told_trigger : Result (Option RawTrigger) Refusal → Told
+told_trigger (Ok (Some g)) = record { number = 0; values = g.t ∷ pos g.id ∷ pos g.value ∷ [] }
+told_trigger (Ok None) = accepted []
+told_trigger (Err r) = told r
 
-pub record OwedTrigger (outcome : Outcome (List Trigger)) (r : TriggerAnswer) : Type 0 where
+pub record OwedTrigger (outcome : Outcome (List Trigger)) (r : Result (Option RawTrigger) Refusal) : Type 0 where
   pub is_told : told_trigger r ≡ verdict trigger_values outcome
   pub is_answer : r ≡ trigger_answer outcome
 
-owed_trigger : (o : Outcome (List Trigger)) (r : TriggerAnswer) → r ≡ trigger_answer o → OwedTrigger o r
+owed_trigger : (o : Outcome (List Trigger)) (r : Result (Option RawTrigger) Refusal) → r ≡ trigger_answer o → OwedTrigger o r
 owed_trigger o r e = subst (OwedTrigger o) (sym e) (go o)
   where
     go : (o : Outcome (List Trigger)) → OwedTrigger o (trigger_answer o)
@@ -65,11 +66,11 @@ owed_trigger o r e = subst (OwedTrigger o) (sym e) (go o)
     go (give (g ∷ gs)) = record { is_told = refl; is_answer = refl }
 
 module _ {ok : Bool} (gs : List Trigger) where
-  pub owed_in_range : (r : TriggerAnswer) → ok ≡ true → r ≡ first_trigger gs → OwedTrigger (trigger_outcome ok gs) r
-  owed_in_range r h e = owed_trigger (trigger_outcome ok gs) r (rw h e)
+  pub owed_in_range : (g : Option RawTrigger) → ok ≡ true → g ≡ first_trigger gs → OwedTrigger (trigger_outcome ok gs) (Ok g)
+  owed_in_range g h e = owed_trigger (trigger_outcome ok gs) (Ok g) (rw (h, e))
 
-  pub owed_out_of_range : ok ≡ false → OwedTrigger (trigger_outcome ok gs) (A.Refused StateOutOfRange)
-  owed_out_of_range h = owed_trigger (trigger_outcome ok gs) (A.Refused StateOutOfRange) (rw h)
+  pub owed_out_of_range : ok ≡ false → OwedTrigger (trigger_outcome ok gs) (Err StateOutOfRange)
+  owed_out_of_range h = owed_trigger (trigger_outcome ok gs) (Err StateOutOfRange) (rw h)
 
 -- ---- which a word of type k has
 

@@ -33,17 +33,9 @@ pub fn in_range(period: u64, grain: u64, most: u64, coarse: u64, time: u64, loop
     requires { (0 < period) × (0 < grain) }
     ensures { result ≡ clock_in_range period grain most coarse time loops }
 {
-    if most < loops {
-        return false;
-    }
-    if coarse / period != loops {
-        return false;
-    }
-    if coarse % grain != 0 {
-        return false;
-    }
-    if time < coarse {
-        return false;
-    }
-    time - coarse < grain
+    loops <= most
+        && coarse / period == loops
+        && coarse % grain == 0
+        && coarse <= time
+        && time - coarse < grain
 }

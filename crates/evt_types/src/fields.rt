@@ -13,7 +13,7 @@ pub fn bits(word: u64, lo: u64, n: u64) -> u64
 pub fn word16(a: u8, b: u8) -> u16
     ensures { result ≡ a + b * 256 }
 {
-    a as u16 + b as u16 * 256
+    u16::from_le_bytes([a, b])
 }
 
 // Of its halves.
@@ -26,5 +26,5 @@ pub fn word64(low: u32, high: u32) -> u64
 pub fn word32(a: u8, b: u8, c: u8, d: u8) -> u32
     ensures { result ≡ a + b * 256 + c * 65536 + d * 16777216 }
 {
-    a as u32 + b as u32 * 256 + c as u32 * 65536 + d as u32 * 16777216
+    u32::from_le_bytes([a, b, c, d])
 }

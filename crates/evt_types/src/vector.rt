@@ -3,8 +3,8 @@
 ghost use Rattle.std.specs.Prelude.{◌≡◌};
 ghost use Rattle.evt_types.specs.Event.{Narrow, narrowed, no_events, next_of};
 
-use crate::RawEvent;
 use crate::num::saturate;
+use crate::{RawEvent, Refusal};
 
 // In the loops all numbers have 64 bits, so that a step is inlined. The mask is below 2^32.
 #[derive(Clone, Copy)]
@@ -16,7 +16,7 @@ pub struct Vector {
     pub mask: u64,
 }
 
-#[derive(Clone, Copy)]
+#[derive(Clone, Copy, Debug, PartialEq, Eq)]
 pub struct EventVector {
     pub x: u16,
     pub y: u16,
@@ -25,21 +25,28 @@ pub struct EventVector {
     pub mask: u32,
 }
 
-// The first event, and what is left of the vector without it.
+// A decoder after a word, and the word's events.
 #[derive(Clone, Copy)]
-pub enum NextEvent {
-    Event(RawEvent, EventVector),
-    Nothing,
+pub struct Step<D> {
+    pub next: D,
+    pub events: Vector,
+}
+
+// What one word by value leaves: the next decoder, and the word's events or why it is refused.
+#[derive(Clone, Copy)]
+pub struct Decoded<D> {
+    pub next: D,
+    pub answer: Result<EventVector, Refusal>,
 }
 
 impl EventVector {
     // The low set bit goes first and is then cleared from the mask.
-    pub fn next(self) -> NextEvent
+    pub fn next(self) -> Option<(RawEvent, EventVector)>
         ensures { result ≡ next_of self }
     {
         let mask = self.mask;
         if mask == 0 {
-            return NextEvent::Nothing;
+            return None;
         }
         let x = self.x as u64 + u32::trailing_zeros(mask) as u64;
         let t = self.t;
@@ -51,7 +58,7 @@ impl EventVector {
         };
         let mut rest = self;
         rest.mask = mask & (mask - 1);
-        NextEvent::Event(event, rest)
+        Some((event, rest))
     }
 }
 

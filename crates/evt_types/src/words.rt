@@ -4,18 +4,18 @@
 ghost use Rattle.std.specs.Prelude.{◌≡◌, ◌+◌, ◌*◌, ◌<◌, ◌^◌};
 ghost use Rattle.evt_types.specs.Ahead.{ahead};
 
-use crate::fields::{word32, word64};
+use crate::fields::{word16, word32, word64};
 
 pub fn two(a: u8, b: u8) -> u64
     ensures { result ≡ a + b * 256 }
 {
-    a as u64 + b as u64 * 256
+    u64::from(word16(a, b))
 }
 
 pub fn four(a: u8, b: u8, c: u8, d: u8) -> u64
     ensures { result ≡ a + b * 256 + c * 65536 + d * 16777216 }
 {
-    a as u64 + b as u64 * 256 + c as u64 * 65536 + d as u64 * 16777216
+    u64::from(word32(a, b, c, d))
 }
 
 // The word at index i, 0 if none is whole there. A loop that has its word from the iteration before

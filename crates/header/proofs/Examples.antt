@@ -2,12 +2,11 @@
 -- end lines; and of the encodings that values name.
 use Rattle.std.proofs.Common.{ℕ, ◌≡◌, refl, List, [], ◌∷◌}
 use Rattle.evt_types.specs.declared.Encoding.TheVariants.{Evt2, Evt21, Evt3}
-use Rattle.evt_types.specs.declared.SensorSize.TheVariants.{Unknown, Known}
+use Rattle.std.specs.Prelude.{Some, None}
 use Rattle.evt_types.specs.Told.{accepted, refused}
 use Rattle.header_text.specs.Text.{is_blank, up_to, from, any, rest_of, trim_start, trim_end, trim_of, lower_of, begins, same}
 use Rattle.header_text.specs.Number.{is_digit, all_digits, digits_value, number_from, digits_of, number_of}
 use Rattle.header_text.specs.Size.{both, size_at, geometry_of}
-use Rattle.header.specs.declared.Named.TheVariants.{As}
 use Rattle.header.specs.Lines.{is_end, joined, lines_of, starts_percent, leading, through_end, header_lines, joined_lines, header_bytes, body_start}
 use Rattle.header.specs.Lines.{body_of, key_of, value_of}
 use Rattle.header.specs.Header.{evt2, evt21, two_one_lem, three, Said, read_line, read_all, said_by, encoding_of, size_that_holds, has_zero, with_encoding}
@@ -47,9 +46,9 @@ end_of_file =
     37 ∷ 101 ∷ 118 ∷ 116 ∷ 32 ∷ 50 ∷ 10 ∷ 37 ∷ 101 ∷ 110 ∷ 100 ∷ []
 
 pub worked :
-    header_verdict listing Unknown ∷ header_verdict (37 ∷ 128 ∷ []) Unknown ∷ header_verdict [] Unknown ∷ header_verdict flat Unknown
-    ∷ header_verdict flat (Known 5 7) ∷ header_verdict opening Unknown ∷ header_verdict further Unknown ∷ header_verdict no_ends Unknown
-    ∷ header_verdict end_of_file Unknown ∷ []
+    header_verdict listing None ∷ header_verdict (37 ∷ 128 ∷ []) None ∷ header_verdict [] None ∷ header_verdict flat None
+    ∷ header_verdict flat (Some (record { width = 5; height = 7 })) ∷ header_verdict opening None ∷ header_verdict further None ∷ header_verdict no_ends None
+    ∷ header_verdict end_of_file None ∷ []
     ≡ accepted (31 ∷ 3 ∷ 1 ∷ 64 ∷ 48 ∷ []) ∷ refused 3 ∷ refused 2 ∷ refused 1 ∷ accepted (27 ∷ 2 ∷ 1 ∷ 5 ∷ 7 ∷ [])
     ∷ accepted (14 ∷ 3 ∷ 0 ∷ 0 ∷ 0 ∷ []) ∷ accepted (17 ∷ 2 ∷ 0 ∷ 0 ∷ 0 ∷ [])
     ∷ accepted (35 ∷ 3 ∷ 0 ∷ 0 ∷ 0 ∷ []) ∷ accepted (11 ∷ 2 ∷ 0 ∷ 0 ∷ 0 ∷ []) ∷ []
@@ -60,12 +59,12 @@ worked = refl
 
 -- what the last `format` and `evt` line say
 abbrev values : List ℕ → List ℕ → Said
-values format evt = record { format = format; evt = evt; size = Unknown }
+values format evt = record { format = format; evt = evt; size = None }
 
 -- `EVT21`; `2.10`; `evt2` and `2.1`; `evt21` and `3`; `evt2.1`; `21`
 pub names :
     encoding_of (values (69 ∷ 86 ∷ 84 ∷ 50 ∷ 49 ∷ []) []) ∷ encoding_of (values [] (50 ∷ 46 ∷ 49 ∷ 48 ∷ [])) ∷ encoding_of (values evt2 two_one_lem)
     ∷ encoding_of (values evt21 three) ∷ encoding_of (values (101 ∷ 118 ∷ 116 ∷ 50 ∷ 46 ∷ 49 ∷ []) []) ∷ encoding_of (values [] (50 ∷ 49 ∷ [])) ∷ []
-    ≡ As Evt21 ∷ As Evt21 ∷ As Evt21 ∷ As Evt3 ∷ As Evt2 ∷ As Evt2 ∷ []
+    ≡ Some Evt21 ∷ Some Evt21 ∷ Some Evt21 ∷ Some Evt3 ∷ Some Evt2 ∷ Some Evt2 ∷ []
 unfolding encoding_of begins lower_of
 names = refl

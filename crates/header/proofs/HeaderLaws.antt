@@ -1,11 +1,13 @@
 -- Laws of specs/Laws.antt.
 use Rattle.evt_types.specs.{Num.most_bytes, Outcome.Outcome, Outcome.give, Outcome.given-unless, Outcome.never_given, Outcome.refuse}
-use Rattle.evt_types.specs.{declared.Refusal.TheVariants.UnknownEncoding, declared.SensorSize.SensorSize}
+use Rattle.std.specs.Prelude.{Option, Some, None, Ok}
+use Rattle.evt_types.specs.declared.SensorSize.{SensorSize}
+use Rattle.evt_types.specs.declared.Encoding.{Encoding}
+use Rattle.evt_types.specs.{declared.Refusal.TheVariants.UnknownEncoding}
 use Rattle.header.specs.{Header.answer_by, Header.encoding_of, Header.has_zero, Header.header_of, Header.header_outcome, Header.lines_outcome, Header.said_by}
 use Rattle.header.specs.{Header.size_that_holds, Header.with_encoding, Laws.Accepted, Laws.NoLineBehind, Laws.lines_as_before, Laws.lines_whole}
 use Rattle.header.specs.{Lines.body_start, Lines.header_bytes, Lines.header_lines, Lines.is_end, Lines.joined_lines, Lines.leading, Lines.lines_of}
-use Rattle.header.specs.{Lines.starts_percent, Lines.through_end, declared.HeaderAnswer.TheVariants.Header, declared.Named.Named, declared.Named.TheVariants.As}
-use Rattle.header.specs.{declared.Named.TheVariants.Nothing}
+use Rattle.header.specs.{Lines.starts_percent, Lines.through_end}
 use Rattle.header_text.specs.{Cases.by_bool, Text.any, Text.not_ascii}
 use Rattle.std.proofs.Common.{ap, append-nil, append_assoc, arith, length-take, ltb-false, sym, take_at, ◌∙◌}
 use Rattle.std.specs.Prelude.{List, [], false, length, ltb, refl, take, ℕ, ◌++◌, ◌∷◌, ◌≡◌, ◌≤◌}
@@ -45,21 +47,21 @@ body-within s = omega (arith, length-take (body_start s) s, ap length (header_pa
 
 -- ---- where an end line stands
 
-pub as_before : (s : List ℕ) (given : SensorSize) → NoLineBehind (leading (lines_of s))
+pub as_before : (s : List ℕ) (given : Option SensorSize) → NoLineBehind (leading (lines_of s))
     → header_outcome s given ≡ lines_outcome (length s) (leading (lines_of s)) given
 as_before s given h = rw (lines_as_before s h)
 
 -- ---- what an acceptance says
 
-given_by : (o : Outcome header.Header) (h : header.Header) → answer_by o ≡ Header h → o ≡ give h
+given_by : (o : Outcome header.Header) (h : header.Header) → answer_by o ≡ Ok h → o ≡ give h
 given_by (refuse r) h e = let no : ◌≡◌ {A = ℕ} 0 1 = cc in absurd (omega arith)
 given_by (give g) h e = cc
 
-named_by : (at : ℕ) (size : SensorSize) (n : Named) (h : header.Header) → with_encoding at size n ≡ give h
+named_by : (at : ℕ) (size : Option SensorSize) (n : Option Encoding) (h : header.Header) → with_encoding at size n ≡ give h
     → (has_zero size ≡ false) × ((at ≡ h.data_offset) × (size ≡ h.sensor_size))
 unfolding with_encoding
-named_by at size Nothing h e = never_given h UnknownEncoding e
-named_by at size (As n) h e =
+named_by at size None h e = never_given h UnknownEncoding e
+named_by at size (Some n) h e =
     let z = given-unless h (has_zero size) _ _ e in
     let k : record { data_offset = at; sensor_size = size; encoding = n } ≡ h = same-given _ h z.1 in
     (z.0, (ap (λ (x : header.Header). x.data_offset) k, ap (λ (x : header.Header). x.sensor_size) k))
@@ -67,7 +69,7 @@ named_by at size (As n) h e =
     same-given : (g h : header.Header) → give g ≡ give h → g ≡ h
     same-given g h e = cc
 
-pub of_accepted : (s : List ℕ) (given : SensorSize) (h : header.Header) → header_of s given ≡ Header h → Accepted s given h
+pub of_accepted : (s : List ℕ) (given : Option SensorSize) (h : header.Header) → header_of s given ≡ Ok h → Accepted s given h
 unfolding header_of lines_outcome header_bytes body_start said_by
 of_accepted s given h e =
     let a = given-unless h (ltb most_bytes (length s)) _ _ (given_by (header_outcome s given) h e) in

@@ -4,10 +4,10 @@ use Rattle.std.specs.Prelude.{ℕ, ◌≤◌, ◌≡◌, refl, List, [], ◌∷�
 use Rattle.std.proofs.Common.{sym, ◌∙◌, ap, arith}
 use Rattle.evt_types.specs.declared.{Encoding.Encoding, Encoding.TheVariants.Evt2, Encoding.TheVariants.Evt21, Encoding.TheVariants.Evt3}
 use Rattle.evt_types.specs.declared.Refusal.TheVariants.{HeaderNotAscii, TooLong}
-use Rattle.evt_types.specs.declared.{SensorSize.SensorSize, SensorSize.TheVariants.Unknown, SensorSize.TheVariants.Known}
+use Rattle.std.specs.Prelude.{Option, Some, None, Result, Ok, Err}
+use Rattle.evt_types.specs.declared.SensorSize.{SensorSize}
+use Rattle.evt_types.specs.declared.Refusal.{Refusal}
 use Rattle.evt_types.specs.Told.{Told, told, told-apart, told-numbered, naturals, accepted-naturals}
-use Rattle.header.specs.declared.{HeaderAnswer.HeaderAnswer, HeaderAnswer.TheVariants.Header, HeaderAnswer.TheVariants.Refused, Named.Named}
-use Rattle.header.specs.declared.{Named.TheVariants.As, Named.TheVariants.Nothing}
 use Rattle.header.specs.declared.Header as header
 use Rattle.header_text.specs.{Cases.by_bool, Text.not_ascii, Text.any, Text.begins}
 use Rattle.header.specs.Lines.{is_end, joined, lines_of, leading, through_end, header_lines, joined_lines, header_bytes, body_start}
@@ -62,13 +62,13 @@ at-end s before l behind is none ends = rw is (through before none)
 -- ---- a header that doesn't name EVT2.1
 
 -- the encoding, where there is no EVT2.1
-abbrev pub named_before : Said → Named
+abbrev pub named_before : Said → Option Encoding
 named_before said =
-    cond (begins evt3 said.format || begins three said.evt) (As Evt3)
-    (cond (begins evt2 said.format || begins two said.evt) (As Evt2) Nothing)
+    cond (begins evt3 said.format || begins three said.evt) (Some Evt3)
+    (cond (begins evt2 said.format || begins two said.evt) (Some Evt2) None)
 
 -- A HEADER WHOSE FORMAT DOESN'T BEGIN `evt21` AND WHOSE EVT VALUE DOESN'T BEGIN `2.1` is answered as if there were no EVT2.1
-pub named_as_before : (s : List ℕ) (given : SensorSize) → begins evt21 (said_by s).format ≡ false → begins two_one_lem (said_by s).evt ≡ false
+pub named_as_before : (s : List ℕ) (given : Option SensorSize) → begins evt21 (said_by s).format ≡ false → begins two_one_lem (said_by s).evt ≡ false
     → header_outcome s given
     ≡ cond (ltb most_bytes (length s)) (refuse TooLong)
     (cond (any not_ascii (header_bytes s)) (refuse HeaderNotAscii)
@@ -82,7 +82,7 @@ told_by : (o : Outcome header.Header) → told_header (answer_by o) ≡ verdict 
 told_by (refuse r) = refl
 told_by (give h) = refl
 
-pub verdict_of : (s : List ℕ) (given : SensorSize) → told_header (header_of s given) ≡ header_verdict s given
+pub verdict_of : (s : List ℕ) (given : Option SensorSize) → told_header (header_of s given) ≡ header_verdict s given
 unfolding header_of
 verdict_of s given = told_by (header_outcome s given)
 
@@ -92,39 +92,39 @@ abbrev meant : List ℕ → header.Header
 meant v =
     record {
       data_offset = get_or v 0 0;
-      sensor_size = cond (eqb (get_or v 2 0) 0) Unknown (Known (get_or v 3 0) (get_or v 4 0));
+      sensor_size = cond (eqb (get_or v 2 0) 0) None (Some (record { width = get_or v 3 0; height = get_or v 4 0 }));
       encoding = cond (eqb (get_or v 1 0) 2) Evt2 (cond (eqb (get_or v 1 0) 21) Evt21 Evt3);
     }
 
-meant-values : (at : ℕ) (size : SensorSize) (e : Encoding)
+meant-values : (at : ℕ) (size : Option SensorSize) (e : Encoding)
     → meant (at ∷ encoding_number e ∷ size_values size) ≡ record { data_offset = at; sensor_size = size; encoding = e }
-meant-values at Unknown Evt2 = refl
-meant-values at Unknown Evt21 = refl
-meant-values at Unknown Evt3 = refl
-meant-values at (Known w h) Evt2 = refl
-meant-values at (Known w h) Evt21 = refl
-meant-values at (Known w h) Evt3 = refl
+meant-values at None Evt2 = refl
+meant-values at None Evt21 = refl
+meant-values at None Evt3 = refl
+meant-values at (Some s) Evt2 = refl
+meant-values at (Some s) Evt21 = refl
+meant-values at (Some s) Evt3 = refl
 
-meant-told : (h : header.Header) → meant (naturals (told_header (Header h)).values) ≡ h
+meant-told : (h : header.Header) → meant (naturals (told_header (Ok h)).values) ≡ h
 meant-told h = ap meant (accepted-naturals (header_values h)) ∙ meant-values h.data_offset h.sensor_size h.encoding
 
 abbrev number : Told → ℕ
 number t = t.number
 
-pub told_header-apart : (a b : HeaderAnswer) → told_header a ≡ told_header b → a ≡ b
-told_header-apart (Header h) (Header k) e =
-    ap Header (sym (meant-told h) ∙ ap (λ (t : Told). meant (naturals t.values)) e ∙ meant-told k)
-told_header-apart (Header h) (Refused r) e =
+pub told_header-apart : (a b : Result header.Header Refusal) → told_header a ≡ told_header b → a ≡ b
+told_header-apart (Ok h) (Ok k) e =
+    ap Ok (sym (meant-told h) ∙ ap (λ (t : Told). meant (naturals t.values)) e ∙ meant-told k)
+told_header-apart (Ok h) (Err r) e =
     let z : 0 ≡ (told r).number = ap number e in
     absurd (omega (arith, told-numbered r))
-told_header-apart (Refused r) (Header h) e =
+told_header-apart (Err r) (Ok h) e =
     let z : (told r).number ≡ 0 = ap number e in
     absurd (omega (arith, told-numbered r))
-told_header-apart (Refused r) (Refused q) e = ap Refused (told-apart r q e)
+told_header-apart (Err r) (Err q) e = ap Err (told-apart r q e)
 
 -- ---- what an acceptance says
 
-pub record Accepted (s : List ℕ) (given : SensorSize) (h : header.Header) : Type 0 where
+pub record Accepted (s : List ℕ) (given : Option SensorSize) (h : header.Header) : Type 0 where
   pub short : length s ≤ most_bytes
   pub start : h.data_offset ≡ body_start s
   pub within : h.data_offset ≤ length s
@@ -132,29 +132,29 @@ pub record Accepted (s : List ℕ) (given : SensorSize) (h : header.Header) : Ty
   pub positive : has_zero h.sensor_size ≡ false
 
 -- a header is refused by 1 to 4
-pub header_four : (s : List ℕ) (given : SensorSize) → (told_header (header_of s given)).number ≤ 4
+pub header_four : (s : List ℕ) (given : Option SensorSize) → (told_header (header_of s given)).number ≤ 4
 unfolding header_of lines_outcome header_bytes body_start said_by with_encoding
 header_four s given =
     go (ltb most_bytes (length s)) (any not_ascii (header_bytes s)) (body_start s) (size_that_holds given (said_by s).size) (encoding_of (said_by s))
   where
-    go : (long high : Bool) (at : ℕ) (size : SensorSize) (n : Named)
+    go : (long high : Bool) (at : ℕ) (size : Option SensorSize) (n : Option Encoding)
         → (told_header (answer_by (cond long (refuse TooLong) (cond high (refuse HeaderNotAscii) (with_encoding at size n))))).number ≤ 4
     go true high at size n = omega arith
     go false true at size n = omega arith
-    go false false at size Nothing = omega arith
-    go false false at size (As e) = by_bool (has_zero size) (λ z. rw z (omega arith)) (λ z. rw z (omega arith))
+    go false false at size None = omega arith
+    go false false at size (Some e) = by_bool (has_zero size) (λ z. rw z (omega arith)) (λ z. rw z (omega arith))
 
 -- and never by 1 where a size without a zero is given
-pub header_sized : (s : List ℕ) (given : SensorSize) → ((read : SensorSize) → has_zero (size_that_holds given read) ≡ false)
+pub header_sized : (s : List ℕ) (given : Option SensorSize) → ((read : Option SensorSize) → has_zero (size_that_holds given read) ≡ false)
     → (told_header (header_of s given)).number ≡ 1 → ⊥
 unfolding header_of lines_outcome header_bytes body_start said_by with_encoding
 header_sized s given fine =
     let read = (said_by s).size in
     go (ltb most_bytes (length s)) (any not_ascii (header_bytes s)) (body_start s) (size_that_holds given read) (fine read) (encoding_of (said_by s))
   where
-    go : (long high : Bool) (at : ℕ) (size : SensorSize) → has_zero size ≡ false → (n : Named)
+    go : (long high : Bool) (at : ℕ) (size : Option SensorSize) → has_zero size ≡ false → (n : Option Encoding)
         → (told_header (answer_by (cond long (refuse TooLong) (cond high (refuse HeaderNotAscii) (with_encoding at size n))))).number ≡ 1 → ⊥
     go true high at size z n e = omega arith
     go false true at size z n e = omega arith
-    go false false at size z Nothing e = omega arith
-    go false false at size z (As k) e = let e' = rw z at e in omega (arith, e')
+    go false false at size z None e = omega arith
+    go false false at size z (Some k) e = let e' = rw z at e in omega (arith, e')

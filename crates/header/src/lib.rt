@@ -8,73 +8,42 @@
 
 ghost use Rattle.std.specs.Prelude.{◌≡◌};
 ghost use Rattle.header.specs.Lines.{body_of, is_end};
-ghost use Rattle.header.specs.Header.{size_that_holds, has_zero, IsRefused, Parsed};
-ghost use Rattle.header.specs.Notes.{line_length, versions_of, note_line, scan_of, name_of};
+ghost use Rattle.header.specs.Header.{read_line, encoding_of, has_zero, Parsed};
+ghost use Rattle.header.specs.Notes.{line_length, said_of, scan_of};
 
 use evt_types::{Encoding, MOST_BYTES, Refusal, SensorSize};
 use header_text::size::geometry;
-use header_text::text::{ByteClass, begins_with, has, is_word, tail_from, trim, until};
+use header_text::text::{begins_with, is_blank, is_word, tail_from, trim, until};
 
 // Where the body starts, the size that holds (the caller's before the header's), and the encoding.
-#[derive(Clone, Copy)]
+#[derive(Clone, Copy, Debug, PartialEq, Eq)]
 pub struct Header {
     pub data_offset: usize,
-    pub sensor_size: SensorSize,
+    pub sensor_size: Option<SensorSize>,
     pub encoding: Encoding,
 }
 
+// What the lines read so far say: the values of the last `format` and the last `evt` line, as parts of
+// the recording, empty where there is none; and the size.
 #[derive(Clone, Copy)]
-pub enum HeaderAnswer {
-    Header(Header),
-    Refused(Refusal),
+struct Seen<'a> {
+    format: &'a [u8],
+    evt: &'a [u8],
+    size: Option<SensorSize>,
 }
 
-// Which versions a value begins with.
+// Where the body starts, and what the lines before it say.
 #[derive(Clone, Copy)]
-struct Versions {
-    three: bool,
-    two_one: bool,
-    two: bool,
-}
-
-// What is kept of the lines read so far: the size, and which versions the last `format` and the last
-// `evt` value begin with.
-#[derive(Clone, Copy)]
-struct Seen {
-    format: Versions,
-    evt: Versions,
-    size: SensorSize,
-}
-
-// Where the body starts, and what is kept of the lines before it.
-#[derive(Clone, Copy)]
-struct Scan {
+struct Scan<'a> {
     at: usize,
-    seen: Seen,
-}
-
-// The encoding that the header names, if it names one.
-#[derive(Clone, Copy)]
-enum Named {
-    Nothing,
-    As(Encoding),
-}
-
-fn versions_of(s: &[u8], three: &[u8], two_one: &[u8], two: &[u8]) -> Versions
-    ensures { result ≡ versions_of three.now two_one.now two.now s.now }
-{
-    Versions {
-        three: begins_with(s, three),
-        two_one: begins_with(s, two_one),
-        two: begins_with(s, two),
-    }
+    seen: Seen<'a>,
 }
 
 // A line without the blanks around it and the `%`s before it.
 fn line_body(line: &[u8]) -> &[u8]
     ensures { result.now ≡ body_of line.now }
 {
-    trim(tail_from(trim(line), ByteClass::NotPercent))
+    trim(tail_from(trim(line), |b| b != b'%'))
 }
 
 // Whether a line ends the header.
@@ -85,36 +54,27 @@ fn is_end(line: &[u8]) -> bool
 }
 
 // The key runs up to the first blank, and the value is the rest.
-fn read_line(seen: Seen, line: &[u8]) -> Seen
-    ensures { result ≡ note_line seen line.now }
+fn read_line<'a>(seen: Seen<'a>, line: &'a [u8]) -> Seen<'a>
+    ensures { said_of result ≡ read_line (said_of seen.entry) line.now }
 {
     let body = line_body(line);
-    let n = until(body, ByteClass::Blank);
+    let n = until(body, is_blank);
     let key = &body[..n];
     let value = trim(&body[n..]);
-    let format = seen.format;
-    let evt = seen.evt;
-    let size = seen.size;
     if is_word(key, b"geometry") {
         return Seen {
-            format,
-            evt,
-            size: geometry(value, size),
+            size: geometry(value, seen.size),
+            ..seen
         };
     }
     if is_word(key, b"format") {
         return Seen {
-            format: versions_of(value, b"evt3", b"evt21", b"evt2"),
-            evt,
-            size,
+            format: value,
+            ..seen
         };
     }
     if is_word(key, b"evt") {
-        return Seen {
-            format,
-            evt: versions_of(value, b"3", b"2.1", b"2"),
-            size,
-        };
+        return Seen { evt: value, ..seen };
     }
     seen
 }
@@ -123,29 +83,21 @@ fn read_line(seen: Seen, line: &[u8]) -> Seen
 fn line_length(s: &[u8]) -> usize
     ensures { result ≡ line_length s.now }
 {
-    let n = until(s, ByteClass::Byte(10));
-    if n < s.len() {
-        return n + 1;
-    }
-    n
+    (until(s, |b| b == b'\n') + 1).min(s.len())
 }
 
-fn scan_lines(s: &[u8]) -> Scan
-    ensures { result ≡ scan_of s.now }
+// A `while`, since each turn takes off a line, whose length `line_length` finds.
+fn scan_lines(s: &[u8]) -> Scan<'_>
+    ensures { (result.at, said_of result.seen) ≡ scan_of s.now }
 {
-    let none = Versions {
-        three: false,
-        two_one: false,
-        two: false,
-    };
     let mut seen = Seen {
-        format: none,
-        evt: none,
-        size: SensorSize::Unknown,
+        format: &[],
+        evt: &[],
+        size: None,
     };
     let mut at = 0;
     while at < s.len() {
-        if s[at] != 37 {
+        if s[at] != b'%' {
             return Scan { at, seen };
         }
         let left = &s[at..];
@@ -161,80 +113,55 @@ fn scan_lines(s: &[u8]) -> Scan
 }
 
 // EVT3 before EVT2.1 before EVT2, whichever of the two keys names it.
-fn name_encoding(seen: Seen) -> Named
-    ensures { result ≡ name_of seen }
+#[tactic(auto, unfolding(crate::specs::Header::encoding_of))]
+fn name_encoding(seen: Seen) -> Option<Encoding>
+    ensures { result ≡ encoding_of (said_of seen.entry) }
 {
-    let format = seen.format;
-    let evt = seen.evt;
-    if format.three || evt.three {
-        return Named::As(Encoding::Evt3);
+    let Seen { format, evt, .. } = seen;
+    if begins_with(format, b"evt3") || begins_with(evt, b"3") {
+        return Some(Encoding::Evt3);
     }
-    if format.two_one || evt.two_one {
-        return Named::As(Encoding::Evt21);
+    if begins_with(format, b"evt21") || begins_with(evt, b"2.1") {
+        return Some(Encoding::Evt21);
     }
-    if format.two || evt.two {
-        return Named::As(Encoding::Evt2);
+    if begins_with(format, b"evt2") || begins_with(evt, b"2") {
+        return Some(Encoding::Evt2);
     }
-    Named::Nothing
-}
-
-// The caller's size, or without one the header's.
-fn size_that_holds(given: SensorSize, read: SensorSize) -> SensorSize
-    ensures { result ≡ size_that_holds given read }
-{
-    match given {
-        SensorSize::Known(_, _) => given,
-        SensorSize::Unknown => read,
-    }
+    None
 }
 
 // Whether a known size has a side of 0.
-pub fn has_zero(size: SensorSize) -> bool
+#[tactic(auto, unfolding(crate::specs::Header::has_zero))]
+pub fn has_zero(size: Option<SensorSize>) -> bool
     ensures { result ≡ has_zero size }
 {
-    let SensorSize::Known(w, h) = size else {
-        return false;
-    };
-    if w == 0 {
-        return true;
+    match size {
+        Some(s) => s.width == 0 || s.height == 0,
+        None => false,
     }
-    h == 0
-}
-
-// The refusal of an answer that is one.
-pub fn refusal_of(answer: HeaderAnswer) -> Refusal
-    requires { IsRefused answer }
-    ensures { answer ≡ HeaderAnswer.Refused result }
-{
-    let HeaderAnswer::Refused(r) = answer else {
-        loop {}
-    };
-    r
 }
 
 // Reads the header of a recording; `size` is the caller's.
-pub fn parse_header(recording: &[u8], size: SensorSize) -> HeaderAnswer
+pub fn parse_header(recording: &[u8], size: Option<SensorSize>) -> Result<Header, Refusal>
     ensures { Parsed recording.now size result }
 {
     if MOST_BYTES < recording.len() {
-        return HeaderAnswer::Refused(Refusal::TooLong);
+        return Err(Refusal::TooLong);
     }
-    let scanned = scan_lines(recording);
-    let at = scanned.at;
-    if has(&recording[..at], ByteClass::NotAscii) {
-        return HeaderAnswer::Refused(Refusal::HeaderNotAscii);
+    let scan = scan_lines(recording);
+    if !recording[..scan.at].is_ascii() {
+        return Err(Refusal::HeaderNotAscii);
     }
-    let seen = scanned.seen;
-    let Named::As(encoding) = name_encoding(seen) else {
-        return HeaderAnswer::Refused(Refusal::UnknownEncoding);
+    let Some(encoding) = name_encoding(scan.seen) else {
+        return Err(Refusal::UnknownEncoding);
     };
-    let read = seen.size;
-    let sensor_size = size_that_holds(size, read);
+    // The caller's size, or without one the header's.
+    let sensor_size = size.or(scan.seen.size);
     if has_zero(sensor_size) {
-        return HeaderAnswer::Refused(Refusal::InvalidSensorSize);
+        return Err(Refusal::InvalidSensorSize);
     }
-    HeaderAnswer::Header(Header {
-        data_offset: at,
+    Ok(Header {
+        data_offset: scan.at,
         sensor_size,
         encoding,
     })

@@ -2,7 +2,7 @@
 use Prim.Native.Nat.{ℕ}
 use mathlib.Core.Path.{◌≡◌, refl}
 use mathlib.Core.List.{List, [], ◌∷◌}
-use Rattle.header_text.specs.declared.number.Number.TheVariants.{Value, Bad}
+use Rattle.std.specs.Prelude.{Ok, Err}
 use Rattle.header_text.specs.Number.{is_digit, goes_on_lem, digits_from, digits_at, read_of}
 
 -- `1844674407370955161`: one digit short of 2^64 - 1 and of 2^64
@@ -15,9 +15,9 @@ pub worked :
     ∷ read_of (most (54 ∷ [])) ∷ read_of (43 ∷ most (54 ∷ [])) ∷ read_of (most (53 ∷ [])) ∷ read_of (most (53 ∷ 48 ∷ []))
     ∷ read_of (43 ∷ 48 ∷ 48 ∷ 55 ∷ [])
     ∷ []
-    ≡ Bad 0 ∷ Bad 1 ∷ Bad 2 ∷ Bad 1
-    ∷ Bad 19 ∷ Bad 20 ∷ Value 18446744073709551615 ∷ Bad 20
-    ∷ Value 7
+    ≡ Err 0 ∷ Err 1 ∷ Err 2 ∷ Err 1
+    ∷ Err 19 ∷ Err 20 ∷ Ok 18446744073709551615 ∷ Err 20
+    ∷ Ok 7
     ∷ []
 unfolding is_digit goes_on_lem digits_from digits_at read_of
 worked = refl

@@ -1,69 +1,90 @@
 -- The loop over digits, and the sign before them.
 use Prim.Native.Nat.{ℕ, ◌+◌, ◌*◌, ◌-◌, ◌^◌, ◌<◌, ◌≤◌}
-use mathlib.Core.Path.{◌≡◌, refl, sym, ◌∙◌}
+use mathlib.Core.Path.{◌≡◌, refl, sym, ◌∙◌, ap}
 use mathlib.Core.List.{List, [], ◌∷◌}
-use mathlib.Core.Bool.{Bool, true, false, and-false}
-use mathlib.Core.Logic.{◌⊎◌, ⊎_elim}
+use mathlib.Core.Bool.{Bool, true, false}
 use native.Mathlib.Omega.{arith}
-use lib.ListN.{length, get_or, drop}
-use lib.Dec.{leb}
-use borrow.Author.Tests.{lt-ltb, le-ltb, le-leb, lt-leb, leb-true, leb-false, eq-eqb, ne_eqb}
-use Rattle.header_text.specs.declared.number.Number.{Number}
-use Rattle.header_text.specs.declared.number.Number.TheVariants.{Value, Bad}
-use Rattle.header_text.specs.Number.{is_digit, goes_on_lem, digits_from, digits_at, read_of}
-use Rattle.header_text.proofs.TextLaws.{at_drop, at-end}
+use lib.ListN.{length, get_or, take, drop}
+use lib.Dec.{ltb}
+use borrow.Author.Tests.{eq-eqb, ne_eqb}
+use Rattle.std.specs.Prelude.{Option, Some, None, Result, Ok, Err, cond}
+use Rattle.std.specs.Char.{is_ascii_digit}
+use Rattle.std.specs.Result.{result_ok}
+use Rattle.header_text.specs.Place.{value-number, bad_number}
+use Rattle.header_text.specs.Cases.{by_bool}
+use Rattle.std.specs.Prelude.{ℕ}
+use Rattle.header_text.specs.Number.{is_digit, goes_on_lem, digits_from, digits_at, read_of, number_of}
+use Rattle.header_text.proofs.TextLaws.{at_drop, at-end, tail-part}
 
-pub digits_none : (s : List ℕ) (i : ℕ) → length s ≤ i → Bad i ≡ digits_at i (drop i s)
+pub digits-some : (place : ℕ) (s : List ℕ) → (length s ≡ 0 → ⊥) → digits_from place 0 s ≡ digits_at place s
 unfolding digits_at
-digits_none s i h = rw (at-end s i h)
+digits-some place [] h = absurd (h refl)
+digits-some place (b ∷ s) h = refl
 
-pub digits-some : (s : List ℕ) (i : ℕ) → i < length s → digits_from i 0 (drop i s) ≡ digits_at i (drop i s)
+pub digits_none : (place : ℕ) (s : List ℕ) → length s ≡ 0 → Err place ≡ digits_at place s
 unfolding digits_at
-digits-some s i h = rw (at_drop s i h)
+digits_none place [] h = refl
+digits_none place (b ∷ s) h = absurd (omega arith)
 
-not_digit : (b : ℕ) → (b < 48) ⊎ (57 < b) → is_digit b ≡ false
+digit-same : (b : ℕ) → is_ascii_digit b ≡ is_digit b
 unfolding is_digit
-not_digit b h = ⊎_elim (λ l. rw (lt-leb 48 b l)) (λ l. rw (lt-leb b 57 l, and-false)) h
+digit-same b = grind arith
 
--- by whether a value is found to pass 2^64 - 1
-module _ {r : Bool} {m : ℕ} (is : r ≡ leb (2 ^ 64) m) where
-  pub value_fits : r ≡ false → m < 2 ^ 64
-  value_fits e = leb-false (2 ^ 64) m (sym is ∙ e)
+pub not_digit : (n b : ℕ) → is_ascii_digit b ≡ false → goes_on_lem n b ≡ false
+unfolding goes_on_lem
+not_digit n b e = rw (sym (digit-same b) ∙ e)
 
-  pub value_passes : r ≡ true → 2 ^ 64 ≤ m
-  value_passes e = leb-true (2 ^ 64) m (sym is ∙ e)
+-- by what `append_digit` answers of the digit b
+module _ (n b : ℕ) (digit : is_ascii_digit b ≡ true) (d : ℕ) (d_is : d ≡ b - 48) (r : Option ℕ)
+    (answers : r ≡ cond (ltb (n * 10 + d) (2 ^ 64)) (Some (n * 10 + d)) None) where
+  is : r ≡ cond (ltb (n * 10 + (b - 48)) (2 ^ 64)) (Some (n * 10 + (b - 48))) None
+  is = rw d_is at answers
+
+  goes : (t : Bool) → ltb (n * 10 + (b - 48)) (2 ^ 64) ≡ t → goes_on_lem n b ≡ t
+  unfolding goes_on_lem
+  goes t e = rw (sym (digit-same b) ∙ digit) e
+
+  pub value_none : r ≡ None → goes_on_lem n b ≡ false
+  value_none e = by_bool (ltb (n * 10 + (b - 48)) (2 ^ 64)) (λ t. let no : None ≡ Some (n * 10 + (b - 48)) = sym e ∙ rw t at is in absurd cc) (goes false)
+
+  pub value_some : (m : ℕ) → r ≡ Some m → (goes_on_lem n b ≡ true) × (m ≡ n * 10 + (b - 48))
+  value_some m e =
+      by_bool (ltb (n * 10 + (b - 48)) (2 ^ 64)) (λ t. let yes : Some m ≡ Some (n * 10 + (b - 48)) = sym e ∙ rw t at is in (goes true t, cc))
+      (λ t. let no : Some m ≡ None = sym e ∙ rw t at is in absurd cc)
 
 -- the digits before the byte i are read, and their value is n
-module _ (s : List ℕ) (n i : ℕ) (all : Number) (inv : digits_from i n (drop i s) ≡ all) where
-  pub digits-end : length s ≤ i → Value n ≡ all
+module _ (s : List ℕ) (place n i : ℕ) (all : Result ℕ ℕ) (inv : digits_from (place + i) n (drop i s) ≡ all) where
+  pub digits-end : length s ≤ i → Ok n ≡ all
   unfolding digits_from
   digits-end h = rw (at-end s i h) at inv
 
   module _ (h : i < length s) where
-    pub digits_bad : (get_or s i 0 < 48) ⊎ (57 < get_or s i 0) → Bad i ≡ all
-    unfolding digits_from goes_on_lem
-    digits_bad k = rw (at_drop s i h, not_digit _ k) at inv
+    pub digits_stop : goes_on_lem n (get_or s i 0) ≡ false → Err (place + i) ≡ all
+    unfolding digits_from
+    digits_stop e = rw (at_drop s i h, e) at inv
 
-    module _ (l : 48 ≤ get_or s i 0) (u : get_or s i 0 ≤ 57) where
-      pub digits-next : n * 10 + (get_or s i 0 - 48) < 2 ^ 64 → digits_from (i + 1) (n * 10 + (get_or s i 0 - 48)) (drop (i + 1) s) ≡ all
-      unfolding digits_from goes_on_lem is_digit
-      digits-next k = rw (at_drop s i h, le-leb 48 _ l, le-leb _ 57 u, lt-ltb _ (2 ^ 64) k) at inv
+    pub digits-next : goes_on_lem n (get_or s i 0) ≡ true → digits_from (place + (i + 1)) (n * 10 + (get_or s i 0 - 48)) (drop (i + 1) s) ≡ all
+    unfolding digits_from
+    digits-next e = let q : place + (i + 1) ≡ place + i + 1 = omega arith in rw q (rw (at_drop s i h, e) at inv)
 
-      pub digits_big : 2 ^ 64 ≤ n * 10 + (get_or s i 0 - 48) → Bad i ≡ all
-      unfolding digits_from goes_on_lem is_digit
-      digits_big k = rw (at_drop s i h, le-leb 48 _ l, le-leb _ 57 u, le-ltb _ (2 ^ 64) k) at inv
-
-pub read_none : (s : List ℕ) → length s ≡ 0 → Bad 0 ≡ read_of s
+pub read_none : (s : List ℕ) → length s ≡ 0 → Err 0 ≡ read_of s
 unfolding read_of
 read_none [] h = refl
 read_none (b ∷ s) h = absurd (omega arith)
 
-pub read_plus : (s : List ℕ) → (length s ≡ 0 → ⊥) → get_or s 0 0 ≡ 43 → digits_at 1 (drop 1 s) ≡ read_of s
+pub read_plus : (s : List ℕ) → get_or s 0 0 ≡ 43 → digits_at 1 (take (length s - 1) (drop 1 s)) ≡ read_of s
 unfolding read_of
-read_plus [] h e = absurd (h refl)
-read_plus (b ∷ s) h e = rw (eq-eqb b 43 e)
+read_plus [] e = absurd (omega arith)
+read_plus (b ∷ s) e = ap (digits_at 1) (tail-part (b ∷ s) 1 (omega arith)) ∙ rw (eq-eqb b 43 e)
 
 pub read_plain : (s : List ℕ) → (length s ≡ 0 → ⊥) → (get_or s 0 0 ≡ 43 → ⊥) → digits_at 0 s ≡ read_of s
 unfolding read_of
 read_plain [] h e = absurd (h refl)
 read_plain (b ∷ s) h e = rw (ne_eqb b 43 e)
+
+pub read_ok : (s : List ℕ) → result_ok (read_of s) ≡ number_of s
+read_ok s = go (read_of s) refl
+  where
+    go : (r : Result ℕ ℕ) → read_of s ≡ r → result_ok (read_of s) ≡ number_of s
+    go (Ok n) e = ap result_ok e ∙ sym (value-number s n e)
+    go (Err k) e = ap result_ok e ∙ sym (bad_number s k e)

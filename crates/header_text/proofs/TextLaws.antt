@@ -1,14 +1,21 @@
 -- Laws of texts: where they part, trimming, names; and the loops of src/text.rt over them.
-use Prim.Native.Nat.{ℕ, suc, ◌+◌, ◌-◌, ◌<◌, ◌≤◌}
+use Prim.Native.Nat.{ℕ, zero, suc, ◌+◌, ◌-◌, ◌^◌, ◌<◌, ◌≤◌}
 use mathlib.Core.Path.{◌≡◌, refl, sym, ◌∙◌, ap}
 use mathlib.Core.List.{List, [], ◌∷◌, ◌++◌, reverse, reverse-append, reverse-reverse}
-use mathlib.Core.Bool.{Bool, true, false}
+use mathlib.Core.Bool.{Bool, true, false, and-false}
 use native.Mathlib.Numerals.{add-one}
 use native.Mathlib.Omega.{arith}
 use lib.ListN.{length, get_or, take, drop, length-drop, drop_of_length-le}
 use lib.Seq.{take_all, drop-cons, drop-drop, take-suc}
 use lib.Dec.{ltb, leb-suc-suc}
-use borrow.Author.Tests.{lt-ltb, le-ltb, eq-eqb, ne_eqb}
+use borrow.Author.Tests.{lt-ltb, le-ltb}
+use Rattle.std.specs.Prelude.{Option, Some, None, unwrap_or, MatchOption}
+use Rattle.std.specs.List.{AllWithin, HoldsAt, list_all, zip, position, position_or_len}
+use Rattle.std.proofs.lemmas.List.Recursion.{is_position_or_len}
+use mathlib.Core.Bool.{cond}
+use Rattle.std.specs.Char.{to_ascii_lowercase}
+use Rattle.std.specs.Prelude.{nat_eq}
+use Rattle.std.proofs.Common.{append_assoc, append-nil, take-append-drop, get_or-drop}
 use Rattle.header_text.specs.Cases.{by_bool}
 use Rattle.header_text.specs.Text.{is_blank, up_to, from, any, rest_of, trim_start, trim_end, lower_of, begins}
 
@@ -45,19 +52,37 @@ lt-up_to p (b ∷ s) =
     by_bool (p b) (λ e. rw e (lt-ltb 0 (suc (length s)) (omega arith)))
     (λ e. rw e (leb-suc-suc (suc (length (up_to p s))) (length s) ∙ lt-up_to p s))
 
-module _ (p : ℕ → Bool) (s : List ℕ) (i : ℕ) (inv : i + length (up_to p (drop i s)) ≡ length (up_to p s)) where
-  pub until_end : length s ≤ i → i ≡ length (up_to p s)
-  unfolding up_to
-  until_end h = let e : i + 0 ≡ length (up_to p s) = rw (at-end s i h) at inv in omega arith
+pub first-up_to : (p : ℕ → Bool) (s : List ℕ) (i : ℕ) → i < length s → p (get_or s i 0) ≡ true
+    → ((k : ℕ) → k < i → p (get_or s k 0) ≡ false) → i ≡ length (up_to p s)
+unfolding up_to
+first-up_to p [] i h here before = absurd (omega arith)
+first-up_to p (b ∷ s) zero h here before = rw here
+first-up_to p (b ∷ s) (suc i) h here before =
+    rw (before 0 (omega arith)) (ap suc (first-up_to p s i (omega arith) here (λ k l. before (suc k) (omega arith))))
 
-  module _ (h : i < length s) where
-    pub until_found : p (get_or s i 0) ≡ true → i ≡ length (up_to p s)
-    unfolding up_to
-    until_found e = let q : i + 0 ≡ length (up_to p s) = rw (at_drop s i h, e) at inv in omega arith
+pub none-up_to : (p : ℕ → Bool) (s : List ℕ) → ((k : ℕ) → k < length s → p (get_or s k 0) ≡ false) → length s ≡ length (up_to p s)
+unfolding up_to
+none-up_to p [] none = refl
+none-up_to p (b ∷ s) none = rw (none 0 (omega arith)) (ap suc (none-up_to p s (λ k l. none (suc k) (omega arith))))
 
-    pub until-next : p (get_or s i 0) ≡ false → (i + 1) + length (up_to p (drop (i + 1) s)) ≡ length (up_to p s)
-    unfolding up_to
-    until-next e = let q : i + suc (length (up_to p (drop (i + 1) s))) ≡ length (up_to p s) = rw (at_drop s i h, e) at inv in omega arith
+more-up_to : (p : ℕ → Bool) (b : ℕ) (s : List ℕ) → length (up_to p (b ∷ s)) ≡ cond (p b) 0 (1 + length (up_to p s))
+unfolding up_to
+more-up_to p b s = by_bool (p b) (λ e. rw e) (λ e. rw e (omega arith))
+
+-- as `position` finds it
+pub position-up_to : (p : ℕ → Bool) (s : List ℕ) → position p s ≡ cond (any p s) (Some (length (up_to p s))) None
+unfolding up_to
+position-up_to p s =
+    let is : length (up_to p s) ≡ position_or_len p s = is_position_or_len (λ t. length (up_to p t)) p refl (more-up_to p) s in
+    rw (← is, lt-up_to p s)
+
+-- what a search found in bytes, where each answer is that of p: the place of the first with the property, or that there is none
+pub search_up_to : (p : ℕ → Bool) (s : List ℕ) (r : Option ℕ) → ((k : ℕ) → get_or s k 0 < 2 ^ 8)
+    → MatchOption r (AllWithin (λ b. b < 2 ^ 8 → p b ≡ false) s 0 (length s))
+    (λ i. (i < length s) × HoldsAt (λ b. b < 2 ^ 8 → p b ≡ true) s i × AllWithin (λ b. b < 2 ^ 8 → p b ≡ false) s 0 i)
+    → unwrap_or r (length s) ≡ length (up_to p s)
+search_up_to p s None fits none = none-up_to p s (λ k h. none k 0 (omega arith) h (fits k))
+search_up_to p s (Some i) fits (h, here, before) = first-up_to p s i h (here 0 (fits i)) (λ k l. before k 0 (omega arith) l (fits k))
 
 drop-one : (s : List ℕ) → drop 1 s ≡ rest_of s
 unfolding rest_of
@@ -80,12 +105,6 @@ module _ (p : ℕ → Bool) (s : List ℕ) (n : ℕ) (e : n ≡ length (up_to p 
       let d : drop n s ≡ from p s = rw e (drop-up_to p s) in
       sym (drop-drop 1 n s) ∙ drop-one (drop n s) ∙ ap rest_of d
 
-  pub found : n < length s → any p s ≡ true
-  found h = sym (lt-up_to p s) ∙ lt-ltb (length (up_to p s)) (length s) (omega arith)
-
-  pub missing : length s ≤ n → any p s ≡ false
-  missing h = sym (lt-up_to p s) ∙ le-ltb (length (up_to p s)) (length s) (omega arith)
-
 -- ---- trimming the end
 
 pub trim_dark : (s : List ℕ) (b : ℕ) → is_blank b ≡ false → trim_end (s ++ (b ∷ [])) ≡ s ++ (b ∷ [])
@@ -96,39 +115,45 @@ pub trim_blank : (s : List ℕ) (b : ℕ) → is_blank b ≡ true → trim_end (
 unfolding trim_end trim_start from
 trim_blank s b e = rw (reverse-append s (b ∷ [])) (rw e)
 
-module _ (s : List ℕ) (n : ℕ) (h : 0 < n) (le : n ≤ length s) where
-  take_last : take n s ≡ take (n - 1) s ++ (get_or s (n - 1) 0 ∷ [])
-  take_last =
-      let e : n ≡ suc (n - 1) = omega arith in
-      let l : n - 1 < length s = omega arith in
-      ap (λ (k : ℕ). take k s) e ∙ take-suc s (n - 1) 0 l
+-- the byte n is the last that isn't blank, or there is none
+trim_blanks : (s t : List ℕ) → ((k : ℕ) → k < length t → is_blank (get_or t k 0) ≡ true) → trim_end (s ++ t) ≡ trim_end s
+trim_blanks s [] blanks = ap trim_end (append-nil s)
+trim_blanks s (b ∷ t) blanks =
+    ap trim_end (sym (append_assoc s (b ∷ []) t))
+    ∙ trim_blanks (s ++ (b ∷ [])) t (λ k h. blanks (suc k) (omega arith)) ∙ trim_blank s b (blanks 0 (omega arith))
 
-  pub end_dark : is_blank (get_or s (n - 1) 0) ≡ false → trim_end (take n s) ≡ trim_end s → take n s ≡ trim_end s
-  end_dark e inv = sym (rw take_last (trim_dark (take (n - 1) s) (get_or s (n - 1) 0) e)) ∙ inv
+pub trim_last : (s : List ℕ) (n : ℕ) → n < length s → is_blank (get_or s n 0) ≡ false
+    → ((k : ℕ) → n + 1 ≤ k → k < length s → is_blank (get_or s k 0) ≡ true) → take (n + 1) s ≡ trim_end s
+trim_last s n h here after =
+    let last : take (n + 1) s ≡ take n s ++ (get_or s n 0 ∷ []) = rw add-one (take-suc s n 0 h) in
+    let blanks : trim_end (take (n + 1) s ++ drop (n + 1) s) ≡ trim_end (take (n + 1) s) =
+    trim_blanks (take (n + 1) s) (drop (n + 1) s)
+    (λ k l. rw (get_or-drop (n + 1) s k 0) (after (n + 1 + k) (omega arith) (omega (arith, length-drop (n + 1) s)))) in
+    sym (ap trim_end (sym (take-append-drop (n + 1) s)) ∙ blanks ∙ ap trim_end last ∙ trim_dark (take n s) (get_or s n 0) here ∙ sym last)
 
-  pub end-blank : is_blank (get_or s (n - 1) 0) ≡ true → trim_end (take n s) ≡ trim_end s → trim_end (take (n - 1) s) ≡ trim_end s
-  end-blank e inv = sym (trim_blank (take (n - 1) s) (get_or s (n - 1) 0) e) ∙ sym (ap trim_end take_last) ∙ inv
-
-pub end_none : (s : List ℕ) (n : ℕ) → n ≤ 0 → trim_end (take n s) ≡ trim_end s → take n s ≡ trim_end s
+pub trim_none : (s : List ℕ) → ((k : ℕ) → k < length s → is_blank (get_or s k 0) ≡ true) → [] ≡ trim_end s
 unfolding trim_end trim_start from
-end_none s n h inv = let e : n ≡ 0 = omega arith in rw e (rw e at inv)
+trim_none s none = sym (trim_blanks [] s none)
 
 -- ---- names
 
-module _ (name s : List ℕ) (i : ℕ) (inv : begins (drop i name) (drop i s) ≡ begins name s) where
-  pub begins-end : length name ≤ i → true ≡ begins name s
-  unfolding begins
-  begins-end h = rw (at-end name i h) at inv
+pub begins-short : (name s : List ℕ) → length s < length name → begins name s ≡ false
+unfolding begins
+begins-short [] s h = absurd (omega arith)
+begins-short (n ∷ name) [] h = refl
+begins-short (n ∷ name) (b ∷ s) h = rw (begins-short name s (omega arith), and-false)
 
-  module _ (h : i < length name) where
-    pub begins-short : length s ≤ i → false ≡ begins name s
-    unfolding begins
-    begins-short k = rw (at_drop name i h, at-end s i k) at inv
+-- a byte of the text against one of the name
+abbrev pub named : ℕ × ℕ → Bool
+named p = nat_eq (to_ascii_lowercase p.0) p.1
 
-    pub begins_wrong : i < length s → (lower_of (get_or s i 0) ≡ get_or name i 0 → ⊥) → false ≡ begins name s
-    unfolding begins
-    begins_wrong k e = rw (at_drop name i h, at_drop s i k, ne_eqb _ _ e) at inv
+lower-same : (b : ℕ) → to_ascii_lowercase b ≡ lower_of b
+unfolding lower_of
+lower-same b = grind arith
 
-    pub begins-next : i < length s → lower_of (get_or s i 0) ≡ get_or name i 0 → begins (drop (i + 1) name) (drop (i + 1) s) ≡ begins name s
-    unfolding begins
-    begins-next k e = rw (at_drop name i h, at_drop s i k, eq-eqb _ _ e) at inv
+pub begins-zip : (name s : List ℕ) → length name ≤ length s → list_all named (zip s name) ≡ begins name s
+unfolding begins
+begins-zip [] [] h = refl
+begins-zip [] (b ∷ s) h = refl
+begins-zip (n ∷ name) [] h = absurd (omega arith)
+begins-zip (n ∷ name) (b ∷ s) h = rw (lower-same b, begins-zip name s (omega arith))

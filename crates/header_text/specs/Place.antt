@@ -3,10 +3,10 @@ use Prim.Native.Nat.{ℕ, zero, suc, ◌+◌, ◌*◌, ◌-◌, ◌^◌, ◌<◌
 use Rattle.std.specs.Prelude.{◌≡◌, refl, List, [], ◌∷◌, ◌++◌, length, take, replicate, ltb, eqb}
 use Rattle.std.proofs.Math.Path.{sym, ap}
 use Rattle.std.proofs.Common.{◌∙◌, arith}
-use Rattle.std.proofs.Math.Option.{Option, none, some}
+use Rattle.std.specs.Prelude.{Option, Some, None, Result, Ok, Err}
 use Rattle.std.proofs.Math.Bool.{true, false, and-false}
 use borrow.Author.Tests.{lt-ltb, le-ltb, ltb-true, ltb-false}
-use Rattle.header_text.specs.declared.{number.Number.Number, number.Number.TheVariants.Value, number.Number.TheVariants.Bad}
+use Rattle.std.specs.Prelude.{ℕ}
 use Rattle.header_text.specs.Cases.{by_bool}
 use Rattle.header_text.specs.Number.{is_digit, all_digits, digits_value, number_from, digits_of, number_of, goes_on_lem, digits_from, digits_at, read_of}
 
@@ -14,14 +14,14 @@ use Rattle.header_text.specs.Number.{is_digit, all_digits, digits_value, number_
 pub record Begins (s : List ℕ) : Type 0 where
   pub rest : List ℕ
   pub value : ℕ
-  pub number : number_of (s ++ rest) ≡ some value
+  pub number : number_of (s ++ rest) ≡ Some value
 
 -- what stands before the place begins some number, and with the byte there it begins none; at the length the text is none
 pub record Place (s : List ℕ) (k : ℕ) : Type 0 where
   pub within : k ≤ length s
   pub before : Begins (take k s)
   pub here : k < length s → Begins (take (suc k) s) → ⊥
-  pub ended : k ≡ length s → number_of s ≡ none
+  pub ended : k ≡ length s → number_of s ≡ None
 
 -- ---- a byte behind digits of value n: the reader goes on there, or stops
 
@@ -30,7 +30,7 @@ unfolding digits_value
 value_ge n [] = omega arith
 value_ge n (b ∷ s) = omega (arith, value_ge (n * 10 + (b - 48)) s)
 
-pub number-end : (n : ℕ) → n < 2 ^ 64 → number_from n [] ≡ some n
+pub number-end : (n : ℕ) → n < 2 ^ 64 → number_from n [] ≡ Some n
 unfolding number_from all_digits digits_value
 number-end n h = rw (lt-ltb n (2 ^ 64) h)
 
@@ -38,7 +38,7 @@ module _ (n b : ℕ) where
   abbrev next : ℕ
   next = n * 10 + (b - 48)
 
-  pub stop_none : goes_on_lem n b ≡ false → (s : List ℕ) → number_from n (b ∷ s) ≡ none
+  pub stop_none : goes_on_lem n b ≡ false → (s : List ℕ) → number_from n (b ∷ s) ≡ None
   unfolding goes_on_lem number_from all_digits digits_value
   stop_none e s =
       by_bool (is_digit b)
@@ -60,9 +60,9 @@ module _ (n b : ℕ) where
 -- ---- numbers and answers
 
 -- an answer without its place
-known : Number → Option ℕ
-known (Value n) = some n
-known (Bad k) = none
+known : Result ℕ ℕ → Option ℕ
+known (Ok n) = Some n
+known (Err k) = None
 
 from_known : (place n : ℕ) (s : List ℕ) → n < 2 ^ 64 → known (digits_from place n s) ≡ number_from n s
 unfolding known digits_from
@@ -83,20 +83,20 @@ read_known (b ∷ s) = by_bool (eqb b 43) (λ e. rw e (at_known 1 s)) (λ e. rw 
 
 -- the reader gives a value exactly of numbers, and theirs
 module _ (s : List ℕ) where
-  pub value-number : (n : ℕ) → read_of s ≡ Value n → number_of s ≡ some n
+  pub value-number : (n : ℕ) → read_of s ≡ Ok n → number_of s ≡ Some n
   unfolding known
   value-number n e = sym (read_known s) ∙ ap known e
 
-  pub bad_number : (k : ℕ) → read_of s ≡ Bad k → number_of s ≡ none
+  pub bad_number : (k : ℕ) → read_of s ≡ Err k → number_of s ≡ None
   unfolding known
   bad_number k e = sym (read_known s) ∙ ap known e
 
-  pub number-value : (n : ℕ) → number_of s ≡ some n → read_of s ≡ Value n
+  pub number-value : (n : ℕ) → number_of s ≡ Some n → read_of s ≡ Ok n
   number-value n h = go (read_of s) refl
     where
-      go : (r : Number) → read_of s ≡ r → read_of s ≡ Value n
-      go (Value m) e = cc (value-number m e)
-      go (Bad k) e = cc (bad_number k e)
+      go : (r : Result ℕ ℕ) → read_of s ≡ r → read_of s ≡ Ok n
+      go (Ok m) e = cc (value-number m e)
+      go (Err k) e = cc (bad_number k e)
 
 zero-first : (b : ℕ) (s : List ℕ) → digits_of (48 ∷ b ∷ s) ≡ digits_of (b ∷ s)
 unfolding digits_of number_from all_digits digits_value is_digit
@@ -108,12 +108,12 @@ zeros_first zero b s = refl
 zeros_first (suc zero) b s = zero-first b s
 zeros_first (suc (suc k)) b s = zero-first 48 (replicate k 48 ++ (b ∷ s)) ∙ zeros_first (suc k) b s
 
-zeros_digits : (k : ℕ) → digits_of (48 ∷ replicate k 48) ≡ some 0
+zeros_digits : (k : ℕ) → digits_of (48 ∷ replicate k 48) ≡ Some 0
 unfolding digits_of number_from all_digits digits_value is_digit
 zeros_digits zero = refl
 zeros_digits (suc k) = zero-first 48 (replicate k 48) ∙ zeros_digits k
 
 -- and alone they are the number 0
-pub zeros_value : (k : ℕ) → read_of (replicate (suc k) 48) ≡ Value 0
+pub zeros_value : (k : ℕ) → read_of (replicate (suc k) 48) ≡ Ok 0
 unfolding number_of
 zeros_value k = number-value (48 ∷ replicate k 48) 0 (zeros_digits k)

@@ -1,61 +1,41 @@
 // Decimal numbers: the value, or the place from which on a text begins none.
-ghost use Rattle.std.specs.Prelude.{◌≡◌, ◌+◌, ◌*◌, ◌^◌, ◌≤◌, leb, length, drop};
+ghost use Rattle.std.specs.Prelude.{◌≡◌, ◌+◌, ◌*◌, ◌^◌, ◌≤◌, ltb, cond, Some, None};
 ghost use Rattle.header_text.specs.Number.{digits_at, read_of};
 
-#[derive(Clone, Copy)]
-pub enum Number {
-    Value(usize),
-    // the first byte that can't belong, or with which the value passes 2^64 - 1, or the length
-    Bad(usize),
-}
-
-// Whether the digit d behind digits of value n passes 2^64 - 1. The first test, which holds of up to
-// 18 digits, spares a division.
-fn passes(n: usize, d: usize) -> bool
-    requires { d ≤ 9 }
-    ensures { result ≡ leb (2 ^ 64) (n * 10 + d) }
+// The value of the digit d behind digits of value n, if it doesn't pass 2^64 - 1.
+fn append_digit(n: usize, d: usize) -> Option<usize>
+    ensures { result ≡ cond (ltb (n * 10 + d) (2 ^ 64)) (Some (n * 10 + d)) None }
 {
-    if n <= 1844674407370955160 {
-        return false;
-    }
-    (18446744073709551615 - d) / 10 < n
+    n.checked_mul(10)?.checked_add(d)
 }
 
-// One or more digits, from the byte `start` on.
-fn digits(s: &[u8], start: usize) -> Number
-    requires { start ≤ length s.now }
-    ensures { result ≡ digits_at start (drop start s.now) }
+// One or more digits, of which the first is at the place.
+fn digits(s: &[u8], place: usize) -> Result<usize, usize>
+    requires { place ≤ 1 }
+    ensures { result ≡ digits_at place s.now }
 {
-    if start == s.len() {
-        return Number::Bad(start);
+    if s.is_empty() {
+        return Err(place);
     }
-    let mut n: usize = 0;
-    let mut i = start;
-    while i < s.len() {
-        if s[i] < 48 {
-            return Number::Bad(i);
+    let mut n = 0;
+    for (i, &b) in s.iter().enumerate() {
+        if !b.is_ascii_digit() {
+            return Err(place + i);
         }
-        if 57 < s[i] {
-            return Number::Bad(i);
-        }
-        let d = (s[i] - 48) as usize;
-        if passes(n, d) {
-            return Number::Bad(i); // digits behind it only raise the value
-        }
-        n = n * 10 + d;
-        i += 1;
+        let Some(value) = append_digit(n, usize::from(b - b'0')) else {
+            return Err(place + i); // digits behind it only raise the value
+        };
+        n = value;
     }
-    Number::Value(n)
+    Ok(n)
 }
 
-pub fn read_number(text: &[u8]) -> Number
+pub fn read_number(text: &[u8]) -> Result<usize, usize>
     ensures { result ≡ read_of text.now }
 {
-    if text.len() == 0 {
-        return Number::Bad(0);
+    match text {
+        [] => Err(0),
+        [b'+', unsigned @ ..] => digits(unsigned, 1),
+        _ => digits(text, 0),
     }
-    if text[0] == 43 {
-        return digits(text, 1);
-    }
-    digits(text, 0)
 }

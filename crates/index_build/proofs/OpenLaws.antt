@@ -3,15 +3,17 @@ use Rattle.evt_codec.specs.Codec.{codec_after, fresh_c, word_size}
 use Rattle.evt_types.specs.{Event.Event, Num.most_bytes, Outcome.Outcome, Outcome.give, Outcome.refuse, declared.Refusal.TheVariants.InvalidSensorSize}
 use Rattle.evt_types.specs.{declared.Refusal.TheVariants.InvalidSpacing, declared.Refusal.TheVariants.TooFewRecords, declared.Refusal.TheVariants.TooLong}
 use Rattle.header.proofs.HeaderLaws.{of_accepted}
-use Rattle.header.specs.{Header.has_zero, Header.header_of, declared.HeaderAnswer.HeaderAnswer, declared.HeaderAnswer.TheVariants.Header}
-use Rattle.header.specs.{declared.HeaderAnswer.TheVariants.Refused as NoHeader}
+use Rattle.std.specs.Prelude.{Result, Ok, Err}
+use Rattle.evt_types.specs.declared.Refusal.{Refusal}
+use Rattle.header.specs.declared.Header as header
+use Rattle.header.specs.{Header.has_zero, Header.header_of}
 use Rattle.index_build.specs.{Build.Begun, Build.builder_at, Build.concluded, Build.first_of, Build.made_at, Build.prepared_by, Build.span_height}
 use Rattle.index_build.specs.{Build.span_width, Index.Body, Index.body_at, Index.body_kept, Index.firsts, Index.index_outcome, Index.kept_events, Index.need_of}
 use Rattle.index_build.specs.{Index.open_after_header, Index.open_raw_outcome, Index.open_words_outcome, Index.opening_of, Index.record_at, Index.records_by}
 use Rattle.index_build.specs.{Index.records_of, Index.spacing_ok, Index.words_body, Laws.builder_start, Open.Accepted, Open.Builds, Open.IfGiven, Open.Spaced}
-use Rattle.index_build.specs.{Open.aligned, Open.body, Open.count-within, Open.count_covers, Open.count_few, Open.kept-inside, Open.l, Open.spaced, Open.t}
-use Rattle.index_build.specs.{declared.Builder.Builder, declared.OpenAnswer.TheVariants.Opened, declared.OpenOptions.OpenOptions}
-use Rattle.index_build.specs.{declared.Prepared.TheVariants.Ready, declared.WordsOptions.WordsOptions}
+use Rattle.index_build.specs.{Open.aligned, Open.body, Open.count-within, Open.count_covers, Open.kept-inside, Open.l, Open.spaced, Open.t}
+use Rattle.index_build.specs.{declared.Builder.Builder, declared.OpenOptions.OpenOptions}
+use Rattle.index_build.specs.{declared.WordsOptions.WordsOptions}
 use Rattle.laws_stream.specs.Order.{greatest}
 use Rattle.read_columns.specs.Inside.{clock}
 use Rattle.read_fill.specs.{Decode.inside_events, Laws.bounded_fresh}
@@ -41,9 +43,9 @@ pub accepted_raw : (l : List ℕ) (o : OpenOptions) (room : ℕ) → IfGiven (Ac
 unfolding open_raw_outcome
 accepted_raw l o room = go (header_of l o.sensor_size) refl
   where
-    go : (a : HeaderAnswer) → header_of l o.sensor_size ≡ a → IfGiven (Accepted l room) (open_after_header a l o.spacing room)
-    go (NoHeader r) p = tt
-    go (Header h) p =
+    go : (a : Result header.Header Refusal) → header_of l o.sensor_size ≡ a → IfGiven (Accepted l room) (open_after_header a l o.spacing room)
+    go (Err r) p = tt
+    go (Ok h) p =
         let k = of_accepted l o.sensor_size h p in
         accepted-body (body_at l h.data_offset h.encoding h.sensor_size o.spacing) room k.short k.within k.positive
 
@@ -80,7 +82,6 @@ module _ (m : List ℕ) (b : Body) (room : ℕ) (ok : Accepted m room b) where
     small = its_spacing.high;
     within = λ j lt. omega (arith, count-within (length (body m b room ok)) b.spacing its_spacing j lt, length-drop b.start (l m b room ok));
     fits = ok.fits;
-    few = count_few (length (body m b room ok)) b.spacing its_spacing body_long;
   }
 
   record_is : (j : ℕ) → made_at (l m b room ok) (t m b room ok) j ≡ record_at b.size b.encoding b.start b.spacing (body m b room ok) j
@@ -107,8 +108,11 @@ module _ (m : List ℕ) (b : Body) (room : ℕ) (ok : Accepted m room b) where
 
   opening_is : concluded (builder_at (l m b room ok) (t m b room ok) (need_of b)) ≡ opening_of b
   opening_is =
-      let all : take (need_of b * b.spacing) (body m b room ok) ≡ body m b room ok = take_all (need_of b * b.spacing) (body m b room ok) (count_covers (length (body m b room ok)) b.spacing its_spacing) in
-      let k : insides (take (need_of b * b.spacing) (body m b room ok)) ≡ body_kept b = ap insides all ∙ kept-inside b.size b.encoding (body m b room ok) body_long in
+      let all : take (need_of b * b.spacing) (body m b room ok) ≡ body m b room ok =
+      take_all (need_of b * b.spacing) (body m b room ok)
+      (count_covers (length (body m b room ok)) b.spacing its_spacing) in
+      let k : insides (take (need_of b * b.spacing) (body m b room ok)) ≡ body_kept b =
+      ap insides all ∙ kept-inside b.size b.encoding (body m b room ok) body_long in
       λ i. record {
         source = record {
           encoding = b.encoding;
@@ -123,9 +127,9 @@ module _ (m : List ℕ) (b : Body) (room : ℕ) (ok : Accepted m room b) where
       }
 
   builds_body : Builds (l m b room ok) room (give b) (t m b room ok)
-  builds_body = record { begun = begun_body; is_answer = ap Opened opening_is; is_records = records_is }
+  builds_body = record { begun = begun_body; is_answer = ap Ok opening_is; is_records = records_is }
 
-pub builds : (l : List ℕ) (room : ℕ) (outcome : Outcome Body) → IfGiven (Accepted l room) outcome → (t : Builder) → Ready t ≡ prepared_by outcome
+pub builds : (l : List ℕ) (room : ℕ) (outcome : Outcome Body) → IfGiven (Accepted l room) outcome → (t : Builder) → Ok t ≡ prepared_by outcome
     → Builds l room outcome t
 builds l room (refuse r) ok t is = let z : ◌≡◌ {A = ℕ} 0 1 = cc in absurd (omega arith)
 builds l room (give b) ok t is =

@@ -3,5 +3,5 @@ pub mod Index
 pub mod Nth
 pub mod Build
 pub mod Laws
-pub mod Open
 pub mod Stage
+pub mod Open

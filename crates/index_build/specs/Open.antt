@@ -1,5 +1,5 @@
 -- What opening comes to: a body that is accepted, and that what its builder yields is what specs/Index.antt defines.
-use Rattle.std.specs.Prelude.{◌≡◌, Bool, List, [], ◌∷◌, ◌++◌, ℕ, zero, suc, ◌+◌, ◌-◌, ◌*◌, ◌/◌, ◌%◌, ◌≤◌, ◌<◌, ◌^◌, eqb, drop}
+use Rattle.std.specs.Prelude.{◌≡◌, Bool, List, [], ◌∷◌, ◌++◌, ℕ, zero, suc, ◌+◌, ◌-◌, ◌*◌, ◌/◌, ◌%◌, ◌≤◌, ◌<◌, eqb, drop}
 use Rattle.std.proofs.Math.Path.{refl, ap}
 use Rattle.std.proofs.Common.{sym, ◌∙◌, true≢false, arith, length-drop}
 use Rattle.std.proofs.Math.Bool.{true, false, cond}
@@ -10,25 +10,27 @@ use borrow.Author.Tests.{lt-ltb, le-ltb, ltb-false, eqb-true}
 use Rattle.laws_stream.specs.{Part.rest_of, Order.greatest}
 use Rattle.evt_types.specs.declared.{Encoding.Encoding, Encoding.TheVariants.Evt2, Encoding.TheVariants.Evt21, Encoding.TheVariants.Evt3, Refusal.Refusal}
 use Rattle.evt_types.specs.declared.{Refusal.TheVariants.InvalidSensorSize, Refusal.TheVariants.TooLong, Refusal.TheVariants.InvalidSpacing}
-use Rattle.evt_types.specs.declared.{Refusal.TheVariants.TooFewRecords, SensorSize.SensorSize, SensorSize.TheVariants.Unknown}
-use Rattle.evt_types.specs.{declared.SensorSize.TheVariants.Known, Event.Event, Num.most_bytes, Outcome.Outcome, Outcome.refuse, Outcome.give}
+use Rattle.std.specs.Prelude.{Option, Some, None, Result, Ok, Err}
+use Rattle.evt_types.specs.declared.SensorSize.{SensorSize}
+use Rattle.index_build.specs.declared.Opening.{Opening}
+use Rattle.evt_types.specs.declared.{Refusal.TheVariants.TooFewRecords}
+use Rattle.evt_types.specs.{Event.Event, Num.most_bytes, Outcome.Outcome, Outcome.refuse, Outcome.give}
 use Rattle.evt_codec.specs.{declared.codec.Codec.Codec, Codec.fresh_c, Codec.word_size, Codec.events_from}
 use Rattle.read_fill.specs.{Decode.inside_events, Laws.bounded_fresh, Laws.all-inside, Laws.inside-bytes}
 use Rattle.header.specs.declared.Header as header
-use Rattle.header.specs.declared.{HeaderAnswer.HeaderAnswer, HeaderAnswer.TheVariants.Header}
 use Rattle.header.specs.Header.{has_zero, header_of}
 use Rattle.read_select.specs.{declared.SurveyTotals.SurveyTotals, Pass.Ready as ReadyFor, Pass.handed_over, Pass.surveyed, Uses.numbered_over}
 use Rattle.read_select.specs.{Uses.over-all}
 use Rattle.read_window.specs.declared.Window.{Window}
 use Rattle.read_rules.specs.{Laws.ready_fresh, Read.width_of, Read.height_of, Read.sizeless}
-use Rattle.index_build.specs.declared.{Builder.Builder, Checkpoint.Checkpoint, OpenAnswer.OpenAnswer, OpenAnswer.TheVariants.Opened}
-use Rattle.index_build.specs.declared.{OpenAnswer.TheVariants.Refused, OpenOptions.OpenOptions, Prepared.Prepared, Prepared.TheVariants.Ready}
-use Rattle.index_build.specs.declared.{Prepared.TheVariants.Refused as NotReady, RawSliceSource.RawSliceSource, WordsOptions.WordsOptions}
+use Rattle.index_build.specs.declared.{Builder.Builder, Checkpoint.Checkpoint}
+use Rattle.index_build.specs.declared.{OpenOptions.OpenOptions}
+use Rattle.index_build.specs.declared.{RawSliceSource.RawSliceSource, WordsOptions.WordsOptions}
 use Rattle.index_build.specs.Index.{kept_events, firsts, record_count, alignment, spacing_ok, Body, body_at, body_bytes}
 use Rattle.index_build.specs.Index.{body_kept, need_of}
 use Rattle.index_build.specs.Index.{index_outcome, open_after_header, open_raw_outcome, words_body, open_words_outcome}
 use Rattle.index_build.specs.Index.{open_answer, open_records}
-use Rattle.index_build.specs.{Index.Opens, Index.told_open, Index.told-answer, Laws.Laid, Laws.laid_end}
+use Rattle.index_build.specs.{Index.Opens, Index.told_open, Index.told-answer, Laws.length-firsts, Stage.laid_to}
 use Rattle.index_build.specs.Build.{Begun, builder_at, made_at, span_width, span_height, whole_window, first_for, uncounted, first_of, prepared_by, concluded}
 use Rattle.header.proofs.HeaderLaws.{of_accepted}
 
@@ -81,17 +83,12 @@ module _ (n spacing : ℕ) (s : Spaced spacing) where
       let m : d * spacing ≤ record_count n spacing * spacing = native.Mathlib.Nat.mul-le-mul_right {m = d} {n = record_count n spacing} spacing (omega arith) in
       omega (arith, e, l, m, s.low)
 
-  pub count_few : n ≤ most_bytes → record_count n spacing < 2 ^ 63
-  count_few h =
-      let d : (n + (spacing - 1)) / spacing ≤ n + (spacing - 1) = native.Mathlib.Nat.div-le_self (n + (spacing - 1)) spacing in
-      omega (arith, d, s.high)
-
 -- ---- events that count
 
-pub kept-inside : (size : SensorSize) (e : Encoding) (l : List ℕ) → length l ≤ most_bytes
+pub kept-inside : (size : Option SensorSize) (e : Encoding) (l : List ℕ) → length l ≤ most_bytes
     → inside_events (span_width size) (span_height size) (fresh_c e) l ≡ kept_events size e l
-kept-inside Unknown e l h = all-inside (fresh_c e) l (bounded_fresh e (length l) h)
-kept-inside (Known w k) e l h = refl
+kept-inside None e l h = all-inside (fresh_c e) l (bounded_fresh e (length l) h)
+kept-inside (Some s) e l h = refl
 
 -- ---- a body that is accepted
 
@@ -113,7 +110,7 @@ IfGiven P (give b) = P b
 -- what a builder that was prepared makes is what the outcome says
 pub record Builds (l : List ℕ) (room : ℕ) (outcome : Outcome Body) (t : Builder) : Type 0 where
   pub begun : Begun l room t
-  pub is_answer : Opened (concluded (builder_at l t t.cap)) ≡ open_answer outcome
+  pub is_answer : Ok (concluded (builder_at l t t.cap)) ≡ open_answer outcome
   pub is_records : firsts (made_at l t) t.cap ≡ open_records outcome
 
 module _ (m : List ℕ) (b : Body) (room : ℕ) (ok : Accepted m room b) where
@@ -128,18 +125,19 @@ module _ (m : List ℕ) (b : Body) (room : ℕ) (ok : Accepted m room b) where
 
 -- ---- what opening promises
 
-pub opens_refused : (outcome : Outcome Body) (r : Refusal) → NotReady r ≡ prepared_by outcome → (ys : List Checkpoint) → Opens outcome (Refused r) ys ys
+pub opens_refused : (outcome : Outcome Body) (r : Refusal) → Err r ≡ prepared_by outcome → (ys : List Checkpoint) → Opens outcome (Err r) ys ys
 opens_refused (refuse q) r is ys = let e : r ≡ q = cc in rw e (record { is_told = refl; is_answer = refl; is_records = refl })
 opens_refused (give b) r is ys = let z : ◌≡◌ {A = ℕ} 0 1 = cc in absurd (omega arith)
 
-pub opens_built : (l : List ℕ) (room : ℕ) (outcome : Outcome Body) (t : Builder) → Builds l room outcome t → (r : OpenAnswer) (ys zs : List Checkpoint)
-    → r ≡ Opened (concluded (builder_at l t t.cap)) → Laid (made_at l t) t.cap ys zs → Opens outcome r ys zs
+pub opens_built : (l : List ℕ) (room : ℕ) (outcome : Outcome Body) (t : Builder) → Builds l room outcome t → (r : Result Opening Refusal) (ys zs : List Checkpoint)
+    → r ≡ Ok (concluded (builder_at l t t.cap)) → zs ≡ laid_to l t ys t.cap → Opens outcome r ys zs
 opens_built l room outcome t s r ys zs is u =
     let a : r ≡ open_answer outcome = is ∙ s.is_answer in
+    let count : t.cap ≡ length (open_records outcome) = sym (length-firsts (made_at l t) t.cap) ∙ ap length s.is_records in
     record {
       is_told = ap told_open a ∙ told-answer outcome;
       is_answer = a;
-      is_records = laid_end (made_at l t) t.cap ys zs u ∙ ap (λ (m : List Checkpoint). m ++ drop (length m) ys) s.is_records;
+      is_records = u ∙ (λ i. s.is_records i ++ drop (count i) ys);
     }
 
 -- ---- what the code chooses
@@ -174,27 +172,27 @@ grown f a (b ∷ es) = omega (arith, grown f b es)
 
 module _ (e : Encoding) (body : List ℕ) (long : length body ≤ most_bytes) where
   numbered-all : numbered_over whole_window (fresh_c e) body ≡ events_from (fresh_c e) body
-  numbered-all = kept-inside Unknown e body long
+  numbered-all = kept-inside None e body long
 
   pub handed-all : handed_over whole_window 0 (fresh_c e) body ≡ events_from (fresh_c e) body
   handed-all =
       let n : length (numbered_over whole_window (fresh_c e) body) ≤ 6 * length body =
-      rw (numbered-all, ← kept-inside Unknown e body long) (inside-bytes 65536 65536 (fresh_c e) body) in
+      rw (numbered-all, ← kept-inside None e body long) (inside-bytes 65536 65536 (fresh_c e) body) in
       over-all whole_window (fresh_c e) body (ready_fresh e (length body) long).able refl (omega arith) 0 (omega arith) (omega (arith, n)) ∙ numbered-all
 
   module _ (t : SurveyTotals) (is : t ≡ surveyed whole_window 0 (fresh_c e) body) where
     pub survey_count : t.count ≡ length (events_from (fresh_c e) body)
     survey_count = ap (λ (u : SurveyTotals). u.count) is ∙ ap length handed-all
 
-    pub survey_none : t.count ≡ 0 → sizeless Unknown (events_from (fresh_c e) body) ≡ true
+    pub survey_none : t.count ≡ 0 → sizeless None (events_from (fresh_c e) body) ≡ true
     survey_none z = go (events_from (fresh_c e) body) (sym survey_count ∙ z)
       where
-        go : (es : List Event) → length es ≡ 0 → sizeless Unknown es ≡ true
+        go : (es : List Event) → length es ≡ 0 → sizeless None es ≡ true
         go [] h = refl
         go (a ∷ es) h = absurd (omega (arith, h))
 
-    pub survey_some : (t.count ≡ 0 → ⊥) → (sizeless Unknown (events_from (fresh_c e) body) ≡ false)
-        × ((t.width ≡ width_of Unknown (events_from (fresh_c e) body)) × (t.height ≡ height_of Unknown (events_from (fresh_c e) body)))
+    pub survey_some : (t.count ≡ 0 → ⊥) → (sizeless None (events_from (fresh_c e) body) ≡ false)
+        × ((t.width ≡ width_of None (events_from (fresh_c e) body)) × (t.height ≡ height_of None (events_from (fresh_c e) body)))
     survey_some nz =
         let w : t.width ≡ greatest (λ e. e.x + 1) (events_from (fresh_c e) body) =
         ap (λ (u : SurveyTotals). u.width) is ∙ ap (greatest (λ e. e.x + 1)) handed-all in
@@ -203,34 +201,34 @@ module _ (e : Encoding) (body : List ℕ) (long : length body ≤ most_bytes) wh
         go (events_from (fresh_c e) body) survey_count w h
       where
         go : (es : List Event) → t.count ≡ length es → t.width ≡ greatest (λ e. e.x + 1) es → t.height ≡ greatest (λ e. e.y + 1) es
-            → (sizeless Unknown es ≡ false) × ((t.width ≡ width_of Unknown es) × (t.height ≡ height_of Unknown es))
+            → (sizeless None es ≡ false) × ((t.width ≡ width_of None es) × (t.height ≡ height_of None es))
         go [] c w h = absurd (nz c)
         go (a ∷ es) c w h = (refl, (w ∙ grown (λ e. e.x) a es, h ∙ grown (λ e. e.y) a es))
 
 -- ---- the builders that the code begins
 
-module _ (l : List ℕ) (start : ℕ) (e : Encoding) (size : SensorSize) (spacing room : ℕ) (long : length l ≤ most_bytes) (ok : spacing_ok e spacing ≡ true)
+module _ (l : List ℕ) (start : ℕ) (e : Encoding) (size : Option SensorSize) (spacing room : ℕ) (long : length l ≤ most_bytes) (ok : spacing_ok e spacing ≡ true)
     (n : ℕ) (is_n : n ≡ record_count (length l - start) spacing) (enough : n ≤ room) where
-  abbrev given : SensorSize → Body
+  abbrev given : Option SensorSize → Body
   given s = body_at l start e s spacing
 
-  abbrev prepared : SensorSize → Prepared
+  abbrev prepared : Option SensorSize → Result Builder Refusal
   prepared s = prepared_by (index_outcome (given s) room)
 
-  ready : (s : SensorSize) (source : RawSliceSource) (width height : ℕ) → source ≡ uncounted (given s) width height
+  ready : (s : Option SensorSize) (source : RawSliceSource) (width height : ℕ) → source ≡ uncounted (given s) width height
       → width ≡ width_of s (body_kept (given s)) → height ≡ height_of s (body_kept (given s)) → sizeless s (body_kept (given s)) ≡ false
-      → (t : Builder) → t ≡ first_for source n (span_width s) (span_height s) → size ≡ s → Ready t ≡ prepared size
+      → (t : Builder) → t ≡ first_for source n (span_width s) (span_height s) → size ≡ s → Ok t ≡ prepared size
   ready s source width height is w h z t is_t q =
-      ap Ready is_t ∙ ap (λ (x : RawSliceSource). Ready (first_for x n (span_width s) (span_height s))) is
-      ∙ (λ i. Ready (first_for (uncounted (given s) (w i) (h i)) (need_is (given s) room n is_n ok i) (span_width s) (span_height s)))
+      ap Ok is_t ∙ ap (λ (x : RawSliceSource). Ok (first_for x n (span_width s) (span_height s))) is
+      ∙ (λ i. Ok (first_for (uncounted (given s) (w i) (h i)) (need_is (given s) room n is_n ok i) (span_width s) (span_height s)))
       ∙ sym (ap prepared_by (outcome-given (given s) room n is_n ok enough z)) ∙ ap prepared (sym q)
 
-  pub ready_known : (w h : ℕ) → size ≡ Known w h → (source : RawSliceSource) → source ≡ uncounted (given (Known w h)) w h
-      → (t : Builder) → t ≡ first_for source n w h → Ready t ≡ prepared size
-  ready_known w h q source is t is_t = ready (Known w h) source w h is refl refl refl t is_t q
+  pub ready_known : (s : SensorSize) → size ≡ Some s → (source : RawSliceSource) → source ≡ uncounted (given (Some s)) s.width s.height
+      → (t : Builder) → t ≡ first_for source n s.width s.height → Ok t ≡ prepared size
+  ready_known s q source is t is_t = ready (Some s) source s.width s.height is refl refl refl t is_t q
 
   -- the rest of the recording is surveyed
-  module _ (q : size ≡ Unknown) (c : Codec) (is_c : c ≡ fresh_c e) (win : Window) (is-win : win ≡ whole_window) (t : SurveyTotals)
+  module _ (q : size ≡ None) (c : Codec) (is_c : c ≡ fresh_c e) (win : Window) (is-win : win ≡ whole_window) (t : SurveyTotals)
       (is_t : t ≡ surveyed win 0 c (take (length l - start) (drop start l))) where
     is_tally : t ≡ surveyed whole_window 0 (fresh_c e) (drop start l)
     is_tally = is_t ∙ (λ i. surveyed (is-win i) 0 (is_c i) (rest_of l start i))
@@ -238,16 +236,16 @@ module _ (l : List ℕ) (start : ℕ) (e : Encoding) (size : SensorSize) (spacin
     long_rest : length (drop start l) ≤ most_bytes
     long_rest = omega (arith, length-drop start l)
 
-    pub ready_none : t.count ≡ 0 → NotReady InvalidSensorSize ≡ prepared size
+    pub ready_none : t.count ≡ 0 → Err InvalidSensorSize ≡ prepared size
     ready_none z =
-        sym (ap prepared_by (outcome_none (given Unknown) room n is_n ok enough (survey_none e (drop start l) long_rest t is_tally z)))
+        sym (ap prepared_by (outcome_none (given None) room n is_n ok enough (survey_none e (drop start l) long_rest t is_tally z)))
         ∙ ap prepared (sym q)
 
-    pub ready_surveyed : (t.count ≡ 0 → ⊥) → (source : RawSliceSource) → source ≡ uncounted (given Unknown) t.width t.height
-        → (u : Builder) → u ≡ first_for source n 65536 65536 → Ready u ≡ prepared size
+    pub ready_surveyed : (t.count ≡ 0 → ⊥) → (source : RawSliceSource) → source ≡ uncounted (given None) t.width t.height
+        → (u : Builder) → u ≡ first_for source n 65536 65536 → Ok u ≡ prepared size
     ready_surveyed nz source is u is-u =
         let s = survey_some e (drop start l) long_rest t is_tally nz in
-        ready Unknown source t.width t.height is s.1.0 s.1.1 s.0 u is-u q
+        ready None source t.width t.height is s.1.0 s.1.1 s.0 u is-u q
 
 pub ready_rest : (l : List ℕ) (start : ℕ) (e : Encoding) (c : Codec) → c ≡ fresh_c e → length l ≤ most_bytes
     → ReadyFor c 0 (length (take (length l - start) (drop start l)))
@@ -255,12 +253,12 @@ ready_rest l start e c is h = rw (is, rest_of l start) (ready_fresh e (length (d
 
 -- ---- the two entries
 
-module _ (l : List ℕ) (o : OpenOptions) (room : ℕ) (a : HeaderAnswer) (is-header : a ≡ header_of l o.sensor_size) where
+module _ (l : List ℕ) (o : OpenOptions) (room : ℕ) (a : Result header.Header Refusal) (is-header : a ≡ header_of l o.sensor_size) where
   pub outcome-after : open_raw_outcome l o room ≡ open_after_header a l o.spacing room
   unfolding open_raw_outcome
-  outcome-after = ap (λ (b : HeaderAnswer). open_after_header b l o.spacing room) (sym is-header)
+  outcome-after = ap (λ (b : Result header.Header Refusal). open_after_header b l o.spacing room) (sym is-header)
 
-  pub header_fits : (h : header.Header) → a ≡ Header h → (length l ≤ most_bytes) × (h.data_offset ≤ length l)
+  pub header_fits : (h : header.Header) → a ≡ Ok h → (length l ≤ most_bytes) × (h.data_offset ≤ length l)
   header_fits h q = let k = of_accepted l o.sensor_size h (sym is-header ∙ q) in (k.short, k.within)
 
 module _ (l : List ℕ) (o : WordsOptions) (room : ℕ) where

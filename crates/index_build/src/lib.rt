@@ -8,13 +8,12 @@
 
 ghost use Rattle.std.specs.Prelude.{◌≡◌, true, ◌≤◌, length};
 ghost use Rattle.evt_types.specs.Num.{most_bytes};
-ghost use Rattle.index_build.specs.Index.{spacing_ok, record_count, body_at, index_outcome, open_raw_outcome, open_words_outcome};
+ghost use Rattle.index_build.specs.Nth.{blank};
+ghost use Rattle.index_build.specs.Index.{alignment, spacing_ok, record_count, body_at, index_outcome, open_raw_outcome, open_words_outcome};
 ghost use Rattle.index_build.specs.Build.{Fit, Advanced, first_for, prepared_by, whole_window, concluded};
 
 use evt_codec::Codec;
-use evt_types::num::{max_u64, min_usize};
 use evt_types::{Encoding, MOST_BYTES, Refusal, SensorSize};
-use header::HeaderAnswer;
 use read_select::Window;
 
 // What is kept after the first `byte_offset` bytes: the events counted before, their maximum time
@@ -25,6 +24,20 @@ pub struct Checkpoint {
     pub event_index: usize,
     pub time: i64,
     pub codec: Codec,
+}
+
+impl Checkpoint {
+    // Before any byte.
+    pub fn blank() -> Checkpoint
+        ensures { result ≡ blank }
+    {
+        Checkpoint {
+            byte_offset: 0,
+            event_index: 0,
+            time: 0,
+            codec: Codec::new(Encoding::Evt2),
+        }
+    }
 }
 
 // An index without its records, which the caller keeps.
@@ -47,14 +60,8 @@ pub struct Opening {
 }
 
 #[derive(Clone, Copy)]
-pub enum OpenAnswer {
-    Opened(Opening),
-    Refused(Refusal),
-}
-
-#[derive(Clone, Copy)]
 pub struct OpenOptions {
-    pub sensor_size: SensorSize,
+    pub sensor_size: Option<SensorSize>,
     pub spacing: usize,
 }
 
@@ -62,19 +69,16 @@ pub struct OpenOptions {
 #[derive(Clone, Copy)]
 pub struct WordsOptions {
     pub encoding: Encoding,
-    pub sensor_size: SensorSize,
+    pub sensor_size: Option<SensorSize>,
     pub spacing: usize,
 }
 
-// The building of an index: record `at` of `cap` is next, and stands at byte `offset`. The events of `source`
-// are still to be counted.
+// The building of an index of `cap` records: the next one stands at byte `offset`. The events of `source`
+// are still to be counted, those inside `width` x `height`.
 #[derive(Clone, Copy)]
 pub struct Builder {
-    pub more: bool,
-    pub at: usize,
     pub cap: usize,
     pub offset: usize,
-    pub spacing: usize,
     pub width: u64,
     pub height: u64,
     pub count: usize,
@@ -83,56 +87,30 @@ pub struct Builder {
     pub source: RawSliceSource,
 }
 
-// One record, and the builder behind its bytes.
-#[derive(Clone, Copy)]
-pub struct BuildStep {
-    pub record: Checkpoint,
-    pub next: Builder,
-}
-
-// Why there is no index, or the builder before the first record.
-#[derive(Clone, Copy)]
-pub enum Prepared {
-    Refused(Refusal),
-    Ready(Builder),
-}
-
-// The record that stands where the builder is, and the builder behind the record's bytes.
-#[tactic(auto, using(crate::specs::Laws::part_bounded, crate::specs::Laws::count_sum))]
-pub fn advance(recording: &[u8], builder: Builder) -> BuildStep
-    requires { Fit recording.now builder }
-    ensures { Advanced recording.now builder result }
-{
-    let codec = builder.codec;
-    let source = builder.source;
-    let record = Checkpoint {
-        byte_offset: builder.offset,
-        event_index: builder.count,
-        time: builder.latest as i64,
-        codec,
-    };
-    let start = builder.offset;
-    let next_offset = start + builder.spacing;
-    let end = min_usize(next_offset, recording.len());
-    let s = read_count::count_all(&recording[start..end], codec, builder.width, builder.height);
-    let count = builder.count + s.count;
-    let latest = max_u64(builder.latest, s.latest);
-    let at = builder.at + 1;
-    let after = s.codec;
-    let next = Builder {
-        more: at < builder.cap,
-        at,
-        cap: builder.cap,
-        offset: next_offset,
-        spacing: builder.spacing,
-        width: builder.width,
-        height: builder.height,
-        count,
-        latest,
-        codec: after,
-        source,
-    };
-    BuildStep { record, next }
+impl Builder {
+    // The record that stands where the builder is; the builder then stands behind the record's bytes.
+    #[tactic(auto, using(crate::specs::Laws::part_bounded, crate::specs::Laws::count_sum))]
+    pub fn advance(&mut self, recording: &[u8]) -> Checkpoint
+        requires { Fit recording.now self.old }
+        ensures { Advanced recording.now self.old result self.new }
+    {
+        let codec = self.codec;
+        let record = Checkpoint {
+            byte_offset: self.offset,
+            event_index: self.count,
+            time: self.latest as i64,
+            codec,
+        };
+        let start = self.offset;
+        let next_offset = start + self.source.spacing;
+        let end = next_offset.min(recording.len());
+        let s = read_count::count_all(&recording[start..end], codec, self.width, self.height);
+        self.offset = next_offset;
+        self.count += s.count;
+        self.latest = self.latest.max(s.latest);
+        self.codec = s.codec;
+        record
+    }
 }
 
 // What a spacing is a multiple of (rule 8), for each encoding.
@@ -142,22 +120,22 @@ const EVT21_ALIGNMENT: usize = 8;
 
 const EVT3_ALIGNMENT: usize = 4;
 
+fn alignment(encoding: Encoding) -> usize
+    ensures { result ≡ alignment encoding }
+{
+    match encoding {
+        Encoding::Evt2 => EVT2_ALIGNMENT,
+        Encoding::Evt21 => EVT21_ALIGNMENT,
+        Encoding::Evt3 => EVT3_ALIGNMENT,
+    }
+}
+
 // A spacing that rule 8 allows.
 #[tactic(auto, unfolding(crate::specs::Index::spacing_ok))]
 pub fn spacing_ok(encoding: Encoding, spacing: usize) -> bool
     ensures { result ≡ spacing_ok encoding spacing }
 {
-    if spacing < 4 {
-        return false;
-    }
-    if 4194304 < spacing {
-        return false;
-    }
-    match encoding {
-        Encoding::Evt2 => spacing % EVT2_ALIGNMENT == 0,
-        Encoding::Evt21 => spacing % EVT21_ALIGNMENT == 0,
-        Encoding::Evt3 => spacing % EVT3_ALIGNMENT == 0,
-    }
+    4 <= spacing && spacing <= 4194304 && spacing % alignment(encoding) == 0
 }
 
 // One record for every `spacing` bytes begun, and one for no bytes.
@@ -165,8 +143,7 @@ fn record_count(n: usize, spacing: usize) -> usize
     requires { (n ≤ most_bytes) × ((4 ≤ spacing) × (spacing ≤ 4194304)) }
     ensures { result ≡ record_count n spacing }
 {
-    let begun = (n + (spacing - 1)) / spacing;
-    if begun < 1 { 1 } else { begun }
+    n.div_ceil(spacing).max(1)
 }
 
 // A source whose events are still to be counted.
@@ -205,11 +182,8 @@ fn first_builder(source: RawSliceSource, cap: usize, width: u64, height: u64) ->
 {
     let encoding = source.encoding;
     Builder {
-        more: 0 < cap,
-        at: 0,
         cap,
         offset: source.data_offset,
-        spacing: source.spacing,
         width,
         height,
         count: 0,
@@ -227,9 +201,9 @@ fn whole_window() -> Window
         width: 65536,
         height: 65536,
         n0: 0,
-        n1: 18446744073709551615,
+        n1: u64::MAX,
         t0: 0,
-        t1: 18446744073709551615,
+        t1: u64::MAX,
     }
 }
 
@@ -239,33 +213,33 @@ fn spaced_builder(
     recording: &[u8],
     start: usize,
     encoding: Encoding,
-    size: SensorSize,
+    size: Option<SensorSize>,
     spacing: usize,
     room: usize,
-) -> Prepared
+) -> Result<Builder, Refusal>
     requires { (length recording.now ≤ most_bytes) × ((start ≤ length recording.now) × (spacing_ok encoding spacing ≡ true)) }
     ensures { result ≡ prepared_by (index_outcome (body_at recording.now start encoding size spacing) room) }
 {
     let len = recording.len();
     let need = record_count(len - start, spacing);
     if room < need {
-        return Prepared::Refused(Refusal::TooFewRecords(need));
+        return Err(Refusal::TooFewRecords(need));
     }
     match size {
-        SensorSize::Known(width, height) => {
+        Some(SensorSize { width, height }) => {
             let source = uncounted(encoding, spacing, start, len, width, height);
-            Prepared::Ready(first_builder(source, need, width as u64, height as u64))
+            Ok(first_builder(source, need, width as u64, height as u64))
         }
-        SensorSize::Unknown => {
+        None => {
             let codec = Codec::new(encoding);
             let tally = read_select::survey(&recording[start..], codec, whole_window(), 0);
             if tally.count == 0 {
-                return Prepared::Refused(Refusal::InvalidSensorSize);
+                return Err(Refusal::InvalidSensorSize);
             }
             let width = tally.width as usize;
             let height = tally.height as usize;
             let source = uncounted(encoding, spacing, start, len, width, height);
-            Prepared::Ready(first_builder(source, need, 65536, 65536))
+            Ok(first_builder(source, need, 65536, 65536))
         }
     }
 }
@@ -276,69 +250,65 @@ fn body_builder(
     recording: &[u8],
     start: usize,
     encoding: Encoding,
-    size: SensorSize,
+    size: Option<SensorSize>,
     spacing: usize,
     room: usize,
-) -> Prepared
+) -> Result<Builder, Refusal>
     requires { (length recording.now ≤ most_bytes) × (start ≤ length recording.now) }
     ensures { result ≡ prepared_by (index_outcome (body_at recording.now start encoding size spacing) room) }
 {
-    if spacing_ok(encoding, spacing) {
-        return spaced_builder(recording, start, encoding, size, spacing, room);
+    if !spacing_ok(encoding, spacing) {
+        return Err(Refusal::InvalidSpacing);
     }
-    Prepared::Refused(Refusal::InvalidSpacing)
+    spaced_builder(recording, start, encoding, size, spacing, room)
 }
 
 // A recording: its header, then its body.
 #[tactic(auto, using(crate::specs::Open::header_fits), unfolding(crate::specs::Index::open_raw_outcome))]
-pub fn prepare(recording: &[u8], options: OpenOptions, room: usize) -> Prepared
+pub fn prepare(recording: &[u8], options: OpenOptions, room: usize) -> Result<Builder, Refusal>
     ensures { result ≡ prepared_by (open_raw_outcome recording.now options room) }
 {
-    let size = options.sensor_size;
-    let spacing = options.spacing;
-    let answer = header::parse_header(recording, size);
-    let HeaderAnswer::Header(h) = answer else {
-        return Prepared::Refused(header::refusal_of(answer));
-    };
-    let start = h.data_offset;
-    let encoding = h.encoding;
-    let sensor = h.sensor_size;
-    body_builder(recording, start, encoding, sensor, spacing, room)
+    let header = header::parse_header(recording, options.sensor_size)?;
+    body_builder(
+        recording,
+        header.data_offset,
+        header.encoding,
+        header.sensor_size,
+        options.spacing,
+        room,
+    )
 }
 
 // Headerless words.
 #[tactic(auto, unfolding(crate::specs::Index::open_words_outcome))]
-pub fn prepare_words(words: &[u8], options: WordsOptions, room: usize) -> Prepared
+pub fn prepare_words(words: &[u8], options: WordsOptions, room: usize) -> Result<Builder, Refusal>
     ensures { result ≡ prepared_by (open_words_outcome words.now options room) }
 {
-    let encoding = options.encoding;
-    let size = options.sensor_size;
-    let spacing = options.spacing;
     if MOST_BYTES < words.len() {
-        return Prepared::Refused(Refusal::TooLong);
+        return Err(Refusal::TooLong);
     }
-    if header::has_zero(size) {
-        return Prepared::Refused(Refusal::InvalidSensorSize);
+    if header::has_zero(options.sensor_size) {
+        return Err(Refusal::InvalidSensorSize);
     }
-    body_builder(words, 0, encoding, size, spacing, room)
+    body_builder(
+        words,
+        0,
+        options.encoding,
+        options.sensor_size,
+        options.spacing,
+        room,
+    )
 }
 
 // What is opened, where all records are made.
-pub fn conclude(builder: Builder) -> OpenAnswer
-    ensures { result ≡ OpenAnswer.Opened (concluded builder) }
+pub fn conclude(builder: Builder) -> Result<Opening, Refusal>
+    ensures { result ≡ Ok (concluded builder) }
 {
-    let s = builder.source;
-    let encoding = s.encoding;
     let source = RawSliceSource {
-        encoding,
-        spacing: s.spacing,
-        data_offset: s.data_offset,
-        len: s.len,
-        width: s.width,
-        height: s.height,
         n_events: builder.count,
+        ..builder.source
     };
-    OpenAnswer::Opened(Opening {
+    Ok(Opening {
         source,
         records: builder.cap,
     })

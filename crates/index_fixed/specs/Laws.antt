@@ -3,9 +3,12 @@ use Rattle.std.specs.Prelude.{◌≡◌, refl, ℕ, zero, suc, ◌+◌, ◌≤�
 use Rattle.std.proofs.Common.{sym, ◌∙◌, ap, subst, not-suc-le-zero, le_of_suc-le-suc, arith, append_assoc, take-append-drop, length-append}
 use Rattle.std.proofs.Common.{length-take-le, take_all, ltb-true, ltb-false}
 use Rattle.evt_types.specs.Outcome.{Outcome}
-use Rattle.index_build.specs.declared.{Checkpoint.Checkpoint, OpenAnswer.OpenAnswer, RawSliceSource.RawSliceSource}
+use Rattle.std.specs.Prelude.{Result}
+use Rattle.evt_types.specs.declared.Refusal.{Refusal}
+use Rattle.index_build.specs.declared.Opening.{Opening}
+use Rattle.index_build.specs.declared.{Checkpoint.Checkpoint, RawSliceSource.RawSliceSource}
 use Rattle.index_build.specs.Index.{Body, Opens, open_records}
-use Rattle.slice_rules.specs.{declared.SliceAnswer.SliceAnswer, Slice.SlicesIndex, Slice.SlicesTime}
+use Rattle.slice_rules.specs.{Slice.SlicesIndex, Slice.SlicesTime}
 
 fewer : (a b n k : ℕ) → n ≡ a + b → n ≡ k → a ≤ k
 fewer a b n k e l = omega arith
@@ -25,14 +28,14 @@ module _ {X : Type 0} where
       (fewer (length made) (length (drop (length made) (take k xs))) (length zs) k (ap length e ∙ length-append made (drop (length made) (take k xs))) l))
 
 -- `outcome` is told how many records there is room for
-pub opens_whole : (outcome : ℕ → Outcome Body) (r : OpenAnswer) (xs zs : List Checkpoint) (k : ℕ) → k ≤ length xs → length zs ≡ k
+pub opens_whole : (outcome : ℕ → Outcome Body) (r : Result Opening Refusal) (xs zs : List Checkpoint) (k : ℕ) → k ≤ length xs → length zs ≡ k
     → Opens (outcome (length (take k xs))) r (take k xs) zs → Opens (outcome k) r xs (zs ++ drop k xs)
 opens_whole outcome r xs zs k le l o =
     let o' : Opens (outcome k) r (take k xs) zs = subst (λ (m : ℕ). Opens (outcome m) r (take k xs) zs) (length-take-le k xs le) o in
     record { is_told = o'.is_told; is_answer = o'.is_answer; is_records = in_front (open_records (outcome k)) zs xs k l o'.is_records }
 
 -- the same opening, at an equal room and equal blank records
-pub opens_at : (outcome : ℕ → Outcome Body) (r : OpenAnswer) (n : ℕ) (xs : List Checkpoint) {k k' : ℕ} {b b' : Checkpoint} → k ≡ k' → b ≡ b'
+pub opens_at : (outcome : ℕ → Outcome Body) (r : Result Opening Refusal) (n : ℕ) (xs : List Checkpoint) {k k' : ℕ} {b b' : Checkpoint} → k ≡ k' → b ≡ b'
     → Opens (outcome k) r (replicate n b) xs → Opens (outcome k') r (replicate n b') xs
 opens_at outcome r n xs {k} {k'} {b} {b'} e e' o =
     subst (λ (m : ℕ). Opens (outcome m) r (replicate n b') xs) e (subst (λ (c : Checkpoint). Opens (outcome k) r (replicate n c) xs) e' o)
@@ -48,13 +51,13 @@ take_clamped {X} m n k xs len e = go (ltb n m) refl
 -- ---- a slice over the first min n 64 of 64 records is one over the first n
 
 pub index-over : (recording : List ℕ) (s : RawSliceSource) (records : List Checkpoint) (n k i0 i1 : ℕ) → length records ≡ 64 → k ≡ min n 64
-    → {r : SliceAnswer} {x₀ y₀ : List ℕ} {t₀ : List ℤ} {p₀ x y : List ℕ} {t : List ℤ} {p : List ℕ}
+    → {r : Result ℕ Refusal} {x₀ y₀ : List ℕ} {t₀ : List ℤ} {p₀ x y : List ℕ} {t : List ℤ} {p : List ℕ}
     → SlicesIndex recording s (take k records) i0 i1 r x₀ y₀ t₀ p₀ x y t p → SlicesIndex recording s (take n records) i0 i1 r x₀ y₀ t₀ p₀ x y t p
 index-over recording s records n k i0 i1 len e {r} {x₀} {y₀} {t₀} {p₀} {x} {y} {t} {p} h =
     subst (λ (cs : List Checkpoint). SlicesIndex recording s cs i0 i1 r x₀ y₀ t₀ p₀ x y t p) (take_clamped 64 n k records len e) h
 
 pub time_over : (recording : List ℕ) (s : RawSliceSource) (records : List Checkpoint) (n k : ℕ) (t0 t1 a0 a1 : ℤ) → length records ≡ 64 → k ≡ min n 64
-    → a0 ≡ t0 → a1 ≡ t1 → {r : SliceAnswer} {x₀ y₀ : List ℕ} {t₀ : List ℤ} {p₀ x y : List ℕ} {t : List ℤ} {p : List ℕ}
+    → a0 ≡ t0 → a1 ≡ t1 → {r : Result ℕ Refusal} {x₀ y₀ : List ℕ} {t₀ : List ℤ} {p₀ x y : List ℕ} {t : List ℤ} {p : List ℕ}
     → SlicesTime recording s (take k records) a0 a1 r x₀ y₀ t₀ p₀ x y t p → SlicesTime recording s (take n records) t0 t1 r x₀ y₀ t₀ p₀ x y t p
 time_over recording s records n k t0 t1 a0 a1 len e e₀ e₁ {r} {x₀} {y₀} {t₀} {p₀} {x} {y} {t} {p} h =
     subst (λ (b : ℤ). SlicesTime recording s (take n records) t0 b r x₀ y₀ t₀ p₀ x y t p) e₁

@@ -9,15 +9,13 @@ ghost use Rattle.index_build.specs.Index.{Opens, open_raw_outcome, open_words_ou
 ghost use Rattle.index_build.specs.Nth.{blank as blank_record};
 ghost use Rattle.slice_rules.specs.Slice.{SlicesIndex, SlicesTime};
 
-use evt_codec::Codec;
-use evt_types::Encoding;
-use index_build::{Checkpoint, OpenAnswer, OpenOptions, RawSliceSource, WordsOptions};
-use slice_rules::SliceAnswer;
+use evt_types::Refusal;
+use index_build::{Checkpoint, OpenOptions, Opening, RawSliceSource, WordsOptions};
 
-// How an opening was answered, and the records.
+// How an opening was answered, and the records: an array with a count, as a fixed memory without a heap needs.
 #[derive(Clone, Copy)]
 pub struct FixedIndex {
-    pub answer: OpenAnswer,
+    pub answer: Result<Opening, Refusal>,
     pub records: [Checkpoint; 64],
 }
 
@@ -57,42 +55,18 @@ pub fn open_words_into(
     }
 }
 
-// A record before any is made.
-fn blank() -> Checkpoint
-    ensures { result ≡ blank_record }
-{
-    Checkpoint {
-        byte_offset: 0,
-        event_index: 0,
-        time: 0,
-        codec: Codec::new(Encoding::Evt2),
-    }
-}
-
-fn clamp(room: usize) -> usize
-    ensures { result ≡ min room 64 }
-{
-    if room < 64 { room } else { 64 }
-}
-
 // Opens with room for `room` records, at most 64.
 pub fn open(recording: &[u8], options: OpenOptions, room: usize) -> FixedIndex
     ensures { Opens (open_raw_outcome recording.now options (min room 64)) result.answer (replicate 64 blank_record) result.records }
 {
-    let n = clamp(room);
-    let b = blank();
-    let records = [b; 64];
-    open_into(recording, options, records, n)
+    open_into(recording, options, [Checkpoint::blank(); 64], room.min(64))
 }
 
 // The same for headerless words.
 pub fn open_words(words: &[u8], options: WordsOptions, room: usize) -> FixedIndex
     ensures { Opens (open_words_outcome words.now options (min room 64)) result.answer (replicate 64 blank_record) result.records }
 {
-    let n = clamp(room);
-    let b = blank();
-    let records = [b; 64];
-    open_words_into(words, options, records, n)
+    open_words_into(words, options, [Checkpoint::blank(); 64], room.min(64))
 }
 
 // Slices by number over the first `n` of the records.
@@ -107,7 +81,7 @@ pub fn slice_index_in(
     ys: &mut [u16],
     ts: &mut [i64],
     ps: &mut [u8],
-) -> SliceAnswer
+) -> Result<usize, Refusal>
     requires { n ≤ 64 }
     ensures { SlicesIndex recording.now source (take n records) i0 i1 result
         xs.old ys.old ts.old ps.old
@@ -128,7 +102,7 @@ pub fn slice_time_in(
     ys: &mut [u16],
     ts: &mut [i64],
     ps: &mut [u8],
-) -> SliceAnswer
+) -> Result<usize, Refusal>
     requires { n ≤ 64 }
     ensures { SlicesTime recording.now source (take n records) t0 t1 result
         xs.old ys.old ts.old ps.old
@@ -149,14 +123,22 @@ pub fn slice_index(
     ys: &mut [u16],
     ts: &mut [i64],
     ps: &mut [u8],
-) -> SliceAnswer
+) -> Result<usize, Refusal>
     ensures { SlicesIndex recording.now source (take n records) i0 i1 result
         xs.old ys.old ts.old ps.old
         xs.new ys.new ts.new ps.new }
 {
-    let k = clamp(n);
     slice_index_in(
-        recording, source, records, k, i0, i1, &mut *xs, &mut *ys, &mut *ts, &mut *ps,
+        recording,
+        source,
+        records,
+        n.min(64),
+        i0,
+        i1,
+        xs,
+        ys,
+        ts,
+        ps,
     )
 }
 
@@ -172,13 +154,21 @@ pub fn slice_time(
     ys: &mut [u16],
     ts: &mut [i64],
     ps: &mut [u8],
-) -> SliceAnswer
+) -> Result<usize, Refusal>
     ensures { SlicesTime recording.now source (take n records) t0 t1 result
         xs.old ys.old ts.old ps.old
         xs.new ys.new ts.new ps.new }
 {
-    let k = clamp(n);
     slice_time_in(
-        recording, source, records, k, t0, t1, &mut *xs, &mut *ys, &mut *ts, &mut *ps,
+        recording,
+        source,
+        records,
+        n.min(64),
+        t0,
+        t1,
+        xs,
+        ys,
+        ts,
+        ps,
     )
 }

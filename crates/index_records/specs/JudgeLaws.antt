@@ -1,33 +1,12 @@
--- Judging the records one after another comes to rule 10, and what an index in range has: records in range, whose counts and times never fall.
-use Rattle.std.specs.Prelude.{◌≡◌, ◌+◌, ◌-◌, ◌^◌, ◌<◌, ◌≤◌, Bool, true, false, cond, List, [], ◌∷◌, pos}
-use Rattle.std.specs.Prelude.{int_le, nat_lt}
+-- What an index in range has: records in range, whose counts and times never fall.
+use Rattle.std.specs.Prelude.{◌≡◌, ◌^◌, ◌<◌, ◌≤◌, Bool, true, false, cond, List, [], ◌∷◌, pos}
+use Rattle.std.specs.Prelude.{int_le}
 use Rattle.std.proofs.Math.Path.{refl}
-use Rattle.std.proofs.Common.{◌∙◌}
 use Rattle.laws_stream.specs.Machine.{All, all_map}
 use Rattle.evt_codec.specs.Codec.{in_range_c}
 use Rattle.index_build.specs.declared.{Checkpoint.Checkpoint, RawSliceSource.RawSliceSource}
-use Rattle.index_records.specs.declared.Judging.{Judging}
 use Rattle.index_records.specs.Start.{last_passing}
-use Rattle.index_records.specs.Judge.{is_other, stands_of, ahead_of, onward_of, admits_of, judged_of, judged_all}
-
--- ---- all records
-
-pub onward-ok : (j : Judging) (c : Checkpoint) (ok : Bool) → (onward_of j c ok).ok ≡ ok
-onward-ok j c ok = go (nat_lt (18446744073709551615 - j.spacing) j.offset)
-  where
-    go : (t : Bool) → (cond t (ahead_of j c ok true 0) (ahead_of j c ok false (j.offset + j.spacing))).ok ≡ ok
-    go true = refl
-    go false = refl
-
--- what failed once stays so
-pub judged_failed : (j : Judging) (cs : List Checkpoint) → j.ok ≡ false → (judged_all j cs).ok ≡ false
-judged_failed j [] h = h
-judged_failed j (c ∷ cs) h = judged_failed (judged_of j c) cs (onward-ok j c (admits_of j c) ∙ rw h (go (is_other c.codec j.encoding) (stands_of j c)))
-  where
-    go : (a b : Bool) → cond a false (cond b false false) ≡ false
-    go true b = refl
-    go false true = refl
-    go false false = refl
+use Rattle.index_records.specs.Judge.{is_other}
 
 -- ---- the records of an index in range
 

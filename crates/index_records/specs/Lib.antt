@@ -4,6 +4,6 @@ pub mod Choose
 pub mod BinarySearch
 pub mod Search
 pub mod Judge
-pub mod JudgeLoop
 pub mod InRange
+pub mod Due
 pub mod JudgeLaws

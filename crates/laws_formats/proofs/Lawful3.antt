@@ -9,8 +9,9 @@ use Rattle.evt3_run_rules.specs.{Runs.Rising, Runs.Run, Runs.Valid, Runs.first_x
 use Rattle.evt3_run_words.specs.Masks.{near_inc}
 use Rattle.evt_types.specs.{Event.Event, Event.events_of, Layout.column-polarity3, Layout.column-type3, Layout.column-x3, Layout.column_fits3, Layout.grain3}
 use Rattle.evt_types.specs.{Layout.mask12, Layout.polarity3, Layout.time3, Layout.type3, Layout.word-mask12, Layout.word-time3, Layout.word-type3}
-use Rattle.evt_types.specs.{Layout.word-y3, Layout.word3, Layout.word_fits3, Layout.x3, declared.Sent.Sent, declared.Sent.TheVariants.Nothing}
-use Rattle.evt_types.specs.{declared.Sent.TheVariants.Value}
+use Rattle.std.specs.Prelude.{Option, Some, None}
+use Rattle.std.specs.Prelude.{ℕ}
+use Rattle.evt_types.specs.{Layout.word-y3, Layout.word3, Layout.word_fits3, Layout.x3}
 use Rattle.laws_formats.specs.{Lawful3.Agree3, Lawful3.High3, Lawful3.Ready3, Lawful3.format3, Ready.IfSent, Ready.Sayable, Ready.holds_sent, Ready.limit}
 use Rattle.laws_formats.specs.{Ready.no_event, Ready.one-event, Ready.sayable, Ready.sayable-true}
 use Rattle.laws_stream.proofs.LoopLaws.{tracks_next, tracks_same}
@@ -327,7 +328,7 @@ rise_run : (t y p from : ℕ) (xs : List ℕ) (more : List Event) → 1 ≤ leng
 rise_run t y p from [] more h r = absurd (omega arith)
 rise_run t y p from (x ∷ xs) more h r = ((record { rises = omega arith; fine = r.0.fine }, r.1), r.0.rises)
 
-low_sent : (b : Bool) (l : Sent) (q : ℕ) → sent_is (low_kept b l) q ≡ true → (b ≡ true → sent_is l q ≡ true) × (b ≡ false → q ≡ 0)
+low_sent : (b : Bool) (l : Option ℕ) (q : ℕ) → sent_is (low_kept b l) q ≡ true → (b ≡ true → sent_is l q ≡ true) × (b ≡ false → q ≡ 0)
 low_sent true l q e = ((λ f. e), (λ f. absurd (true≢false f)))
 low_sent false l q e = ((λ f. absurd (true≢false (sym f))), (λ f. sym (eqb-true 0 q e)))
 
@@ -339,9 +340,9 @@ unfolding leads3
 led_is v r = simp append_assoc
 
 -- a decoder that isn't started has counted no loop
-unstarted : (s : Sent) (d : Decoder) → IfSent s (High3 d) → d.high_loops ≡ loop_of s → d.initialised ≡ false → d.high_loops ≡ 0
-unstarted Nothing d h l off = l
-unstarted (Value q) d h l off = absurd (true≢false (sym h.0 ∙ off))
+unstarted : (s : Option ℕ) (d : Decoder) → IfSent s (High3 d) → d.high_loops ≡ loop_of s → d.initialised ≡ false → d.high_loops ≡ 0
+unstarted None d h l off = l
+unstarted (Some q) d h l off = absurd (true≢false (sym h.0 ∙ off))
 
 led3 : (v : EncoderState) (d : Decoder) (r : Run) (more : List Event) → Valid r → Agree3 v d → Ready3 d (given r ++ more) → d.high_loops ≡ r.t / period3
     → Reads r.t r.y d (leads3 v r.t r.y ++ body3 r.t r.y r.p r.xs) more
@@ -378,10 +379,10 @@ ready_looped (suc n) d t es rd r lt to =
     }
 
 -- the last half of the decoder's loop, where the writer holds it
-at-end : (s : Sent) (d : Decoder) → IfSent s (High3 d) → d.high_loops ≡ loop_of s → at_end s ≡ true
+at-end : (s : Option ℕ) (d : Decoder) → IfSent s (High3 d) → d.high_loops ≡ loop_of s → at_end s ≡ true
     → (d.initialised ≡ true) × (d.time_base ≡ d.high_loops * period3 + 16773120)
-at-end Nothing d h l e = absurd (true≢false (sym e))
-at-end (Value q) d h l e = (h.0, omega (arith, h.1, eqb-true (q % 2 ^ 12) 4095 e))
+at-end None d h l e = absurd (true≢false (sym e))
+at-end (Some q) d h l e = (h.0, omega (arith, h.1, eqb-true (q % 2 ^ 12) 4095 e))
 
 group3 : (v : EncoderState) (d : Decoder) (r : Run) (more : List Event) → Valid r → Agree3 v d → Ready3 d (given r ++ more)
     → Good format3 d (encode3 v r) more × Agree3 (encoded3 v r) (run reader3 d (words (encode3 v r)))

@@ -6,7 +6,8 @@ use Rattle.laws_stream.specs.{Machine.Machine, Machine.Note, Machine.All, Machin
 use Rattle.laws_stream.specs.Format.{Format}
 use Rattle.laws_stream.specs.{Stream.decode, Order.Rise, Order.rise_all, Slice.Past, Slice.reached, Slice.past_then}
 use Rattle.evt_types.specs.declared.{Encoding.Encoding, Encoding.TheVariants.Evt2, Encoding.TheVariants.Evt21, Encoding.TheVariants.Evt3}
-use Rattle.evt_types.specs.{declared.Sent.TheVariants.Nothing, declared.Sent.TheVariants.Value, Layout.grain2}
+use Rattle.std.specs.Prelude.{Some, None}
+use Rattle.evt_types.specs.{Layout.grain2}
 use Rattle.evt2_decoder.specs.{declared.Evt2Decoder.Evt2Decoder, Evt2.period2, Range.Regular2}
 use Rattle.evt21_decoder.specs.Evt21.{as2}
 use Rattle.evt3_decoder.specs.{declared.Decoder.Decoder, Evt3.period3}
@@ -16,7 +17,6 @@ use Rattle.read_columns.specs.Inside.{inside, clock}
 use Rattle.read_window.specs.declared.Window.{Window}
 use Rattle.read_select.specs.Uses.{is_timely, PastWords, PastOver}
 use Rattle.write_buffer.specs.{declared.EncoderState.EncoderState, Sent.fresh_state}
-use Rattle.evt3_run_rules.specs.Runs.{given}
 use Rattle.write_words.specs.Encode.{encode_notes, encode_state, encode_size}
 use Rattle.laws_formats.specs.{Ready.limit, Ready.sayable, Ready.IfSent, Lawful2.High2, Lawful3.Agree3, Lawful2.Ready2, Lawful2.format2}
 use Rattle.laws_formats.specs.Lawful21.{Ready21}
@@ -81,7 +81,7 @@ fresh_ready Evt3 es r = record { counted = omega arith; below = omega arith; pas
 -- ---- a writer that resumes behind a decoder
 
 -- the coarse time is a whole number of grains
-whole_half : (d : Evt2Decoder) (b : Bool) → Regular2 d → d.initialised ≡ b → IfSent (cond b (Value (d.time_high / grain2)) Nothing) (High2 d)
+whole_half : (d : Evt2Decoder) (b : Bool) → Regular2 d → d.initialised ≡ b → IfSent (cond b (Some (d.time_high / grain2)) None) (High2 d)
 whole_half d true r on = (on, omega (arith, (r.started on).whole))
 whole_half d false r on = tt
 

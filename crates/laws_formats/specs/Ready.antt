@@ -2,7 +2,8 @@
 use Rattle.std.specs.Prelude.{◌≡◌, Bool, true, ◌&&◌, List, [], ◌∷◌, ℕ, ◌/◌, ◌^◌, ◌≤◌, ◌<◌, min, leb, ltb}
 use Rattle.std.proofs.Common.{sym, subst, true≢false, arith, leb-true, ltb-true, eqb-true}
 use Rattle.laws_stream.specs.{Machine.Machine, Machine.Note, Machine.and_both, Format.Format, Mask.bits-zero, Order.Rise}
-use Rattle.evt_types.specs.{declared.Sent.Sent, declared.Sent.TheVariants.Nothing, declared.Sent.TheVariants.Value, Event.Event, Event.events_of}
+use Rattle.std.specs.Prelude.{Option, Some, None}
+use Rattle.evt_types.specs.{Event.Event, Event.events_of}
 use Rattle.evt_types.specs.Event.{no_events}
 use Rattle.evt_codec.specs.Reader.{Reader}
 use Rattle.read_columns.specs.Inside.{clock}
@@ -25,9 +26,9 @@ pub record Ready (period coarse time loops : ℕ) (es : List Event) : Type 0 whe
   pub rises : Rise clock sayable time es
 
 -- what the writer takes for sent, if anything, is as P says
-abbrev pub IfSent : Sent → (P : ℕ → Type 0) → Type 0
-IfSent Nothing P = Unit
-IfSent (Value q) P = P q
+abbrev pub IfSent : Option ℕ → (P : ℕ → Type 0) → Type 0
+IfSent None P = Unit
+IfSent (Some q) P = P q
 
 -- an encoding, by its decoder and its writer
 abbrev pub format_by : (R : Reader) {I : Type 0} → Machine EncoderState I (Note ℕ Event) → (given : I → List Event) (Valid : I → Type 0)
@@ -46,9 +47,9 @@ format_by R writer given Valid Ready Agree = record {
 
 -- ---- laws
 
-pub holds_sent : (o : Sent) (P : ℕ → Type 0) (q : ℕ) → IfSent o P → sent_is o q ≡ true → P q
-holds_sent Nothing P q h e = absurd (true≢false (sym e))
-holds_sent (Value g) P q h e = subst P (eqb-true g q e) h
+pub holds_sent : (o : Option ℕ) (P : ℕ → Type 0) (q : ℕ) → IfSent o P → sent_is o q ≡ true → P q
+holds_sent None P q h e = absurd (true≢false (sym e))
+holds_sent (Some g) P q h e = subst P (eqb-true g q e) h
 
 pub record Sayable (e : Event) : Type 0 where
   pub x< : e.x < 2048

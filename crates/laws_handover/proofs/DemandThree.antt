@@ -27,7 +27,8 @@ use Rattle.std.proofs.Common.{ap, append-nil, append_assoc, arith, div-add-mod',
 use Rattle.std.specs.Prelude.{Bool, List, [], false, length, refl, take, true, ℕ, ◌*◌, ◌++◌, ◌+◌, ◌-◌, ◌/◌, ◌^◌, ◌∷◌, ◌≡◌, ◌≤◌, ◌⊎◌}
 use Rattle.write_buffer.specs.{Sent.fresh_state, declared.EncoderState.EncoderState}
 use Rattle.write_resume.specs.{Laws.resume-given, Resume.resume_outcome}
-use Rattle.write_rules.specs.{Rules.fresh_sink, declared.LastTime.TheVariants.Never, declared.RawEventSink.RawEventSink}
+use Rattle.std.specs.Prelude.{None}
+use Rattle.write_rules.specs.{Rules.fresh_sink, declared.RawEventSink.RawEventSink}
 use Rattle.write_words.specs.Encode.{encode_notes, encode_size, encode_state}
 
 suits-inside : (es : List Event) → All (λ a. inside 2048 2048 a ≡ true) es → Suits widest es
@@ -116,7 +117,7 @@ module _ (e : Encoding) where
       -- resumed by a writer that sends no header and agrees with the decoder, or is given nothing
       module _ (v : EncoderState) (ag : AgreeOf e v (there e f bytes ws es sent cut behind) ⊎ (others e f cut ws ≡ [])) where
         abbrev writer₂ : RawEventSink
-        writer₂ = record { version = e; header_written = true; n_events = 0; last_t = Never; state = v }
+        writer₂ = record { version = e; header_written = true; n_events = 0; last_t = None; state = v }
 
         module _ (second : List Call) (rest : accepted_events writer₂ second ≡ others e f cut ws) where
           understood₂ : Understood e (fresh_of e) (joined_words e f cut ws writer₂ second)

@@ -1,6 +1,7 @@
 -- DEMAND 3 BEHIND A WRITTEN HEADER, proved: the claim over any front, at the header that was sent.
 use Rattle.evt_codec.specs.Codec.{codec_after, fresh_c}
-use Rattle.evt_types.specs.{Event.Event, Outcome.give, declared.Encoding.Encoding, declared.SensorSize.TheVariants.Known}
+use Rattle.std.specs.Prelude.{Some}
+use Rattle.evt_types.specs.{Event.Event, Outcome.give, declared.Encoding.Encoding}
 use Rattle.header.specs.Header.{has_zero, size_that_holds}
 use Rattle.laws_handover.proofs.{Called.by_values, Called.ran_as, DemandThree.claim, DemandThree.sent-by, Others.resumables}
 use Rattle.laws_handover.specs.{Called.Resumer, Called.read_back, Fronts.sending, Handover.Exact, Handover.ReadBack, Handover.Suits, Handover.accepted_events}
@@ -31,7 +32,7 @@ second_list_headed e calls w h is cut behind = resumables e (headed w h) true ca
 -- ---- a size that covers some events suits them and the first of them
 
 -- it has no zero, since an event lies inside it
-no_zero : (w h : ℕ) (es : List Event) → 0 < length es → Covers w h es → has_zero (Known w h) ≡ false
+no_zero : (w h : ℕ) (es : List Event) → 0 < length es → Covers w h es → has_zero (Some (record { width = w; height = h })) ≡ false
 unfolding has_zero
 no_zero w h [] some covers = absurd (omega arith)
 no_zero w h (a ∷ es) some covers =
@@ -40,7 +41,7 @@ no_zero w h (a ∷ es) some covers =
     let y = ltb-true a.y h k.1 in
     rw (ne_eqb w 0 (λ z. omega arith), ne_eqb h 0 (λ z. omega arith))
 
-covers_suits : (w h : ℕ) (es : List Event) → has_zero (Known w h) ≡ false → Covers w h es → Suits (Known w h) es
+covers_suits : (w h : ℕ) (es : List Event) → has_zero (Some (record { width = w; height = h })) ≡ false → Covers w h es → Suits (Some (record { width = w; height = h })) es
 covers_suits w h es z covers = record { no_zero = z; is_sized = refl; keeps = sift-all (inside w h) es covers }
 
 -- ---- `resume_raw` over a written header and words from which can be resumed

@@ -19,8 +19,10 @@ use Rattle.write_append.specs.{Append.append_outcome, Append.last_after, Append.
 use Rattle.write_append.specs.{Rising.rises_paced}
 use Rattle.write_buffer.specs.{Sent.fresh_state, declared.EncoderState.EncoderState}
 use Rattle.write_rules.specs.{Range.every, Range.falls, Range.falls_after, Range.grain_of, Range.sink_in_range, Range.sink_not_before, Range.time_bound}
-use Rattle.write_rules.specs.{Rules.fresh_sink, Rules.held_state, Rules.resumed_sink, declared.LastTime.LastTime, declared.LastTime.TheVariants.At}
-use Rattle.write_rules.specs.{declared.LastTime.TheVariants.Never, declared.RawEventSink.RawEventSink}
+use Rattle.std.specs.Prelude.{Option, Some, None}
+use Rattle.std.specs.Prelude.{ℤ}
+use Rattle.write_rules.specs.{Rules.fresh_sink, Rules.held_state, Rules.resumed_sink}
+use Rattle.write_rules.specs.{declared.RawEventSink.RawEventSink}
 use Rattle.write_words.specs.{Encode.encode_bytes, Encode.encode_most, Encode.encode_notes, Encode.encode_size, Laws.encode_few, Laws.encode_notes_lem}
 use borrow.Author.Tests.{le-leb, le-ltb, lt-ltb}
 
@@ -39,11 +41,11 @@ most_rises Evt3 n h = omega arith
 
 -- ---- one append
 
-not_fallen : (l : LastTime) (t : ℕ) → earliest l ≤ t → falls_after l (pos t ∷ []) ≡ false
+not_fallen : (l : Option ℤ) (t : ℕ) → earliest l ≤ t → falls_after l (pos t ∷ []) ≡ false
 unfolding falls
-not_fallen Never t h = refl
-not_fallen (At (pos n)) t h = rw (le-ltb t n h)
-not_fallen (At (negsuc n)) t h = refl
+not_fallen None t h = refl
+not_fallen (Some (pos n)) t h = rw (le-ltb t n h)
+not_fallen (Some (negsuc n)) t h = refl
 
 -- its words, and the writer after it
 abbrev sent : RawEventSink → Event → List ℕ
@@ -129,7 +131,7 @@ module _ (e : Encoding) (f : Front) (header : Bool) (calls : List Call) (is : fr
     -- by a writer that sends no header
     module _ (v : EncoderState) where
       abbrev writer : RawEventSink
-      writer = record { version = e; header_written = true; n_events = 0; last_t = Never; state = v }
+      writer = record { version = e; header_written = true; n_events = 0; last_t = None; state = v }
 
       by_writer : sink_in_range writer ≡ true → Rises (earliest (sink_not_before writer)) left
           → ((second : List Call) → accepted_events writer second ≡ left → Exact e f (joined e f cut bytes writer second) (accepted_events s calls))

@@ -1,8 +1,10 @@
 -- Bytes are read, indexed and sliced as exactly their events, where none that is in time follows the stop of a slice by time.
 use Rattle.evt_codec.specs.Codec.{events_from, fresh_c}
-use Rattle.evt_types.specs.{Event.Event, Outcome.give, declared.Encoding.Encoding, declared.SensorSize.SensorSize, declared.SensorSize.TheVariants.Known}
-use Rattle.evt_types.specs.{declared.SensorSize.TheVariants.Unknown}
-use Rattle.header.specs.{Header.has_zero, Header.header_of, Header.size_that_holds, declared.HeaderAnswer.TheVariants.Header}
+use Rattle.std.specs.Prelude.{Option, Some, None, Result, Ok}
+use Rattle.evt_types.specs.declared.SensorSize.{SensorSize}
+use Rattle.evt_types.specs.declared.Refusal.{Refusal}
+use Rattle.evt_types.specs.{Event.Event, Outcome.give, declared.Encoding.Encoding}
+use Rattle.header.specs.{Header.has_zero, Header.header_of, Header.size_that_holds}
 use Rattle.index_build.specs.{Index.body_at, Index.index_outcome, Index.kept_events, Index.open_raw_outcome, Index.open_words_outcome}
 use Rattle.index_build.specs.{declared.RawSliceSource.RawSliceSource}
 use Rattle.laws_handover.specs.{Handover.Decodes, Handover.Exact, Handover.Front, Handover.Gives, Handover.Indexes, Handover.Reads, Handover.Suits}
@@ -14,7 +16,7 @@ use Rattle.read_rules.specs.Read.{body_events, raw_outcome, shortest, sizeless, 
 use Rattle.read_select.specs.Uses.{PastOver}
 use Rattle.read_window.specs.declared.Window.{Window}
 use Rattle.slice.specs.{Opened.OpenedAs, Opened.opened_body, Opened.opened_number, Opened.opened_rules, Opened.opened_time, Own.own_window}
-use Rattle.slice_rules.specs.{Slice.SlicesFrom, Slice.slice_check, Slice.slice_outcome, declared.SliceAnswer.SliceAnswer}
+use Rattle.slice_rules.specs.{Slice.SlicesFrom, Slice.slice_check, Slice.slice_outcome}
 use Rattle.std.proofs.{Common.arith, Common.drop_at, Common.subst, Common.◌∙◌, Math.ListN.length-append}
 use Rattle.std.specs.Prelude.{Bool, List, drop, false, length, refl, ℕ, ℤ, ◌++◌, ◌<◌, ◌^◌, ◌≡◌, ◌≤◌}
 use Rattle.write_header.specs.Header.{header_text}
@@ -23,7 +25,7 @@ use borrow.Author.Tests.{le-ltb}
 -- a slice that no rule but 5 can refuse
 slice_gives : (bytes : List ℕ) (source : RawSliceSource) (ok : Bool) (passes : slice_check (length bytes) source ok ≡ give tt)
     (asked part : List Event) (are : asked ≡ part)
-    (r : SliceAnswer) (xs₀ ys₀ : List ℕ) (ts₀ : List ℤ) (ps₀ xs ys : List ℕ) (ts : List ℤ) (ps : List ℕ)
+    (r : Result ℕ Refusal) (xs₀ ys₀ : List ℕ) (ts₀ : List ℤ) (ps₀ xs ys : List ℕ) (ts : List ℤ) (ps : List ℕ)
     → SlicesFrom bytes source ok asked r xs₀ ys₀ ts₀ ps₀ xs ys ts ps → length part ≤ shortest xs₀ ys₀ ts₀ ps₀ → Gives part r xs₀ ys₀ ts₀ ps₀ xs ys ts ps
 unfolding slice_outcome
 slice_gives bytes source ok passes asked part are r xs₀ ys₀ ts₀ ps₀ xs ys ts ps s fits =
@@ -33,7 +35,7 @@ slice_gives bytes source ok passes asked part are r xs₀ ys₀ ts₀ ps₀ xs y
 -- ---- a way of reading that comes to what the body at its start comes to
 
 -- words do, and so does what follows a written header
-words_come : (e : Encoding) (size : SensorSize) (bytes : List ℕ) → length bytes ≤ 2 ^ 30 → has_zero size ≡ false → Comes (as_words e size) bytes
+words_come : (e : Encoding) (size : Option SensorSize) (bytes : List ℕ) → length bytes ≤ 2 ^ 30 → has_zero size ≡ false → Comes (as_words e size) bytes
 unfolding words_outcome body_events open_words_outcome
 words_come e size bytes few no_zero = record {
   within = omega arith;
@@ -44,13 +46,13 @@ words_come e size bytes few no_zero = record {
 }
 
 module _ (e : Encoding) (w h : ℕ) (body : List ℕ) (few : length (header_text e w h ++ body) ≤ 2 ^ 30) (narrow : w < 2 ^ 64) (low : h < 2 ^ 64)
-    (no_zero : has_zero (Known w h) ≡ false) where
+    (no_zero : has_zero (Some (record { width = w; height = h })) ≡ false) where
   abbrev recording : List ℕ
   recording = header_text e w h ++ body
 
-  header_is : header_of recording Unknown ≡ Header (record { data_offset = length (header_text e w h); sensor_size = Known w h; encoding = e })
+  header_is : header_of recording None ≡ Ok (record { data_offset = length (header_text e w h); sensor_size = Some (record { width = w; height = h }); encoding = e })
   unfolding size_that_holds
-  header_is = read_back_given e w h body narrow low few Unknown ∙ rw no_zero
+  header_is = read_back_given e w h body narrow low few None ∙ rw no_zero
 
   headed_come : Comes (as_recording e w h) recording
   unfolding raw_outcome body_events open_raw_outcome
@@ -65,7 +67,7 @@ module _ (e : Encoding) (w h : ℕ) (body : List ℕ) (few : length (header_text
 -- ---- what comes so is read, indexed and sliced as the events that are kept
 
 module _ (way : Way) (bytes : List ℕ) (comes : Comes way bytes) where
-  abbrev size : SensorSize
+  abbrev size : Option SensorSize
   size = size_by way
 
   abbrev own : List Event

@@ -4,12 +4,14 @@ use Rattle.std.proofs.Common.{sym, ap, ◌∙◌, take_at}
 use Rattle.std.proofs.lemmas.List.{length-map}
 use Rattle.evt_types.specs.{Columns.col_x, Columns.col_y, Columns.col_t, Columns.col_p, Event.Event, declared.Encoding.Encoding}
 use Rattle.write_resume.specs.declared.Resumed.{Resumed}
-use Rattle.evt_types.specs.declared.{Limit.TheVariants.Unlimited, SensorSize.SensorSize, SensorSize.TheVariants.Unknown}
+use Rattle.std.specs.Prelude.{Option, None, Result, Ok}
+use Rattle.evt_types.specs.declared.SensorSize.{SensorSize}
+use Rattle.evt_types.specs.declared.Refusal.{Refusal}
+use Rattle.read_rules.specs.declared.Reading.{Reading}
 use Rattle.read_rules.specs.Read as Outcomes
-use Rattle.read_rules.specs.{declared.ReadAnswer.ReadAnswer, Read.DecodesWords, Read.ReadsRaw, Read.shortest}
-use Rattle.index_build.specs.declared.{Checkpoint.Checkpoint, OpenAnswer.OpenAnswer, OpenAnswer.TheVariants.Opened, Opening.Opening}
+use Rattle.read_rules.specs.{Read.DecodesWords, Read.ReadsRaw, Read.shortest}
+use Rattle.index_build.specs.declared.{Checkpoint.Checkpoint, Opening.Opening}
 use Rattle.index_build.specs.Index.{Opens, OpensWords, OpensRaw}
-use Rattle.slice_rules.specs.declared.{SliceAnswer.SliceAnswer, SliceAnswer.TheVariants.Sliced}
 use Rattle.write_rules.specs.{declared.RawEventSink.RawEventSink, Rules.fresh_sink}
 use Rattle.laws_handover.specs.Handover.{stream_of, Front, Way, as_words, as_recording}
 use Rattle.laws_handover.specs.Handover.{read_by, open_by_lem, options_of, Reads, opening_as, Indexed, Ran, calls_of, Columns, all_written}
@@ -25,8 +27,8 @@ front_same f part old now old' now' a b =
     ap (take (length part)) a ∙ take_at (map f part) (drop (length part) old) (length part) (length-map part f)
     ∙ sym (ap (take (length part)) b ∙ take_at (map f part) (drop (length part) old') (length part) (length-map part f))
 
-alike : (part : List Event) (r q : SliceAnswer) (c₀ c d₀ d : Columns) → (r ≡ Sliced (length part)) × HoldsEvents part c₀ c
-    → (q ≡ Sliced (length part)) × HoldsEvents part d₀ d
+alike : (part : List Event) (r q : Result ℕ Refusal) (c₀ c d₀ d : Columns) → (r ≡ Ok (length part)) × HoldsEvents part c₀ c
+    → (q ≡ Ok (length part)) × HoldsEvents part d₀ d
     → Alike (length part) r q c d
 alike part r q c₀ c d₀ d a b = record {
   first = a.0;
@@ -39,27 +41,27 @@ alike part r q c₀ c d₀ d a b = record {
 
 -- ---- the contracts that the ways of reading name
 
-module _ (bytes : List ℕ) (r : ReadAnswer) (xs₀ ys₀ : List ℕ) (ts₀ : List ℤ) (ps₀ xs ys : List ℕ) (ts : List ℤ) (ps : List ℕ) where
+module _ (bytes : List ℕ) (r : Result Reading Refusal) (xs₀ ys₀ : List ℕ) (ts₀ : List ℤ) (ps₀ xs ys : List ℕ) (ts : List ℤ) (ps : List ℕ) where
   -- a reading in this way
   abbrev pub ReadsBy : Way → Type 0
   ReadsBy way = Outcomes.Reads (read_by way bytes (shortest xs₀ ys₀ ts₀ ps₀)) r xs₀ ys₀ ts₀ ps₀ xs ys ts ps
 
-  pub by_decode-words : (e : Encoding) (size : SensorSize) → DecodesWords bytes e size Unlimited r xs₀ ys₀ ts₀ ps₀ xs ys ts ps → ReadsBy (as_words e size)
+  pub by_decode-words : (e : Encoding) (size : Option SensorSize) → DecodesWords bytes e size None r xs₀ ys₀ ts₀ ps₀ xs ys ts ps → ReadsBy (as_words e size)
   by_decode-words e size ran = ran
 
-  pub by_read_raw : (e : Encoding) (w h : ℕ) → ReadsRaw bytes (record { sensor_size = Unknown; max_events = Unlimited }) r xs₀ ys₀ ts₀ ps₀ xs ys ts ps
+  pub by_read_raw : (e : Encoding) (w h : ℕ) → ReadsRaw bytes (record { sensor_size = None; max_events = None }) r xs₀ ys₀ ts₀ ps₀ xs ys ts ps
       → ReadsBy (as_recording e w h)
   by_read_raw e w h ran = ran
 
-module _ (bytes : List ℕ) (spacing : ℕ) (r : OpenAnswer) (records₀ records : List Checkpoint) where
+module _ (bytes : List ℕ) (spacing : ℕ) (r : Result Opening Refusal) (records₀ records : List Checkpoint) where
   -- an opening in this way
   abbrev pub OpensBy : Way → Type 0
   OpensBy way = Opens (open_by_lem way bytes spacing (length records₀)) r records₀ records
 
-  pub by_open_words : (e : Encoding) (size : SensorSize) → OpensWords bytes (options_of e size spacing) r records₀ records → OpensBy (as_words e size)
+  pub by_open_words : (e : Encoding) (size : Option SensorSize) → OpensWords bytes (options_of e size spacing) r records₀ records → OpensBy (as_words e size)
   by_open_words e size ran = ran
 
-  pub by_open : (e : Encoding) (w h : ℕ) → OpensRaw bytes (record { sensor_size = Unknown; spacing = spacing }) r records₀ records
+  pub by_open : (e : Encoding) (w h : ℕ) → OpensRaw bytes (record { sensor_size = None; spacing = spacing }) r records₀ records
       → OpensBy (as_recording e w h)
   by_open e w h ran = ran
 
@@ -71,17 +73,17 @@ module _ (way : Way) (bytes : List ℕ) (es : List Event) (reads : Reads way byt
     indexed = reads.indexes x.spacing x.allowed x.room x.answer x.records₀ x.records x.within x.ran x.enough
 
     -- the opening that it told is that one
-    told_is : (o : Opening) → x.answer ≡ Opened o → o ≡ opening_as way bytes es x.spacing
+    told_is : (o : Opening) → x.answer ≡ Ok o → o ≡ opening_as way bytes es x.spacing
     told_is o h = cc indexed.0
 
-    sliced-number : (o : Opening) → x.answer ≡ Opened o → (i0 i1 : ℕ) (r : SliceAnswer) (c₀ c : Columns) → NumberRan x o i0 i1 r c₀ c
-        → length (numbered es i0 i1) ≤ room c₀ → (r ≡ Sliced (length (numbered es i0 i1))) × HoldsEvents (numbered es i0 i1) c₀ c
+    sliced-number : (o : Opening) → x.answer ≡ Ok o → (i0 i1 : ℕ) (r : Result ℕ Refusal) (c₀ c : Columns) → NumberRan x o i0 i1 r c₀ c
+        → length (numbered es i0 i1) ≤ room c₀ → (r ≡ Ok (length (numbered es i0 i1))) × HoldsEvents (numbered es i0 i1) c₀ c
     sliced-number o h i0 i1 r c₀ c ran fits =
         let g = indexed.1 i0 i1 r c₀.xs c₀.ys c₀.ts c₀.ps c.xs c.ys c.ts c.ps (rw (told_is o h) at ran) fits in
         (g.count, g.columns)
 
-    sliced_time : (o : Opening) → x.answer ≡ Opened o → (t0 t1 : ℤ) (r : SliceAnswer) (c₀ c : Columns) → TimeRan x o t0 t1 r c₀ c
-        → length (during_times es t0 t1) ≤ room c₀ → (r ≡ Sliced (length (during_times es t0 t1))) × HoldsEvents (during_times es t0 t1) c₀ c
+    sliced_time : (o : Opening) → x.answer ≡ Ok o → (t0 t1 : ℤ) (r : Result ℕ Refusal) (c₀ c : Columns) → TimeRan x o t0 t1 r c₀ c
+        → length (during_times es t0 t1) ≤ room c₀ → (r ≡ Ok (length (during_times es t0 t1))) × HoldsEvents (during_times es t0 t1) c₀ c
     sliced_time o h t0 t1 r c₀ c ran fits =
         let g = indexed.2 t0 t1 r c₀.xs c₀.ys c₀.ts c₀.ps c.xs c.ys c.ts c.ps (rw (told_is o h) at ran) fits in
         (g.count, g.columns)

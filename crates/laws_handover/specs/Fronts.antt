@@ -7,7 +7,7 @@ use Rattle.write_buffer.specs.{declared.EncoderState.EncoderState, Columns.event
 use Rattle.write_words.specs.Encode.{encode_bytes}
 use Rattle.laws_formats.specs.Appends.{append_bytes}
 use Rattle.write_rules.specs.declared.RawEventSink.{RawEventSink}
-use Rattle.write_append.specs.Append.{some, header_due}
+use Rattle.write_append.specs.Append.{header_due}
 use Rattle.laws_handover.specs.Handover.{Call, is_accepted, accepted_events, stream_of, Front, bare, headed, front_bytes}
 use Rattle.laws_handover.specs.Headed.{front_of, Sending}
 use Rattle.laws_handover.specs.Calls.{by_call, columns, later, bytes, accepted_checked, groups_of}

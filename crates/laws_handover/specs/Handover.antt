@@ -27,8 +27,10 @@ use Rattle.std.specs.Prelude.{◌≡◌, Bool, true, false, cond, ◌||◌, List
 use Rattle.std.proofs.Common.{arith}
 use Rattle.std.proofs.lemmas.List.{length-replicate}
 use Rattle.laws_stream.specs.{Machine.Machine, Machine.Note, Machine.All, Machine.words, Machine.notes, Slice.sift, Words.stream}
-use Rattle.evt_types.specs.{Event.Event, Outcome.Outcome, Outcome.give, Layout.type2, Layout.type21, Layout.type3, declared.SensorSize.SensorSize}
-use Rattle.evt_types.specs.declared.{SensorSize.TheVariants.Known, SensorSize.TheVariants.Unknown, Limit.TheVariants.Unlimited}
+use Rattle.std.specs.Prelude.{Option, Some, None, Result, Ok, Err}
+use Rattle.evt_types.specs.declared.SensorSize.{SensorSize}
+use Rattle.evt_types.specs.declared.Refusal.{Refusal}
+use Rattle.evt_types.specs.{Event.Event, Outcome.Outcome, Outcome.give, Layout.type2, Layout.type21, Layout.type3}
 use Rattle.evt_codec.specs.{declared.codec.Codec.Codec, Reader.reader_of, Codec.fresh_c, Codec.encoding_of, Codec.started_c, Codec.coarse_c, Codec.loops_c}
 use Rattle.evt_codec.specs.Codec.{codec_after}
 use Rattle.evt_types.specs.declared.{Encoding.Encoding, Encoding.TheVariants.Evt2, Encoding.TheVariants.Evt21, Encoding.TheVariants.Evt3}
@@ -38,18 +40,16 @@ use Rattle.write_rules.specs.{declared.RawEventSink.RawEventSink, Rules.fresh_si
 use Rattle.laws_formats.specs.Either.{first_loop}
 use Rattle.write_resume.specs.{declared.Resumed.Resumed, Resume.resume_outcome, Resume.resume_words_outcome, Resume.resume_raw_outcome}
 use Rattle.write_resume.specs.Resume.{raw_encoding, Resumes}
-use Rattle.write_append.specs.declared.{AppendAnswer.AppendAnswer, AppendAnswer.TheVariants.Written}
-use Rattle.write_append.specs.declared.{AppendAnswer.TheVariants.Refused as AppendRefused, Appended.Appended}
+use Rattle.write_append.specs.declared.{Appended.Appended}
 use Rattle.write_append.specs.Append.{AppendedBytes, append_outcome, accepts, handed_over, sink_after, AppendOwed}
 use Rattle.write_header.specs.Header.{header_text}
-use Rattle.read_rules.specs.declared.{ReadAnswer.ReadAnswer, ReadAnswer.TheVariants.Read, Reading.Reading}
+use Rattle.read_rules.specs.declared.{Reading.Reading}
 use Rattle.header.specs.Header.{has_zero}
 use Rattle.read_rules.specs.Read as Outcomes
 use Rattle.read_rules.specs.Read.{ReadEvents, words_outcome, raw_outcome, Handed, shortest, kept, width_of, height_of, sizeless}
-use Rattle.index_build.specs.declared.{Checkpoint.Checkpoint, OpenAnswer.OpenAnswer, OpenAnswer.TheVariants.Opened, Opening.Opening}
+use Rattle.index_build.specs.declared.{Checkpoint.Checkpoint, Opening.Opening}
 use Rattle.index_build.specs.{declared.RawSliceSource.RawSliceSource, declared.WordsOptions.WordsOptions, Nth.blank as blank_record}
 use Rattle.index_build.specs.Index.{Body, Opens, open_words_outcome, open_raw_outcome, record_count, source_of, spacing_ok}
-use Rattle.slice_rules.specs.declared.{SliceAnswer.SliceAnswer, SliceAnswer.TheVariants.Sliced}
 use Rattle.slice_rules.specs.Slice.{SlicesIndex, SlicesTime, is_during}
 
 -- ---- lists of appends
@@ -198,18 +198,18 @@ module _ (e : Encoding) (f : Front) (cut : ℕ) where
 -- ---- what is read of some bytes is exactly `es`
 
 -- a size that keeps them all: no zero, and some event where the size comes from the events (the table's 1 otherwise)
-pub record Suits (size : SensorSize) (es : List Event) : Type 0 where
+pub record Suits (size : Option SensorSize) (es : List Event) : Type 0 where
   pub no_zero : has_zero size ≡ false
   pub is_sized : sizeless size es ≡ false
   pub keeps : kept size es ≡ es
 
 -- the size of all that can be appended
-abbrev pub widest : SensorSize
-widest = Known 2048 2048
+abbrev pub widest : Option SensorSize
+widest = Some (record { width = 2048; height = 2048 })
 
 -- the columns are handed the events `part`, and a slice is accepted with their count
-pub record Gives (part : List Event) (r : SliceAnswer) (xs₀ ys₀ : List ℕ) (ts₀ : List ℤ) (ps₀ xs ys : List ℕ) (ts : List ℤ) (ps : List ℕ) : Type 0 where
-  pub count : r ≡ Sliced (length part)
+pub record Gives (part : List Event) (r : Result ℕ Refusal) (xs₀ ys₀ : List ℕ) (ts₀ : List ℤ) (ps₀ xs ys : List ℕ) (ts : List ℤ) (ps : List ℕ) : Type 0 where
+  pub count : r ≡ Ok (length part)
   pub columns : Handed part xs₀ ys₀ ts₀ ps₀ xs ys ts ps
 
 -- by number: from the clamped start to before the clamped end
@@ -226,30 +226,30 @@ during_times es t0 t1 = sift (is_during t0 t1) es
 -- slices of some bytes by an index, where the columns suffice
 module _ (bytes : List ℕ) (es : List Event) (source : RawSliceSource) (records : List Checkpoint) where
   abbrev pub ByNumber : Type 0
-  ByNumber = (i0 i1 : ℕ) (r : SliceAnswer) (xs₀ ys₀ : List ℕ) (ts₀ : List ℤ) (ps₀ xs ys : List ℕ) (ts : List ℤ) (ps : List ℕ)
+  ByNumber = (i0 i1 : ℕ) (r : Result ℕ Refusal) (xs₀ ys₀ : List ℕ) (ts₀ : List ℤ) (ps₀ xs ys : List ℕ) (ts : List ℤ) (ps : List ℕ)
       → SlicesIndex bytes source records i0 i1 r xs₀ ys₀ ts₀ ps₀ xs ys ts ps → length (numbered es i0 i1) ≤ shortest xs₀ ys₀ ts₀ ps₀
       → Gives (numbered es i0 i1) r xs₀ ys₀ ts₀ ps₀ xs ys ts ps
 
   abbrev pub ByTime : Type 0
-  ByTime = (t0 t1 : ℤ) (r : SliceAnswer) (xs₀ ys₀ : List ℕ) (ts₀ : List ℤ) (ps₀ xs ys : List ℕ) (ts : List ℤ) (ps : List ℕ)
+  ByTime = (t0 t1 : ℤ) (r : Result ℕ Refusal) (xs₀ ys₀ : List ℕ) (ts₀ : List ℤ) (ps₀ xs ys : List ℕ) (ts : List ℤ) (ps : List ℕ)
       → SlicesTime bytes source records t0 t1 r xs₀ ys₀ ts₀ ps₀ xs ys ts ps → length (during_times es t0 t1) ≤ shortest xs₀ ys₀ ts₀ ps₀
       → Gives (during_times es t0 t1) r xs₀ ys₀ ts₀ ps₀ xs ys ts ps
 
-abbrev pub options_of : Encoding → SensorSize → (spacing : ℕ) → WordsOptions
+abbrev pub options_of : Encoding → Option SensorSize → (spacing : ℕ) → WordsOptions
 options_of e size spacing = record { encoding = e; sensor_size = size; spacing = spacing }
 
 -- how some bytes are read: as words, by an encoding and a size that the caller gives; or as a recording, by its header, which names these
 pub data Way : Type 0 where
-  as_words : Encoding → SensorSize → Way
+  as_words : Encoding → Option SensorSize → Way
   as_recording : Encoding → (width height : ℕ) → Way
 
 abbrev pub encoding_by : Way → Encoding
 encoding_by (as_words e size) = e
 encoding_by (as_recording e w h) = e
 
-abbrev pub size_by : Way → SensorSize
+abbrev pub size_by : Way → Option SensorSize
 size_by (as_words e size) = size
-size_by (as_recording e w h) = Known w h
+size_by (as_recording e w h) = Some (record { width = w; height = h })
 
 -- where the words begin
 abbrev pub start_by : Way → ℕ
@@ -258,13 +258,13 @@ start_by (as_recording e w h) = length (header_text e w h)
 
 -- by `decode_words` or by `read_raw`, with no limit
 abbrev pub read_by : Way → List ℕ → (room : ℕ) → Outcome ReadEvents
-read_by (as_words e size) bytes = words_outcome bytes e size Unlimited
-read_by (as_recording e w h) bytes = raw_outcome bytes (record { sensor_size = Unknown; max_events = Unlimited })
+read_by (as_words e size) bytes = words_outcome bytes e size None
+read_by (as_recording e w h) bytes = raw_outcome bytes (record { sensor_size = None; max_events = None })
 
 -- by `open_words` or by `open`
 abbrev pub open_by_lem : Way → List ℕ → (spacing room : ℕ) → Outcome Body
 open_by_lem (as_words e size) bytes spacing = open_words_outcome bytes (options_of e size spacing)
-open_by_lem (as_recording e w h) bytes spacing = open_raw_outcome bytes (record { sensor_size = Unknown; spacing = spacing })
+open_by_lem (as_recording e w h) bytes spacing = open_raw_outcome bytes (record { sensor_size = None; spacing = spacing })
 
 module _ (way : Way) (bytes : List ℕ) (es : List Event) where
   abbrev pub reading_as : Reading
@@ -272,9 +272,9 @@ module _ (way : Way) (bytes : List ℕ) (es : List Event) where
 
   -- decoding, with no limit, where the columns suffice: accepted, the count and all four columns
   abbrev pub Decodes : Type 0
-  Decodes = (r : ReadAnswer) (xs₀ ys₀ : List ℕ) (ts₀ : List ℤ) (ps₀ xs ys : List ℕ) (ts : List ℤ) (ps : List ℕ)
+  Decodes = (r : Result Reading Refusal) (xs₀ ys₀ : List ℕ) (ts₀ : List ℤ) (ps₀ xs ys : List ℕ) (ts : List ℤ) (ps : List ℕ)
       → Outcomes.Reads (read_by way bytes (shortest xs₀ ys₀ ts₀ ps₀)) r xs₀ ys₀ ts₀ ps₀ xs ys ts ps → length es ≤ shortest xs₀ ys₀ ts₀ ps₀
-      → (r ≡ Read reading_as) × Handed es xs₀ ys₀ ts₀ ps₀ xs ys ts ps
+      → (r ≡ Ok reading_as) × Handed es xs₀ ys₀ ts₀ ps₀ xs ys ts ps
 
   -- how many records an index has
   abbrev pub records_by : (spacing : ℕ) → ℕ
@@ -284,16 +284,16 @@ module _ (way : Way) (bytes : List ℕ) (es : List Event) where
   opening_as spacing = record { source = source_of (length bytes) (start_by way) (encoding_by way) (size_by way) spacing es; records = records_by spacing }
 
   -- opened at this spacing, and sliced by number and by time over the source told and the records made
-  abbrev pub Indexed : (spacing : ℕ) → OpenAnswer → List Checkpoint → Type 0
+  abbrev pub Indexed : (spacing : ℕ) → Result Opening Refusal → List Checkpoint → Type 0
   Indexed spacing r records =
       let o = opening_as spacing in
       let made = take o.records records in
-      (r ≡ Opened o) × ByNumber bytes es o.source made × ByTime bytes es o.source made
+      (r ≡ Ok o) × ByNumber bytes es o.source made × ByTime bytes es o.source made
 
   -- an index built likewise from just these bytes at any allowed spacing, into the first `room` of some records, where these suffice
   abbrev pub Indexes : Type 0
   Indexes = (spacing : ℕ) → spacing_ok (encoding_by way) spacing ≡ true
-      → (room : ℕ) (r : OpenAnswer) (records₀ records : List Checkpoint) → room ≤ length records₀
+      → (room : ℕ) (r : Result Opening Refusal) (records₀ records : List Checkpoint) → room ≤ length records₀
       → Opens (open_by_lem way bytes spacing room) r records₀ records → records_by spacing ≤ room → Indexed spacing r records
 
   pub record Reads : Type 0 where
@@ -302,8 +302,8 @@ module _ (way : Way) (bytes : List ℕ) (es : List Event) where
 
 -- words are read exactly whatever size keeps the events, a recording where its header's size does
 abbrev pub ReadBehind : Encoding → Front → List ℕ → List Event → Type 0
-ReadBehind e bare bytes es = (size : SensorSize) → Suits size es → Reads (as_words e size) bytes es
-ReadBehind e (headed w h) bytes es = w < 2 ^ 64 → h < 2 ^ 64 → Suits (Known w h) es → Reads (as_recording e w h) bytes es
+ReadBehind e bare bytes es = (size : Option SensorSize) → Suits size es → Reads (as_words e size) bytes es
+ReadBehind e (headed w h) bytes es = w < 2 ^ 64 → h < 2 ^ 64 → Suits (Some (record { width = w; height = h })) es → Reads (as_recording e w h) bytes es
 
 -- within the table's 4
 abbrev pub Exact : Encoding → Front → List ℕ → List Event → Type 0
@@ -389,9 +389,9 @@ abbrev pub calls_of : List Ran → List Call
 calls_of ran = map (λ a. a.call) ran
 
 -- the bytes that an append told to have written
-abbrev pub bytes_told : AppendAnswer → ℕ
-bytes_told (Written n) = n
-bytes_told (AppendRefused r) = 0
+abbrev pub bytes_told : Result ℕ Refusal → ℕ
+bytes_told (Ok n) = n
+bytes_told (Err r) = 0
 
 abbrev pub all_written : List Ran → List ℕ
 all_written [] = []
@@ -416,7 +416,7 @@ pub record Index (way : Way) (bytes : List ℕ) : Type 0 where
   pub spacing : ℕ
   pub allowed : spacing_ok (encoding_by way) spacing ≡ true
   pub room : ℕ
-  pub answer : OpenAnswer
+  pub answer : Result Opening Refusal
   pub records₀ : List Checkpoint
   pub records : List Checkpoint
   pub within : room ≤ length records₀
@@ -424,10 +424,10 @@ pub record Index (way : Way) (bytes : List ℕ) : Type 0 where
   pub enough : record_count (length (drop (start_by way) bytes)) spacing ≤ room
 
 -- what `index_fixed::open_words` and `open` promise, whatever room is named: 64 records are held, blank before
-abbrev pub OpensByValue : Way → List ℕ → (spacing room : ℕ) → OpenAnswer → List Checkpoint → Type 0
+abbrev pub OpensByValue : Way → List ℕ → (spacing room : ℕ) → Result Opening Refusal → List Checkpoint → Type 0
 OpensByValue way bytes spacing room r records = Opens (open_by_lem way bytes spacing (min room 64)) r (replicate 64 blank_record) records
 
-module _ {way : Way} {bytes : List ℕ} (spacing : ℕ) (allowed : spacing_ok (encoding_by way) spacing ≡ true) (answer : OpenAnswer) where
+module _ {way : Way} {bytes : List ℕ} (spacing : ℕ) (allowed : spacing_ok (encoding_by way) spacing ≡ true) (answer : Result Opening Refusal) where
   -- such an index is one whose records were lent, all of them
   abbrev pub lent : (records₀ records : List Checkpoint) → Opens (open_by_lem way bytes spacing (length records₀)) answer records₀ records
       → record_count (length (drop (start_by way) bytes)) spacing ≤ length records₀ → Index way bytes
@@ -460,18 +460,18 @@ module _ {way : Way} {bytes : List ℕ} (spacing : ℕ) (allowed : spacing_ok (e
 
 module _ {way : Way} {bytes : List ℕ} (x : Index way bytes) (o : Opening) where
   -- slices that ran, by the source that opening told and as many records as it told
-  abbrev pub NumberRan : (i0 i1 : ℕ) → SliceAnswer → (c₀ c : Columns) → Type 0
+  abbrev pub NumberRan : (i0 i1 : ℕ) → Result ℕ Refusal → (c₀ c : Columns) → Type 0
   NumberRan i0 i1 r c₀ c =
       SlicesIndex bytes o.source (take o.records x.records) i0 i1 r c₀.xs c₀.ys c₀.ts c₀.ps c.xs c.ys c.ts c.ps
 
-  abbrev pub TimeRan : (t0 t1 : ℤ) → SliceAnswer → (c₀ c : Columns) → Type 0
+  abbrev pub TimeRan : (t0 t1 : ℤ) → Result ℕ Refusal → (c₀ c : Columns) → Type 0
   TimeRan t0 t1 r c₀ c =
       SlicesTime bytes o.source (take o.records x.records) t0 t1 r c₀.xs c₀.ys c₀.ts c₀.ps c.xs c.ys c.ts c.ps
 
 -- two callers, whose columns may differ in length, get the same: the count n, and all four columns up to it
-pub record Alike (n : ℕ) (r₁ r₂ : SliceAnswer) (c₁ c₂ : Columns) : Type 0 where
-  pub first : r₁ ≡ Sliced n
-  pub second : r₂ ≡ Sliced n
+pub record Alike (n : ℕ) (r₁ r₂ : Result ℕ Refusal) (c₁ c₂ : Columns) : Type 0 where
+  pub first : r₁ ≡ Ok n
+  pub second : r₂ ≡ Ok n
   pub same-x : take n c₁.xs ≡ take n c₂.xs
   pub same-y : take n c₁.ys ≡ take n c₂.ys
   pub same-t : take n c₁.ts ≡ take n c₂.ts
@@ -479,23 +479,23 @@ pub record Alike (n : ℕ) (r₁ r₂ : SliceAnswer) (c₁ c₂ : Columns) : Typ
 
 -- what calls that ran over some bytes have read: exactly es
 pub record ReadBack (way : Way) (bytes : List ℕ) (es : List Event) : Type 0 where
-  pub decoded : (r : ReadAnswer) (c₀ c : Columns)
+  pub decoded : (r : Result Reading Refusal) (c₀ c : Columns)
       → Outcomes.Reads (read_by way bytes (room c₀)) r c₀.xs c₀.ys c₀.ts c₀.ps c.xs c.ys c.ts c.ps → length es ≤ room c₀
-      → (r ≡ Read (reading_as way bytes es)) × HoldsEvents es c₀ c
-  pub opened : (x : Index way bytes) → x.answer ≡ Opened (opening_as way bytes es x.spacing)
-  pub by_number : (x : Index way bytes) (o : Opening) → x.answer ≡ Opened o → (i0 i1 : ℕ) (r : SliceAnswer) (c₀ c : Columns)
+      → (r ≡ Ok (reading_as way bytes es)) × HoldsEvents es c₀ c
+  pub opened : (x : Index way bytes) → x.answer ≡ Ok (opening_as way bytes es x.spacing)
+  pub by_number : (x : Index way bytes) (o : Opening) → x.answer ≡ Ok o → (i0 i1 : ℕ) (r : Result ℕ Refusal) (c₀ c : Columns)
       → NumberRan x o i0 i1 r c₀ c → length (numbered es i0 i1) ≤ room c₀
-      → (r ≡ Sliced (length (numbered es i0 i1))) × HoldsEvents (numbered es i0 i1) c₀ c
-  pub by_time_lem : (x : Index way bytes) (o : Opening) → x.answer ≡ Opened o → (t0 t1 : ℤ) (r : SliceAnswer) (c₀ c : Columns)
+      → (r ≡ Ok (length (numbered es i0 i1))) × HoldsEvents (numbered es i0 i1) c₀ c
+  pub by_time_lem : (x : Index way bytes) (o : Opening) → x.answer ≡ Ok o → (t0 t1 : ℤ) (r : Result ℕ Refusal) (c₀ c : Columns)
       → TimeRan x o t0 t1 r c₀ c → length (during_times es t0 t1) ≤ room c₀
-      → (r ≡ Sliced (length (during_times es t0 t1))) × HoldsEvents (during_times es t0 t1) c₀ c
+      → (r ≡ Ok (length (during_times es t0 t1))) × HoldsEvents (during_times es t0 t1) c₀ c
   -- by whatever two indexes, lent or by value and at whatever spacings, into whatever columns that suffice
-  pub alike_number : (x y : Index way bytes) (o p : Opening) → x.answer ≡ Opened o → y.answer ≡ Opened p
-      → (i0 i1 : ℕ) (r q : SliceAnswer) (c₀ c d₀ d : Columns)
+  pub alike_number : (x y : Index way bytes) (o p : Opening) → x.answer ≡ Ok o → y.answer ≡ Ok p
+      → (i0 i1 : ℕ) (r q : Result ℕ Refusal) (c₀ c d₀ d : Columns)
       → NumberRan x o i0 i1 r c₀ c → NumberRan y p i0 i1 q d₀ d → length (numbered es i0 i1) ≤ room c₀ → length (numbered es i0 i1) ≤ room d₀
       → Alike (length (numbered es i0 i1)) r q c d
-  pub alike_time : (x y : Index way bytes) (o p : Opening) → x.answer ≡ Opened o → y.answer ≡ Opened p
-      → (t0 t1 : ℤ) (r q : SliceAnswer) (c₀ c d₀ d : Columns)
+  pub alike_time : (x y : Index way bytes) (o p : Opening) → x.answer ≡ Ok o → y.answer ≡ Ok p
+      → (t0 t1 : ℤ) (r q : Result ℕ Refusal) (c₀ c d₀ d : Columns)
       → TimeRan x o t0 t1 r c₀ c → TimeRan y p t0 t1 q d₀ d → length (during_times es t0 t1) ≤ room c₀ → length (during_times es t0 t1) ≤ room d₀
       → Alike (length (during_times es t0 t1)) r q c d
 
@@ -519,16 +519,16 @@ module _ (s : RawEventSink) (f : Front) (ran : List Ran) (cut : ℕ) where
   joined_ran second = unbroken version f cut (all_written ran) ++ all_written second
 
   -- where `Read bytes es` says how some bytes are read as es
-  pub record CutAndResumed (Read : List ℕ → List Event → Type 0) : Type 0 where
-    pub of_cut : length (take cut (all_written ran)) ≤ 2 ^ 30 → Read (take cut (all_written ran)) whole_ran
+  pub record CutAndResumed (Ok : List ℕ → List Event → Type 0) : Type 0 where
+    pub of_cut : length (take cut (all_written ran)) ≤ 2 ^ 30 → Ok (take cut (all_written ran)) whole_ran
     -- by the writer that resuming over what stands returned
     pub of_joined : length (take cut (all_written ran)) ≤ 2 ^ 30 → (r : Resumed) → ResumedBy version f (take cut (all_written ran)) r
         → (second : List Ran) → Chained r.sink second → accepted_events r.sink (calls_of second) ≡ others_ran
-        → length (joined_ran second) ≤ 2 ^ 30 → Read (joined_ran second) (accepted_events s (calls_of ran))
+        → length (joined_ran second) ≤ 2 ^ 30 → Ok (joined_ran second) (accepted_events s (calls_of ran))
     -- by a fresh one, where all events are of the first loop
     pub of_joined-first : InFirstLoop version (accepted_events s (calls_of ran)) → (second : List Ran) → Chained (fresh version) second
         → accepted_events (fresh version) (calls_of second) ≡ others_ran
-        → length (joined_ran second) ≤ 2 ^ 30 → Read (joined_ran second) (accepted_events s (calls_of ran))
+        → length (joined_ran second) ≤ 2 ^ 30 → Ok (joined_ran second) (accepted_events s (calls_of ran))
 
 abbrev pub DemandThreeRan : Type 0
 DemandThreeRan = (e : Encoding) (ran : List Ran) → Chained (fresh e) ran → (cut : ℕ) → cut ≤ length (all_written ran)
@@ -539,7 +539,7 @@ DemandThreeRan = (e : Encoding) (ran : List Ran) → Chained (fresh e) ran → (
 -- opened whatever room is named, if it holds the records, and sliced over as many as opening told
 abbrev pub ReadByValue : Way → List ℕ → List Event → Type 0
 ReadByValue way bytes es = (spacing : ℕ) → spacing_ok (encoding_by way) spacing ≡ true
-    → (room : ℕ) (r : OpenAnswer) (records : List Checkpoint) → OpensByValue way bytes spacing room r records
+    → (room : ℕ) (r : Result Opening Refusal) (records : List Checkpoint) → OpensByValue way bytes spacing room r records
     → records_by way bytes es spacing ≤ min room 64 → Indexed way bytes es spacing r records
 
 abbrev pub DemandThreeByValue : Type 0

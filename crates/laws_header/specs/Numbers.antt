@@ -1,7 +1,7 @@
 -- A number written in decimal is read back as that number.
 use Rattle.std.proofs.Common.{◌≡◌, refl, Bool, true, false, ℕ, zero, suc, ◌+◌, ◌-◌, ◌*◌, ◌/◌, ◌%◌, ◌^◌, ◌≤◌, ◌<◌, ltb, length, ◌∙◌, ap, arith, length-append}
 use Rattle.std.proofs.Common.{lt-ltb, ltb-true, ltb-false, le-leb, leb-true, ne_eqb, List, [], ◌∷◌, ◌++◌, append-nil}
-use Rattle.std.proofs.Math.Option.{some}
+use Rattle.std.specs.Prelude.{Some}
 use Rattle.std.proofs.lemmas.Bool.{lt-leb}
 use Rattle.laws_stream.specs.Machine.{and_both}
 use Rattle.header_text.specs.{Cases.by_bool, Text.is_blank, Text.from, Text.any, Text.trim_start, Text.trim_end, Text.trim_of}
@@ -42,7 +42,7 @@ digits_none p others (b ∷ s) h =
     rw (others b r.0 r.1) (digits_none p others s k.1)
 
 -- digits are the number of their value
-digits_number : (s : List ℕ) → all_digits s ≡ true → 0 < length s → digits_value 0 s < 2 ^ 64 → number_of s ≡ some (digits_value 0 s)
+digits_number : (s : List ℕ) → all_digits s ≡ true → 0 < length s → digits_value 0 s < 2 ^ 64 → number_of s ≡ Some (digits_value 0 s)
 unfolding number_of digits_of number_from
 digits_number [] h long fits = absurd (omega arith)
 digits_number (b ∷ s) h long fits =
@@ -105,13 +105,13 @@ module _ (n : ℕ) where
   pub decimal_none : (p : ℕ → Bool) → ((b : ℕ) → 48 ≤ b → b ≤ 57 → p b ≡ false) → any p (decimal n) ≡ false
   decimal_none p others = digits_none p others (decimal n) (is_decimal n).all
 
-  pub decimal_read : ltb n (2 ^ 64) ≡ true → number_of (decimal n) ≡ some n
+  pub decimal_read : ltb n (2 ^ 64) ≡ true → number_of (decimal n) ≡ Some n
   decimal_read fits =
       let d = is_decimal n in
-      digits_number (decimal n) d.all decimal-some (rw d.value (ltb-true n (2 ^ 64) fits)) ∙ ap some d.value
+      digits_number (decimal n) d.all decimal-some (rw d.value (ltb-true n (2 ^ 64) fits)) ∙ ap Some d.value
 
   -- a number of 64 bits that is written is read back
-  pub number-decimal : n < 2 ^ 64 → number_of (decimal n) ≡ some n
+  pub number-decimal : n < 2 ^ 64 → number_of (decimal n) ≡ Some n
   number-decimal fits = decimal_read (lt-ltb n (2 ^ 64) fits)
 
   -- it has no blank at its ends, whatever follows or goes before

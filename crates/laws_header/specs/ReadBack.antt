@@ -4,12 +4,14 @@ use Rattle.std.proofs.Common.{append_assoc, append-nil, eqb, ltb, le-ltb, lt-ltb
 use Rattle.std.proofs.Math.Bool.{or-true, and-false}
 use borrow.Author.Tests.{lt-leb}
 use Rattle.evt_types.specs.declared.{Encoding.Encoding, Encoding.TheVariants.Evt2, Encoding.TheVariants.Evt21, Encoding.TheVariants.Evt3}
-use Rattle.evt_types.specs.declared.{Refusal.TheVariants.InvalidSensorSize, SensorSize.SensorSize, SensorSize.TheVariants.Unknown}
-use Rattle.evt_types.specs.declared.{SensorSize.TheVariants.Known}
+use Rattle.std.specs.Prelude.{Option, Some, None, Result, Ok, Err}
+use Rattle.evt_types.specs.declared.SensorSize.{SensorSize}
+use Rattle.evt_types.specs.declared.Refusal.{Refusal}
+use Rattle.header.specs.declared.Header as header
+use Rattle.evt_types.specs.declared.{Refusal.TheVariants.InvalidSensorSize}
 use Rattle.header_text.specs.Text.{is_blank, is_byte, not_ascii, up_to, from, any, rest_of, trim_start, trim_end, trim_of, lower_of, begins, same}
 use Rattle.header_text.specs.Size.{both, size_at, geometry_of}
 use Rattle.header_text.proofs.TextLaws.{trim_blank}
-use Rattle.header.specs.declared.{HeaderAnswer.HeaderAnswer, HeaderAnswer.TheVariants.Header, HeaderAnswer.TheVariants.Refused}
 use Rattle.header.specs.Lines.{header_lines, joined_lines, body_of, key_of, value_of, is_end}
 use Rattle.header.specs.Header.{geometry_name, Said, nothing, read_line, read_all, encoding_of, size_that_holds, has_zero, with_encoding, lines_outcome}
 use Rattle.header.specs.Header.{answer_by, header_of}
@@ -67,26 +69,26 @@ module _ (w h : ℕ) where
 
   module _ (w< : w < 2 ^ 64) (h< : h < 2 ^ 64) where
     -- a size that is written is read back
-    pub size_known : (old : SensorSize) → geometry_of (size_text w h) old ≡ Known w h
+    pub size_known : (old : Option SensorSize) → geometry_of (size_text w h) old ≡ Some (record { width = w; height = h })
     unfolding geometry_of size_at both rest_of
     size_known old =
         let p = parted (is_byte 120) (decimal w) (decimal h) 120 (decimal_none w (is_byte 120) (λ b l u. ne_eqb b 120 (λ e. omega arith))) refl in
         rw (p.found, p.front, p.rest, decimal_trimmed w, decimal_trimmed h, decimal_read w (lt-ltb w _ w<), decimal_read h (lt-ltb h _ h<))
 
-    size_read : (said : Said) → read_line said (size_line w h) ≡ record { format = said.format; evt = said.evt; size = Known w h }
+    size_read : (said : Said) → read_line said (size_line w h) ≡ record { format = said.format; evt = said.evt; size = Some (record { width = w; height = h }) }
     unfolding read_line same begins lower_of
     size_read said = rw (size_key, size-value, size_known said.size)
 
 -- ---- the line of the format, encoding by encoding: what is read of it, which encoding that names, and that it is one line, no end line and ASCII
 
 -- a header with the size that holds, or a refusal where that has a zero
-abbrev pub answer : ℕ → SensorSize → Encoding → HeaderAnswer
+abbrev pub answer : ℕ → Option SensorSize → Encoding → Result header.Header Refusal
 answer at size e =
     answer_by (cond (has_zero size) (refuse InvalidSensorSize) (give (record { data_offset = at; sensor_size = size; encoding = e })))
 
 record Format (e : Encoding) : Type 0 where
-  read : read_line nothing (format_line e) ≡ record { format = format_text e; evt = []; size = Unknown }
-  names : (at : ℕ) (size read : SensorSize)
+  read : read_line nothing (format_line e) ≡ record { format = format_text e; evt = []; size = None }
+  names : (at : ℕ) (size read : Option SensorSize)
       → answer_by (with_encoding at size (encoding_of (record { format = format_text e; evt = []; size = read }))) ≡ answer at size e
   line : any (is_byte 10) (ascii " format " ++ format_text e) ≡ false
   goes_on : is_end (format_line e) ≡ false
@@ -150,34 +152,34 @@ module _ (e : Encoding) (w h : ℕ) (body : List ℕ) where
   bytes_are = rw lines_are (sym (text_lines e w h []) ∙ append-nil (header_text e w h))
 
   module _ (w< : w < 2 ^ 64) (h< : h < 2 ^ 64) where
-    said_is : read_all nothing (header_lines (header_text e w h ++ body)) ≡ record { format = format_text e; evt = []; size = Known w h }
+    said_is : read_all nothing (header_lines (header_text e w h ++ body)) ≡ record { format = format_text e; evt = []; size = Some (record { width = w; height = h }) }
     unfolding read_all
     said_is = rw (lines_are, (format_line_lem e).read, size_read w h w< h<) (others_read _)
 
-    given_read : ltb (2 ^ 30) (length (header_text e w h ++ body)) ≡ false → (given : SensorSize)
-        → header_of (header_text e w h ++ body) given ≡ answer (length (header_text e w h)) (size_that_holds given (Known w h)) e
+    given_read : ltb (2 ^ 30) (length (header_text e w h ++ body)) ≡ false → (given : Option SensorSize)
+        → header_of (header_text e w h ++ body) given ≡ answer (length (header_text e w h)) (size_that_holds given (Some (record { width = w; height = h }))) e
     unfolding header_of lines_outcome
     given_read few given = rw (few, bytes_are, text_ascii e w h, said_is) ((format_line_lem e).names _ _ _)
 
     module _ (fits : length (header_text e w h ++ body) ≤ 2 ^ 30) where
       -- the size that holds is the caller's, or without one the header's
-      pub read_back_given : (given : SensorSize)
-          → header_of (header_text e w h ++ body) given ≡ answer (length (header_text e w h)) (size_that_holds given (Known w h)) e
+      pub read_back_given : (given : Option SensorSize)
+          → header_of (header_text e w h ++ body) given ≡ answer (length (header_text e w h)) (size_that_holds given (Some (record { width = w; height = h }))) e
       read_back_given given = given_read (le-ltb (2 ^ 30) _ fits) given
 
       -- a written header names its encoding and its size, and the body starts where it ends
       pub read_back : 0 < w → 0 < h
-          → header_of (header_text e w h ++ body) Unknown
-          ≡ Header (record { data_offset = length (header_text e w h); sensor_size = Known w h; encoding = e })
+          → header_of (header_text e w h ++ body) None
+          ≡ Ok (record { data_offset = length (header_text e w h); sensor_size = Some (record { width = w; height = h }); encoding = e })
       unfolding size_that_holds has_zero
       read_back w> h> =
           let a = ne_eqb w 0 (λ z. omega arith) in
           let b = ne_eqb h 0 (λ z. omega arith) in
-          rw (a, b) at (given_read (le-ltb (2 ^ 30) _ fits) Unknown)
+          rw (a, b) at (given_read (le-ltb (2 ^ 30) _ fits) None)
 
       -- one with a zero in its size is refused (1)
-      pub read_back_zero : (w ≡ 0) ⊎ (h ≡ 0) → header_of (header_text e w h ++ body) Unknown ≡ Refused InvalidSensorSize
+      pub read_back_zero : (w ≡ 0) ⊎ (h ≡ 0) → header_of (header_text e w h ++ body) None ≡ Err InvalidSensorSize
       unfolding size_that_holds has_zero
       read_back_zero z =
           let a : eqb w 0 || eqb h 0 ≡ true = ⊎_elim (λ k. rw (eq-eqb w 0 k)) (λ k. rw (eq-eqb h 0 k, or-true)) z in
-          rw a at (given_read (le-ltb (2 ^ 30) _ fits) Unknown)
+          rw a at (given_read (le-ltb (2 ^ 30) _ fits) None)

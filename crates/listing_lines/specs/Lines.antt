@@ -2,15 +2,16 @@
 use Rattle.std.specs.Prelude.{◌≡◌, List, ℕ, ◌+◌, set}
 use Rattle.std.proofs.Common.{arith}
 use Rattle.evt_types.specs.{declared.Refusal.Refusal, Told.told, Num.encoding_number}
-use Rattle.read_rules.specs.declared.{ReadAnswer.ReadAnswer, ReadAnswer.TheVariants.Read, ReadAnswer.TheVariants.Refused, Reading.Reading}
+use Rattle.std.specs.Prelude.{Result, Ok, Err}
+use Rattle.read_rules.specs.declared.{Reading.Reading}
 use Rattle.write_buffer.specs.Columns.{event}
 use Rattle.write_text.specs.{Text.ascii, Text.decimal, Stored.Stored, Stored.stored_byte, Stored.stored_then, Stored.stored_weaken}
 use Rattle.listing_lines.specs.Listing.{field, space, newline, refused_line, read_line, event_line}
 
 -- the first line
-abbrev pub head_line : ReadAnswer → List ℕ
-head_line (Read r) = read_line r
-head_line (Refused r) = refused_line r
+abbrev pub head_line : Result Reading Refusal → List ℕ
+head_line (Ok r) = read_line r
+head_line (Err r) = refused_line r
 
 -- ---- a line is stored if its fields are
 

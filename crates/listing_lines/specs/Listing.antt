@@ -1,6 +1,7 @@
 -- What the listing program prints for the bytes of a recording. A text is its bytes in ASCII, a number its decimal digits (write_text/specs/Text.antt).
 use Rattle.std.specs.Prelude.{cond, List, [], ◌∷◌, ◌++◌, ℕ, ◌/◌, ◌*◌, ltb, length}
-use Rattle.evt_types.specs.declared.{Limit.TheVariants.Unlimited, Refusal.Refusal, SensorSize.TheVariants.Unknown}
+use Rattle.std.specs.Prelude.{None}
+use Rattle.evt_types.specs.declared.{Refusal.Refusal}
 use Rattle.evt_types.specs.{Event.Event, Outcome.Outcome, Outcome.on_outcome, Told.told, Num.encoding_number}
 use Rattle.read_rules.specs.{declared.LoadOptions.LoadOptions, declared.Reading.Reading, Read.ReadEvents, Read.raw_outcome}
 use Rattle.write_text.specs.Text.{ascii, decimal}
@@ -43,7 +44,7 @@ most_listed = 65536
 
 -- no size and no limit
 abbrev pub list_options : LoadOptions
-list_options = record { sensor_size = Unknown; max_events = Unlimited }
+list_options = record { sensor_size = None; max_events = None }
 
 -- columns that always suffice: 12 events for each word of 2 bytes
 abbrev pub list_room : ℕ

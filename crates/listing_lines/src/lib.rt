@@ -10,8 +10,8 @@ ghost use Rattle.write_text.specs.Stored.{Stored};
 ghost use Rattle.listing_lines.specs.Listing.{field, refused_line, read_line, event_line};
 ghost use Rattle.listing_lines.specs.Lines.{head_line};
 
-use evt_types::{Refusal, encoding_number, refusal_number};
-use read_rules::{ReadAnswer, Reading};
+use evt_types::Refusal;
+use read_rules::Reading;
 use write_text::{put_decimal, put_text};
 
 // A number, and the byte that ends it. Each function here that stores answers where its text ends.
@@ -28,7 +28,7 @@ fn refused_line(r: Refusal, out: &mut [u8]) -> usize
     ensures { Stored 96 out.old 0 (refused_line r) result out.new }
 {
     let a = put_text(&mut *out, 0, b"refused ");
-    field(&mut *out, a, refusal_number(r) as u64, b'\n')
+    field(&mut *out, a, u32::from(r) as u64, b'\n')
 }
 
 fn read_line(r: Reading, out: &mut [u8]) -> usize
@@ -36,19 +36,19 @@ fn read_line(r: Reading, out: &mut [u8]) -> usize
 {
     let encoding = r.encoding;
     let a = put_text(&mut *out, 0, b"EVT");
-    let b = field(&mut *out, a, encoding_number(encoding) as u64, b' ');
+    let b = field(&mut *out, a, u32::from(encoding) as u64, b' ');
     let c = field(&mut *out, b, r.width as u64, b' ');
     let d = field(&mut *out, c, r.height as u64, b' ');
     field(&mut *out, d, r.count as u64, b'\n')
 }
 
 // The first line for an answer.
-pub fn head_text(answer: ReadAnswer, out: &mut [u8]) -> usize
+pub fn head_text(answer: Result<Reading, Refusal>, out: &mut [u8]) -> usize
     ensures { Stored 96 out.old 0 (head_line answer) result out.new }
 {
     match answer {
-        ReadAnswer::Read(r) => read_line(r, &mut *out),
-        ReadAnswer::Refused(r) => refused_line(r, &mut *out),
+        Ok(r) => read_line(r, &mut *out),
+        Err(r) => refused_line(r, &mut *out),
     }
 }
 

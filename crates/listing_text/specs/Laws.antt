@@ -2,19 +2,19 @@
 use Rattle.std.proofs.Common.{◌≡◌, refl, Bool, cond, List, [], ◌∷◌, ◌++◌, map, ℤ, length, drop, sym, ◌∙◌, append-nil, add-zero, zero-add, add-one}
 use Rattle.std.proofs.Common.{length-append, length-drop, ap, true, false, ℕ, zero, suc, ◌+◌, ◌-◌, ◌*◌, ◌^◌, ◌≤◌, ◌<◌, arith, lt-ltb, le-ltb, ltb}
 use Rattle.evt_types.specs.declared.{Encoding.Encoding, Encoding.TheVariants.Evt2, Encoding.TheVariants.Evt21, Encoding.TheVariants.Evt3}
-use Rattle.evt_types.specs.declared.{Limit.TheVariants.Unlimited}
+use Rattle.std.specs.Prelude.{Option, None, Result, Ok, Err}
+use Rattle.evt_types.specs.declared.SensorSize.{SensorSize}
+use Rattle.header.specs.declared.Header as header
 use Rattle.evt_types.specs.declared.{Refusal.Refusal, Refusal.TheVariants.InvalidSensorSize}
-use Rattle.evt_types.specs.declared.{SensorSize.SensorSize, SensorSize.TheVariants.Unknown}
 use Rattle.evt_types.specs.{Event.Event, Columns.col_x, Columns.col_y, Columns.col_t, Columns.col_p, Outcome.Outcome, Outcome.refuse, Outcome.give}
 use Rattle.evt_types.specs.{Told.told}
 use Rattle.evt_types.specs.Num as Num
 use Rattle.laws_stream.specs.Columns.{sets_append}
 use Rattle.std.proofs.lemmas.List.Edits.{sets}
 use Rattle.std.proofs.Math.Seq.{length-sets}
-use Rattle.header.specs.declared.{HeaderAnswer.HeaderAnswer, HeaderAnswer.TheVariants.Header, HeaderAnswer.TheVariants.Refused as NoHeader}
 use Rattle.header.specs.Header.{header_of, told_header}
 use Rattle.header.specs.Laws.{header_four}
-use Rattle.read_rules.specs.declared.{ReadAnswer.ReadAnswer, ReadAnswer.TheVariants.Read, ReadAnswer.TheVariants.Refused, Reading.Reading}
+use Rattle.read_rules.specs.declared.{Reading.Reading}
 use Rattle.read_rules.specs.Read.{ReadEvents, told_read, body_events, sizeless, width_of, height_of, body_outcome, outcome_after, raw_outcome, read_answer}
 use Rattle.read_rules.specs.{Read.handed_events, Read.shortest, Read.Handed, Read.Reads, Read.ReadsRaw, Laws.sensor_of, Laws.body-all}
 use Rattle.evt_codec.specs.Codec.{fresh_c}
@@ -76,15 +76,15 @@ module _ (xs ys : List ℕ) (ts : List ℤ) (ps : List ℕ) where
 -- ---- the answer
 
 -- how many events are listed
-abbrev pub count_of : ReadAnswer → ℕ
-count_of (Read r) = r.count
-count_of (Refused r) = 0
+abbrev pub count_of : Result Reading Refusal → ℕ
+count_of (Ok r) = r.count
+count_of (Err r) = 0
 
 unfoldable pub head_of : List ℕ → List ℕ
 head_of recording = cond (ltb most_listed (length recording)) too_long (head_line (read_answer (raw_outcome recording list_options list_room)))
 
 -- at most 12 events for each word of EVT3, 32 for each of EVT2.1
-body_few : (size : SensorSize) (e : Encoding) (body : List ℕ) → length body ≤ most_listed → length (body_events e size Unlimited body) ≤ list_room
+body_few : (size : Option SensorSize) (e : Encoding) (body : List ℕ) → length body ≤ most_listed → length (body_events e size None body) ≤ list_room
 body_few size e body h = rw (body-all size e body (omega arith)) (go e (few_inside (sensor_of size).width (sensor_of size).height (fresh_c e) body))
   where
     go : (e : Encoding) {n : ℕ} → n ≤ most_from (fresh_c e) (length body) → n ≤ list_room
@@ -106,7 +106,7 @@ lists_refused r h = record { counts = refl; small = omega arith; never_5 = λ e.
 lists_read : (g : ReadEvents) → g.reading.count ≡ length g.events → length g.events ≤ list_room → Lists (give g)
 lists_read g e h = record { counts = e; small = h; never_5 = λ q. omega (arith, q); parts = refl }
 
-lists_body : (e : Encoding) (size : SensorSize) (es : List Event) → length es ≤ list_room → Lists (body_outcome e size Unlimited es list_room)
+lists_body : (e : Encoding) (size : Option SensorSize) (es : List Event) → length es ≤ list_room → Lists (body_outcome e size None es list_room)
 lists_body e size es h =
     rw (le-ltb list_room (length es) h)
     (go (sizeless size es) (record { encoding = e; width = width_of size es; height = height_of size es; count = length es }) refl)
@@ -115,16 +115,16 @@ lists_body e size es h =
     go true r e = lists_refused InvalidSensorSize (omega arith)
     go false r e = lists_read (record { reading = r; events = es }) e h
 
-lists_after : (a : HeaderAnswer) (recording : List ℕ) → (told_header a).number ≤ 4 → length recording ≤ most_listed
-    → Lists (outcome_after a recording Unlimited list_room)
-lists_after (NoHeader r) recording h k = lists_refused r h
-lists_after (Header g) recording h k =
-    lists_body g.encoding g.sensor_size (body_events g.encoding g.sensor_size Unlimited (drop g.data_offset recording))
+lists_after : (a : Result header.Header Refusal) (recording : List ℕ) → (told_header a).number ≤ 4 → length recording ≤ most_listed
+    → Lists (outcome_after a recording None list_room)
+lists_after (Err r) recording h k = lists_refused r h
+lists_after (Ok g) recording h k =
+    lists_body g.encoding g.sensor_size (body_events g.encoding g.sensor_size None (drop g.data_offset recording))
     (body_few g.sensor_size g.encoding (drop g.data_offset recording) (rw length-drop (omega arith)))
 
 pub lists_raw : (recording : List ℕ) → length recording ≤ most_listed → Lists (raw_outcome recording list_options list_room)
 unfolding raw_outcome
-lists_raw recording h = lists_after (header_of recording Unknown) recording (header_four recording Unknown) h
+lists_raw recording h = lists_after (header_of recording None) recording (header_four recording None) h
 
 -- ---- the listing, in pieces
 
@@ -154,7 +154,7 @@ module _ (recording : List ℕ) {out₀ out : List ℕ} (n : ℕ) where
         listing = rw lt (sym (append-nil too_long));
       }
 
-  begins_go : {xs ys : List ℕ} {ts : List ℤ} {ps : List ℕ} (a : ReadAnswer) (o : Outcome ReadEvents) → length recording ≤ most_listed
+  begins_go : {xs ys : List ℕ} {ts : List ℤ} {ps : List ℕ} (a : Result Reading Refusal) (o : Outcome ReadEvents) → length recording ≤ most_listed
       → o ≡ raw_outcome recording list_options list_room → a ≡ read_answer o → Lists o → rows_from xs ys ts ps 0 (length (handed_events o)) ≡ handed_events o
       → Stored 96 out₀ 0 (head_line a) n out → Begins recording (record { written = n; count = count_of a }) out₀ out xs ys ts ps
   unfolding head_of listing_of
@@ -166,7 +166,7 @@ module _ (recording : List ℕ) {out₀ out : List ℕ} (n : ℕ) where
         listing = rw (le, ← p, q, l.counts, rows) l.parts;
       }
 
-  pub begins_read : {xs₀ ys₀ : List ℕ} {ts₀ : List ℤ} {ps₀ xs ys : List ℕ} {ts : List ℤ} {ps : List ℕ} (a : ReadAnswer) → length recording ≤ most_listed
+  pub begins_read : {xs₀ ys₀ : List ℕ} {ts₀ : List ℤ} {ps₀ xs ys : List ℕ} {ts : List ℤ} {ps : List ℕ} (a : Result Reading Refusal) → length recording ≤ most_listed
       → Wide xs₀ ys₀ ts₀ ps₀
       → ReadsRaw recording list_options a xs₀ ys₀ ts₀ ps₀ xs ys ts ps → Stored 96 out₀ 0 (head_line a) n out → (k : ℕ) → k ≡ count_of a
       → Begins recording (record { written = n; count = k }) out₀ out xs ys ts ps

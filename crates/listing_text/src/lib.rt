@@ -10,9 +10,10 @@ ghost use Rattle.write_text.specs.Stored.{Stored};
 ghost use Rattle.listing_text.specs.Laws.{Rows, rows_from, count_of, Wide, Begins};
 
 use evt_types::num::natural_time;
-use evt_types::{Limit, SensorSize};
+use evt_types::{Refusal, SensorSize};
 use listing_lines::{event_at, head_text};
-use read::{LoadOptions, ReadAnswer};
+use read::LoadOptions;
+use read_rules::Reading;
 use write_text::put_text;
 
 // How many bytes the first line has, and how many events are to be listed after it.
@@ -36,25 +37,18 @@ pub fn lines_text(
     ensures { Stored (84 * n) out.old 0 (event_lines (rows_from
         xs.now ys.now ts.now ps.now from n)) result out.new }
 {
-    let mut at: usize = 0;
-    let mut i = from;
-    let mut left = n;
-    while 0 < left {
+    let mut at = 0;
+    for i in from..from + n {
         let t = natural_time(ts[i]);
         at = event_at(t, xs[i], ys[i], ps[i], &mut *out, at);
-        i += 1;
-        left -= 1;
     }
     at
 }
 
-fn count_of(answer: ReadAnswer) -> usize
+fn count_of(answer: Result<Reading, Refusal>) -> usize
     ensures { result ≡ count_of answer }
 {
-    match answer {
-        ReadAnswer::Read(r) => r.count,
-        ReadAnswer::Refused(_) => 0,
-    }
+    answer.map_or(0, |r| r.count)
 }
 
 // Reads the recording into columns of 393,216 places each, which always suffice, and makes the
@@ -76,8 +70,8 @@ pub fn begin(
         return Begun { written, count: 0 };
     }
     let options = LoadOptions {
-        sensor_size: SensorSize::Unknown,
-        max_events: Limit::Unlimited,
+        sensor_size: None,
+        max_events: None,
     };
     let answer = read::read_raw(recording, options, &mut *xs, &mut *ys, &mut *ts, &mut *ps);
     let written = head_text(answer, &mut *out);

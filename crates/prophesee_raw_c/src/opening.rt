@@ -1,9 +1,8 @@
 // Opening a recording, or headerless words: the index's records are made into lent ones.
 ghost use Rattle.c_index.specs.{Opening.OpensRawC, Opening.OpensWordsC};
 
-use c_index::opening::{
-    PropheseeOpenOptions, PropheseeOpening, open_options_of, open_records, prepare_coded,
-};
+use c_index::opening::{PropheseeOpenOptions, PropheseeOpening, open_records, prepare_coded};
+use index_build::OpenOptions;
 
 #[unsafe(no_mangle)]
 pub extern "C" fn prophesee_open(
@@ -14,7 +13,7 @@ pub extern "C" fn prophesee_open(
     ensures { OpensRawC recording.now options result records.old records.new }
 {
     let room = records.len();
-    let o = open_options_of(options);
+    let o = OpenOptions::from(options);
     let prepared = index_build::prepare(recording, o, room);
     open_records(recording, &mut *records, prepared)
 }

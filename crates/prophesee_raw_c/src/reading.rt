@@ -4,19 +4,18 @@ ghost use Rattle.header.specs.Header.{header_verdict};
 ghost use Rattle.header_text.specs.Number.{read_of};
 ghost use Rattle.c_values.specs.{Number.answer_of, Options.size_of, Reading.parsed_of, Reading.DecodesWordsC, Reading.ReadsRawC};
 
-use c_values::encoding::{behind_too_long, encoding_of, is_known};
-use c_values::number::{PropheseeNumber, answer_of};
-use c_values::options::{PropheseeOptions, options_of, size_of};
-use c_values::reading::{PropheseeHeader, PropheseeReading, parsed_of, reading_of};
-use evt_types::Refusal;
-use read::ReadAnswer;
+use c_values::encoding::coded;
+use c_values::number::PropheseeNumber;
+use c_values::options::{PropheseeOptions, size_of};
+use c_values::reading::{PropheseeHeader, PropheseeReading};
+use read::LoadOptions;
 
 // A decimal number, or the place where a text is none.
 #[unsafe(no_mangle)]
 pub extern "C" fn prophesee_read_number(text: &[u8]) -> PropheseeNumber
     ensures { result ≡ answer_of (read_of text.now) }
 {
-    answer_of(header_text::number::read_number(text))
+    PropheseeNumber::from(header_text::number::read_number(text))
 }
 
 #[unsafe(no_mangle)]
@@ -29,7 +28,7 @@ pub extern "C" fn prophesee_parse_header(
     ensures { result ≡ parsed_of (header_verdict recording.now (size_of sized width height)) }
 {
     let size = size_of(sized, width, height);
-    parsed_of(header::parse_header(recording, size))
+    PropheseeHeader::from(header::parse_header(recording, size))
 }
 
 // A recording: its header, then its body.
@@ -45,9 +44,9 @@ pub extern "C" fn prophesee_read_raw(
     ensures { ReadsRawC recording.now options result xs.old ys.old ts.old ps.old
         xs.new ys.new ts.new ps.new }
 {
-    let o = options_of(options);
+    let o = LoadOptions::from(options);
     let answer = read::read_raw(recording, o, &mut *xs, &mut *ys, &mut *ts, &mut *ps);
-    reading_of(answer)
+    PropheseeReading::from(answer)
 }
 
 // Headerless words: only the caller's encoding and size are used, and a first byte `%` is no header.
@@ -65,16 +64,21 @@ pub extern "C" fn prophesee_decode_words(
         xs.old ys.old ts.old ps.old
         xs.new ys.new ts.new ps.new }
 {
-    if is_known(encoding) {
-        let e = encoding_of(encoding);
-        let o = options_of(options);
-        let size = o.sensor_size;
-        let limit = o.max_events;
-        let answer = read::decode_words(
-            words, e, size, limit, &mut *xs, &mut *ys, &mut *ts, &mut *ps,
-        );
-        return reading_of(answer);
+    let o = LoadOptions::from(options);
+    match coded(encoding, words.len()) {
+        Ok(e) => {
+            let answer = read::decode_words(
+                words,
+                e,
+                o.sensor_size,
+                o.max_events,
+                &mut *xs,
+                &mut *ys,
+                &mut *ts,
+                &mut *ps,
+            );
+            PropheseeReading::from(answer)
+        }
+        Err(refusal) => PropheseeReading::from(Err(refusal)),
     }
-    let refusal = behind_too_long(words.len(), Refusal::UnknownEncoding);
-    reading_of(ReadAnswer::Refused(refusal))
 }

@@ -2,9 +2,8 @@
 ghost use Rattle.c_index.specs.{Slicing.SlicesIndexC, Slicing.SlicesTimeC};
 
 use c_index::opening::PropheseeSource;
-use c_index::slices::{
-    PropheseeSlice, choose_record, judge_records, slice_of, source_of, used_records,
-};
+use c_index::slices::{PropheseeSlice, lent_records};
+use index_build::RawSliceSource;
 
 // The events from number i0 to before i1, the ends clamped to the total.
 #[unsafe(no_mangle)]
@@ -23,19 +22,11 @@ pub extern "C" fn prophesee_slice_index(
         xs.old ys.old ts.old ps.old
         xs.new ys.new ts.new ps.new }
 {
-    let s = source_of(source);
-    let n = used_records(source, records.len());
-    let asked = slice_rules::by_number(s, n, i0, i1);
-    let judging = asked.judging;
-    let choice = asked.choice;
-    let window = asked.window;
-    let encoding = s.encoding;
-    let in_range = judge_records(encoding, records, n, judging);
-    let start = choose_record(encoding, records, n, choice);
-    let answer = slice::slice_from(
-        recording, s, window, in_range, start, &mut *xs, &mut *ys, &mut *ts, &mut *ps,
-    );
-    slice_of(answer)
+    let s = RawSliceSource::from(source);
+    let asked = slice_rules::by_number(s, i0, i1);
+    let lent = lent_records(source, records);
+    let answer = slice::slice_asked(recording, s, &lent, asked, xs, ys, ts, ps);
+    PropheseeSlice::from(answer)
 }
 
 // The events with t0 <= t < t1.
@@ -55,17 +46,9 @@ pub extern "C" fn prophesee_slice_time(
         xs.old ys.old ts.old ps.old
         xs.new ys.new ts.new ps.new }
 {
-    let s = source_of(source);
-    let n = used_records(source, records.len());
-    let asked = slice_rules::by_time(s, n, t0, t1);
-    let judging = asked.judging;
-    let choice = asked.choice;
-    let window = asked.window;
-    let encoding = s.encoding;
-    let in_range = judge_records(encoding, records, n, judging);
-    let start = choose_record(encoding, records, n, choice);
-    let answer = slice::slice_from(
-        recording, s, window, in_range, start, &mut *xs, &mut *ys, &mut *ts, &mut *ps,
-    );
-    slice_of(answer)
+    let s = RawSliceSource::from(source);
+    let asked = slice_rules::by_time(s, t0, t1);
+    let lent = lent_records(source, records);
+    let answer = slice::slice_asked(recording, s, &lent, asked, xs, ys, ts, ps);
+    PropheseeSlice::from(answer)
 }

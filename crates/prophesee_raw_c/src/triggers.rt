@@ -3,12 +3,11 @@ ghost use Rattle.std.specs.Prelude.{◌≡◌};
 ghost use Rattle.c_triggers.specs.{Reading.DecodesWordsTriggersC, Reading.ReadsRawTriggersC, Word.trigger_numbers, Word.trigger_outcome_c};
 
 use c_decoder::decoder::PropheseeDecoder;
-use c_triggers::reading::{PropheseeTriggerReading, trigger_reading_of};
+use c_triggers::reading::PropheseeTriggerReading;
 use c_triggers::word::{PropheseeTrigger, word_trigger};
-use c_values::encoding::{behind_too_long, encoding_of, is_known};
-use c_values::options::{PropheseeOptions, options_of};
-use evt_types::Refusal;
-use read_triggers::TriggerReadAnswer;
+use c_values::encoding::coded;
+use c_values::options::PropheseeOptions;
+use read::LoadOptions;
 
 // A recording: its header, then its body.
 #[unsafe(no_mangle)]
@@ -29,7 +28,7 @@ pub extern "C" fn prophesee_read_raw_triggers(
         xs.new ys.new ts.new ps.new
         times.new ids.new values.new }
 {
-    let o = options_of(options);
+    let o = LoadOptions::from(options);
     let answer = read_triggers::read_raw_triggers(
         recording,
         o,
@@ -41,7 +40,7 @@ pub extern "C" fn prophesee_read_raw_triggers(
         &mut *ids,
         &mut *values,
     );
-    trigger_reading_of(answer)
+    PropheseeTriggerReading::from(answer)
 }
 
 // Headerless words: only the caller's encoding and size are used, and a first byte `%` is no header.
@@ -64,28 +63,26 @@ pub extern "C" fn prophesee_decode_words_triggers(
         xs.new ys.new ts.new ps.new
         times.new ids.new values.new }
 {
-    if is_known(encoding) {
-        let e = encoding_of(encoding);
-        let o = options_of(options);
-        let size = o.sensor_size;
-        let limit = o.max_events;
-        let answer = read_triggers::decode_words_triggers(
-            words,
-            e,
-            size,
-            limit,
-            &mut *xs,
-            &mut *ys,
-            &mut *ts,
-            &mut *ps,
-            &mut *times,
-            &mut *ids,
-            &mut *values,
-        );
-        return trigger_reading_of(answer);
+    let o = LoadOptions::from(options);
+    match coded(encoding, words.len()) {
+        Ok(e) => {
+            let answer = read_triggers::decode_words_triggers(
+                words,
+                e,
+                o.sensor_size,
+                o.max_events,
+                &mut *xs,
+                &mut *ys,
+                &mut *ts,
+                &mut *ps,
+                &mut *times,
+                &mut *ids,
+                &mut *values,
+            );
+            PropheseeTriggerReading::from(answer)
+        }
+        Err(refusal) => PropheseeTriggerReading::from(Err(refusal)),
     }
-    let refusal = behind_too_long(words.len(), Refusal::UnknownEncoding);
-    trigger_reading_of(TriggerReadAnswer::Refused(refusal))
 }
 
 // The trigger of the first word of `bytes`, if it has one.

@@ -7,11 +7,11 @@ ghost use Rattle.c_decoder.specs.{Decoder.after_outcome_c, Decoder.stepped_of};
 
 use c_decoder::decoder::{
     PropheseeDecoded, PropheseeDecoder, PropheseeNext, PropheseeStepped, PropheseeVector,
-    after_recording, codec_in, decoded_of, is_decoder, new_decoder, next_numbers, refused_decoded,
-    refused_stepped, stepped_of, vector_in,
+    after_recording, decoded_of, new_decoder, refused_decoded, stepped_of,
 };
 use c_values::encoding::behind_too_long;
-use evt_types::Refusal;
+use evt_codec::Codec;
+use evt_types::EventVector;
 
 #[unsafe(no_mangle)]
 pub extern "C" fn prophesee_new_decoder(encoding: u32) -> PropheseeDecoder
@@ -25,20 +25,20 @@ pub extern "C" fn prophesee_new_decoder(encoding: u32) -> PropheseeDecoder
 pub extern "C" fn prophesee_decode(decoder: PropheseeDecoder, bytes: &[u8]) -> PropheseeDecoded
     ensures { result ≡ decoded_of decoder (word_outcome_c decoder bytes.now) }
 {
-    if is_decoder(decoder) {
-        let s = codec_in(decoder).step(bytes);
-        let next = s.next;
-        let answer = s.answer;
-        return decoded_of(decoder, next, answer);
+    match Codec::try_from(decoder) {
+        Ok(codec) => {
+            let s = codec.step(bytes);
+            decoded_of(decoder, s.next, s.answer)
+        }
+        Err(refusal) => refused_decoded(decoder, refusal),
     }
-    refused_decoded(decoder, Refusal::StateOutOfRange)
 }
 
 #[unsafe(no_mangle)]
 pub extern "C" fn prophesee_next_event(events: PropheseeVector) -> PropheseeNext
     ensures { result ≡ next_numbers (next_of (vector_in events)) }
 {
-    next_numbers(vector_in(events).next())
+    PropheseeNext::from(EventVector::from(events).next())
 }
 
 // The decoder after all whole words.
@@ -49,12 +49,10 @@ pub extern "C" fn prophesee_decoder_after(
 ) -> PropheseeStepped
     ensures { result ≡ stepped_of decoder (after_outcome_c decoder words.now) }
 {
-    if is_decoder(decoder) {
-        let answer = read_after::decoder_after(words, codec_in(decoder));
-        return stepped_of(decoder, answer);
+    match Codec::try_from(decoder) {
+        Ok(codec) => stepped_of(decoder, read_after::decoder_after(words, codec)),
+        Err(refusal) => stepped_of(decoder, Err(behind_too_long(words.len(), refusal))),
     }
-    let refusal = behind_too_long(words.len(), Refusal::StateOutOfRange);
-    refused_stepped(decoder, refusal)
 }
 
 // The decoder after a recording's body; refused, a fresh one of EVT2.

@@ -2,10 +2,8 @@
 ghost use Rattle.std.specs.Prelude.{◌≡◌};
 ghost use Rattle.c_writer.specs.{Writer.writer_of, Writer.AppendOwedC};
 
-use c_writer::writer::{
-    PropheseeAppended, PropheseeSink, appended_of, is_sink, refused_of, sink_of, writer_of,
-};
-use evt_types::Refusal;
+use c_writer::writer::{PropheseeAppended, PropheseeSink, appended_of, refused_of, writer_of};
+use write_append::RawEventSink;
 
 // A fresh writer; `header` 0: it sends no header, else one before its first words.
 #[unsafe(no_mangle)]
@@ -30,10 +28,11 @@ pub extern "C" fn prophesee_append(
     ensures { AppendOwedC sink width height xs.now ys.now ts.now ps.now output.old
         result output.new }
 {
-    let s = sink_of(sink);
-    if is_sink(sink) {
-        let a = write_append::append(s, width, height, xs, ys, ts, ps, &mut *output);
-        return appended_of(sink, a);
+    match RawEventSink::try_from(sink) {
+        Ok(s) => {
+            let a = write_append::append(s, width, height, xs, ys, ts, ps, &mut *output);
+            appended_of(sink, a)
+        }
+        Err(refusal) => refused_of(sink, refusal),
     }
-    refused_of(sink, s, Refusal::StateOutOfRange)
 }

@@ -8,23 +8,21 @@ ghost use Rattle.std.specs.Prelude.{◌≤◌, ◌^◌, length};
 ghost use Rattle.read_rules.specs.Read.{body_events, ReadsBody, DecodesWords, ReadsRaw};
 
 use evt_codec::Codec;
-use evt_types::{Encoding, Limit, SensorSize};
-use header::HeaderAnswer;
-use read_rules::Judged;
-pub use read_rules::{LoadOptions, ReadAnswer, Reading};
+use evt_types::{Encoding, Refusal, SensorSize};
+pub use read_rules::{LoadOptions, Reading};
 
 // A body of at most 2^30 bytes: 1 for no event, 5, or the reading. `requires`: both entries have
 // refused longer ones (4).
 pub fn read_body(
     body: &[u8],
     encoding: Encoding,
-    size: SensorSize,
-    limit: Limit,
+    size: Option<SensorSize>,
+    limit: Option<usize>,
     xs: &mut [u16],
     ys: &mut [u16],
     ts: &mut [i64],
     ps: &mut [u8],
-) -> ReadAnswer
+) -> Result<Reading, Refusal>
     requires { length body.now ≤ 2 ^ 30 }
     ensures { ReadsBody encoding size (body_events encoding size limit body.now) result
         xs.old ys.old ts.old ps.old
@@ -42,21 +40,18 @@ pub fn read_body(
 pub fn decode_words(
     words: &[u8],
     encoding: Encoding,
-    size: SensorSize,
-    limit: Limit,
+    size: Option<SensorSize>,
+    limit: Option<usize>,
     xs: &mut [u16],
     ys: &mut [u16],
     ts: &mut [i64],
     ps: &mut [u8],
-) -> ReadAnswer
+) -> Result<Reading, Refusal>
     ensures { DecodesWords words.now encoding size limit result
         xs.old ys.old ts.old ps.old
         xs.new ys.new ts.new ps.new }
 {
-    let judged = read_rules::judge(words.len(), size);
-    if let Judged::Unfit(r) = judged {
-        return ReadAnswer::Refused(r);
-    }
+    read_rules::judge(words.len(), size)?;
     read_body(
         words, encoding, size, limit, &mut *xs, &mut *ys, &mut *ts, &mut *ps,
     )
@@ -70,21 +65,20 @@ pub fn read_raw(
     ys: &mut [u16],
     ts: &mut [i64],
     ps: &mut [u8],
-) -> ReadAnswer
+) -> Result<Reading, Refusal>
     ensures { ReadsRaw recording.now options result xs.old ys.old ts.old ps.old
         xs.new ys.new ts.new ps.new }
 {
-    let size = options.sensor_size;
-    let limit = options.max_events;
-    let answer = header::parse_header(recording, size);
-    let HeaderAnswer::Header(h) = answer else {
-        return ReadAnswer::Refused(header::refusal_of(answer));
-    };
-    let at = h.data_offset;
-    let encoding = h.encoding;
-    let sensor = h.sensor_size;
-    let body = &recording[at..];
+    let header = header::parse_header(recording, options.sensor_size)?;
+    let body = &recording[header.data_offset..];
     read_body(
-        body, encoding, sensor, limit, &mut *xs, &mut *ys, &mut *ts, &mut *ps,
+        body,
+        header.encoding,
+        header.sensor_size,
+        options.max_events,
+        &mut *xs,
+        &mut *ys,
+        &mut *ts,
+        &mut *ps,
     )
 }

@@ -4,17 +4,16 @@ use Rattle.std.proofs.Common.{sym, ◌∙◌, arith, length-drop}
 use Rattle.std.proofs.Math.Path.{subst}
 use borrow.Author.Tests.{lt-ltb, le-ltb}
 use Rattle.evt_types.specs.declared.{Refusal.Refusal, Refusal.TheVariants.TooLong, Refusal.TheVariants.StateOutOfRange}
-use Rattle.evt_types.specs.declared.{SensorSize.SensorSize, SensorSize.TheVariants.Known}
+use Rattle.std.specs.Prelude.{Option, Some, Result, Ok, Err}
+use Rattle.evt_types.specs.declared.SensorSize.{SensorSize}
 use Rattle.evt_types.specs.{Num.most_bytes, Outcome.Outcome, Outcome.refuse, Outcome.give, Outcome.on_outcome, Outcome.verdict}
 use Rattle.evt_types.specs.Told.{Told, told, accepted, told-numbered}
 use Rattle.evt3_decoder.specs.Evt3.{number}
 use Rattle.evt_codec.specs.declared.{codec.Codec.Codec, codec.Codec.TheVariants.Evt2, codec.Codec.TheVariants.Evt21, codec.Codec.TheVariants.Evt3}
 use Rattle.evt_codec.specs.{Codec.fresh_c, Codec.in_range_c, Codec.codec_after}
-use Rattle.header.specs.declared.{HeaderAnswer.HeaderAnswer, HeaderAnswer.TheVariants.Header, HeaderAnswer.TheVariants.Refused as NoHeader}
 use Rattle.header.specs.declared.Header as header
 use Rattle.header.specs.{Header.header_of, Header.size_that_holds, Header.has_zero, Header.told_header, Laws.header_four, Laws.header_sized}
 use Rattle.read_fill.specs.Laws.{range_fresh}
-use Rattle.read_after.specs.declared.{AfterAnswer.AfterAnswer, AfterAnswer.TheVariants.After, AfterAnswer.TheVariants.Refused}
 use Rattle.header.proofs.HeaderLaws.{of_accepted}
 
 -- 4 over 2^30 bytes, 10 for a decoder out of range, else the decoder after all whole words
@@ -24,13 +23,13 @@ after_outcome c words =
     (cond (in_range_c c) (give (codec_after c words)) (refuse StateOutOfRange))
 
 -- a recording: what its header is refused for, or the decoder after its body
-abbrev pub after_header : HeaderAnswer → List ℕ → Outcome Codec
-after_header (NoHeader r) recording = refuse r
-after_header (Header h) recording = give (codec_after (fresh_c h.encoding) (drop h.data_offset recording))
+abbrev pub after_header : Result header.Header Refusal → List ℕ → Outcome Codec
+after_header (Err r) recording = refuse r
+after_header (Ok h) recording = give (codec_after (fresh_c h.encoding) (drop h.data_offset recording))
 
 -- any size that is given keeps the header's from being judged (1)
-abbrev pub some_size : SensorSize
-some_size = Known 1 1
+abbrev pub some_size : Option SensorSize
+some_size = Some (record { width = 1; height = 1 })
 
 -- 4, 3, 2
 unfoldable pub after_raw_outcome : List ℕ → Outcome Codec
@@ -38,8 +37,8 @@ after_raw_outcome recording = after_header (header_of recording some_size) recor
 
 -- ---- what is read off an outcome
 
-abbrev pub after_answer : Outcome Codec → AfterAnswer
-after_answer = on_outcome Refused After
+abbrev pub after_answer : Outcome Codec → Result Codec Refusal
+after_answer = on_outcome Err Ok
 
 -- encoding, started or not, coarse time, time and loops; of EVT3 row, base column and polarity too
 abbrev pub codec_values : Codec → List ℕ
@@ -54,12 +53,12 @@ after_verdict = verdict codec_values
 -- ---- promises
 
 -- what an answer tells
-abbrev pub told_after : AfterAnswer → Told
-told_after (After c) = accepted (codec_values c)
-told_after (Refused r) = told r
+abbrev pub told_after : Result Codec Refusal → Told
+told_after (Ok c) = accepted (codec_values c)
+told_after (Err r) = told r
 
 -- what an answer r with this outcome promises
-pub record Afters (outcome : Outcome Codec) (r : AfterAnswer) : Type 0 where
+pub record Afters (outcome : Outcome Codec) (r : Result Codec Refusal) : Type 0 where
   pub is_told : told_after r ≡ after_verdict outcome
   pub is_answer : r ≡ after_answer outcome
 
@@ -73,34 +72,34 @@ module _ (c : Codec) (words : List ℕ) where
       go (refuse r) = record { is_told = refl; is_answer = refl }
       go (give d) = record { is_told = refl; is_answer = refl }
 
-  pub after_long : most_bytes < length words → Afters (after_outcome c words) (Refused TooLong)
+  pub after_long : most_bytes < length words → Afters (after_outcome c words) (Err TooLong)
   unfolding after_outcome
   after_long h = by_outcome (refuse TooLong) (rw (lt-ltb most_bytes (length words) h))
 
   module _ (short : length words ≤ most_bytes) where
-    pub after_unfit : in_range_c c ≡ false → Afters (after_outcome c words) (Refused StateOutOfRange)
+    pub after_unfit : in_range_c c ≡ false → Afters (after_outcome c words) (Err StateOutOfRange)
     unfolding after_outcome
     after_unfit h = by_outcome (refuse StateOutOfRange) (rw (le-ltb most_bytes (length words) short, h))
 
-    pub after-words : in_range_c c ≡ true → (d : Codec) → d ≡ codec_after c words → Afters (after_outcome c words) (After d)
+    pub after-words : in_range_c c ≡ true → (d : Codec) → d ≡ codec_after c words → Afters (after_outcome c words) (Ok d)
     unfolding after_outcome
     after-words h d e = by_outcome (give d) (rw (le-ltb most_bytes (length words) short, h, e))
 
 -- ---- a body: a fresh decoder is in range, and what the header was read from is short enough
 
-module _ (recording : List ℕ) (a : HeaderAnswer) (is-header : a ≡ header_of recording some_size) where
-  by_header : {r : AfterAnswer} → Afters (after_header a recording) r → Afters (after_raw_outcome recording) r
+module _ (recording : List ℕ) (a : Result header.Header Refusal) (is-header : a ≡ header_of recording some_size) where
+  by_header : {r : Result Codec Refusal} → Afters (after_header a recording) r → Afters (after_raw_outcome recording) r
   unfolding after_raw_outcome
-  by_header {r} h = subst (λ (k : HeaderAnswer). Afters (after_header k recording) r) is-header h
+  by_header {r} h = subst (λ (k : Result header.Header Refusal). Afters (after_header k recording) r) is-header h
 
-  pub raw_refused : (r : Refusal) → a ≡ NoHeader r → Afters (after_raw_outcome recording) (Refused r)
+  pub raw_refused : (r : Refusal) → a ≡ Err r → Afters (after_raw_outcome recording) (Err r)
   raw_refused r e = by_header (rw e (record { is_told = refl; is_answer = refl }))
 
-  module _ (h : header.Header) (e : a ≡ Header h) where
+  module _ (h : header.Header) (e : a ≡ Ok h) where
     body-short : length (drop h.data_offset recording) ≤ most_bytes
     body-short = rw length-drop (omega (arith, (of_accepted recording some_size h (sym is-header ∙ e)).short))
 
-    pub raw_after : {r : AfterAnswer} (c : Codec) → c ≡ fresh_c h.encoding → Afters (after_outcome c (drop h.data_offset recording)) r
+    pub raw_after : {r : Result Codec Refusal} (c : Codec) → c ≡ fresh_c h.encoding → Afters (after_outcome c (drop h.data_offset recording)) r
         → Afters (after_raw_outcome recording) r
     unfolding after_outcome
     raw_after c f after =
@@ -115,6 +114,6 @@ pub raw_numbers : (recording : List ℕ) → TwoToFour (after_raw_outcome record
 unfolding after_raw_outcome has_zero size_that_holds
 raw_numbers recording = go (header_of recording some_size) (header_sized recording some_size (λ read. refl)) (header_four recording some_size)
   where
-    go : (a : HeaderAnswer) → ((told_header a).number ≡ 1 → ⊥) → (told_header a).number ≤ 4 → TwoToFour (after_header a recording)
-    go (NoHeader r) some few = (omega (arith, told-numbered r, some), few)
-    go (Header h) some few = tt
+    go : (a : Result header.Header Refusal) → ((told_header a).number ≡ 1 → ⊥) → (told_header a).number ≤ 4 → TwoToFour (after_header a recording)
+    go (Err r) some few = (omega (arith, told-numbered r, some), few)
+    go (Ok h) some few = tt

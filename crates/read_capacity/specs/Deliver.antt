@@ -3,7 +3,7 @@ use Rattle.std.specs.Prelude.{◌≡◌, cond, List, [], ◌++◌, map, ℕ, ◌
 use Rattle.evt_codec.specs.{declared.codec.Codec.Codec, Reader.view, Codec.word_size}
 use Rattle.evt_types.specs.{Columns.col_x, Columns.col_y, Columns.col_t, Columns.col_p, Event.Event}
 use Rattle.read_window.specs.declared.Window.{Window}
-use Rattle.read_capacity.specs.declared.{Delivered.Delivered, Delivered.TheVariants.Written, Delivered.TheVariants.Needed}
+use Rattle.std.specs.Prelude.{Result, Ok, Err}
 
 -- ---- columns
 
@@ -19,13 +19,13 @@ pub record Handed (es : List Event) (xs₀ ys₀ : List ℕ) (ts₀ : List ℤ) 
 
 -- ---- all events or none
 
-abbrev pub delivered_of : List Event → (room : ℕ) → Delivered
-delivered_of es room = cond (leb (length es) room) (Written (length es)) (Needed (length es))
+abbrev pub delivered_of : List Event → (room : ℕ) → Result ℕ ℕ
+delivered_of es room = cond (leb (length es) room) (Ok (length es)) (Err (length es))
 
 abbrev pub fitting : List Event → (room : ℕ) → List Event
 fitting es room = cond (leb (length es) room) es []
 
-pub record Delivers (es : List Event) (r : Delivered) (xs₀ ys₀ : List ℕ) (ts₀ : List ℤ) (ps₀ xs ys : List ℕ) (ts : List ℤ) (ps : List ℕ) : Type 0 where
+pub record Delivers (es : List Event) (r : Result ℕ ℕ) (xs₀ ys₀ : List ℕ) (ts₀ : List ℤ) (ps₀ xs ys : List ℕ) (ts : List ℤ) (ps : List ℕ) : Type 0 where
   pub answer : r ≡ delivered_of es (shortest xs₀ ys₀ ts₀ ps₀)
   pub columns : Handed (fitting es (shortest xs₀ ys₀ ts₀ ps₀)) xs₀ ys₀ ts₀ ps₀ xs ys ts ps
 

@@ -4,30 +4,22 @@
 
 #![tactic(auto)]
 
-ghost use Rattle.std.specs.Prelude.{◌≡◌, ◌≤◌, ◌^◌, min, ◌-◌, length};
+ghost use Rattle.std.specs.Prelude.{◌≡◌, ◌≤◌, ◌^◌, min, length};
 ghost use Rattle.read_fill.specs.Decode.{Bounded, inside_events};
 ghost use Rattle.read_select.specs.Pass.{Ready, handed_over};
 ghost use Rattle.read_capacity.specs.Deliver.{most_from, most_over, Enough};
 
 use evt_codec::Codec;
-use evt_types::num::min_usize;
 use evt2_decoder::Evt2Decoder;
 use evt3_decoder::Decoder;
 use evt21_decoder::Evt21Decoder;
 use read_select::Window;
 
-// How many events were written, or how many places they need.
-#[derive(Clone, Copy)]
-pub enum Delivered {
-    Written(usize),
-    Needed(usize),
-}
-
-// The shortest of four columns counts.
+// The shortest of four columns counts. (By `iter().copied().min()` of an array it would be an Option, no plainer.)
 pub fn shortest(a: usize, b: usize, c: usize, d: usize) -> usize
     ensures { result ≡ min (min a b) (min c d) }
 {
-    min_usize(min_usize(a, b), min_usize(c, d))
+    a.min(b).min(c.min(d))
 }
 
 // More events than this n bytes can't have. `requires`: every caller has refused longer ones (4).
@@ -57,23 +49,13 @@ pub fn need_all(bytes: &[u8], codec: Codec, width: u64, height: u64, room: usize
     read_count::count_all(bytes, codec, width, height).count
 }
 
-// How many numbers a window has.
-fn numbers(window: Window) -> u64
-    ensures { result ≡ window.n1 - window.n0 }
-{
-    if window.n0 < window.n1 {
-        window.n1 - window.n0
-    } else {
-        0
-    }
-}
-
 // More events than this a pass can't hand over.
 fn most_over(window: Window, codec: Codec, n: usize) -> usize
     requires { n ≤ 2 ^ 30 }
     ensures { result ≡ most_over window codec n }
 {
-    min_usize(numbers(window) as usize, most_from(codec, n))
+    let numbers = window.n1.saturating_sub(window.n0) as usize;
+    numbers.min(most_from(codec, n))
 }
 
 // The same for what a pass hands over.

@@ -5,7 +5,7 @@ use Rattle.laws_stream.specs.{Words.words_of, Order.greatest, Stream.after}
 use Rattle.evt_types.specs.{Ahead.ahead, Ahead.ahead-some, declared.vector.Vector.Vector, Layout.time_low2, Layout.word_size3, Layout.word_size2}
 use Rattle.evt_types.specs.Layout.{word_size21, upper, mask21}
 use Rattle.evt2_decoder.specs.{declared.Evt2Decoder.Evt2Decoder, Evt2.step2, Evt2.vector2, Evt2.reader2, Range.Bounded2}
-use Rattle.evt2_decoder.specs.declared.Evt2Step.{Evt2Step}
+use Rattle.evt_types.specs.declared.vector.Step.{Step}
 use Rattle.evt21_decoder.specs.{Evt21.of2, Evt21.wide, Evt21.reader21, Range.Bounded21}
 use Rattle.evt3_decoder.specs.{declared.Decoder.Decoder, Evt3.vector3, Evt3.reader3, Evt3.slimmed, Range.Bounded3}
 use Rattle.read_columns.specs.Inside.{inside_of, column_bound, clock, latest_of}
@@ -77,14 +77,14 @@ module _ {width height : ℕ} {bytes : List ℕ} {s : Evt2Decoder} {bound i w : 
 -- ---- EVT2.1, over the decoder of EVT2 that the loops keep
 
 -- at a word w: its step, and how many of its events are inside
-pub record Word21 (width height bound : ℕ) (bytes : List ℕ) (s : Evt2Decoder) (i w : ℕ) (r : Evt2Step) (m : ℕ) : Type 0 where
+pub record Word21 (width height bound : ℕ) (bytes : List ℕ) (s : Evt2Decoder) (i w : ℕ) (r : Step Evt2Decoder) (m : ℕ) : Type 0 where
   pub more : i + (word_size21 - 1) < length bytes
   pub is_word : w ≡ ahead word_size21 bytes i
   pub is_step : (r.next ≡ step2 s (upper w)) × (r.events ≡ wide (vector2 s (upper w)) (mask21 w))
   pub is_bound : bound ≡ column_bound width
   pub is_count : m ≡ inside_count r.events.x r.events.y r.events.mask bound height
 
-module _ {width height bound : ℕ} {bytes : List ℕ} {s : Evt2Decoder} {i w : ℕ} {r : Evt2Step} {m n : ℕ}
+module _ {width height bound : ℕ} {bytes : List ℕ} {s : Evt2Decoder} {i w : ℕ} {r : Step Evt2Decoder} {m n : ℕ}
     (a : Word21 width height bound bytes s i w r m) (b : Bounded21 n (of2 s)) where
   pub iteration21 : Iteration word_size21 reader21 bytes (of2 s) i (of2 r.next) r.events
   iteration21 = Loops.iteration sound21 (omega (arith, a.more)) a.is_word (ap of2 a.is_step.0) a.is_step.1

@@ -10,11 +10,7 @@ use evt_types::fields::bits;
 pub fn key_bound(on: bool, width: u64) -> u64
     ensures { result ≡ key_bound on width }
 {
-    if on {
-        if width < 2048 { width * 2048 } else { 4194304 }
-    } else {
-        0
-    }
+    if on { width.min(2048) * 2048 } else { 0 }
 }
 
 // Types 0 and 1 have three zeros above the polarity, so they and the column are compared at once.
@@ -22,9 +18,5 @@ pub fn is_event_inside(word: u64, bound: u64, height: u64) -> bool
     ensures { result ≡ is_event_inside bound height word }
 {
     let key = bits(word, 29, 3) * 536870912 + bits(word, 0, 22);
-    if key < bound {
-        bits(word, 0, 11) < height
-    } else {
-        false
-    }
+    key < bound && bits(word, 0, 11) < height
 }

@@ -85,10 +85,8 @@ impl CountingDecoder {
         requires vects { vects.now ≡ vect_table }
         ensures { AgreesWithStep (slimmed (decoder_of self)) word result }
     {
-        if self.initialised {
-            if bits(word, 12, 4) != 8 {
-                return self.started_step(word, spans, vects);
-            }
+        if self.initialised && bits(word, 12, 4) != 8 {
+            return self.started_step(word, spans, vects);
         }
         let step = self.wide().advance(word);
         let next = step.next;

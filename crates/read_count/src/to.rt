@@ -1,4 +1,4 @@
-// Passing over words up to a number of events: a loop for each encoding.
+// Passing over words up to a number of events: a loop for each encoding, with the step that it has in `all.rt`.
 ghost use Rattle.std.specs.Prelude.{◌/◌, length};
 ghost use Rattle.evt_types.specs.Layout.{word_size2, word_size21, word_size3};
 ghost use Rattle.evt2_decoder.specs.Evt2.{reader2};
@@ -18,28 +18,21 @@ use evt2_decoder::{Evt2Decoder, advance};
 use evt3_decoder::{Decoder, widen};
 use evt21_decoder::{Evt21Decoder, of_evt2};
 
+// What passing over leaves, with an encoding's own decoder.
 #[derive(Clone, Copy)]
-pub struct Evt2CountedTo {
+pub struct Passed<D> {
     pub at: usize,
     pub count: usize,
-    pub decoder: Evt2Decoder,
+    pub decoder: D,
 }
 
-#[derive(Clone, Copy)]
-pub struct Evt21CountedTo {
-    pub at: usize,
-    pub count: usize,
-    pub decoder: Evt21Decoder,
-}
-
-#[derive(Clone, Copy)]
-pub struct Evt3CountedTo {
-    pub at: usize,
-    pub count: usize,
-    pub decoder: Decoder,
-}
-
-pub fn evt2(bytes: &[u8], d: Evt2Decoder, width: u64, height: u64, most: usize) -> Evt2CountedTo
+pub fn evt2(
+    bytes: &[u8],
+    d: Evt2Decoder,
+    width: u64,
+    height: u64,
+    most: usize,
+) -> Passed<Evt2Decoder>
     requires { Bounded2 (length bytes.now / word_size2) d }
     ensures { Reached word_size2 reader2 Bounded2 width height most d bytes.now result.at result.count result.decoder }
 {
@@ -64,14 +57,20 @@ pub fn evt2(bytes: &[u8], d: Evt2Decoder, width: u64, height: u64, most: usize) 
         i += Evt2Decoder::WORD_SIZE;
         w = words::four_at(bytes, i);
     }
-    Evt2CountedTo {
+    Passed {
         at: i,
         count: n,
         decoder: s,
     }
 }
 
-pub fn evt21(bytes: &[u8], d: Evt21Decoder, width: u64, height: u64, most: usize) -> Evt21CountedTo
+pub fn evt21(
+    bytes: &[u8],
+    d: Evt21Decoder,
+    width: u64,
+    height: u64,
+    most: usize,
+) -> Passed<Evt21Decoder>
     requires { Bounded21 (length bytes.now / word_size21) d }
     ensures { Reached word_size21 reader21 Bounded21 width height most d bytes.now result.at result.count result.decoder }
 {
@@ -93,14 +92,14 @@ pub fn evt21(bytes: &[u8], d: Evt21Decoder, width: u64, height: u64, most: usize
         i += Evt21Decoder::WORD_SIZE;
     }
     let decoder = of_evt2(s);
-    Evt21CountedTo {
+    Passed {
         at: i,
         count: n,
         decoder,
     }
 }
 
-pub fn evt3(bytes: &[u8], d: Decoder, width: u64, height: u64, most: usize) -> Evt3CountedTo
+pub fn evt3(bytes: &[u8], d: Decoder, width: u64, height: u64, most: usize) -> Passed<Decoder>
     requires { Paced3 (length bytes.now / word_size3) d }
     ensures { Reached word_size3 reader3 Bounded3 width height most d bytes.now result.at result.count result.decoder }
 {
@@ -125,7 +124,7 @@ pub fn evt3(bytes: &[u8], d: Decoder, width: u64, height: u64, most: usize) -> E
         w = words::two_at(bytes, i);
     }
     let decoder = s.wide().slim();
-    Evt3CountedTo {
+    Passed {
         at: i,
         count: n,
         decoder,

@@ -12,7 +12,8 @@ use Rattle.read_window.specs.declared.Window.{Window}
 use Rattle.read_select.specs.{Pass.Able, Pass.Ready, Pass.handed_over, Uses.over-all}
 use Rattle.read_seek.specs.{declared.Sought.Sought, Seek.sought_of, Laws.sought_within, Laws.sought_from_lem, Laws.sought_upto, Laws.ready_there}
 use Rattle.read_deliver.specs.PassOver.{passed_few}
-use Rattle.read_capacity.specs.{declared.Delivered.Delivered, Deliver.Delivers}
+use Rattle.std.specs.Prelude.{Result}
+use Rattle.read_capacity.specs.{Deliver.Delivers}
 use Rattle.read_deliver.specs.declared.plan.Plan.{Plan}
 
 -- ---- windows that can be decoded otherwise than word by word
@@ -86,7 +87,7 @@ pub record Planned (win : Window) (k : ℕ) (c : Codec) (l : List ℕ) (p : Plan
   pub under : p.plain ≡ false → Under (handed_over win k c l) win p.number p.codec (between l p.from p.to)
 
 -- what is delivered of the part is delivered of the whole
-module _ {es : List Event} {c : Codec} {l : List ℕ} {r : Delivered} {xs₀ ys₀ : List ℕ} {ts₀ : List ℤ} {ps₀ xs ys : List ℕ} {ts : List ℤ} {ps : List ℕ} where
+module _ {es : List Event} {c : Codec} {l : List ℕ} {r : Result ℕ ℕ} {xs₀ ys₀ : List ℕ} {ts₀ : List ℤ} {ps₀ xs ys : List ℕ} {ts : List ℤ} {ps : List ℕ} where
   pub delivers_plainly : {width height : ℕ} → Plainly es width height c l → Delivers (inside_events width height c l) r xs₀ ys₀ ts₀ ps₀ xs ys ts ps
       → Delivers es r xs₀ ys₀ ts₀ ps₀ xs ys ts ps
   delivers_plainly p d = rw p.same d

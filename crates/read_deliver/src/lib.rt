@@ -11,7 +11,6 @@ ghost use Rattle.read_select.specs.Pass.{Ready, handed_over};
 ghost use Rattle.read_capacity.specs.Deliver.{Delivers};
 
 use evt_codec::Codec;
-pub use read_capacity::Delivered;
 use read_capacity::{need, need_all, shortest};
 use read_select::Window;
 
@@ -27,7 +26,7 @@ pub fn deliver_all(
     ys: &mut [u16],
     ts: &mut [i64],
     ps: &mut [u8],
-) -> Delivered
+) -> Result<usize, usize>
     requires short { length bytes.now ≤ 2 ^ 30 }
     requires bounded { Bounded (length bytes.now) codec }
     ensures { Delivers (inside_events window.width window.height codec bytes.now) result
@@ -37,7 +36,7 @@ pub fn deliver_all(
     let room = shortest(xs.len(), ys.len(), ts.len(), ps.len());
     let n = need_all(bytes, codec, window.width, window.height, room);
     if room < n {
-        return Delivered::Needed(n);
+        return Err(n);
     }
     let t = read_fill::fill_all(
         bytes,
@@ -49,7 +48,7 @@ pub fn deliver_all(
         &mut *ts,
         &mut *ps,
     );
-    Delivered::Written(t.count)
+    Ok(t.count)
 }
 
 // Writes what the window leaves of all the bytes.
@@ -62,7 +61,7 @@ fn deliver_window(
     ys: &mut [u16],
     ts: &mut [i64],
     ps: &mut [u8],
-) -> Delivered
+) -> Result<usize, usize>
     requires { Ready codec number (length bytes.now) }
     ensures { Delivers (handed_over window number codec bytes.now) result
         xs.old ys.old ts.old ps.old
@@ -71,12 +70,12 @@ fn deliver_window(
     let room = shortest(xs.len(), ys.len(), ts.len(), ps.len());
     let n = need(bytes, codec, window, number, room);
     if room < n {
-        return Delivered::Needed(n);
+        return Err(n);
     }
     let t = read_select::fill(
         bytes, codec, window, number, &mut *xs, &mut *ys, &mut *ts, &mut *ps,
     );
-    Delivered::Written(t.count)
+    Ok(t.count)
 }
 
 // Writes what a pass hands over, if the columns hold it. Everything goes by a call of its own: with two
@@ -91,7 +90,7 @@ pub fn deliver(
     ys: &mut [u16],
     ts: &mut [i64],
     ps: &mut [u8],
-) -> Delivered
+) -> Result<usize, usize>
     requires { Ready codec number (length bytes.now) }
     ensures { Delivers (handed_over window number codec bytes.now) result
         xs.old ys.old ts.old ps.old

@@ -6,14 +6,5 @@ ghost use Rattle.laws_stream.specs.Mask.{top};
 pub fn greatest(column: &[u16]) -> u16
     ensures { result ≡ top column.now }
 {
-    let mut most: u16 = 0;
-    let mut i: usize = 0;
-    while i < column.len() {
-        let x = column[i];
-        if most < x {
-            most = x;
-        }
-        i += 1;
-    }
-    most
+    column.iter().fold(0, |most, &x| most.max(x))
 }

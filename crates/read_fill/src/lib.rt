@@ -14,6 +14,8 @@ ghost use Rattle.read_fill.specs.Iteration.{Fits};
 ghost use Rattle.read_fill.specs.Decode.{Bounded, Fitting, inside_events, filled_all_of};
 
 use evt_codec::Codec;
+use evt_codec::word_loop::Evt21Loop;
+use evt3_decoder::widen;
 
 pub mod extent;
 pub mod fill;
@@ -57,18 +59,32 @@ pub fn fill_all(
 {
     match codec {
         Codec::Evt2(d) => {
-            fill::evt2(
+            fill::words(
                 bytes, d, width, height, &mut *xs, &mut *ys, &mut *ts, &mut *ps,
             )
         }
         Codec::Evt21(d) => {
-            fill::evt21(
-                bytes, d, width, height, &mut *xs, &mut *ys, &mut *ts, &mut *ps,
+            fill::words(
+                bytes,
+                Evt21Loop::new(d),
+                width,
+                height,
+                &mut *xs,
+                &mut *ys,
+                &mut *ts,
+                &mut *ps,
             )
         }
         Codec::Evt3(d) => {
-            fill::evt3(
-                bytes, d, width, height, &mut *xs, &mut *ys, &mut *ts, &mut *ps,
+            fill::words(
+                bytes,
+                widen(d),
+                width,
+                height,
+                &mut *xs,
+                &mut *ys,
+                &mut *ts,
+                &mut *ps,
             )
         }
     }

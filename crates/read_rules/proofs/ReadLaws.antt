@@ -1,18 +1,19 @@
 -- Laws of specs/Laws.antt.
 use Rattle.evt_codec.specs.{Codec.fresh_c, declared.codec.Codec.Codec}
 use Rattle.evt_types.specs.{Columns.col_x, Columns.col_y, Event.Event, Outcome.Outcome, Outcome.give, Outcome.refuse, declared.Encoding.Encoding}
-use Rattle.evt_types.specs.{declared.Limit.Limit, declared.Limit.TheVariants.AtMost, declared.Limit.TheVariants.Unlimited}
-use Rattle.evt_types.specs.{declared.Refusal.TheVariants.ColumnsTooShort, declared.SensorSize.SensorSize, declared.SensorSize.TheVariants.Known}
-use Rattle.evt_types.specs.{declared.SensorSize.TheVariants.Unknown}
-use Rattle.header.specs.{Header.header_of, declared.HeaderAnswer.HeaderAnswer, declared.HeaderAnswer.TheVariants.Header}
+use Rattle.std.specs.Prelude.{Option, Some, None, Result, Ok, Err}
+use Rattle.evt_types.specs.declared.SensorSize.{SensorSize}
+use Rattle.evt_types.specs.declared.Refusal.{Refusal}
+use Rattle.read_rules.specs.declared.Reading.{Reading}
+use Rattle.evt_types.specs.{declared.Refusal.TheVariants.ColumnsTooShort}
+use Rattle.header.specs.{Header.header_of}
 use Rattle.laws_stream.specs.{Mask.top, Order.greatest, Order.greatest-map}
-use Rattle.read_capacity.specs.{Deliver.Delivers, declared.Delivered.Delivered, declared.Delivered.TheVariants.Needed, declared.Delivered.TheVariants.Written}
+use Rattle.read_capacity.specs.{Deliver.Delivers}
 use Rattle.read_fill.specs.Laws.{inside-bytes}
 use Rattle.read_rules.specs.{Laws.handed-limit, Laws.judged_of, Laws.kept-inside, Laws.most_of, Laws.raw_fit, Laws.room, Laws.sensor_events, Laws.sensor_of}
 use Rattle.read_rules.specs.{Laws.settled_of, Laws.sized_of_lem, Laws.window_of, Laws.words_fit, Read.DecodesWords, Read.Handed, Read.ReadEvents}
 use Rattle.read_rules.specs.{Read.ReadsBody, Read.ReadsRaw, Read.body_events, Read.body_outcome, Read.handed_events, Read.read_answer, Read.read_verdict}
-use Rattle.read_rules.specs.{Read.shortest, Read.told_read, declared.Judged.TheVariants.Fit, declared.LoadOptions.LoadOptions, declared.ReadAnswer.ReadAnswer}
-use Rattle.read_rules.specs.{declared.ReadAnswer.TheVariants.Refused}
+use Rattle.read_rules.specs.{Read.shortest, Read.told_read, declared.LoadOptions.LoadOptions}
 use Rattle.read_select.specs.Pass.{handed_over}
 use Rattle.read_window.specs.declared.Window.{Window}
 use Rattle.std.proofs.{Common.add-one, Common.ap, Common.arith, Common.le-ltb, Common.leb-false, Common.leb-true, Common.lt-ltb, Common.ne_eqb, Common.sym}
@@ -22,25 +23,25 @@ use Rattle.header.specs.declared.Header as header
 
 -- ---- the events of a body
 
-body-most : (size : SensorSize) (e : Encoding) (limit : Limit) (body : List ℕ) → length body ≤ 2 ^ 30
+body-most : (size : Option SensorSize) (e : Encoding) (limit : Option ℕ) (body : List ℕ) → length body ≤ 2 ^ 30
     → body_events e size limit body ≡ take (most_of limit) (sensor_events (sensor_of size).width (sensor_of size).height e body)
 unfolding body_events
-body-most size e Unlimited body h =
+body-most size e None body h =
     let es = sensor_events (sensor_of size).width (sensor_of size).height e body in
     kept-inside size e body h
     ∙ sym (take_all 18446744073709551615 es (omega (arith, inside-bytes (sensor_of size).width (sensor_of size).height (fresh_c e) body)))
-body-most size e (AtMost n) body h = ap (take n) (kept-inside size e body h)
+body-most size e (Some n) body h = ap (take n) (kept-inside size e body h)
 
 -- what a pass under the window hands over
-pub body-handed : (size : SensorSize) (e : Encoding) (limit : Limit) (body : List ℕ) → length body ≤ 2 ^ 30
+pub body-handed : (size : Option SensorSize) (e : Encoding) (limit : Option ℕ) (body : List ℕ) → length body ≤ 2 ^ 30
     → handed_over (window_of size limit) 0 (fresh_c e) body ≡ body_events e size limit body
 body-handed size e limit body h =
     handed-limit (sensor_of size).width (sensor_of size).height (most_of limit) e body h ∙ sym (body-most size e limit body h)
 
 -- ---- the size
 
-module _ (size : SensorSize) (e : Encoding) (limit : Limit) (codec : Codec) (is-fresh : codec ≡ fresh_c e) where
-  pub delivers_body : (body : List ℕ) (win : Window) {r : Delivered} {xs₀ ys₀ : List ℕ} {ts₀ : List ℤ} {ps₀ xs ys : List ℕ} {ts : List ℤ} {ps : List ℕ}
+module _ (size : Option SensorSize) (e : Encoding) (limit : Option ℕ) (codec : Codec) (is-fresh : codec ≡ fresh_c e) where
+  pub delivers_body : (body : List ℕ) (win : Window) {r : Result ℕ ℕ} {xs₀ ys₀ : List ℕ} {ts₀ : List ℤ} {ps₀ xs ys : List ℕ} {ts : List ℤ} {ps : List ℕ}
       → length body ≤ 2 ^ 30 → win ≡ window_of size limit
       → Delivers (handed_over win 0 codec body) r xs₀ ys₀ ts₀ ps₀ xs ys ts ps → Delivers (body_events e size limit body) r xs₀ ys₀ ts₀ ps₀ xs ys ts ps
   delivers_body body win h w d =
@@ -60,20 +61,20 @@ told-answer : (o : Outcome ReadEvents) → told_read (read_answer o) ≡ read_ve
 told-answer (refuse r) = refl
 told-answer (give g) = refl
 
-module _ {xs₀ ys₀ : List ℕ} {ts₀ : List ℤ} {ps₀ xs ys : List ℕ} {ts : List ℤ} {ps : List ℕ} (es : List Event) (r : Delivered)
+module _ {xs₀ ys₀ : List ℕ} {ts₀ : List ℤ} {ps₀ xs ys : List ℕ} {ts : List ℤ} {ps : List ℕ} (es : List Event) (r : Result ℕ ℕ)
     (d : Delivers es r xs₀ ys₀ ts₀ ps₀ xs ys ts ps) where
   module _ (e : Encoding) where
     -- the answer to what was delivered, and the events in the columns
-    abbrev Settles : SensorSize → List Event → ReadAnswer → Type 0
+    abbrev Settles : Option SensorSize → List Event → Result Reading Refusal → Type 0
     Settles size es' a =
-        let o = body_outcome e size Unlimited es' (room es r d) in
+        let o = body_outcome e size None es' (room es r d) in
         (a ≡ read_answer o) × Handed (handed_events o) xs₀ ys₀ ts₀ ps₀ xs ys ts ps
 
-    fits_go : (size : SensorSize) (es' : List Event) → es ≡ es' → length es ≤ room es r d → Handed es xs₀ ys₀ ts₀ ps₀ xs ys ts ps
+    fits_go : (size : Option SensorSize) (es' : List Event) → es ≡ es' → length es ≤ room es r d → Handed es xs₀ ys₀ ts₀ ps₀ xs ys ts ps
         → Settles size es' (sized_of_lem e size (length es') xs ys)
-    fits_go (Known w k) es' q h c = let le : ltb (room es r d) (length es') ≡ false = le-ltb (room es r d) (length es') (rw (← q) h) in (rw le, rw (le, ← q) c)
-    fits_go Unknown [] q h c = (refl, rw q at c)
-    fits_go Unknown (a ∷ es') q h c =
+    fits_go (Some s) es' q h c = let le : ltb (room es r d) (length es') ≡ false = le-ltb (room es r d) (length es') (rw (← q) h) in (rw le, rw (le, ← q) c)
+    fits_go None [] q h c = (refl, rw q at c)
+    fits_go None (a ∷ es') q h c =
         let le : ltb (room es r d) (length (a ∷ es')) ≡ false = le-ltb (room es r d) (length (a ∷ es')) (rw q at h) in
         let c' : Handed (a ∷ es') xs₀ ys₀ ts₀ ps₀ xs ys ts ps = rw q at c in (
           rw (
@@ -87,36 +88,36 @@ module _ {xs₀ ys₀ : List ℕ} {ts₀ : List ℤ} {ps₀ xs ys : List ℕ} {t
           rw le c',
         )
 
-    short_go : (size : SensorSize) (es' : List Event) → room es r d < length es' → Handed [] xs₀ ys₀ ts₀ ps₀ xs ys ts ps
-        → Settles size es' (Refused (ColumnsTooShort (length es')))
-    short_go (Known w k) es' h c = let lt : ltb (room es r d) (length es') ≡ true = lt-ltb (room es r d) (length es') h in (rw lt, rw lt c)
-    short_go Unknown [] h c = absurd (omega arith)
-    short_go Unknown (a ∷ es') h c = let lt : ltb (room es r d) (length (a ∷ es')) ≡ true = lt-ltb (room es r d) (length (a ∷ es')) h in (rw lt, rw lt c)
+    short_go : (size : Option SensorSize) (es' : List Event) → room es r d < length es' → Handed [] xs₀ ys₀ ts₀ ps₀ xs ys ts ps
+        → Settles size es' (Err (ColumnsTooShort (length es')))
+    short_go (Some s) es' h c = let lt : ltb (room es r d) (length es') ≡ true = lt-ltb (room es r d) (length es') h in (rw lt, rw lt c)
+    short_go None [] h c = absurd (omega arith)
+    short_go None (a ∷ es') h c = let lt : ltb (room es r d) (length (a ∷ es')) ≡ true = lt-ltb (room es r d) (length (a ∷ es')) h in (rw lt, rw lt c)
 
-    settles : (size : SensorSize) → Settles size es (settled_of e size r xs ys)
+    settles : (size : Option SensorSize) → Settles size es (settled_of e size r xs ys)
     settles size = rw d.answer (go (leb (length es) (room es r d)) refl d.columns)
       where
         go : (b : Bool) → leb (length es) (room es r d) ≡ b → Handed (cond b es []) xs₀ ys₀ ts₀ ps₀ xs ys ts ps
-            → Settles size es (settled_of e size (cond b (Written (length es)) (Needed (length es))) xs ys)
+            → Settles size es (settled_of e size (cond b (Ok (length es)) (Err (length es))) xs ys)
         go true q h = fits_go size es refl (leb-true (length es) (room es r d) q) h
         go false q h = short_go size es (leb-false (length es) (room es r d) q) h
 
-    pub reads_body : (size : SensorSize) (a : ReadAnswer) → a ≡ settled_of e size r xs ys → ReadsBody e size es a xs₀ ys₀ ts₀ ps₀ xs ys ts ps
+    pub reads_body : (size : Option SensorSize) (a : Result Reading Refusal) → a ≡ settled_of e size r xs ys → ReadsBody e size es a xs₀ ys₀ ts₀ ps₀ xs ys ts ps
     reads_body size a is =
         let s = settles size in
-        let o = body_outcome e size Unlimited es (room es r d) in
+        let o = body_outcome e size None es (room es r d) in
         record { is_told = ap told_read (is ∙ s.0) ∙ told-answer o; is_answer = is ∙ s.0; columns = s.1 }
 
 -- ---- the two entries
 
 module _ {xs₀ ys₀ : List ℕ} {ts₀ : List ℤ} {ps₀ : List ℕ} where
-  module _ (words : List ℕ) (e : Encoding) (size : SensorSize) (limit : Limit) where
-    pub words_read : {r : ReadAnswer} {xs ys : List ℕ} {ts : List ℤ} {ps : List ℕ} → judged_of (length words) size ≡ Fit
+  module _ (words : List ℕ) (e : Encoding) (size : Option SensorSize) (limit : Option ℕ) where
+    pub words_read : {r : Result Reading Refusal} {xs ys : List ℕ} {ts : List ℤ} {ps : List ℕ} → judged_of (length words) size ≡ (Ok tt)
         → ReadsBody e size (body_events e size limit words) r xs₀ ys₀ ts₀ ps₀ xs ys ts ps → DecodesWords words e size limit r xs₀ ys₀ ts₀ ps₀ xs ys ts ps
     words_read j b = rw (words_fit words e size limit (shortest xs₀ ys₀ ts₀ ps₀) j) b
 
-  module _ (recording : List ℕ) (o : LoadOptions) (a : HeaderAnswer) (is-header : a ≡ header_of recording o.sensor_size) where
-    pub raw_read : (h : header.Header) → a ≡ Header h → {r : ReadAnswer} {xs ys : List ℕ} {ts : List ℤ} {ps : List ℕ}
+  module _ (recording : List ℕ) (o : LoadOptions) (a : Result header.Header Refusal) (is-header : a ≡ header_of recording o.sensor_size) where
+    pub raw_read : (h : header.Header) → a ≡ Ok h → {r : Result Reading Refusal} {xs ys : List ℕ} {ts : List ℤ} {ps : List ℕ}
         → let es = body_events h.encoding h.sensor_size o.max_events (drop h.data_offset recording) in
         ReadsBody h.encoding h.sensor_size es r xs₀ ys₀ ts₀ ps₀ xs ys ts ps
         → ReadsRaw recording o r xs₀ ys₀ ts₀ ps₀ xs ys ts ps

@@ -3,18 +3,18 @@ use Rattle.std.specs.Prelude.{◌≡◌, refl, Bool, true, false, cond, List, []
 use Rattle.std.proofs.Common.{sym, ap, ◌∙◌, arith, length-append, le-ltb, lt-ltb, ltb-false}
 use Rattle.std.proofs.lemmas.List.{length-map}
 use Rattle.laws_stream.specs.Mask.{top}
-use Rattle.evt_types.specs.declared.{Encoding.Encoding, Limit.Limit}
-use Rattle.evt_types.specs.declared.{Limit.TheVariants.Unlimited, Limit.TheVariants.AtMost, Refusal.Refusal, Refusal.TheVariants.InvalidSensorSize}
-use Rattle.evt_types.specs.declared.{Refusal.TheVariants.TooLong, Refusal.TheVariants.ColumnsTooShort, SensorSize.SensorSize}
-use Rattle.evt_types.specs.{declared.SensorSize.TheVariants.Unknown, declared.SensorSize.TheVariants.Known, Columns.col_x, Columns.col_y, Event.Event}
+use Rattle.std.specs.Prelude.{Option, Some, None, Result, Ok, Err}
+use Rattle.evt_types.specs.declared.SensorSize.{SensorSize}
+use Rattle.read_rules.specs.declared.Reading.{Reading}
+use Rattle.evt_types.specs.declared.{Encoding.Encoding}
+use Rattle.evt_types.specs.declared.{Refusal.Refusal, Refusal.TheVariants.InvalidSensorSize}
+use Rattle.evt_types.specs.declared.{Refusal.TheVariants.TooLong, Refusal.TheVariants.ColumnsTooShort}
+use Rattle.evt_types.specs.{Columns.col_x, Columns.col_y, Event.Event}
 use Rattle.evt_types.specs.{Outcome.Outcome, Outcome.refuse, Outcome.give, Outcome.on_outcome, Outcome.given-unless, Num.most_bytes}
 use Rattle.evt_codec.specs.{declared.codec.Codec.Codec, Codec.fresh_c, Codec.events_from}
 use Rattle.read_fill.specs.{Decode.inside_events, Laws.bounded_fresh, Laws.range_fresh, Laws.all-inside}
-use Rattle.read_rules.specs.declared.{Judged.Judged, Judged.TheVariants.Fit, Judged.TheVariants.Unfit, LoadOptions.LoadOptions}
-use Rattle.read_rules.specs.declared.{ReadAnswer.ReadAnswer, ReadAnswer.TheVariants.Read, ReadAnswer.TheVariants.Refused, Sensor.Sensor}
-use Rattle.read_capacity.specs.declared.{Delivered.Delivered, Delivered.TheVariants.Written, Delivered.TheVariants.Needed}
+use Rattle.read_rules.specs.declared.{LoadOptions.LoadOptions}
 use Rattle.read_capacity.specs.{Deliver.Delivers, Laws.handed_none}
-use Rattle.header.specs.declared.{HeaderAnswer.HeaderAnswer, HeaderAnswer.TheVariants.Header, HeaderAnswer.TheVariants.Refused as NoHeader}
 use Rattle.read_window.specs.declared.Window.{Window}
 use Rattle.read_select.specs.{Pass.Ready, Pass.handed_over, Uses.over-limit}
 use Rattle.evt_codec.specs.Sound.{able_range}
@@ -23,9 +23,9 @@ use Rattle.header.specs.Header.{has_zero, header_of}
 use Rattle.read_rules.specs.Read.{kept, body_events, shortest, Handed, body_outcome, words_check, words_outcome, raw_outcome}
 use Rattle.read_rules.specs.Read.{Reads, DecodesWords, ReadsRaw}
 
-abbrev pub sensor_of : SensorSize → Sensor
-sensor_of Unknown = record { width = 65536; height = 65536 }
-sensor_of (Known w h) = record { width = w; height = h }
+abbrev pub sensor_of : Option SensorSize → SensorSize
+sensor_of None = record { width = 65536; height = 65536 }
+sensor_of (Some s) = s
 
 abbrev pub sensor_events : (width height : ℕ) → Encoding → List ℕ → List Event
 sensor_events width height e body = inside_events width height (fresh_c e) body
@@ -46,69 +46,79 @@ handed-limit width height n e body h =
 -- ---- the events of a body
 
 -- with a size or without
-pub kept-inside : (size : SensorSize) (e : Encoding) (body : List ℕ) → length body ≤ 2 ^ 30
+pub kept-inside : (size : Option SensorSize) (e : Encoding) (body : List ℕ) → length body ≤ 2 ^ 30
     → kept size (events_from (fresh_c e) body) ≡ sensor_events (sensor_of size).width (sensor_of size).height e body
-kept-inside Unknown e body h = sym (all-inside (fresh_c e) body (bounded_fresh e (length body) h))
-kept-inside (Known w k) e body h = refl
+kept-inside None e body h = sym (all-inside (fresh_c e) body (bounded_fresh e (length body) h))
+kept-inside (Some s) e body h = refl
 
-pub body-all : (size : SensorSize) (e : Encoding) (body : List ℕ) → length body ≤ 2 ^ 30
-    → body_events e size Unlimited body ≡ sensor_events (sensor_of size).width (sensor_of size).height e body
+pub body-all : (size : Option SensorSize) (e : Encoding) (body : List ℕ) → length body ≤ 2 ^ 30
+    → body_events e size None body ≡ sensor_events (sensor_of size).width (sensor_of size).height e body
 unfolding body_events
 body-all size e body h = kept-inside size e body h
 
 -- as many as may have a number: more than there are, where there is no limit
-abbrev pub most_of : Limit → ℕ
-most_of Unlimited = 18446744073709551615
-most_of (AtMost n) = n
+abbrev pub most_of : Option ℕ → ℕ
+most_of None = 18446744073709551615
+most_of (Some n) = n
 
-abbrev pub window_of : SensorSize → Limit → Window
+abbrev pub window_of : Option SensorSize → Option ℕ → Window
 window_of size limit = limit_window (sensor_of size).width (sensor_of size).height (most_of limit)
 
-pub window_parts : (size : SensorSize) (limit : Limit) (span : Sensor) (most : ℕ) → span ≡ sensor_of size → most ≡ most_of limit
+pub window_parts : (size : Option SensorSize) (limit : Option ℕ) (span : SensorSize) (most : ℕ) → span ≡ sensor_of size → most ≡ most_of limit
     → limit_window span.width span.height most ≡ window_of size limit
 window_parts size limit span most s m = rw (s, m)
 
 -- ---- the size
 
-abbrev pub sized_of_lem : Encoding → SensorSize → ℕ → List ℕ → List ℕ → ReadAnswer
-sized_of_lem e (Known w h) n xs ys = Read (record { encoding = e; width = w; height = h; count = n })
-sized_of_lem e Unknown n xs ys =
-    cond (eqb n 0) (Refused InvalidSensorSize) (Read (record { encoding = e; width = top (take n xs) + 1; height = top (take n ys) + 1; count = n }))
+-- the caller's, or derived from n events; none is no size
+abbrev pub size_of : Option SensorSize → ℕ → List ℕ → List ℕ → Result SensorSize Refusal
+size_of (Some s) n xs ys = Ok s
+size_of None n xs ys = cond (eqb n 0) (Err InvalidSensorSize) (Ok (record { width = top (take n xs) + 1; height = top (take n ys) + 1 }))
+
+abbrev pub sized_as : Encoding → ℕ → Result SensorSize Refusal → Result Reading Refusal
+sized_as e n (Ok s) = Ok (record { encoding = e; width = s.width; height = s.height; count = n })
+sized_as e n (Err q) = Err q
+
+abbrev pub sized_of_lem : Encoding → Option SensorSize → ℕ → List ℕ → List ℕ → Result Reading Refusal
+sized_of_lem e size n xs ys = sized_as e n (size_of size n xs ys)
 
 -- what was written is there
-abbrev pub Holds : Delivered → ℕ → ℕ → Type 0
-Holds (Written n) xs ys = (n ≤ xs) × (n ≤ ys)
-Holds (Needed n) xs ys = Unit
+abbrev pub Holds : Result ℕ ℕ → ℕ → ℕ → Type 0
+Holds (Ok n) xs ys = (n ≤ xs) × (n ≤ ys)
+Holds (Err n) xs ys = Unit
 
-abbrev pub settled_of : Encoding → SensorSize → Delivered → List ℕ → List ℕ → ReadAnswer
-settled_of e size (Written n) xs ys = sized_of_lem e size n xs ys
-settled_of e size (Needed n) xs ys = Refused (ColumnsTooShort n)
+abbrev pub settled_of : Encoding → Option SensorSize → Result ℕ ℕ → List ℕ → List ℕ → Result Reading Refusal
+settled_of e size (Ok n) xs ys = sized_of_lem e size n xs ys
+settled_of e size (Err n) xs ys = Err (ColumnsTooShort n)
 
-abbrev pub judged_of : (n : ℕ) → SensorSize → Judged
-judged_of n size = on_outcome Unfit (λ u. Fit) (words_check n size)
+abbrev pub judged_by : Outcome Unit → Result (Unit {0}) Refusal
+judged_by = on_outcome Err (λ u. Ok tt)
 
-judged-given : (k : Outcome Unit) → on_outcome Unfit (λ u. Fit) k ≡ Fit → k ≡ give tt
+abbrev pub judged_of : (n : ℕ) → Option SensorSize → Result (Unit {0}) Refusal
+judged_of n size = judged_by (words_check n size)
+
+judged-given : (k : Outcome Unit) → judged_by k ≡ Ok tt → k ≡ give tt
 judged-given (refuse r) e = let no : ◌≡◌ {A = ℕ} 0 1 = cc in absurd (omega arith)
 judged-given (give u) e = refl
 
-judged-refused : (k : Outcome Unit) (r : Refusal) → on_outcome Unfit (λ u. Fit) k ≡ Unfit r → k ≡ refuse r
+judged-refused : (k : Outcome Unit) (r : Refusal) → judged_by k ≡ Err r → k ≡ refuse r
 judged-refused (refuse q) r e = cc
 judged-refused (give u) r e = let no : ◌≡◌ {A = ℕ} 0 1 = cc in absurd (omega arith)
 
-module _ (n : ℕ) (size : SensorSize) where
-  pub judged_long : most_bytes < n → Unfit TooLong ≡ judged_of n size
+module _ (n : ℕ) (size : Option SensorSize) where
+  pub judged_long : most_bytes < n → Err TooLong ≡ judged_of n size
   judged_long h = rw (lt-ltb most_bytes n h)
 
-  pub judged-zero : n ≤ most_bytes → has_zero size ≡ true → Unfit InvalidSensorSize ≡ judged_of n size
+  pub judged-zero : n ≤ most_bytes → has_zero size ≡ true → Err InvalidSensorSize ≡ judged_of n size
   judged-zero h z = rw (le-ltb most_bytes n h, z)
 
-  pub judged_fit : n ≤ most_bytes → has_zero size ≡ false → Fit ≡ judged_of n size
+  pub judged_fit : n ≤ most_bytes → has_zero size ≡ false → Ok tt ≡ judged_of n size
   judged_fit h z = rw (le-ltb most_bytes n h, z)
 
-  pub fit_judged : judged_of n size ≡ Fit → n ≤ most_bytes
+  pub fit_judged : judged_of n size ≡ Ok tt → n ≤ most_bytes
   fit_judged j = ltb-false most_bytes n (given-unless tt (ltb most_bytes n) _ _ (judged-given (words_check n size) j)).0
 
-module _ (size : SensorSize) (e : Encoding) (limit : Limit) (codec : Codec) (is-fresh : codec ≡ fresh_c e) where
+module _ (size : Option SensorSize) (e : Encoding) (limit : Option ℕ) (codec : Codec) (is-fresh : codec ≡ fresh_c e) where
   pub ready_new : (n : ℕ) → n ≤ 2 ^ 30 → Ready codec 0 n
   ready_new n h = rw is-fresh (ready_fresh e n h)
 
@@ -117,7 +127,7 @@ module _ (size : SensorSize) (e : Encoding) (limit : Limit) (codec : Codec) (is-
 length-handed : {E A : Type 0} (f : E → A) (es : List E) (old now : List A) → now ≡ map f es ++ drop (length es) old → length es ≤ length now
 length-handed f es old now e = omega (arith, ap length e ∙ length-append (map f es) (drop (length es) old), length-map es f)
 
-module _ {xs₀ ys₀ : List ℕ} {ts₀ : List ℤ} {ps₀ xs ys : List ℕ} {ts : List ℤ} {ps : List ℕ} (es : List Event) (r : Delivered)
+module _ {xs₀ ys₀ : List ℕ} {ts₀ : List ℤ} {ps₀ xs ys : List ℕ} {ts : List ℤ} {ps : List ℕ} (es : List Event) (r : Result ℕ ℕ)
     (d : Delivers es r xs₀ ys₀ ts₀ ps₀ xs ys ts ps) where
   abbrev pub room : ℕ
   room = shortest xs₀ ys₀ ts₀ ps₀
@@ -125,43 +135,43 @@ module _ {xs₀ ys₀ : List ℕ} {ts₀ : List ℤ} {ps₀ xs ys : List ℕ} {t
   pub holds_delivered : Holds r (length xs) (length ys)
   holds_delivered = rw d.answer (go (leb (length es) room) d.columns)
     where
-      go : (b : Bool) → Handed (cond b es []) xs₀ ys₀ ts₀ ps₀ xs ys ts ps → Holds (cond b (Written (length es)) (Needed (length es))) (length xs) (length ys)
+      go : (b : Bool) → Handed (cond b es []) xs₀ ys₀ ts₀ ps₀ xs ys ts ps → Holds (cond b (Ok (length es)) (Err (length es))) (length xs) (length ys)
       go true h = (length-handed col_x es xs₀ xs h.column-x, length-handed col_y es ys₀ ys h.column-y)
       go false h = tt
 
 -- ---- the two entries
 
-module _ (words : List ℕ) (e : Encoding) (size : SensorSize) (limit : Limit) (room : ℕ) where
+module _ (words : List ℕ) (e : Encoding) (size : Option SensorSize) (limit : Option ℕ) (room : ℕ) where
   -- what the words come to, once they are judged
-  pub words_fit : judged_of (length words) size ≡ Fit
-      → words_outcome words e size limit room ≡ body_outcome e size Unlimited (body_events e size limit words) room
+  pub words_fit : judged_of (length words) size ≡ Ok tt
+      → words_outcome words e size limit room ≡ body_outcome e size None (body_events e size limit words) room
   unfolding words_outcome body_events
   words_fit j = rw (judged-given (words_check (length words) size) j)
 
-  pub words_unfit : (q : Refusal) → judged_of (length words) size ≡ Unfit q → words_outcome words e size limit room ≡ refuse q
+  pub words_unfit : (q : Refusal) → judged_of (length words) size ≡ Err q → words_outcome words e size limit room ≡ refuse q
   unfolding words_outcome
   words_unfit q j = rw (judged-refused (words_check (length words) size) q j)
 
-module _ (recording : List ℕ) (o : LoadOptions) (a : HeaderAnswer) (is-header : a ≡ header_of recording o.sensor_size) (room : ℕ) where
+module _ (recording : List ℕ) (o : LoadOptions) (a : Result header.Header Refusal) (is-header : a ≡ header_of recording o.sensor_size) (room : ℕ) where
   -- what a recording comes to, by its header
-  pub raw_unfit : (q : Refusal) → a ≡ NoHeader q → raw_outcome recording o room ≡ refuse q
+  pub raw_unfit : (q : Refusal) → a ≡ Err q → raw_outcome recording o room ≡ refuse q
   unfolding raw_outcome
   raw_unfit q e = rw (← is-header, e)
 
-  pub raw_fit : (h : header.Header) → a ≡ Header h
+  pub raw_fit : (h : header.Header) → a ≡ Ok h
       → let es = body_events h.encoding h.sensor_size o.max_events (drop h.data_offset recording) in
-      raw_outcome recording o room ≡ body_outcome h.encoding h.sensor_size Unlimited es room
+      raw_outcome recording o room ≡ body_outcome h.encoding h.sensor_size None es room
   unfolding raw_outcome body_events
   raw_fit h e = rw (← is-header, e)
 
 module _ {xs₀ ys₀ : List ℕ} {ts₀ : List ℤ} {ps₀ : List ℕ} where
-  reads_refused : (q : Refusal) → Reads (refuse q) (Refused q) xs₀ ys₀ ts₀ ps₀ xs₀ ys₀ ts₀ ps₀
+  reads_refused : (q : Refusal) → Reads (refuse q) (Err q) xs₀ ys₀ ts₀ ps₀ xs₀ ys₀ ts₀ ps₀
   reads_refused q = record { is_told = refl; is_answer = refl; columns = handed_none }
 
-  module _ (words : List ℕ) (e : Encoding) (size : SensorSize) (limit : Limit) where
-    pub words-refused : (q : Refusal) → judged_of (length words) size ≡ Unfit q → DecodesWords words e size limit (Refused q) xs₀ ys₀ ts₀ ps₀ xs₀ ys₀ ts₀ ps₀
+  module _ (words : List ℕ) (e : Encoding) (size : Option SensorSize) (limit : Option ℕ) where
+    pub words-refused : (q : Refusal) → judged_of (length words) size ≡ Err q → DecodesWords words e size limit (Err q) xs₀ ys₀ ts₀ ps₀ xs₀ ys₀ ts₀ ps₀
     words-refused q j = rw (words_unfit words e size limit (shortest xs₀ ys₀ ts₀ ps₀) q j) (reads_refused q)
 
-  module _ (recording : List ℕ) (o : LoadOptions) (a : HeaderAnswer) (is-header : a ≡ header_of recording o.sensor_size) where
-    pub raw_refused : (q : Refusal) → a ≡ NoHeader q → ReadsRaw recording o (Refused q) xs₀ ys₀ ts₀ ps₀ xs₀ ys₀ ts₀ ps₀
+  module _ (recording : List ℕ) (o : LoadOptions) (a : Result header.Header Refusal) (is-header : a ≡ header_of recording o.sensor_size) where
+    pub raw_refused : (q : Refusal) → a ≡ Err q → ReadsRaw recording o (Err q) xs₀ ys₀ ts₀ ps₀ xs₀ ys₀ ts₀ ps₀
     raw_refused q e = rw (raw_unfit recording o a is-header (shortest xs₀ ys₀ ts₀ ps₀) q e) (reads_refused q)

@@ -5,17 +5,17 @@
 #![tactic(auto)]
 
 ghost use Rattle.std.specs.Prelude.{◌≡◌, ◌≤◌, length};
-ghost use Rattle.read_rules.specs.Laws.{sensor_of, most_of, window_of, Holds, sized_of_lem, settled_of, judged_of};
+ghost use Rattle.read_rules.specs.Laws.{sensor_of, most_of, window_of, Holds, size_of, settled_of, judged_of};
 
-use evt_types::{Encoding, Limit, MOST_BYTES, Refusal, SensorSize};
-use read_capacity::Delivered;
+use evt_types::{Encoding, MOST_BYTES, Refusal, SensorSize};
+use read_fill::extent;
 use read_select::Window;
 
 // The Rust's options that concern reading.
 #[derive(Clone, Copy)]
 pub struct LoadOptions {
-    pub sensor_size: SensorSize,
-    pub max_events: Limit,
+    pub sensor_size: Option<SensorSize>,
+    pub max_events: Option<usize>,
 }
 
 #[derive(Clone, Copy)]
@@ -26,104 +26,67 @@ pub struct Reading {
     pub count: usize,
 }
 
-#[derive(Clone, Copy)]
-pub enum ReadAnswer {
-    Read(Reading),
-    Refused(Refusal),
-}
-
-// Whether headerless words are read.
-#[derive(Clone, Copy)]
-pub enum Judged {
-    Fit,
-    Unfit(Refusal),
-}
-
 // n bytes of words with this size: 4, then 1 for a zero size.
-pub fn judge(n: usize, size: SensorSize) -> Judged
+pub fn judge(n: usize, size: Option<SensorSize>) -> Result<(), Refusal>
     ensures { result ≡ judged_of n size }
 {
     if MOST_BYTES < n {
-        return Judged::Unfit(Refusal::TooLong);
+        return Err(Refusal::TooLong);
     }
     if header::has_zero(size) {
-        return Judged::Unfit(Refusal::InvalidSensorSize);
+        return Err(Refusal::InvalidSensorSize);
     }
-    Judged::Fit
+    Ok(())
 }
 
-// A sensor's sides; 65,536 each, which holds every event, where the size is unknown.
-#[derive(Clone, Copy)]
-struct Sensor {
-    width: u64,
-    height: u64,
-}
-
-fn sensor_of(size: SensorSize) -> Sensor
+// A sensor of 65,536 x 65,536, which holds every event, where the size is unknown.
+fn sensor_of(size: Option<SensorSize>) -> SensorSize
     ensures { result ≡ sensor_of size }
 {
-    match size {
-        SensorSize::Unknown => Sensor {
-            width: 65536,
-            height: 65536,
-        },
-        SensorSize::Known(width, height) => Sensor {
-            width: width as u64,
-            height: height as u64,
-        },
-    }
+    size.unwrap_or(SensorSize {
+        width: 65536,
+        height: 65536,
+    })
 }
 
-fn most_of(limit: Limit) -> u64
+fn most_of(limit: Option<usize>) -> u64
     ensures { result ≡ most_of limit }
 {
-    match limit {
-        Limit::Unlimited => 18446744073709551615,
-        Limit::AtMost(n) => n as u64,
-    }
+    limit.map_or(u64::MAX, |n| n as u64)
 }
 
 // The window of the first events inside the sensor, as many as the limit leaves.
-pub fn window_of(size: SensorSize, limit: Limit) -> Window
+pub fn window_of(size: Option<SensorSize>, limit: Option<usize>) -> Window
     ensures { result ≡ window_of size limit }
 {
     let sensor = sensor_of(size);
-    let most = most_of(limit);
     Window {
-        width: sensor.width,
-        height: sensor.height,
+        width: sensor.width as u64,
+        height: sensor.height as u64,
         n0: 0,
-        n1: most,
+        n1: most_of(limit),
         t0: 0,
-        t1: 18446744073709551615,
+        t1: u64::MAX,
     }
 }
 
-// The answer where n events were written: without a size it is derived from them, and none is no size.
-fn sized(encoding: Encoding, size: SensorSize, n: usize, xs: &[u16], ys: &[u16]) -> ReadAnswer
+// The caller's size, or what n events that were written derive; none is no size.
+fn size_of(
+    size: Option<SensorSize>,
+    n: usize,
+    xs: &[u16],
+    ys: &[u16],
+) -> Result<SensorSize, Refusal>
     requires { (n ≤ length xs.now) × (n ≤ length ys.now) }
-    ensures { result ≡ sized_of_lem encoding size n xs.now ys.now }
+    ensures { result ≡ size_of size n xs.now ys.now }
 {
     match size {
-        SensorSize::Known(width, height) => ReadAnswer::Read(Reading {
-            encoding,
-            width,
-            height,
-            count: n,
+        Some(size) => Ok(size),
+        None if n == 0 => Err(Refusal::InvalidSensorSize),
+        None => Ok(SensorSize {
+            width: extent::greatest(&xs[..n]) as usize + 1,
+            height: extent::greatest(&ys[..n]) as usize + 1,
         }),
-        SensorSize::Unknown => {
-            if n == 0 {
-                return ReadAnswer::Refused(Refusal::InvalidSensorSize);
-            }
-            let width = read_fill::extent::greatest(&xs[..n]) as usize + 1;
-            let height = read_fill::extent::greatest(&ys[..n]) as usize + 1;
-            ReadAnswer::Read(Reading {
-                encoding,
-                width,
-                height,
-                count: n,
-            })
-        }
     }
 }
 
@@ -131,16 +94,20 @@ fn sized(encoding: Encoding, size: SensorSize, n: usize, xs: &[u16], ys: &[u16])
 // there.
 pub fn settle(
     encoding: Encoding,
-    size: SensorSize,
-    delivered: Delivered,
+    size: Option<SensorSize>,
+    delivered: Result<usize, usize>,
     xs: &[u16],
     ys: &[u16],
-) -> ReadAnswer
+) -> Result<Reading, Refusal>
     requires { Holds delivered (length xs.now) (length ys.now) }
     ensures { result ≡ settled_of encoding size delivered xs.now ys.now }
 {
-    match delivered {
-        Delivered::Written(n) => sized(encoding, size, n, xs, ys),
-        Delivered::Needed(n) => ReadAnswer::Refused(Refusal::ColumnsTooShort(n)),
-    }
+    let count = delivered.map_err(Refusal::ColumnsTooShort)?;
+    let SensorSize { width, height } = size_of(size, count, xs, ys)?;
+    Ok(Reading {
+        encoding,
+        width,
+        height,
+        count,
+    })
 }

@@ -20,11 +20,8 @@ pub struct Column {
 pub fn row(front: &[u8], y: u16) -> u16
     ensures { result ≡ row_after y (words_of word_size3 front.now) }
 {
-    let mut k = front.len() / Decoder::WORD_SIZE;
-    while 0 < k {
-        k -= 1;
-        let at = k * Decoder::WORD_SIZE;
-        let w = words::two_at(front, at);
+    for k in (0..front.len() / Decoder::WORD_SIZE).rev() {
+        let w = words::two_at(front, k * Decoder::WORD_SIZE);
         let kind = bits(w, 12, 4);
         if kind == 0 {
             return bits(w, 0, 11) as u16;
@@ -49,11 +46,8 @@ pub fn base(front: &[u8], x: u16, p: bool) -> Column
     ensures { result ≡ base_after (record { x = x; p = p }) (words_of word_size3 front.now) }
 {
     let mut by: u64 = 0;
-    let mut k = front.len() / Decoder::WORD_SIZE;
-    while 0 < k {
-        k -= 1;
-        let at = k * Decoder::WORD_SIZE;
-        let w = words::two_at(front, at);
+    for k in (0..front.len() / Decoder::WORD_SIZE).rev() {
+        let w = words::two_at(front, k * Decoder::WORD_SIZE);
         let kind = bits(w, 12, 4);
         if kind == 3 {
             let sign = bits(w, 11, 1);

@@ -10,13 +10,15 @@ ghost use Rattle.read_seek.specs.Back.{put_behind};
 ghost use Rattle.read_seek.specs.Loops.{Passing};
 
 use crate::times::Times;
+use crate::walk::walk;
 use crate::{Marked, Sought, back, strays, times};
 use evt_codec::Codec;
 use evt_types::fields::bits;
 use evt_types::words;
 use evt3_decoder::{Decoder, widen};
 
-// A loop tests for a word's last byte as `words::two_at` does, whose test then falls away.
+// A loop tests for a word's last byte as `words::two_at` does, whose test then falls away. (A `for` over indices
+// is no plainer: the one where a loop stops, or that it marks, is answered.)
 const LAST_BYTE: usize = Decoder::WORD_SIZE - 1;
 
 // Behind the words that were passed over.
@@ -56,36 +58,6 @@ fn pass(bytes: &[u8], d: Decoder, t0: u64, t1: u64) -> Spanned
     }
 }
 
-// From any decoder, by all that a word does: only the first record of an index has one that isn't
-// started.
-fn walk(bytes: &[u8], d: Decoder, t0: u64, t1: u64) -> Sought
-    requires bounded { Bounded3 (length bytes.now / word_size3) d }
-    requires short { length bytes.now ≤ 2 ^ 30 }
-    ensures { (result ≡ sought_of t0 t1 (Evt3 d) bytes.now) × Bounded (length (drop result.at bytes.now)) result.codec }
-{
-    let mut s = widen(d);
-    let mut stray = false;
-    let mut i: usize = 0;
-    while i + LAST_BYTE < bytes.len() {
-        let w = words::two_at(bytes, i);
-        let step = s.advance(w);
-        let next = step.next;
-        if t1 <= next.time {
-            break;
-        }
-        let kind = bits(w, 12, 4);
-        stray = strays(stray, next.time, t0, times::carries(kind));
-        s = next;
-        i += Decoder::WORD_SIZE;
-    }
-    let decoder = s.slim();
-    Sought {
-        at: i,
-        stray,
-        codec: Codec::Evt3(decoder),
-    }
-}
-
 // A started decoder behind the words of `front`: its times are known, the rest is looked for.
 fn put(front: &[u8], d: Decoder, times: Times) -> Decoder
     ensures { result ≡ put_behind d front.now times }
@@ -119,7 +91,8 @@ pub fn span3(bytes: &[u8], d: Decoder, t0: u64, t1: u64) -> Sought
             codec: Codec::Evt3(decoder),
         };
     }
-    walk(bytes, d, t0, t1)
+    // Only the first record of an index has a decoder that isn't started.
+    walk(bytes, widen(d), t0, t1)
 }
 
 // A place on the way, and the times there.

@@ -9,13 +9,16 @@ ghost use Rattle.read_select.specs.Pass.{Able};
 ghost use Rattle.read_fill.specs.Decode.{Bounded};
 ghost use Rattle.read_seek.specs.Seek.{sought_of, Midway};
 
-use evt_codec::Codec;
+use crate::strides::strides;
+use crate::walk::walk;
+use evt_codec::word_loop::Evt21Loop;
+use evt_codec::{Codec, Evt2Decoder};
 
 mod back;
-mod evt2;
-mod evt21;
 mod evt3;
+mod strides;
 mod times;
+mod walk;
 
 // The bytes that were passed over, whether one of their words that carry events left the decoder
 // before t0, and the decoder behind them.
@@ -60,8 +63,8 @@ pub fn span(bytes: &[u8], codec: Codec, t0: u64, t1: u64) -> Sought
     ensures { (result ≡ sought_of t0 t1 codec bytes.now) × Bounded (length (drop result.at bytes.now)) result.codec }
 {
     match codec {
-        Codec::Evt2(d) => evt2::span2(bytes, d, t0, t1),
-        Codec::Evt21(d) => evt21::span21(bytes, d, t0, t1),
+        Codec::Evt2(d) => walk(bytes, d, t0, t1),
+        Codec::Evt21(d) => walk(bytes, Evt21Loop::new(d), t0, t1),
         Codec::Evt3(d) => evt3::span3(bytes, d, t0, t1),
     }
 }
@@ -74,8 +77,8 @@ fn skip(bytes: &[u8], codec: Codec, t: u64) -> Marked
     ensures { Midway t codec bytes.now result.at result.codec }
 {
     match codec {
-        Codec::Evt2(d) => evt2::skip2(bytes, d, t),
-        Codec::Evt21(d) => evt21::skip21(bytes, d, t),
+        Codec::Evt2(d) => strides::<Evt2Decoder>(bytes, d, t),
+        Codec::Evt21(d) => strides::<Evt21Loop>(bytes, d.evt2(), t),
         Codec::Evt3(d) => evt3::skip3(bytes, d, t),
     }
 }
@@ -84,10 +87,5 @@ fn skip(bytes: &[u8], codec: Codec, t: u64) -> Marked
 fn strays(was: bool, time: u64, t0: u64, carries: bool) -> bool
     ensures { result ≡ (was || (ltb time t0 && carries)) }
 {
-    if time < t0 {
-        if carries {
-            return true;
-        }
-    }
-    was
+    was || (time < t0 && carries)
 }

@@ -1,6 +1,6 @@
 // What of an EVT3 decoder tells the time, and what a word does to it: a step for the loop that seeks,
 // which needs no events, rows or columns.
-ghost use Rattle.std.specs.Prelude.{◌≡◌, cond, ◌<◌};
+ghost use Rattle.std.specs.Prelude.{◌≡◌, ◌<◌};
 ghost use Rattle.read_seek.specs.Times.{times_of, ticked, Slow, carries_as};
 
 use evt_types::clock;
@@ -24,13 +24,6 @@ pub fn of(d: Decoder) -> Times
     }
 }
 
-// One of two, without a branch.
-fn choose(t: bool, a: u64, b: u64) -> u64
-    ensures { result ≡ cond t a b }
-{
-    if t { a } else { b }
-}
-
 // A word to a started decoder. Types other than 8 go without a branch.
 pub fn tick(c: Times, word: u64) -> Times
     requires { Slow c }
@@ -49,7 +42,7 @@ pub fn tick(c: Times, word: u64) -> Times
     }
     Times {
         base: c.base,
-        time: choose(kind == 6, c.base + low, c.time),
+        time: if kind == 6 { c.base + low } else { c.time },
         loops: c.loops,
     }
 }

@@ -1,5 +1,5 @@
 -- What a pass over some bytes hands over from a decoder of any encoding, and what it tells.
-use Rattle.std.specs.Prelude.{List, ℕ, ◌^◌, ◌≤◌, length}
+use Rattle.std.specs.Prelude.{List, ℕ, ◌/◌, ◌^◌, ◌≤◌, length}
 use Rattle.evt_types.specs.Event.{Event}
 use Rattle.laws_stream.specs.{Words.words_of, Select.Reading, Select.End, Select.handed, Select.ended}
 use Rattle.evt_codec.specs.{declared.codec.Codec.Codec, Reader.Reader, Reader.View, Reader.view}
@@ -23,10 +23,11 @@ abbrev pub end_of : {S : Type 0} → (S → Codec) → End S → End Codec
 end_of codec e = record { number = e.number; state = codec e.state; consumed = e.consumed }
 
 -- where it ends
+abbrev pub end_from : Window → ℕ → View → List ℕ → End Codec
+end_from win k v l = end_of v.reader.codec (ended (reading_by v.reader win) (selection_of win) k v.state (words_of v.reader.size l))
+
 abbrev pub end_over : Window → ℕ → Codec → List ℕ → End Codec
-end_over win k c l =
-    let R = (view c).reader in
-    end_of R.codec (ended (reading_by R win) (selection_of win) k (view c).state (words_of R.size l))
+end_over win k c l = end_from win k (view c) l
 
 abbrev pub survey_of : End Codec → List Event → SurveyTotals
 survey_of e es = record {
@@ -42,6 +43,13 @@ survey_of e es = record {
 abbrev pub filled_of : End Codec → List Event → Filled
 filled_of e es = record { number = e.number; count = length es; consumed = e.consumed; codec = e.state }
 
+-- what a pass answers from a state of one encoding's decoder
+abbrev pub surveyed_from : Window → ℕ → View → List ℕ → SurveyTotals
+surveyed_from win k v l = survey_of (end_from win k v l) (handed_from win k v l)
+
+abbrev pub filled_from : Window → ℕ → View → List ℕ → Filled
+filled_from win k v l = filled_of (end_from win k v l) (handed_from win k v l)
+
 -- what `survey` and `fill` answer
 abbrev pub surveyed : Window → ℕ → Codec → List ℕ → SurveyTotals
 surveyed win k c l = survey_of (end_over win k c l) (handed_over win k c l)
@@ -53,5 +61,11 @@ filled win k c l = filled_of (end_over win k c l) (handed_over win k c l)
 
 pub record Ready (c : Codec) (number bytes : ℕ) : Type 0 where
   pub able : Able bytes c
+  pub long : bytes ≤ 2 ^ 30
+  pub low : number ≤ 2 ^ 62
+
+-- the same of one encoding's decoder, with the column that EVT3's has by its type
+pub record ReadyAt (R : Reader) (s : R.State) (number bytes : ℕ) : Type 0 where
+  pub bounded : R.Bounded (bytes / R.size) s
   pub long : bytes ≤ 2 ^ 30
   pub low : number ≤ 2 ^ 62

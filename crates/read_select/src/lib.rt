@@ -10,6 +10,8 @@ ghost use Rattle.evt_types.specs.Columns.{Wrote};
 ghost use Rattle.read_select.specs.Pass.{Ready, Fits, handed_over, surveyed, filled};
 
 use evt_codec::Codec;
+use evt_codec::word_loop::Evt21Loop;
+use evt3_decoder::widen;
 pub use read_window::Window;
 
 // What a survey tells: the next event's number, how many events were handed over, their maximum
@@ -45,9 +47,9 @@ pub fn survey(bytes: &[u8], codec: Codec, win: Window, number: u64) -> SurveyTot
     ensures { result ≡ surveyed win number codec bytes.now }
 {
     match codec {
-        Codec::Evt2(d) => passes::survey2(bytes, d, win, number),
-        Codec::Evt21(d) => passes::survey21(bytes, d, win, number),
-        Codec::Evt3(d) => passes::survey3(bytes, d, win, number),
+        Codec::Evt2(d) => passes::survey(bytes, d, win, number),
+        Codec::Evt21(d) => passes::survey(bytes, Evt21Loop::new(d), win, number),
+        Codec::Evt3(d) => passes::survey(bytes, widen(d), win, number),
     }
 }
 
@@ -73,18 +75,32 @@ pub fn fill(
 {
     match codec {
         Codec::Evt2(d) => {
-            passes::fill2(
+            passes::fill(
                 bytes, d, win, number, &mut *xs, &mut *ys, &mut *ts, &mut *ps,
             )
         }
         Codec::Evt21(d) => {
-            passes::fill21(
-                bytes, d, win, number, &mut *xs, &mut *ys, &mut *ts, &mut *ps,
+            passes::fill(
+                bytes,
+                Evt21Loop::new(d),
+                win,
+                number,
+                &mut *xs,
+                &mut *ys,
+                &mut *ts,
+                &mut *ps,
             )
         }
         Codec::Evt3(d) => {
-            passes::fill3(
-                bytes, d, win, number, &mut *xs, &mut *ys, &mut *ts, &mut *ps,
+            passes::fill(
+                bytes,
+                widen(d),
+                win,
+                number,
+                &mut *xs,
+                &mut *ys,
+                &mut *ts,
+                &mut *ps,
             )
         }
     }

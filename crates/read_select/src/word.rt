@@ -5,7 +5,10 @@ ghost use Rattle.read_window.specs.Trim.{Picked};
 ghost use Rattle.read_window.specs.Trim as T;
 ghost use Rattle.read_select.specs.Word.{Notable, noted};
 
+use evt_codec::word_loop::Evt21Loop;
+use evt_codec::{Evt2Decoder, WordLoop};
 use evt_types::vector::Vector;
+use evt3_decoder::WideDecoder;
 use read_window::extent::Extent;
 use read_window::trim::Trimmed;
 use read_window::{Window, extent, trim};
@@ -34,75 +37,62 @@ pub fn masked(v: Vector, mask: u64) -> Vector
     }
 }
 
-// What the window leaves of a word's events: of EVT2, where at most the lowest bit is set.
-pub fn cut2(v: Vector, win: Window, k: u64) -> Trimmed
-    requires { (v.mask ≤ 1) × (v.x < 65536) }
-    ensures { Picked v win k result }
-{
-    if v.mask == 0 {
-        return Trimmed { mask: 0, extra: 0 };
-    }
-    trim::single(v, win, k)
+// A decoder whose events a window trims, in the way that measured fastest for its encoding.
+pub trait Trims: WordLoop {
+    // What the window leaves of a word's events.
+    fn cut(v: Vector, win: Window, k: u64) -> Trimmed
+        requires narrow { Narrow v }
+        requires few { v.mask < 2 ^ Self.reader.most }
+        requires small { k < 2 ^ 62 + 2 ^ 61 }
+        ensures { Picked v win k result };
 }
 
-// The same of EVT3, for `survey3` alone.
-pub fn cut3(v: Vector, win: Window, k: u64) -> Trimmed
-    requires narrow { Narrow v }
-    requires small { k < 2 ^ 62 + 2 ^ 61 }
-    ensures { Picked v win k result }
-{
-    if v.mask == 0 {
-        return Trimmed { mask: 0, extra: 0 };
+// At most the lowest bit is set.
+impl Trims for Evt2Decoder {
+    #[inline(always)]
+    fn cut(v: Vector, win: Window, k: u64) -> Trimmed {
+        if v.mask == 0 {
+            return Trimmed { mask: 0, extra: 0 };
+        }
+        trim::single(v, win, k)
     }
-    if v.mask == 1 {
-        return trim::single(v, win, k);
-    }
-    if trim::whole(v, win, k) {
-        return Trimmed {
-            mask: v.mask,
-            extra: 0,
-        };
-    }
-    trim::pick(v, win, k)
 }
 
-// `cut3` for `fill3`: with two callers it would stay a call, and cost a third more.
-pub fn keep3(v: Vector, win: Window, k: u64) -> Trimmed
-    requires narrow { Narrow v }
-    requires small { k < 2 ^ 62 + 2 ^ 61 }
-    ensures { Picked v win k result }
-{
-    if v.mask == 0 {
-        return Trimmed { mask: 0, extra: 0 };
+// A bit alone is seldom the lowest.
+impl Trims for Evt21Loop {
+    #[inline(always)]
+    fn cut(v: Vector, win: Window, k: u64) -> Trimmed {
+        if v.mask == 0 {
+            return Trimmed { mask: 0, extra: 0 };
+        }
+        if trim::whole(v, win, k) {
+            return Trimmed {
+                mask: v.mask,
+                extra: 0,
+            };
+        }
+        trim::pick(v, win, k)
     }
-    if v.mask == 1 {
-        return trim::single(v, win, k);
-    }
-    if trim::whole(v, win, k) {
-        return Trimmed {
-            mask: v.mask,
-            extra: 0,
-        };
-    }
-    trim::pick(v, win, k)
 }
 
-// The same of EVT 2.1, for both its loops: there a bit alone is seldom the lowest.
-pub fn cut21(v: Vector, win: Window, k: u64) -> Trimmed
-    requires narrow { Narrow v }
-    requires small { k < 2 ^ 62 + 2 ^ 61 }
-    ensures { Picked v win k result }
-{
-    if v.mask == 0 {
-        return Trimmed { mask: 0, extra: 0 };
+impl Trims for WideDecoder {
+    // Inlined: as a call it costs a third more.
+    #[inline(always)]
+    fn cut(v: Vector, win: Window, k: u64) -> Trimmed {
+        if v.mask == 0 {
+            return Trimmed { mask: 0, extra: 0 };
+        }
+        if v.mask == 1 {
+            return trim::single(v, win, k);
+        }
+        if trim::whole(v, win, k) {
+            return Trimmed {
+                mask: v.mask,
+                extra: 0,
+            };
+        }
+        trim::pick(v, win, k)
     }
-    if trim::whole(v, win, k) {
-        return Trimmed {
-            mask: v.mask,
-            extra: 0,
-        };
-    }
-    trim::pick(v, win, k)
 }
 
 // The next event's number, after a word of which n - was events were handed over and `extra` more

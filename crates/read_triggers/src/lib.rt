@@ -10,18 +10,17 @@ ghost use Rattle.read_rules.specs.Read.{body_events};
 ghost use Rattle.trigger_rules.specs.{Read.body_triggers, Read.DecodesWordsTriggers, Read.ReadsRawTriggers, Laws.ReadsBodyTriggers};
 
 use evt_codec::Codec;
-use evt_types::{Encoding, Limit, SensorSize};
-use header::HeaderAnswer;
-use read_rules::{Judged, LoadOptions};
-pub use trigger_rules::{TriggerReadAnswer, TriggerReading};
+use evt_types::{Encoding, Refusal, SensorSize};
+use read_rules::LoadOptions;
+pub use trigger_rules::TriggerReading;
 
 // A body of at most 2^30 bytes: 1 for no event, 5, 13, or the reading. `requires`: both entries have
 // refused longer ones (4).
 fn read_body_triggers(
     body: &[u8],
     encoding: Encoding,
-    size: SensorSize,
-    limit: Limit,
+    size: Option<SensorSize>,
+    limit: Option<usize>,
     xs: &mut [u16],
     ys: &mut [u16],
     ts: &mut [i64],
@@ -29,7 +28,7 @@ fn read_body_triggers(
     times: &mut [i64],
     ids: &mut [u8],
     values: &mut [u8],
-) -> TriggerReadAnswer
+) -> Result<TriggerReading, Refusal>
     requires { length body.now ≤ 2 ^ 30 }
     ensures { ReadsBodyTriggers encoding size (body_events encoding size limit body.now)
         (body_triggers encoding size limit body.now) result
@@ -45,24 +44,26 @@ fn read_body_triggers(
     let n = trigger_count::count(part, codec);
     if places < n {
         let room = read_capacity::shortest(xs.len(), ys.len(), ts.len(), ps.len());
-        return trigger_rules::refused_short(body, encoding, size, limit, room, n);
+        return Err(trigger_rules::refused_short(body, encoding, size, limit, room, n));
     }
-    let answer = read::read_body(
+    let reading = read::read_body(
         body, encoding, size, limit, &mut *xs, &mut *ys, &mut *ts, &mut *ps,
-    );
-    if trigger_rules::is_done(answer, n) {
-        return trigger_rules::answer_with(answer, 0);
+    )?;
+    if 0 < n {
+        trigger_fill::fill(part, codec, &mut *times, &mut *ids, &mut *values);
     }
-    let written = trigger_fill::fill(part, codec, &mut *times, &mut *ids, &mut *values);
-    trigger_rules::answer_with(answer, written)
+    Ok(TriggerReading {
+        reading,
+        triggers: n,
+    })
 }
 
 // `decode_words`, with triggers: 4, 1 for a zero size, 1 for no event, 5, 13.
 pub fn decode_words_triggers(
     words: &[u8],
     encoding: Encoding,
-    size: SensorSize,
-    limit: Limit,
+    size: Option<SensorSize>,
+    limit: Option<usize>,
     xs: &mut [u16],
     ys: &mut [u16],
     ts: &mut [i64],
@@ -70,17 +71,14 @@ pub fn decode_words_triggers(
     times: &mut [i64],
     ids: &mut [u8],
     values: &mut [u8],
-) -> TriggerReadAnswer
+) -> Result<TriggerReading, Refusal>
     ensures { DecodesWordsTriggers words.now encoding size limit result
         xs.old ys.old ts.old ps.old
         times.old ids.old values.old
         xs.new ys.new ts.new ps.new
         times.new ids.new values.new }
 {
-    let judged = read_rules::judge(words.len(), size);
-    if let Judged::Unfit(r) = judged {
-        return TriggerReadAnswer::Refused(r);
-    }
+    read_rules::judge(words.len(), size)?;
     read_body_triggers(
         words,
         encoding,
@@ -107,28 +105,19 @@ pub fn read_raw_triggers(
     times: &mut [i64],
     ids: &mut [u8],
     values: &mut [u8],
-) -> TriggerReadAnswer
+) -> Result<TriggerReading, Refusal>
     ensures { ReadsRawTriggers recording.now options result
         xs.old ys.old ts.old ps.old
         times.old ids.old values.old
         xs.new ys.new ts.new ps.new
         times.new ids.new values.new }
 {
-    let size = options.sensor_size;
-    let limit = options.max_events;
-    let answer = header::parse_header(recording, size);
-    let HeaderAnswer::Header(h) = answer else {
-        return TriggerReadAnswer::Refused(header::refusal_of(answer));
-    };
-    let at = h.data_offset;
-    let encoding = h.encoding;
-    let sensor = h.sensor_size;
-    let body = &recording[at..];
+    let header = header::parse_header(recording, options.sensor_size)?;
     read_body_triggers(
-        body,
-        encoding,
-        sensor,
-        limit,
+        &recording[header.data_offset..],
+        header.encoding,
+        header.sensor_size,
+        options.max_events,
         &mut *xs,
         &mut *ys,
         &mut *ts,

@@ -1,6 +1,6 @@
 -- Which bits of a word's mask a window hands over.
 use Rattle.std.specs.Prelude.{◌≡◌, refl, Bool, true, false, ◌&&◌, List, [], ◌∷◌, map, ℕ, zero, suc, ◌+◌, ◌-◌, ◌*◌, ◌/◌, ◌%◌, ◌≤◌, ◌<◌, ◌^◌, min}
-use Rattle.std.specs.Prelude.{length, leb, ltb}
+use Rattle.std.specs.Prelude.{length, leb, ltb, not, ◌||◌}
 use Rattle.std.proofs.Common.{sym, ap, ◌∙◌, ⊎_elim, arith, add-suc, suc-add, add-zero, add-one, shl_exact, leb-true, ltb-true, lt-ltb, le-ltb}
 use Rattle.std.proofs.lemmas.List.{length-map}
 use Rattle.std.specs.Int.Bits.{bit_and, bit_or, or_step, or_zero_r}
@@ -39,12 +39,8 @@ pub record Picked (v : Vector) (win : Window) (k : ℕ) (r : Trimmed) : Type 0 w
 abbrev pub is_whole : Vector → Window → ℕ → Bool
 is_whole v win k = ltb v.y win.height && (leb (v.x + 32) win.width && (leb win.n0 k && (leb (k + 32) win.n1 && is_within win v.t)))
 
-abbrev pub or_not : Bool → Bool → Bool
-or_not true b = b
-or_not false b = true
-
 abbrev pub is_skipped : Vector → Window → ℕ → Bool
-is_skipped v win k = leb (v.x + 32) win.width && or_not (is_within win v.t) (leb (k + 32) win.n0)
+is_skipped v win k = leb (v.x + 32) win.width && (not (is_within win v.t) || leb (k + 32) win.n0)
 
 -- ---- v with another mask
 
@@ -131,7 +127,7 @@ module _ (v : Vector) (win : Window) (k : ℕ) where
           counts = rw all (omega arith);
         }
 
-    skipped_none : (t : Bool) → is_within win v.t ≡ t → or_not t (leb (k + 32) win.n0) ≡ true → choose win k (events_of v) ≡ []
+    skipped_none : (t : Bool) → is_within win v.t ≡ t → (not t || leb (k + 32) win.n0) ≡ true → choose win k (events_of v) ≡ []
     skipped_none true e o = choose_early win k (events_of v) (omega (arith, leb-true (k + 32) win.n0 o, events_few v 32 h))
     skipped_none false e o = choose_untimely win k (events_of v) (all_timed false e)
 

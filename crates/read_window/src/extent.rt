@@ -3,7 +3,7 @@ ghost use Rattle.std.specs.Prelude.{◌≡◌};
 ghost use Rattle.evt_types.specs.Event.{Narrow, events_of};
 ghost use Rattle.read_window.specs.Extent.{extent_with};
 
-use evt_types::num::{max_u64, saturate};
+use evt_types::num::saturate;
 use evt_types::vector::Vector;
 
 // The maximum time, and the maximum column and row plus 1; 0 of no events.
@@ -26,8 +26,8 @@ pub fn see(e: Extent, v: Vector) -> Extent
     let top = 63 - u64::leading_zeros(mask) as u64;
     let x = saturate(v.x + top);
     Extent {
-        latest: max_u64(e.latest, v.t),
-        width: max_u64(e.width, x + 1),
-        height: max_u64(e.height, v.y + 1),
+        latest: e.latest.max(v.t),
+        width: e.width.max(x + 1),
+        height: e.height.max(v.y + 1),
     }
 }

@@ -2,7 +2,9 @@
 use Rattle.std.specs.Prelude.{◌≡◌, List, ℕ, ℤ, take, drop}
 use Rattle.laws_stream.specs.{Slice.sift, Slice.Rising, Slice.rising_past, Slice.past_then, Words.words_of}
 use Rattle.laws_stream.specs.Select as Select
-use Rattle.evt_types.specs.declared.{Encoding.Encoding, SensorSize.SensorSize}
+use Rattle.std.specs.Prelude.{Option}
+use Rattle.evt_types.specs.declared.SensorSize.{SensorSize}
+use Rattle.evt_types.specs.declared.{Encoding.Encoding}
 use Rattle.evt_codec.specs.{declared.codec.Codec.Codec, Reader.view, Codec.fresh_c, Sound.sound}
 use Rattle.read_columns.specs.Inside.{inside, clock}
 use Rattle.read_window.specs.{declared.Window.Window, Window.selection_of}
@@ -25,7 +27,7 @@ past_rising win c l r =
     past_then R.machine (inside win.width win.height) (is_timely win) (Select.is_over (reading_by R win) (selection_of win)) (view c).state ws
     (rising_past R.machine R.started R.time clock (sound c).stamped (sound c).stays win.t0 win.t1 (view c).state ws r)
 
-pub during_all : (l : List ℕ) (start : ℕ) (e : Encoding) (size : SensorSize) (spacing : ℕ) (o : Opening) (records : List Checkpoint)
+pub during_all : (l : List ℕ) (start : ℕ) (e : Encoding) (size : Option SensorSize) (spacing : ℕ) (o : Opening) (records : List Checkpoint)
     (w : OpenedAs l start e size spacing o records) → TimesRise (fresh_c e) (drop start l) → (t0 t1 : ℤ)
     → time_events l o.source (take o.records records) t0 t1 ≡ sift (is_during t0 t1) (own_events size e start l)
 during_all l start e size spacing o records w r t0 t1 =

@@ -8,12 +8,14 @@ use Rattle.std.proofs.Math.ListN.{take}
 use Rattle.std.proofs.Math.Seq.{take_at}
 use Rattle.laws_stream.specs.{Slice.sift, Order.greatest}
 use Rattle.evt_types.specs.declared.{Encoding.Encoding, Refusal.Refusal, Refusal.TheVariants.InvalidSensorSize}
-use Rattle.evt_types.specs.declared.{Refusal.TheVariants.InvalidSpacing, Refusal.TheVariants.TooFewRecords, SensorSize.SensorSize}
-use Rattle.evt_types.specs.{declared.SensorSize.TheVariants.Unknown, declared.SensorSize.TheVariants.Known, Columns.col_x, Columns.col_y, Event.Event}
+use Rattle.std.specs.Prelude.{Option, Some, None, Result, Ok, Err}
+use Rattle.evt_types.specs.declared.SensorSize.{SensorSize}
+use Rattle.evt_types.specs.declared.{Refusal.TheVariants.InvalidSpacing, Refusal.TheVariants.TooFewRecords}
+use Rattle.evt_types.specs.{Columns.col_x, Columns.col_y, Event.Event}
 use Rattle.evt_types.specs.{Num.most_bytes, Outcome.Outcome, Outcome.refuse, Outcome.give}
 use Rattle.header.specs.{Header.has_zero}
 use Rattle.read_rules.specs.Read.{width_of, height_of, sizeless}
-use Rattle.index_build.specs.declared.{Checkpoint.Checkpoint, OpenAnswer.TheVariants.Opened, OpenAnswer.TheVariants.Refused}
+use Rattle.index_build.specs.declared.{Checkpoint.Checkpoint}
 use Rattle.index_build.specs.{declared.Opening.Opening, Index.open_answer}
 use Rattle.index_build.specs.{Index.open_records, Laws.length-firsts}
 use Rattle.index_build.specs.Index.{kept_events, record_count, records_of, spacing_ok, Body, body_at, index_outcome}
@@ -23,7 +25,7 @@ use Rattle.slice.specs.Own.{own_events, own_source, own_records, OwnPast, own_in
 
 -- ---- what an acceptance says
 
-pub record OpenedAs (l : List ℕ) (start : ℕ) (e : Encoding) (size : SensorSize) (spacing : ℕ) (o : Opening) (records : List Checkpoint) : Type 0 where
+pub record OpenedAs (l : List ℕ) (start : ℕ) (e : Encoding) (size : Option SensorSize) (spacing : ℕ) (o : Opening) (records : List Checkpoint) : Type 0 where
   pub within : start ≤ length l
   pub long : length l ≤ most_bytes
   pub allowed : spacing_ok e spacing ≡ true
@@ -34,21 +36,21 @@ pub record OpenedAs (l : List ℕ) (start : ℕ) (e : Encoding) (size : SensorSi
 module _ (o : Opening) (records₀ records : List Checkpoint) where
   -- an outcome that is answered by o, its records standing in front
   abbrev pub Gives : Outcome Body → Type 0
-  Gives q = (open_answer q ≡ Opened o) × (records ≡ open_records q ++ drop (length (open_records q)) records₀)
+  Gives q = (open_answer q ≡ Ok o) × (records ≡ open_records q ++ drop (length (open_records q)) records₀)
 
   never : {P : Type 0} (r : Refusal) → Gives (refuse r) → P
-  never r u = let e : Refused r ≡ Opened o = u.0 in let z : ◌≡◌ {A = ℕ} 0 1 = cc in absurd (omega arith)
+  never r u = let e : Err r ≡ Ok o = u.0 in let z : ◌≡◌ {A = ℕ} 0 1 = cc in absurd (omega arith)
 
-same-opening : (a b : Opening) → Opened a ≡ Opened b → a ≡ b
+same-opening : (a b : Opening) → ◌≡◌ {A = Result Opening Refusal} (Ok a) (Ok b) → a ≡ b
 same-opening a b e = cc
 
 -- a size that isn't zero stays so, and one that is derived isn't
-positive_own : (size : SensorSize) (es : List Event) → has_zero size ≡ false → has_zero (Known (width_of size es) (height_of size es)) ≡ false
+positive_own : (size : Option SensorSize) (es : List Event) → has_zero size ≡ false → has_zero (Some (record { width = width_of size es; height = height_of size es })) ≡ false
 unfolding has_zero
-positive_own Unknown es h = rw (eqb-suc-zero (greatest col_x es), eqb-suc-zero (greatest col_y es))
-positive_own (Known w k) es h = h
+positive_own None es h = rw (eqb-suc-zero (greatest col_x es), eqb-suc-zero (greatest col_y es))
+positive_own (Some s) es h = h
 
-module _ (l : List ℕ) (start : ℕ) (e : Encoding) (size : SensorSize) (spacing : ℕ) (o : Opening) (records₀ records : List Checkpoint) where
+module _ (l : List ℕ) (start : ℕ) (e : Encoding) (size : Option SensorSize) (spacing : ℕ) (o : Opening) (records₀ records : List Checkpoint) where
   abbrev body : List ℕ
   body = drop start l
 
@@ -90,7 +92,7 @@ module _ (l : List ℕ) (start : ℕ) (e : Encoding) (size : SensorSize) (spacin
 
 -- ---- slices over it
 
-module _ (l : List ℕ) (start : ℕ) (e : Encoding) (size : SensorSize) (spacing : ℕ) (o : Opening) (records : List Checkpoint)
+module _ (l : List ℕ) (start : ℕ) (e : Encoding) (size : Option SensorSize) (spacing : ℕ) (o : Opening) (records : List Checkpoint)
     (w : OpenedAs l start e size spacing o records) where
   abbrev lent : List Checkpoint
   lent = take o.records records

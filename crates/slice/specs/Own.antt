@@ -13,8 +13,10 @@ use Rattle.std.proofs.Math.Seq.{drop-append_seam, drop-append-add}
 use Rattle.std.specs.Int.Signed.{le_z, lt_z}
 use Rattle.laws_stream.specs.{Machine.All, Machine.all-append-left, Machine.all_drop, Order.greatest, Order.greatest-append, Order.greatest-lt}
 use Rattle.laws_stream.specs.{Select.by_number_lem, Slice.sift, Slice.sift-all, Slice.sift-append, Slice.all_early}
-use Rattle.evt_types.specs.declared.{Encoding.Encoding, SensorSize.SensorSize}
-use Rattle.evt_types.specs.{declared.SensorSize.TheVariants.Unknown, declared.SensorSize.TheVariants.Known, Columns.col_x, Columns.col_y, Event.Event}
+use Rattle.std.specs.Prelude.{Option, Some, None}
+use Rattle.evt_types.specs.declared.SensorSize.{SensorSize}
+use Rattle.evt_types.specs.declared.{Encoding.Encoding}
+use Rattle.evt_types.specs.{Columns.col_x, Columns.col_y, Event.Event}
 use Rattle.evt_types.specs.{Outcome.give, Num.encoding_number}
 use Rattle.evt_codec.specs.Codec.{fresh_c, word_size, encoding_of, in_range_c, events_from, codec_after, encoding_after, encoding_fresh}
 use Rattle.read_columns.specs.Inside.{inside, clock}
@@ -60,18 +62,18 @@ starting p g f (suc n) es h a b =
 -- ---- events that count
 
 -- behind a whole number of words
-kept_split : (size : SensorSize) (e : Encoding) (k : ℕ) (a b : List ℕ) → length a ≡ k * word_size (fresh_c e)
+kept_split : (size : Option SensorSize) (e : Encoding) (k : ℕ) (a b : List ℕ) → length a ≡ k * word_size (fresh_c e)
     → kept_events size e (a ++ b) ≡ kept_events size e a ++ kept size (events_from (codec_after (fresh_c e) a) b)
-kept_split Unknown e k a b h = events-append (fresh_c e) k a b h
-kept_split (Known w d) e k a b h =
-    ap (sift (inside w d)) (events-append (fresh_c e) k a b h)
-    ∙ sift-append (inside w d) (events_from (fresh_c e) a) (events_from (codec_after (fresh_c e) a) b)
+kept_split None e k a b h = events-append (fresh_c e) k a b h
+kept_split (Some s) e k a b h =
+    ap (sift (inside s.width s.height)) (events-append (fresh_c e) k a b h)
+    ∙ sift-append (inside s.width s.height) (events_from (fresh_c e) a) (events_from (codec_after (fresh_c e) a) b)
 
-kept-nil : (size : SensorSize) (e : Encoding) → kept_events size e [] ≡ []
-kept-nil Unknown e = events-nil (fresh_c e)
-kept-nil (Known w h) e = ap (sift (inside w h)) (events-nil (fresh_c e))
+kept-nil : (size : Option SensorSize) (e : Encoding) → kept_events size e [] ≡ []
+kept-nil None e = events-nil (fresh_c e)
+kept-nil (Some s) e = ap (sift (inside s.width s.height)) (events-nil (fresh_c e))
 
-kept-bytes : (size : SensorSize) (e : Encoding) (l : List ℕ) → length l ≤ 2 ^ 30 → length (kept_events size e l) ≤ 6 * length l
+kept-bytes : (size : Option SensorSize) (e : Encoding) (l : List ℕ) → length l ≤ 2 ^ 30 → length (kept_events size e l) ≤ 6 * length l
 kept-bytes size e l h = rw (← kept-inside size e l h) (inside-bytes _ _ (fresh_c e) l)
 
 -- ---- the size that is derived without one holds every event
@@ -80,16 +82,16 @@ all-inside : (w h : ℕ) (es : List Event) → All (λ e. e.x < w) es → All (�
 all-inside w h [] p q = tt
 all-inside w h (e ∷ es) p q = (rw (lt-ltb e.x w p.0, lt-ltb e.y h q.0), all-inside w h es p.1 q.1)
 
-abbrev derived : SensorSize → List Event → SensorSize
-derived size es = Known (width_of size es) (height_of size es)
+abbrev derived : Option SensorSize → List Event → Option SensorSize
+derived size es = Some (record { width = width_of size es; height = height_of size es })
 
-abbrev Held : SensorSize → List Event → Event → Type 0
+abbrev Held : Option SensorSize → List Event → Event → Type 0
 Held size es e = inside (width_of size es) (height_of size es) e ≡ true
 
 -- as long as the events x are among those that it is derived from
-kept-derived : (size : SensorSize) (es x : List Event) → (All (Held size es) es → All (Held size es) (kept size x)) → kept (derived size es) x ≡ kept size x
-kept-derived (Known w h) es x among = refl
-kept-derived Unknown es x among =
+kept-derived : (size : Option SensorSize) (es x : List Event) → (All (Held size es) es → All (Held size es) (kept size x)) → kept (derived size es) x ≡ kept size x
+kept-derived (Some s) es x among = refl
+kept-derived None es x among =
     let all = all-inside (suc (greatest col_x es)) (suc (greatest col_y es)) es (greatest-lt col_x (suc (greatest col_x es)) es (omega arith))
     (greatest-lt col_y (suc (greatest col_y es)) es (omega arith)) in
     sift-all (inside (suc (greatest col_x es)) (suc (greatest col_y es))) x (among all)
@@ -111,22 +113,22 @@ by_number-after {E} n0 n1 a b h =
 
 -- ---- an index of its own recording
 
-abbrev pub own_events : SensorSize → Encoding → (start : ℕ) → List ℕ → List Event
+abbrev pub own_events : Option SensorSize → Encoding → (start : ℕ) → List ℕ → List Event
 own_events size e start l = kept_events size e (drop start l)
 
-abbrev pub own_source : SensorSize → Encoding → (start spacing : ℕ) → List ℕ → RawSliceSource
+abbrev pub own_source : Option SensorSize → Encoding → (start spacing : ℕ) → List ℕ → RawSliceSource
 own_source size e start spacing l = source_of (length l) start e size spacing (own_events size e start l)
 
-abbrev pub own_records : SensorSize → Encoding → (start spacing : ℕ) → List ℕ → List Checkpoint
+abbrev pub own_records : Option SensorSize → Encoding → (start spacing : ℕ) → List ℕ → List Checkpoint
 own_records size e start spacing l = records_of size e start spacing (drop start l)
 
 -- no event that is in time follows the first word after which the decoder is started and its time is t1 or more
-abbrev pub own_window : SensorSize → Encoding → (start : ℕ) → List ℕ → (t0 t1 : ℤ) → Window
+abbrev pub own_window : Option SensorSize → Encoding → (start : ℕ) → List ℕ → (t0 t1 : ℤ) → Window
 own_window size e start l t0 t1 =
     let es = own_events size e start l in
     time_window (width_of size es) (height_of size es) 0 0 t0 t1
 
-abbrev pub OwnPast : SensorSize → Encoding → (start : ℕ) → List ℕ → (t0 t1 : ℤ) → Type 0
+abbrev pub OwnPast : Option SensorSize → Encoding → (start : ℕ) → List ℕ → (t0 t1 : ℤ) → Type 0
 OwnPast size e start l t0 t1 = PastOver (own_window size e start l t0 t1) (fresh_c e) (drop start l)
 
 in_range_by : (s : RawSliceSource) (offset count : ℕ) (time : ℤ) (c : Checkpoint) → offset < 2 ^ 64 → c.byte_offset ≡ offset
@@ -150,7 +152,7 @@ same_encoding e l =
     let is : encoding_of (codec_after (fresh_c e) l) ≡ e = encoding_after (fresh_c e) l ∙ encoding_fresh e in
     ap not (eq-eqb _ (encoding_number e) (ap encoding_number is))
 
-module _ (size : SensorSize) (e : Encoding) (start spacing : ℕ) (l : List ℕ) (within : start ≤ length l) (long : length l ≤ 2 ^ 30)
+module _ (size : Option SensorSize) (e : Encoding) (start spacing : ℕ) (l : List ℕ) (within : start ≤ length l) (long : length l ≤ 2 ^ 30)
     (allowed : spacing_ok e spacing ≡ true) where
   abbrev body : List ℕ
   body = drop start l
@@ -322,7 +324,7 @@ module _ (size : SensorSize) (e : Encoding) (start spacing : ℕ) (l : List ℕ)
 
 -- ---- slices don't depend on the spacing: by time, where nothing in time follows the stop
 
-module _ (size : SensorSize) (e : Encoding) (start a b : ℕ) (l : List ℕ) (within : start ≤ length l) (long : length l ≤ 2 ^ 30)
+module _ (size : Option SensorSize) (e : Encoding) (start a b : ℕ) (l : List ℕ) (within : start ≤ length l) (long : length l ≤ 2 ^ 30)
     (allowed-a : spacing_ok e a ≡ true) (allowed-b : spacing_ok e b ≡ true) where
   pub number_spacing : (i0 i1 : ℕ)
       → index_events l (own_source size e start a l) (own_records size e start a l) i0 i1

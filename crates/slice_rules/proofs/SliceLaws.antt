@@ -5,16 +5,18 @@ use Rattle.evt_types.specs.{declared.Refusal.TheVariants.InvalidSensorSize, decl
 use Rattle.evt_types.specs.{declared.Refusal.TheVariants.StateOutOfRange, declared.Refusal.TheVariants.TooLong}
 use Rattle.header.specs.Header.{has_zero}
 use Rattle.index_build.specs.{Index.spacing_ok, Open.spaced, declared.Checkpoint.Checkpoint, declared.RawSliceSource.RawSliceSource}
-use Rattle.index_records.specs.{Choose.Chose, Choose.passes_of, InRange.index_in_range, Judge.judged_all, declared.Judging.Judging}
+use Rattle.index_records.specs.{Choose.passes_of, InRange.index_in_range}
 use Rattle.laws_stream.specs.{Select.by_number_lem, Slice.sift}
 use Rattle.read_capacity.specs.{Deliver.most_from, Deliver.shortest, Laws.numbered-most}
 use Rattle.read_rules.specs.Read.{kept}
 use Rattle.read_select.specs.{Pass.Able, Uses.numbered_over, Uses.over_by_number, Uses.over_by_time}
 use Rattle.read_window.specs.declared.Window.{Window}
-use Rattle.slice_rules.specs.{From.SlicesFrom, From.asked_by_number, From.asked_by_time, From.number_window, From.passed_from, Laws.Began, Laws.began_index}
-use Rattle.slice_rules.specs.{Laws.began_time, Laws.judged_is, Laws.start_good, Laws.start_is, Slice.SlicesIndex, Slice.SlicesTime, Slice.end_of}
+use Rattle.slice_rules.specs.{From.SlicesFrom, From.asked_by_number, From.asked_by_time, From.number_window, From.passed_from, Laws.Began}
+use Rattle.slice_rules.specs.{Laws.start_good, Laws.start_is, Slice.SlicesIndex, Slice.SlicesTime, Slice.end_of}
 use Rattle.slice_rules.specs.{Slice.events_until, Slice.first_of, Slice.index_events, Slice.is_during, Slice.room_outcome, Slice.size_of, Slice.slice_outcome}
-use Rattle.slice_rules.specs.{Slice.starting_at, Slice.time_events, Times.time_over, Times.time_window, declared.Asked.Asked, declared.SliceAnswer.SliceAnswer}
+use Rattle.std.specs.Prelude.{Result}
+use Rattle.evt_types.specs.declared.Refusal.{Refusal}
+use Rattle.slice_rules.specs.{Slice.starting_at, Slice.time_events, Times.time_over, Times.time_window, declared.Asked.Asked}
 use Rattle.std.proofs.{Common.ltb-false, Common.mul_comm, Common.subst, Common.true≢false, Common.◌∙◌, Math.Bool.cond, Math.Bool.true, Math.Dec.leb}
 use Rattle.std.proofs.{Math.ListN.drop, Math.ListN.length, Math.ListN.length-drop, Math.Path.ap, Math.Path.refl, Math.Path.sym}
 use Rattle.std.specs.{Int.Signed.lt_z, Prelude.Bool, Prelude.false, Prelude.ltb, Prelude.ℕ, Prelude.ℤ, Prelude.◌*◌, Prelude.◌+◌, Prelude.◌<◌, Prelude.◌^◌}
@@ -28,7 +30,7 @@ most_small c n = subst (λ (k : ℕ). k ≤ 6 * n) (mul_comm (view c).reader.mos
 -- ---- with the records judged all is as specs/Slice.antt has it
 
 module _ (recording : List ℕ) (s : RawSliceSource) (records : List Checkpoint) (ok : Bool) (from es : List Event)
-    (judged : spacing_ok s.encoding s.spacing ≡ true → ok ≡ index_in_range s records)
+    (judged : ok ≡ index_in_range s records)
     (same : length recording ≤ most_bytes → index_in_range s records ≡ true → from ≡ es) where
   same_outcome : (room : ℕ) → slice_outcome recording s ok from room ≡ slice_outcome recording s (index_in_range s records) es room
   unfolding slice_outcome
@@ -44,17 +46,17 @@ module _ (recording : List ℕ) (s : RawSliceSource) (records : List Checkpoint)
       go true p b c q d r = refl
       go false p true c q d r = refl
       go false p false false q d r = refl
-      go false p false true q true r = rw (judged q ∙ r) (ap (λ (l : List Event). room_outcome l room) (same (ltb-false most_bytes (length recording) p) r))
-      go false p false true q false r = rw (judged q ∙ r)
+      go false p false true q true r = rw (judged ∙ r) (ap (λ (l : List Event). room_outcome l room) (same (ltb-false most_bytes (length recording) p) r))
+      go false p false true q false r = rw (judged ∙ r)
 
-  pub slices_from : {r : SliceAnswer} {xs₀ ys₀ : List ℕ} {ts₀ : List ℤ} {ps₀ xs ys : List ℕ} {ts : List ℤ} {ps : List ℕ}
+  pub slices_from : {r : Result ℕ Refusal} {xs₀ ys₀ : List ℕ} {ts₀ : List ℤ} {ps₀ xs ys : List ℕ} {ts : List ℤ} {ps : List ℕ}
       → SlicesFrom recording s ok from r xs₀ ys₀ ts₀ ps₀ xs ys ts ps
       → SlicesFrom recording s (index_in_range s records) es r xs₀ ys₀ ts₀ ps₀ xs ys ts ps
   slices_from {r} {xs₀} {ys₀} {ts₀} {ps₀} h = rw (same_outcome (shortest xs₀ ys₀ ts₀ ps₀)) at h
 
 -- ---- the record that a slice starts at
 
-module _ (s : RawSliceSource) (records : List Checkpoint) (asked : Asked) (judged : Judging) (start : Checkpoint) (b : Began s records asked judged start) where
+module _ (s : RawSliceSource) (records : List Checkpoint) (asked : Asked) (judged : Bool) (start : Checkpoint) (b : Began s records asked judged start) where
   -- what is decoded from there on
   starting : (p : Checkpoint → Bool) (f : Checkpoint → List Event) → passes_of asked.choice ≡ p → index_in_range s records ≡ true
       → f start ≡ starting_at p f records
@@ -104,25 +106,22 @@ module _ (s : RawSliceSource) (records : List Checkpoint) (asked : Asked) (judge
 
 -- ---- by number and by time
 
-module _ (recording : List ℕ) (s : RawSliceSource) (records : List Checkpoint) (asked : Asked) (judged : Judging) (start : Checkpoint) where
-  module _ (i0 i1 : ℕ) (is : asked ≡ asked_by_number s (length records) i0 i1) (all : judged ≡ judged_all asked.judging records)
-      (chose : Chose asked.choice records start) where
-    pub slices_index : {r : SliceAnswer} {xs₀ ys₀ : List ℕ} {ts₀ : List ℤ} {ps₀ xs ys : List ℕ} {ts : List ℤ} {ps : List ℕ}
-        → SlicesFrom recording s judged.ok (passed_from recording asked.window start) r xs₀ ys₀ ts₀ ps₀ xs ys ts ps
+module _ (recording : List ℕ) (s : RawSliceSource) (records : List Checkpoint) (asked : Asked) (judged : Bool) (start : Checkpoint)
+    (b : Began s records asked judged start) where
+  module _ (i0 i1 : ℕ) (is : asked ≡ asked_by_number s i0 i1) where
+    pub slices_index : {r : Result ℕ Refusal} {xs₀ ys₀ : List ℕ} {ts₀ : List ℤ} {ps₀ xs ys : List ℕ} {ts : List ℤ} {ps : List ℕ}
+        → SlicesFrom recording s judged (passed_from recording asked.window start) r xs₀ ys₀ ts₀ ps₀ xs ys ts ps
         → SlicesIndex recording s records i0 i1 r xs₀ ys₀ ts₀ ps₀ xs ys ts ps
     slices_index =
-        slices_from recording s records judged.ok (passed_from recording asked.window start) (index_events recording s records i0 i1)
-        (judged_is s records asked judged start (began_index recording s records asked judged start i0 i1 is all chose))
-        (λ short ok. same_number s records asked judged start (began_index recording s records asked judged start i0 i1 is all chose) recording short ok i0 i1
+        slices_from recording s records judged (passed_from recording asked.window start) (index_events recording s records i0 i1) b.judged
+        (λ short ok. same_number s records asked judged start b recording short ok i0 i1
         (ap (λ (a : Asked). passes_of a.choice) is) (ap (λ (a : Asked). a.window) is))
 
-  module _ (t0 t1 : ℤ) (is : asked ≡ asked_by_time s (length records) t0 t1) (all : judged ≡ judged_all asked.judging records)
-      (chose : Chose asked.choice records start) where
-    pub slices_time : {r : SliceAnswer} {xs₀ ys₀ : List ℕ} {ts₀ : List ℤ} {ps₀ xs ys : List ℕ} {ts : List ℤ} {ps : List ℕ}
-        → SlicesFrom recording s judged.ok (passed_from recording asked.window start) r xs₀ ys₀ ts₀ ps₀ xs ys ts ps
+  module _ (t0 t1 : ℤ) (is : asked ≡ asked_by_time s t0 t1) where
+    pub slices_time : {r : Result ℕ Refusal} {xs₀ ys₀ : List ℕ} {ts₀ : List ℤ} {ps₀ xs ys : List ℕ} {ts : List ℤ} {ps : List ℕ}
+        → SlicesFrom recording s judged (passed_from recording asked.window start) r xs₀ ys₀ ts₀ ps₀ xs ys ts ps
         → SlicesTime recording s records t0 t1 r xs₀ ys₀ ts₀ ps₀ xs ys ts ps
     slices_time =
-        slices_from recording s records judged.ok (passed_from recording asked.window start) (time_events recording s records t0 t1)
-        (judged_is s records asked judged start (began_time recording s records asked judged start t0 t1 is all chose))
-        (λ short ok. same_time s records asked judged start (began_time recording s records asked judged start t0 t1 is all chose) recording short ok t0 t1
+        slices_from recording s records judged (passed_from recording asked.window start) (time_events recording s records t0 t1) b.judged
+        (λ short ok. same_time s records asked judged start b recording short ok t0 t1
         (ap (λ (a : Asked). passes_of a.choice) is) (ap (λ (a : Asked). a.window) is))

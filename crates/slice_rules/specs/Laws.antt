@@ -14,17 +14,15 @@ use Rattle.evt_types.specs.{Event.Event, Num.most_bytes, Outcome.Outcome, Outcom
 use Rattle.evt_types.specs.{Outcome.given-unless, declared.Refusal.Refusal}
 use Rattle.header.specs.Header.{has_zero}
 use Rattle.read_select.specs.Pass.{Ready}
-use Rattle.read_capacity.specs.declared.{Delivered.Delivered, Delivered.TheVariants.Written, Delivered.TheVariants.Needed}
+use Rattle.std.specs.Prelude.{Result, Ok, Err}
 use Rattle.read_capacity.specs.{Deliver.shortest, Deliver.Handed, Deliver.Delivers, Laws.handed_none}
-use Rattle.index_build.specs.{declared.Checkpoint.Checkpoint, declared.RawSliceSource.RawSliceSource, Index.spacing_ok, Open.spaced}
-use Rattle.index_records.specs.{declared.Judging.Judging, InRange.index_in_range, Choose.passes_of, Choose.Chose, Judge.first_judging, Judge.judged_all}
-use Rattle.index_records.specs.{JudgeLaws.Good, Start.last_passing}
-use Rattle.slice_rules.specs.declared.{Asked.Asked, SliceAnswer.SliceAnswer, SliceAnswer.TheVariants.Refused, Start.TheVariants.At}
-use Rattle.slice_rules.specs.declared.Start.TheVariants.{Not}
+use Rattle.index_build.specs.{declared.Checkpoint.Checkpoint, declared.RawSliceSource.RawSliceSource, Index.spacing_ok}
+use Rattle.index_records.specs.{InRange.index_in_range, Choose.passes_of, Choose.Chose, JudgeLaws.Good, Start.last_passing}
+use Rattle.slice_rules.specs.declared.{Asked.Asked}
 use Rattle.slice_rules.specs.Slice.{size_of}
 use Rattle.slice_rules.specs.Slice.{slice_check, room_outcome, slice_outcome, told_slice, slice_verdict, slice_handed, slice_answer, Slices}
-use Rattle.slice_rules.specs.From.{asked_by_number, asked_by_time, answer_of, start_of, SlicesFrom, Startable}
-use Rattle.index_records.proofs.Judged.{judged_in_range, last_good, parted_passes}
+use Rattle.slice_rules.specs.From.{answer_of, start_of, SlicesFrom, Startable}
+use Rattle.index_records.proofs.Judged.{last_good, parted_passes}
 
 -- ---- an outcome's promises
 
@@ -33,13 +31,13 @@ told-answer : (o : Outcome (List Event)) → told_slice (slice_answer o) ≡ sli
 told-answer (refuse r) = refl
 told-answer (give es) = refl
 
-slices : {o : Outcome (List Event)} {r : SliceAnswer} {xs₀ ys₀ : List ℕ} {ts₀ : List ℤ} {ps₀ xs ys : List ℕ} {ts : List ℤ} {ps : List ℕ} → r ≡ slice_answer o
+slices : {o : Outcome (List Event)} {r : Result ℕ Refusal} {xs₀ ys₀ : List ℕ} {ts₀ : List ℤ} {ps₀ xs ys : List ℕ} {ts : List ℤ} {ps : List ℕ} → r ≡ slice_answer o
     → Handed (slice_handed o) xs₀ ys₀ ts₀ ps₀ xs ys ts ps
     → Slices o r xs₀ ys₀ ts₀ ps₀ xs ys ts ps
 slices {o} e h = record { is_told = ap told_slice e ∙ told-answer o; is_answer = e; columns = h }
 
 -- 5, or the events
-delivered : {es : List Event} {d : Delivered} {xs₀ ys₀ : List ℕ} {ts₀ : List ℤ} {ps₀ xs ys : List ℕ} {ts : List ℤ} {ps : List ℕ}
+delivered : {es : List Event} {d : Result ℕ ℕ} {xs₀ ys₀ : List ℕ} {ts₀ : List ℤ} {ps₀ xs ys : List ℕ} {ts : List ℤ} {ps : List ℕ}
     → Delivers es d xs₀ ys₀ ts₀ ps₀ xs ys ts ps
     → Slices (room_outcome es (shortest xs₀ ys₀ ts₀ ps₀)) (answer_of d) xs₀ ys₀ ts₀ ps₀ xs ys ts ps
 delivered {es} {d} {xs₀} {ys₀} {ts₀} {ps₀} {xs} {ys} {ts} {ps} h = rw h.answer (go (leb (length es) room) refl h.columns)
@@ -48,7 +46,7 @@ delivered {es} {d} {xs₀} {ys₀} {ts₀} {ps₀} {xs} {ys} {ts} {ps} h = rw h.
     room = shortest xs₀ ys₀ ts₀ ps₀
 
     go : (b : Bool) → leb (length es) room ≡ b → Handed (cond b es []) xs₀ ys₀ ts₀ ps₀ xs ys ts ps
-        → Slices (room_outcome es room) (answer_of (cond b (Written (length es)) (Needed (length es)))) xs₀ ys₀ ts₀ ps₀ xs ys ts ps
+        → Slices (room_outcome es room) (answer_of (cond b (Ok (length es)) (Err (length es)))) xs₀ ys₀ ts₀ ps₀ xs ys ts ps
     go true p h = rw (le-ltb room (length es) (leb-true (length es) room p)) (slices {o = give es} refl h)
     go false p h = rw (lt-ltb room (length es) (leb-false (length es) room p)) (slices {o = refuse (ColumnsTooShort (length es))} refl h)
 
@@ -74,11 +72,11 @@ ready_from recording s ok c h p q able =
     record { able = able_range c.codec (length (drop c.byte_offset recording)) a.0 l; long = l; low = omega (arith, a.1) }
 
 -- what a start says of the check
-start_given : (k : Outcome Unit) (to at : ℕ) → At at ≡ on_outcome Not (λ u. At to) k → (at ≡ to) × (k ≡ give tt)
+start_given : (k : Outcome Unit) (to at : ℕ) → Ok at ≡ on_outcome Err (λ u. Ok to) k → (at ≡ to) × (k ≡ give tt)
 start_given (refuse r) to at e = let no : ◌≡◌ {A = ℕ} 0 1 = cc in absurd (omega arith)
 start_given (give u) to at e = (cc, refl)
 
-start_refused : (k : Outcome Unit) (to : ℕ) (why : Refusal) → Not why ≡ on_outcome Not (λ u. At to) k → k ≡ refuse why
+start_refused : (k : Outcome Unit) (to : ℕ) (why : Refusal) → Err why ≡ on_outcome Err (λ u. Ok to) k → k ≡ refuse why
 start_refused (refuse r) to why e = cc
 start_refused (give u) to why e = let no : ◌≡◌ {A = ℕ} 0 1 = cc in absurd (omega arith)
 
@@ -88,7 +86,7 @@ pub record Starts (n : ℕ) (s : RawSliceSource) (ok : Bool) (offset at : ℕ) :
   pub spaced : spacing_ok s.encoding s.spacing ≡ true
   pub ranged : ok ≡ true
 
-pub starts : (n : ℕ) (s : RawSliceSource) (ok : Bool) (offset at : ℕ) → At at ≡ start_of n s ok offset → Starts n s ok offset at
+pub starts : (n : ℕ) (s : RawSliceSource) (ok : Bool) (offset at : ℕ) → Ok at ≡ start_of n s ok offset → Starts n s ok offset at
 starts n s ok offset at e =
     let a = start_given (slice_check n s ok) (min offset n) at e in
     let long = given-unless tt (ltb most_bytes n) _ _ a.1 in
@@ -97,29 +95,24 @@ starts n s ok offset at e =
     record { place = a.0; fits = ltb-false most_bytes n long.0; spaced = spaced.0; ranged = (given_if tt ok _ _ spaced.1).0 }
 
 module _ (recording : List ℕ) (s : RawSliceSource) (ok : Bool) (es : List Event) (offset : ℕ) {xs₀ ys₀ : List ℕ} {ts₀ : List ℤ} {ps₀ : List ℕ} where
-  pub from_not : (why : Refusal) → Not why ≡ start_of (length recording) s ok offset
-      → SlicesFrom recording s ok es (Refused why) xs₀ ys₀ ts₀ ps₀ xs₀ ys₀ ts₀ ps₀
+  pub from_not : (why : Refusal) → Err why ≡ start_of (length recording) s ok offset
+      → SlicesFrom recording s ok es (Err why) xs₀ ys₀ ts₀ ps₀ xs₀ ys₀ ts₀ ps₀
   unfolding slice_outcome
   from_not why e = rw (start_refused (slice_check (length recording) s ok) (min offset (length recording)) why e) (slices {o = refuse why} refl handed_none)
 
-  pub from_at : (at : ℕ) → At at ≡ start_of (length recording) s ok offset → (d : Delivered) (r : SliceAnswer) {xs ys : List ℕ} {ts : List ℤ} {ps : List ℕ}
+  pub from_at : (at : ℕ) → Ok at ≡ start_of (length recording) s ok offset → (d : Result ℕ ℕ) (r : Result ℕ Refusal) {xs ys : List ℕ} {ts : List ℤ} {ps : List ℕ}
       → Delivers es d xs₀ ys₀ ts₀ ps₀ xs ys ts ps → r ≡ answer_of d → SlicesFrom recording s ok es r xs₀ ys₀ ts₀ ps₀ xs ys ts ps
   unfolding slice_outcome
   from_at at e d r h f = rw ((start_given (slice_check (length recording) s ok) (min offset (length recording)) at e).1, f) (delivered h)
 
 -- ---- the record that a slice starts at
 
-pub record Began (s : RawSliceSource) (records : List Checkpoint) (asked : Asked) (judged : Judging) (start : Checkpoint) : Type 0 where
-  pub first : asked.judging ≡ first_judging s (length records)
-  pub all : judged ≡ judged_all asked.judging records
+-- the records were judged, and one of them chosen
+pub record Began (s : RawSliceSource) (records : List Checkpoint) (asked : Asked) (ok : Bool) (start : Checkpoint) : Type 0 where
+  pub judged : ok ≡ index_in_range s records
   pub chose : Chose asked.choice records start
 
-module _ (s : RawSliceSource) (records : List Checkpoint) (asked : Asked) (judged : Judging) (start : Checkpoint) (b : Began s records asked judged start) where
-  pub judged_is : spacing_ok s.encoding s.spacing ≡ true → judged.ok ≡ index_in_range s records
-  judged_is p =
-      ap (λ (j : Judging). j.ok) (b.all ∙ ap (λ (j : Judging). judged_all j records) b.first)
-      ∙ judged_in_range s (spaced s.encoding s.spacing p).high records
-
+module _ (s : RawSliceSource) (records : List Checkpoint) (asked : Asked) (ok : Bool) (start : Checkpoint) (b : Began s records asked ok start) where
   -- in range it is the one by the definition, and good
   pub start_is : (p : Checkpoint → Bool) → passes_of asked.choice ≡ p → (c : Checkpoint) (cs : List Checkpoint) → records ≡ c ∷ cs
       → index_in_range s (c ∷ cs) ≡ true → start ≡ last_passing p c cs
@@ -133,18 +126,5 @@ module _ (s : RawSliceSource) (records : List Checkpoint) (asked : Asked) (judge
       go [] r ok = absurd (true≢false (sym ok))
       go (c ∷ cs) r ok = rw (start_is (passes_of asked.choice) refl c cs r ok) (last_good s (passes_of asked.choice) c cs ok)
 
-  pub startable : Startable s judged.ok start
-  startable p q = let g = start_good (sym (judged_is p) ∙ q) in (g.decoder, g.few)
-
--- ---- by number and by time
-
-module _ (recording : List ℕ) (s : RawSliceSource) (records : List Checkpoint) (asked : Asked) (judged : Judging) (start : Checkpoint) where
-  module _ (i0 i1 : ℕ) (is : asked ≡ asked_by_number s (length records) i0 i1) (all : judged ≡ judged_all asked.judging records)
-      (chose : Chose asked.choice records start) where
-    pub began_index : Began s records asked judged start
-    began_index = record { first = ap (λ (a : Asked). a.judging) is; all = all; chose = chose }
-
-  module _ (t0 t1 : ℤ) (is : asked ≡ asked_by_time s (length records) t0 t1) (all : judged ≡ judged_all asked.judging records)
-      (chose : Chose asked.choice records start) where
-    pub began_time : Began s records asked judged start
-    began_time = record { first = ap (λ (a : Asked). a.judging) is; all = all; chose = chose }
+  pub startable : Startable s ok start
+  startable p q = let g = start_good (sym b.judged ∙ q) in (g.decoder, g.few)

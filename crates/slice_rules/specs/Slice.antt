@@ -1,7 +1,10 @@
 -- What a slice answers, and the events that it hands over.
 use Rattle.std.specs.Prelude.{◌≡◌, Bool, cond, ◌&&◌, List, [], ◌∷◌, ℕ, min, max, leb, ltb, ℤ, pos, length, drop}
 use Rattle.std.specs.Int.Signed.{le_z, lt_z}
-use Rattle.evt_types.specs.{declared.SensorSize.SensorSize, declared.SensorSize.TheVariants.Known, Event.Event}
+use Rattle.std.specs.Prelude.{Option, Some, Result, Ok, Err}
+use Rattle.evt_types.specs.declared.SensorSize.{SensorSize}
+use Rattle.evt_types.specs.declared.Refusal.{Refusal}
+use Rattle.evt_types.specs.{Event.Event}
 use Rattle.evt_types.specs.{Num.most_bytes, Outcome.Outcome, Outcome.refuse, Outcome.give, Outcome.on_outcome, Outcome.verdict, Outcome.handed_by}
 use Rattle.evt_types.specs.{Told.Told, Told.told, Told.accepted}
 use Rattle.laws_stream.specs.{Machine.emits, Select.by_number_lem, Slice.sift, Slice.until, Words.words_of}
@@ -11,7 +14,6 @@ use Rattle.header.specs.Header.{has_zero}
 use Rattle.read_rules.specs.Read.{kept, shortest, Handed}
 use Rattle.index_build.specs.{declared.Checkpoint.Checkpoint, declared.RawSliceSource.RawSliceSource, Index.spacing_ok}
 use Rattle.index_records.specs.{InRange.index_in_range, Start.last_passing}
-use Rattle.slice_rules.specs.declared.{SliceAnswer.SliceAnswer, SliceAnswer.TheVariants.Sliced, SliceAnswer.TheVariants.Refused}
 
 -- ---- the record to start at
 
@@ -20,8 +22,8 @@ abbrev pub starting_at : (Checkpoint → Bool) → (Checkpoint → List Event) �
 starting_at p f [] = []
 starting_at p f (c ∷ cs) = f (last_passing p c cs)
 
-abbrev pub size_of : RawSliceSource → SensorSize
-size_of s = Known s.width s.height
+abbrev pub size_of : RawSliceSource → Option SensorSize
+size_of s = Some (record { width = s.width; height = s.height })
 
 -- ---- by number
 
@@ -82,8 +84,8 @@ slice_outcome recording s ok es room = on_outcome refuse (λ u. room_outcome es 
 
 -- ---- what is read off an outcome
 
-abbrev pub slice_answer : Outcome (List Event) → SliceAnswer
-slice_answer = on_outcome Refused (λ es. Sliced (length es))
+abbrev pub slice_answer : Outcome (List Event) → Result ℕ Refusal
+slice_answer = on_outcome Err (λ es. Ok (length es))
 
 -- an acceptance tells the count
 abbrev pub slice_verdict : Outcome (List Event) → Told
@@ -96,26 +98,26 @@ slice_handed = handed_by (λ es. es)
 -- ---- promises
 
 -- what an answer tells
-abbrev pub told_slice : SliceAnswer → Told
-told_slice (Sliced n) = accepted (n ∷ [])
-told_slice (Refused r) = told r
+abbrev pub told_slice : Result ℕ Refusal → Told
+told_slice (Ok n) = accepted (n ∷ [])
+told_slice (Err r) = told r
 
 -- what a slice with this outcome promises
-pub record Slices (outcome : Outcome (List Event)) (r : SliceAnswer)
+pub record Slices (outcome : Outcome (List Event)) (r : Result ℕ Refusal)
     (xs₀ ys₀ : List ℕ) (ts₀ : List ℤ) (ps₀ xs ys : List ℕ) (ts : List ℤ) (ps : List ℕ) : Type 0 where
   pub is_told : told_slice r ≡ slice_verdict outcome
   pub is_answer : r ≡ slice_answer outcome
   pub columns : Handed (slice_handed outcome) xs₀ ys₀ ts₀ ps₀ xs ys ts ps
 
 -- of the events asked for; `ok`: whether the index is in range
-abbrev pub SlicesFrom : List ℕ → RawSliceSource → (ok : Bool) → (asked : List Event) → SliceAnswer
+abbrev pub SlicesFrom : List ℕ → RawSliceSource → (ok : Bool) → (asked : List Event) → Result ℕ Refusal
     → (xs₀ ys₀ : List ℕ) (ts₀ : List ℤ) (ps₀ xs ys : List ℕ) (ts : List ℤ) (ps : List ℕ) → Type 0
 SlicesFrom recording s ok asked r xs₀ ys₀ ts₀ ps₀ = Slices (slice_outcome recording s ok asked (shortest xs₀ ys₀ ts₀ ps₀)) r xs₀ ys₀ ts₀ ps₀
 
-abbrev pub SlicesIndex : List ℕ → RawSliceSource → List Checkpoint → (i0 i1 : ℕ) → SliceAnswer
+abbrev pub SlicesIndex : List ℕ → RawSliceSource → List Checkpoint → (i0 i1 : ℕ) → Result ℕ Refusal
     → (xs₀ ys₀ : List ℕ) (ts₀ : List ℤ) (ps₀ xs ys : List ℕ) (ts : List ℤ) (ps : List ℕ) → Type 0
 SlicesIndex recording s records i0 i1 = SlicesFrom recording s (index_in_range s records) (index_events recording s records i0 i1)
 
-abbrev pub SlicesTime : List ℕ → RawSliceSource → List Checkpoint → (t0 t1 : ℤ) → SliceAnswer
+abbrev pub SlicesTime : List ℕ → RawSliceSource → List Checkpoint → (t0 t1 : ℤ) → Result ℕ Refusal
     → (xs₀ ys₀ : List ℕ) (ts₀ : List ℤ) (ps₀ xs ys : List ℕ) (ts : List ℤ) (ps : List ℕ) → Type 0
 SlicesTime recording s records t0 t1 = SlicesFrom recording s (index_in_range s records) (time_events recording s records t0 t1)

@@ -3,7 +3,7 @@ use Rattle.std.specs.Prelude.{◌≡◌, refl, ◌&&◌, List, ℕ, leb, ltb, �
 use Rattle.std.proofs.Common.{sym, arith, le-ltb}
 use Rattle.std.proofs.Math.Dec.{leb-zero}
 use Rattle.std.specs.Int.Signed.{le_z, lt_z}
-use Rattle.evt_types.specs.declared.SensorSize.TheVariants.{Known}
+use Rattle.std.specs.Prelude.{Some}
 use Rattle.laws_stream.specs.{Machine.emits, Slice.sift, Slice.until, Slice.within, Words.words_of}
 use Rattle.evt_codec.specs.{declared.codec.Codec.Codec, Reader.view}
 use Rattle.read_columns.specs.Inside.{inside, clock}
@@ -33,7 +33,7 @@ module _ (w h n0 n1 : ℕ) (t0 t1 : ℤ) where
   time_window = record { width = w; height = h; n0 = n0; n1 = n1; t0 = natural t0; t1 = natural t1 }
 
   pub time_over : (c : Codec) (l : List ℕ)
-      → sift (is_during t0 t1) (kept (Known w h) (events_until t1 c l)) ≡ sift (is_timely time_window) (until_over time_window c l)
+      → sift (is_during t0 t1) (kept (Some (record { width = w; height = h })) (events_until t1 c l)) ≡ sift (is_timely time_window) (until_over time_window c l)
   time_over c l =
       let R = (view c).reader in
       λ i. sift (during_natural t0 t1 i) (sift (inside w h) (emits R.machine (view c).state

@@ -1,60 +1,23 @@
 // Four columns to lend, filled with a mark, so that a store to any entry shows.
 ghost use Rattle.std.specs.Prelude.{◌≡◌, ◌≤◌, length};
 
-use crate::{show, text};
+use crate::{room, show, text};
 use evt_types::RawEvent;
-use evt_types::num::max_usize;
 use std::io;
 use std::io::Write;
 
-const SHORT: u16 = 43981;
+pub const MARK: RawEvent = RawEvent {
+    x: 43981,
+    y: 43981,
+    t: 7777777777777777,
+    p: 171,
+};
 
-const LONG: i64 = 7777777777777777;
-
-const BYTE: u8 = 171;
-
-// Each `ensures` keeps the array itself out of its callers' proofs.
-pub fn shorts() -> [u16; 4096]
+// A column of one mark. The `ensures` keeps the array itself out of its callers' proofs.
+pub fn marked<T: Copy>(mark: T) -> [T; 4096]
     ensures { 4096 ≡ length result }
 {
-    [SHORT; 4096]
-}
-
-pub fn longs() -> [i64; 4096]
-    ensures { 4096 ≡ length result }
-{
-    [LONG; 4096]
-}
-
-pub fn bytes() -> [u8; 4096]
-    ensures { 4096 ≡ length result }
-{
-    [BYTE; 4096]
-}
-
-// Parts of columns, as `text::part` of bytes: one that isn't there is empty.
-pub fn part_of_shorts(s: &[u16], from: usize, to: usize) -> &[u16] {
-    if from <= to {
-        if to <= s.len() {
-            return &s[from..to];
-        }
-    }
-    &s[..0]
-}
-
-pub fn part_of_longs(s: &[i64], from: usize, to: usize) -> &[i64] {
-    if from <= to {
-        if to <= s.len() {
-            return &s[from..to];
-        }
-    }
-    &s[..0]
-}
-
-pub fn at_most(n: usize, most: usize) -> usize
-    ensures { result ≤ most }
-{
-    if n < most { n } else { most }
+    room(mark)
 }
 
 // How many entries of column k, which has `most`, are lent, by a text `R` for all columns or
@@ -62,102 +25,51 @@ pub fn at_most(n: usize, most: usize) -> usize
 pub fn lent(s: &[u8], k: usize, most: usize) -> usize
     ensures { result ≤ most }
 {
-    let mut n = text::number(s);
-    if text::seek(s, 0, b',') < s.len() {
-        n = text::number(text::field(s, b',', k));
-    }
-    at_most(n as usize, most)
+    let n = if s.contains(&b',') {
+        text::number(text::field(s, b',', k))
+    } else {
+        text::number(s)
+    };
+    most.min(n as usize)
 }
 
-// Number i of column k, or none, of columns that a text gives as `XS:YS:TS:PS`: numbers with commas
+// How many numbers column k has, of columns that a text gives as `XS:YS:TS:PS`: numbers with commas
 // between them.
-fn given(s: &[u8], k: usize, i: usize) -> &[u8] {
-    text::field(text::field(s, b':', k), b',', i)
-}
-
-// How many numbers column k has.
 pub fn count(s: &[u8], k: usize) -> usize {
-    let mut i = 0;
-    while i < s.len() {
-        let one = given(s, k, i);
-        if one.len() == 0 {
-            return i;
-        }
-        i += 1;
-    }
-    i
+    text::field(s, b':', k)
+        .split(|&b| b == b',')
+        .take_while(|one| !one.is_empty())
+        .count()
 }
 
-fn put_short(into: &mut [u16], i: usize, n: u64) {
-    if i < into.len() {
-        into[i] = text::short(n);
+// The numbers of column k go to its front, with that of an empty text behind them up to n.
+fn fill<T: Copy, F: Fn(&[u8]) -> T>(into: &mut [T], s: &[u8], k: usize, n: usize, read: F)
+    requires { F.IsAlwaysCallable read }
+{
+    let numbers = text::field(s, b':', k);
+    for (i, entry) in into.iter_mut().take(n).enumerate() {
+        *entry = read(text::field(numbers, b',', i));
     }
-}
-
-fn put_long(into: &mut [i64], i: usize, n: i64) {
-    if i < into.len() {
-        into[i] = n;
-    }
-}
-
-fn put_byte(into: &mut [u8], i: usize, n: u64) {
-    if i < into.len() {
-        into[i] = (n % 256) as u8;
-    }
-}
-
-// Entry i of the columns that a text gives.
-fn put(s: &[u8], i: usize, xs: &mut [u16], ys: &mut [u16], ts: &mut [i64], ps: &mut [u8]) {
-    put_short(&mut *xs, i, text::number(given(s, 0, i)));
-    put_short(&mut *ys, i, text::number(given(s, 1, i)));
-    put_long(&mut *ts, i, text::signed(given(s, 2, i)));
-    put_byte(&mut *ps, i, text::number(given(s, 3, i)));
 }
 
 // The columns that a text gives go to the front of the lent ones, with zeros behind the shorter ones.
 pub fn read(s: &[u8], xs: &mut [u16], ys: &mut [u16], ts: &mut [i64], ps: &mut [u8]) {
-    let places = max_usize(count(s, 0), count(s, 1));
-    let n = max_usize(places, max_usize(count(s, 2), count(s, 3)));
-    let mut i = 0;
-    while i < n {
-        put(s, i, &mut *xs, &mut *ys, &mut *ts, &mut *ps);
-        i += 1;
-    }
+    let n = count(s, 0)
+        .max(count(s, 1))
+        .max(count(s, 2))
+        .max(count(s, 3));
+    fill(xs, s, 0, n, |one| text::short(text::number(one)));
+    fill(ys, s, 1, n, |one| text::short(text::number(one)));
+    fill(ts, s, 2, n, |one| text::signed(one));
+    fill(ps, s, 3, n, |one| (text::number(one) % 256) as u8);
 }
 
 // Entry i of the columns; a marked one behind their end.
 fn entry(xs: &[u16], ys: &[u16], ts: &[i64], ps: &[u8], i: usize) -> RawEvent {
-    if i < xs.len() {
-        if i < ys.len() {
-            if i < ts.len() {
-                if i < ps.len() {
-                    return RawEvent {
-                        x: xs[i],
-                        y: ys[i],
-                        t: ts[i],
-                        p: ps[i],
-                    };
-                }
-            }
-        }
+    match (xs.get(i), ys.get(i), ts.get(i), ps.get(i)) {
+        (Some(&x), Some(&y), Some(&t), Some(&p)) => RawEvent { x, y, t, p },
+        _ => MARK,
     }
-    RawEvent {
-        x: SHORT,
-        y: SHORT,
-        t: LONG,
-        p: BYTE,
-    }
-}
-
-fn is_marked(e: RawEvent) -> bool {
-    if e.x == SHORT {
-        if e.y == SHORT {
-            if e.t == LONG {
-                return e.p == BYTE;
-            }
-        }
-    }
-    false
 }
 
 // The first n events.
@@ -169,36 +81,14 @@ pub fn show_events(
     ps: &[u8],
     n: usize,
 ) -> io::Result<()> {
-    let mut i = 0;
-    while i < n {
-        show::byte(stdout, b' ')?;
+    for i in 0..n {
+        write!(stdout, " ")?;
         show::event(stdout, entry(xs, ys, ts, ps, i))?;
-        i += 1;
     }
     Ok(())
 }
 
-// ` dirty` if an entry from `from` on hasn't its mark any more.
-fn show_dirty(
-    stdout: &mut impl Write,
-    xs: &[u16],
-    ys: &[u16],
-    ts: &[i64],
-    ps: &[u8],
-    from: usize,
-) -> io::Result<()> {
-    let mut i = from;
-    while i < xs.len() {
-        if is_marked(entry(xs, ys, ts, ps, i)) {
-            i += 1;
-        } else {
-            return show::text(stdout, b" dirty");
-        }
-    }
-    Ok(())
-}
-
-// The first n events, and whether an entry behind them has changed.
+// The first n events, and ` dirty` if an entry behind them hasn't its mark any more.
 pub fn show_all(
     stdout: &mut impl Write,
     xs: &[u16],
@@ -208,17 +98,16 @@ pub fn show_all(
     n: usize,
 ) -> io::Result<()> {
     show_events(stdout, xs, ys, ts, ps, n)?;
-    show_dirty(stdout, xs, ys, ts, ps, n)
+    if (n..xs.len()).any(|i| entry(xs, ys, ts, ps, i) != MARK) {
+        write!(stdout, " dirty")?;
+    }
+    Ok(())
 }
 
-// The same for bytes alone.
-pub fn show_dirty_bytes(stdout: &mut impl Write, s: &[u8], from: usize) -> io::Result<()> {
-    let mut i = from;
-    while i < s.len() {
-        if s[i] != BYTE {
-            return show::text(stdout, b" dirty");
-        }
-        i += 1;
+// The same for bytes alone, of which the first n have been shown.
+pub fn show_dirty_bytes(stdout: &mut impl Write, s: &[u8], n: usize) -> io::Result<()> {
+    if s.iter().skip(n).any(|&b| b != MARK.p) {
+        write!(stdout, " dirty")?;
     }
     Ok(())
 }

@@ -1,4 +1,4 @@
-// What the programs that replay cases share: reading the input and a case's text, and printing its
+// What the programs share: reading the input, replaying cases, reading a case's text, and printing its
 // answer. docs/VECTORS.md says what a case is. Every function is proved safe and to end; those that make
 // room for a call say how long it is.
 
@@ -8,7 +8,7 @@ ghost use Rattle.std.specs.Prelude.{◌≡◌, length};
 ghost use Rattle.std.specs.Io.{ReadsAtMost};
 
 use std::io;
-use std::io::Read;
+use std::io::{Read, Write};
 
 pub mod columns;
 pub mod given;
@@ -17,24 +17,12 @@ pub mod show;
 pub mod state;
 pub mod text;
 
-// Room for all cases, or for the bytes of one. The `ensures` keeps the array itself out of its callers' proofs.
-pub fn room() -> [u8; 1572864]
-    ensures { 1572864 ≡ length result }
+// Room of N entries: bytes of a text or of a recording, or a column. The `ensures` keeps the array itself
+// out of its callers' proofs.
+pub fn room<T: Copy, const N: usize>(zero: T) -> [T; N]
+    ensures { N ≡ length result }
 {
-    [0; 1572864]
-}
-
-// Room for the bytes of a short case, and of a longer one.
-pub fn buffer() -> [u8; 4096]
-    ensures { 4096 ≡ length result }
-{
-    [0; 4096]
-}
-
-pub fn large_buffer() -> [u8; 65536]
-    ensures { 65536 ≡ length result }
-{
-    [0; 65536]
+    [zero; N]
 }
 
 // Reads until the input ends or `into` is full, and answers how many bytes stand at its front.
@@ -50,4 +38,23 @@ pub fn read_full(input: &mut impl Read, into: &mut [u8]) -> io::Result<usize>
         done += n;
     }
     Ok(done)
+}
+
+// Replays cases, one on each line, `ID COMMAND WORDS`: a line with the ID, and what `answer` prints for
+// the case and its command.
+pub fn replay<W: Write, F: Fn(&mut W, &[u8], &[u8]) -> io::Result<()>>(
+    stdout: &mut W,
+    cases: &[u8],
+    answer: F,
+) -> io::Result<()>
+    requires { F.IsAlwaysCallable answer }
+{
+    for line in cases.split_inclusive(|&b| b == b'\n') {
+        let case = text::field(line, b'\n', 0);
+        stdout.write_all(text::field(case, b' ', 0))?;
+        write!(stdout, " ")?;
+        answer(stdout, case, text::field(case, b' ', 1))?;
+        writeln!(stdout)?;
+    }
+    Ok(())
 }

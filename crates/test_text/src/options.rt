@@ -1,21 +1,23 @@
 // What a case gives besides its bytes: `-` or `WxH`, `-` or a limit, `2`, `21` or `3`.
 use crate::text;
-use evt_types::{Encoding, Limit, SensorSize};
+use evt_types::{Encoding, SensorSize};
 
-pub fn read_size(s: &[u8]) -> SensorSize {
+pub fn read_size(s: &[u8]) -> Option<SensorSize> {
     if text::at(s, 0) == b'-' {
-        return SensorSize::Unknown;
+        return None;
     }
-    let mut n = [0u64; 2];
-    text::numbers(s, &mut n);
-    SensorSize::Known(n[0] as usize, n[1] as usize)
+    let [width, height] = text::numbers::<2>(s);
+    Some(SensorSize {
+        width: width as usize,
+        height: height as usize,
+    })
 }
 
-pub fn read_limit(s: &[u8]) -> Limit {
+pub fn read_limit(s: &[u8]) -> Option<usize> {
     if text::at(s, 0) == b'-' {
-        return Limit::Unlimited;
+        return None;
     }
-    Limit::AtMost(text::number(s) as usize)
+    Some(text::number(s) as usize)
 }
 
 // By the number that a text begins with.

@@ -3,18 +3,11 @@
 use std::io;
 use std::io::Write;
 use test_text::{show, text};
-use write_rules::Check;
 
 pub fn answer(stdout: &mut impl Write, case: &[u8]) -> io::Result<()> {
-    let mut n = [0u64; 4];
-    text::numbers(text::field(case, b' ', 2), &mut n);
-    let x = n[0] as usize;
-    let y = n[1] as usize;
-    let t = n[2] as usize;
-    let p = n[3] as usize;
-    let check = write_rules::check_lengths(x, y, t, p);
-    match check {
-        Check::Passed => show::text(stdout, b"ok"),
-        Check::Failed(why) => show::refusal(stdout, why),
+    let [x, y, t, p] = text::numbers::<4>(text::field(case, b' ', 2));
+    match write_rules::check_lengths(x as usize, y as usize, t as usize, p as usize) {
+        Ok(()) => write!(stdout, "ok"),
+        Err(why) => show::refusal(stdout, why),
     }
 }

@@ -15,7 +15,7 @@ mod writer;
 
 use std::io;
 use std::io::Write;
-use test_text::{read_full, room, show, text};
+use test_text::{read_full, replay, room, text};
 
 // `read` and the resumes differ in their third byte, `word`, `words` and `write` in their fifth.
 fn run(stdout: &mut impl Write, case: &[u8], command: &[u8]) -> io::Result<()> {
@@ -25,12 +25,10 @@ fn run(stdout: &mut impl Write, case: &[u8], command: &[u8]) -> io::Result<()> {
         b'l' => lengths::answer(stdout, case),
         b'n' => number::answer(stdout, case),
         b'a' => resuming::after(stdout, case),
-        b'r' => {
-            if text::at(command, 2) == b's' {
-                return resuming::answer(stdout, case, text::at(command, 6));
-            }
-            reading::answer(stdout, case, false)
+        b'r' if text::at(command, 2) == b's' => {
+            resuming::answer(stdout, case, text::at(command, 6))
         }
+        b'r' => reading::answer(stdout, case, false),
         _ => {
             match text::at(command, 4) {
                 b's' => reading::answer(stdout, case, true),
@@ -41,29 +39,12 @@ fn run(stdout: &mut impl Write, case: &[u8], command: &[u8]) -> io::Result<()> {
     }
 }
 
-fn replay(stdout: &mut impl Write, case: &[u8]) -> io::Result<()> {
-    show::text(stdout, text::field(case, b' ', 0))?;
-    show::byte(stdout, b' ')?;
-    run(stdout, case, text::field(case, b' ', 1))?;
-    show::byte(stdout, b'\n')
-}
-
-fn lines(stdout: &mut impl Write, cases: &[u8]) -> io::Result<()> {
-    let mut at = 0;
-    while at < cases.len() {
-        let end = text::seek(cases, at, b'\n');
-        replay(stdout, text::part(cases, at, end))?;
-        let next = text::past(cases, end);
-        if next <= at {
-            return Ok(());
-        }
-        at = next;
-    }
-    Ok(())
-}
-
 fn main(rt: HostRuntime) -> io::Result<()> {
-    let mut cases = room();
+    let mut cases: [u8; 1572864] = room(0);
     let n = read_full(&mut rt.reader(), &mut cases)?;
-    lines(&mut io::writer(&rt), &cases[..n])
+    replay(
+        &mut io::writer(&rt),
+        &cases[..n],
+        |stdout, case, command| run(stdout, case, command),
+    )
 }

@@ -6,35 +6,28 @@
 // answers `ok STATE`, or `refused N STATE` with an unstarted decoder of EVT2.
 use crate::writer;
 use evt_codec::Codec;
-use evt_types::Encoding;
-use read_after::AfterAnswer;
+use evt_types::{Encoding, Refusal};
 use std::io;
 use std::io::Write;
-use test_text::{given, large_buffer, options, show, state, text};
-use write_resume::{ResumeAnswer, Resumed};
+use test_text::{given, options, room, show, state, text};
+use write_resume::Resumed;
 
 fn show_resumed(stdout: &mut impl Write, resumed: Resumed) -> io::Result<()> {
-    let sink = resumed.sink;
-    let answer = resumed.answer;
-    match answer {
-        ResumeAnswer::Ready => show::text(stdout, b"ok")?,
-        ResumeAnswer::Refused(why) => show::refusal(stdout, why)?,
+    match resumed.answer {
+        Ok(()) => write!(stdout, "ok")?,
+        Err(why) => show::refusal(stdout, why)?,
     }
-    show::byte(stdout, b' ')?;
-    writer::show(stdout, sink)
+    write!(stdout, " ")?;
+    writer::show(stdout, resumed.sink)
 }
 
-fn show_after(stdout: &mut impl Write, after: AfterAnswer) -> io::Result<()> {
-    let mut codec = Codec::new(Encoding::Evt2);
+fn show_after(stdout: &mut impl Write, after: Result<Codec, Refusal>) -> io::Result<()> {
     match after {
-        AfterAnswer::After(there) => {
-            show::text(stdout, b"ok")?;
-            codec = there;
-        }
-        AfterAnswer::Refused(why) => show::refusal(stdout, why)?,
+        Ok(_) => write!(stdout, "ok")?,
+        Err(why) => show::refusal(stdout, why)?,
     }
-    show::byte(stdout, b' ')?;
-    state::show(stdout, codec)
+    write!(stdout, " ")?;
+    state::show(stdout, after.unwrap_or(Codec::new(Encoding::Evt2)))
 }
 
 fn behind_decoder(stdout: &mut impl Write, case: &[u8]) -> io::Result<()> {
@@ -44,7 +37,7 @@ fn behind_decoder(stdout: &mut impl Write, case: &[u8]) -> io::Result<()> {
 
 fn behind_words(stdout: &mut impl Write, case: &[u8]) -> io::Result<()> {
     let encoding = options::read_encoding(text::field(case, b' ', 2));
-    let mut buffer = large_buffer();
+    let mut buffer: [u8; 65536] = room(0);
     let n = given::read(text::field(case, b' ', 3), &mut buffer);
     show_resumed(
         stdout,
@@ -53,13 +46,13 @@ fn behind_words(stdout: &mut impl Write, case: &[u8]) -> io::Result<()> {
 }
 
 fn behind_recording(stdout: &mut impl Write, case: &[u8]) -> io::Result<()> {
-    let mut buffer = large_buffer();
+    let mut buffer: [u8; 65536] = room(0);
     let n = given::read(text::field(case, b' ', 2), &mut buffer);
     show_resumed(stdout, write_resume::resume_raw(text::part(&buffer, 0, n)))
 }
 
 pub fn after(stdout: &mut impl Write, case: &[u8]) -> io::Result<()> {
-    let mut buffer = large_buffer();
+    let mut buffer: [u8; 65536] = room(0);
     let n = given::read(text::field(case, b' ', 2), &mut buffer);
     show_after(
         stdout,

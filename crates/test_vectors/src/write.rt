@@ -5,24 +5,19 @@
 use crate::writer;
 use std::io;
 use std::io::Write;
+use test_text::columns::MARK;
 use test_text::{columns, show, text};
-use write_append::{AppendAnswer, Appended, RawEventSink};
+use write_append::{Appended, RawEventSink};
 
 fn show_answer(stdout: &mut impl Write, appended: Appended, out: &[u8]) -> io::Result<()> {
-    let sink = appended.sink;
-    let answer = appended.answer;
-    let mut n = 0;
-    show::text(stdout, b" | ")?;
-    match answer {
-        AppendAnswer::Written(written) => {
-            n = written;
-            show::hex(stdout, text::part(out, 0, n))?;
-        }
-        AppendAnswer::Refused(why) => show::refusal(stdout, why)?,
+    write!(stdout, " | ")?;
+    match appended.answer {
+        Ok(n) => show::hex(stdout, text::part(out, 0, n))?,
+        Err(why) => show::refusal(stdout, why)?,
     }
-    show::byte(stdout, b' ')?;
-    writer::show(stdout, sink)?;
-    columns::show_dirty_bytes(stdout, out, n)
+    write!(stdout, " ")?;
+    writer::show(stdout, appended.sink)?;
+    columns::show_dirty_bytes(stdout, out, appended.answer.unwrap_or(0))
 }
 
 // Lends the first bytes of the output, as many as the case says.
@@ -35,29 +30,35 @@ fn lend(
     ps: &[u8],
     out: &mut [u8],
 ) -> Appended {
-    let mut size = [0u64; 2];
-    text::numbers(text::field(append, b':', 0), &mut size);
-    let width = size[0] as usize;
-    let height = size[1] as usize;
+    let [width, height] = text::numbers::<2>(text::field(append, b':', 0));
     let n = columns::lent(text::field(append, b':', 1), 0, out.len());
-    write_append::append(sink, width, height, xs, ys, ts, ps, &mut out[..n])
+    write_append::append(
+        sink,
+        width as usize,
+        height as usize,
+        xs,
+        ys,
+        ts,
+        ps,
+        &mut out[..n],
+    )
 }
 
 // Answers the writer after it.
 fn one(stdout: &mut impl Write, sink: RawEventSink, append: &[u8]) -> io::Result<RawEventSink> {
     let given = text::from_field(append, b':', 2);
-    let mut xs = columns::shorts();
-    let mut ys = columns::shorts();
-    let mut ts = columns::longs();
-    let mut ps = columns::bytes();
+    let mut xs = columns::marked(MARK.x);
+    let mut ys = columns::marked(MARK.y);
+    let mut ts = columns::marked(MARK.t);
+    let mut ps = columns::marked(MARK.p);
     columns::read(given, &mut xs, &mut ys, &mut ts, &mut ps);
-    let mut out = columns::bytes();
+    let mut out = columns::marked(MARK.p);
     let appended = lend(
         sink,
         append,
-        columns::part_of_shorts(&xs, 0, columns::count(given, 0)),
-        columns::part_of_shorts(&ys, 0, columns::count(given, 1)),
-        columns::part_of_longs(&ts, 0, columns::count(given, 2)),
+        text::part(&xs, 0, columns::count(given, 0)),
+        text::part(&ys, 0, columns::count(given, 1)),
+        text::part(&ts, 0, columns::count(given, 2)),
         text::part(&ps, 0, columns::count(given, 3)),
         &mut out,
     );
@@ -66,16 +67,11 @@ fn one(stdout: &mut impl Write, sink: RawEventSink, append: &[u8]) -> io::Result
 }
 
 pub fn answer(stdout: &mut impl Write, case: &[u8]) -> io::Result<()> {
-    show::text(stdout, b"ok")?;
+    write!(stdout, "ok")?;
     let mut sink = writer::read(text::field(case, b' ', 2));
-    let mut k = 3;
-    while k < case.len() {
-        let append = text::field(case, b' ', k);
-        if append.len() == 0 {
-            return Ok(());
-        }
+    let appends = text::from_field(case, b' ', 3).split(|&b| b == b' ');
+    for append in appends.take_while(|append| !append.is_empty()) {
         sink = one(stdout, sink, append)?;
-        k += 1;
     }
     Ok(())
 }

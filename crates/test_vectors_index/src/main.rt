@@ -12,7 +12,7 @@ mod source;
 
 use std::io;
 use std::io::Write;
-use test_text::{read_full, room, show, text};
+use test_text::{read_full, replay, room, text};
 
 fn run(stdout: &mut impl Write, case: &[u8], command: &[u8]) -> io::Result<()> {
     if text::at(command, 0) == b's' {
@@ -21,29 +21,12 @@ fn run(stdout: &mut impl Write, case: &[u8], command: &[u8]) -> io::Result<()> {
     opening::answer(stdout, case, text::at(command, 4) == b'w')
 }
 
-fn replay(stdout: &mut impl Write, case: &[u8]) -> io::Result<()> {
-    show::text(stdout, text::field(case, b' ', 0))?;
-    show::byte(stdout, b' ')?;
-    run(stdout, case, text::field(case, b' ', 1))?;
-    show::byte(stdout, b'\n')
-}
-
-fn lines(stdout: &mut impl Write, cases: &[u8]) -> io::Result<()> {
-    let mut at = 0;
-    while at < cases.len() {
-        let end = text::seek(cases, at, b'\n');
-        replay(stdout, text::part(cases, at, end))?;
-        let next = text::past(cases, end);
-        if next <= at {
-            return Ok(());
-        }
-        at = next;
-    }
-    Ok(())
-}
-
 fn main(rt: HostRuntime) -> io::Result<()> {
-    let mut cases = room();
+    let mut cases: [u8; 1572864] = room(0);
     let n = read_full(&mut rt.reader(), &mut cases)?;
-    lines(&mut io::writer(&rt), &cases[..n])
+    replay(
+        &mut io::writer(&rt),
+        &cases[..n],
+        |stdout, case, command| run(stdout, case, command),
+    )
 }

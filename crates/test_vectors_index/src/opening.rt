@@ -5,34 +5,31 @@
 // refused call.
 use crate::{record, source};
 use prophesee_raw::fixed::FixedIndex;
-use prophesee_raw::{Encoding, OpenAnswer, OpenOptions, SensorSize, WordsOptions};
+use prophesee_raw::{Encoding, OpenOptions, SensorSize, WordsOptions};
 use std::io;
 use std::io::Write;
-use test_text::{columns, given, options, room, show, text};
+use test_text::{given, options, room, show, text};
 
-// Which of the two is called.
-#[derive(Clone, Copy)]
-enum Entry {
-    Raw,
-    Words(Encoding),
-}
-
-// With the fields behind the size: spacing, room.
-fn open(entry: Entry, sensor_size: SensorSize, rest: &[u8], bytes: &[u8]) -> FixedIndex {
-    let mut of = [0u64; 2];
-    text::numbers(rest, &mut of);
-    let spacing = of[0] as usize;
-    let n = columns::at_most(of[1] as usize, 64);
+// With the fields behind the size: spacing, room. Words have an encoding, a recording names its own.
+fn open(
+    encoding: Option<Encoding>,
+    sensor_size: Option<SensorSize>,
+    rest: &[u8],
+    bytes: &[u8],
+) -> FixedIndex {
+    let [spacing, room] = text::numbers::<2>(rest);
+    let spacing = spacing as usize;
+    let n = (room as usize).min(64);
     let marks = record::marks();
-    match entry {
-        Entry::Raw => {
+    match encoding {
+        None => {
             let options = OpenOptions {
                 sensor_size,
                 spacing,
             };
             index_fixed::open_into(bytes, options, marks, n)
         }
-        Entry::Words(encoding) => {
+        Some(encoding) => {
             let options = WordsOptions {
                 encoding,
                 sensor_size,
@@ -44,32 +41,25 @@ fn open(entry: Entry, sensor_size: SensorSize, rest: &[u8], bytes: &[u8]) -> Fix
 }
 
 fn show_answer(stdout: &mut impl Write, made: FixedIndex) -> io::Result<()> {
-    let records = made.records;
-    let answer = made.answer;
-    match answer {
-        OpenAnswer::Opened(opening) => {
-            let opened = opening.source;
-            let n = opening.records;
-            show::text(stdout, b"ok ")?;
-            source::show(stdout, opened)?;
-            show::next(stdout, b' ', n as u64)?;
-            show::text(stdout, b" :")?;
-            record::show_all(stdout, records, n)
+    match made.answer {
+        Ok(opening) => {
+            write!(stdout, "ok ")?;
+            source::show(stdout, opening.source)?;
+            write!(stdout, " {} :", opening.records)?;
         }
-        OpenAnswer::Refused(why) => {
-            show::refusal(stdout, why)?;
-            record::show_all(stdout, records, 0)
-        }
+        Err(why) => show::refusal(stdout, why)?,
     }
+    let n = made.answer.map_or(0, |opening| opening.records);
+    record::show_all(stdout, made.records, n)
 }
 
 // With the fields behind: size, spacing, room, bytes.
-fn with_entry(stdout: &mut impl Write, entry: Entry, rest: &[u8]) -> io::Result<()> {
-    let mut buffer = room();
+fn with(stdout: &mut impl Write, encoding: Option<Encoding>, rest: &[u8]) -> io::Result<()> {
+    let mut buffer: [u8; 1572864] = room(0);
     let n = given::read(text::field(rest, b' ', 3), &mut buffer);
     let size = options::read_size(rest);
     let made = open(
-        entry,
+        encoding,
         size,
         text::from_field(rest, b' ', 1),
         text::part(&buffer, 0, n),
@@ -80,11 +70,7 @@ fn with_entry(stdout: &mut impl Write, entry: Entry, rest: &[u8]) -> io::Result<
 pub fn answer(stdout: &mut impl Write, case: &[u8], words: bool) -> io::Result<()> {
     if words {
         let encoding = options::read_encoding(text::field(case, b' ', 2));
-        return with_entry(
-            stdout,
-            Entry::Words(encoding),
-            text::from_field(case, b' ', 3),
-        );
+        return with(stdout, Some(encoding), text::from_field(case, b' ', 3));
     }
-    with_entry(stdout, Entry::Raw, text::from_field(case, b' ', 2))
+    with(stdout, None, text::from_field(case, b' ', 2))
 }

@@ -3,11 +3,22 @@
 use prophesee_raw::{Checkpoint, Codec, Decoder};
 use std::io;
 use std::io::Write;
-use test_text::{show, state, text};
+use test_text::{state, text};
 
-const ROW: u16 = 43981;
-
-const TIME: i64 = 7777777777777777;
+const MARK: Checkpoint = Checkpoint {
+    byte_offset: 0,
+    event_index: 0,
+    time: 7777777777777777,
+    codec: Codec::Evt3(Decoder {
+        initialised: true,
+        time_base: 0,
+        time: 0,
+        y: 43981,
+        base_x: 0,
+        polarity: true,
+        high_loops: 0,
+    }),
+};
 
 // The first `n` are those of a list.
 #[derive(Clone, Copy)]
@@ -17,98 +28,52 @@ pub struct Records {
 }
 
 pub fn marks() -> [Checkpoint; 64] {
-    let m = Checkpoint {
-        byte_offset: 0,
-        event_index: 0,
-        time: TIME,
-        codec: Codec::Evt3(Decoder {
-            initialised: true,
-            time_base: 0,
-            time: 0,
-            y: ROW,
-            base_x: 0,
-            polarity: true,
-            high_loops: 0,
-        }),
-    };
-    [m; 64]
+    [MARK; 64]
 }
 
-fn is_marked_decoder(d: Decoder) -> bool {
-    if d.initialised {
-        if d.polarity {
-            return d.y == ROW;
-        }
-    }
-    false
-}
-
+// No `==`: Checkpoint has no PartialEq.
 fn is_marked(c: Checkpoint) -> bool {
-    let codec = c.codec;
-    if c.time == TIME {
-        if c.byte_offset == 0 {
-            if c.event_index == 0 {
-                if let Codec::Evt3(d) = codec {
-                    return is_marked_decoder(d);
-                }
-            }
-        }
-    }
-    false
+    c.time == MARK.time
+        && c.byte_offset == MARK.byte_offset
+        && c.event_index == MARK.event_index
+        && c.codec == MARK.codec
 }
 
-// Whether all is well: a record is shown, or else still has its mark.
-fn show_or_test(stdout: &mut impl Write, c: Checkpoint, shown: bool) -> io::Result<bool> {
-    if shown {
-        let codec = c.codec;
-        show::next(stdout, b' ', c.byte_offset as u64)?;
-        show::next(stdout, b'/', c.event_index as u64)?;
-        show::byte(stdout, b'/')?;
-        show::signed(stdout, c.time)?;
-        show::byte(stdout, b'/')?;
-        state::show(stdout, codec)?;
-        return Ok(true);
-    }
-    Ok(is_marked(c))
+fn show(stdout: &mut impl Write, c: Checkpoint) -> io::Result<()> {
+    write!(stdout, " {}/{}/{}/", c.byte_offset, c.event_index, c.time)?;
+    state::show(stdout, c.codec)
 }
 
 // The first n, and ` dirty` if one behind them hasn't its mark any more.
 pub fn show_all(stdout: &mut impl Write, all: [Checkpoint; 64], n: usize) -> io::Result<()> {
-    let mut i = 0;
-    while i < 64 {
-        if show_or_test(stdout, all[i], i < n)? {
-            i += 1;
-        } else {
-            return show::text(stdout, b" dirty");
-        }
+    for c in all.iter().take(n) {
+        show(stdout, *c)?;
+    }
+    if all.iter().skip(n).any(|c| !is_marked(*c)) {
+        write!(stdout, " dirty")?;
     }
     Ok(())
 }
 
 fn read(s: &[u8]) -> Checkpoint {
-    let mut n = [0u64; 2];
-    text::numbers(s, &mut n);
-    let time = text::signed(text::field(s, b'/', 2));
-    let codec = state::read(text::field(s, b'/', 3));
+    let [byte_offset, event_index] = text::numbers::<2>(s);
     Checkpoint {
-        byte_offset: n[0] as usize,
-        event_index: n[1] as usize,
-        time,
-        codec,
+        byte_offset: byte_offset as usize,
+        event_index: event_index as usize,
+        time: text::signed(text::field(s, b'/', 2)),
+        codec: state::read(text::field(s, b'/', 3)),
     }
 }
 
 // Those that `+` parts, at most 64, `-` for none.
 pub fn read_all(s: &[u8]) -> Records {
     let mut all = marks();
-    let mut n = 0;
-    while n < 64 {
+    for n in 0..64 {
         let one = text::field(s, b'+', n);
         if text::at(one, 0) < b'0' {
             return Records { all, n };
         }
         all[n] = read(one);
-        n += 1;
     }
-    Records { all, n }
+    Records { all, n: 64 }
 }

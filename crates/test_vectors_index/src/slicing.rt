@@ -4,9 +4,11 @@
 // events changed, or any one by a refused call.
 use crate::record::Records;
 use crate::{record, source};
-use prophesee_raw::{RawSliceSource, SliceAnswer};
+use evt_types::Refusal;
+use prophesee_raw::RawSliceSource;
 use std::io;
 use std::io::Write;
+use test_text::columns::MARK;
 use test_text::{columns, given, room, show, text};
 
 fn dispatch(
@@ -18,7 +20,7 @@ fn dispatch(
     ys: &mut [u16],
     ts: &mut [i64],
     ps: &mut [u8],
-) -> SliceAnswer {
+) -> Result<usize, Refusal> {
     let records = given.all;
     let n = given.n;
     let a = text::field(query, b':', 1);
@@ -62,7 +64,7 @@ fn lend(
     ys: &mut [u16],
     ts: &mut [i64],
     ps: &mut [u8],
-) -> SliceAnswer {
+) -> Result<usize, Refusal> {
     let x = columns::lent(room, 0, xs.len());
     let y = columns::lent(room, 1, ys.len());
     let t = columns::lent(room, 2, ts.len());
@@ -79,20 +81,11 @@ fn lend(
     )
 }
 
-// How many events there are.
-fn show_answer(stdout: &mut impl Write, answer: SliceAnswer) -> io::Result<usize> {
-    show::text(stdout, b" | ")?;
+fn show_answer(stdout: &mut impl Write, answer: Result<usize, Refusal>) -> io::Result<()> {
+    write!(stdout, " | ")?;
     match answer {
-        SliceAnswer::Sliced(n) => {
-            show::text(stdout, b"ok")?;
-            show::next(stdout, b' ', n as u64)?;
-            show::text(stdout, b" :")?;
-            Ok(n)
-        }
-        SliceAnswer::Refused(why) => {
-            show::refusal(stdout, why)?;
-            Ok(0)
-        }
+        Ok(n) => write!(stdout, "ok {n} :"),
+        Err(why) => show::refusal(stdout, why),
     }
 }
 
@@ -104,51 +97,29 @@ fn run(
     room: &[u8],
     bytes: &[u8],
 ) -> io::Result<()> {
-    let mut xs = columns::shorts();
-    let mut ys = columns::shorts();
-    let mut ts = columns::longs();
-    let mut ps = columns::bytes();
+    let mut xs = columns::marked(MARK.x);
+    let mut ys = columns::marked(MARK.y);
+    let mut ts = columns::marked(MARK.t);
+    let mut ps = columns::marked(MARK.p);
     let answer = lend(
         query, source, given, room, bytes, &mut xs, &mut ys, &mut ts, &mut ps,
     );
-    let n = show_answer(stdout, answer)?;
-    columns::show_all(stdout, &xs, &ys, &ts, &ps, n)
+    show_answer(stdout, answer)?;
+    columns::show_all(stdout, &xs, &ys, &ts, &ps, answer.unwrap_or(0))
 }
 
 // One query after another; `;` parts them.
-fn all(
-    stdout: &mut impl Write,
-    queries: &[u8],
-    source: RawSliceSource,
-    given: Records,
-    room: &[u8],
-    bytes: &[u8],
-) -> io::Result<()> {
-    let mut k = 0;
-    while k < queries.len() {
-        let query = text::field(queries, b';', k);
-        if query.len() == 0 {
-            return Ok(());
-        }
-        run(stdout, query, source, given, room, bytes)?;
-        k += 1;
-    }
-    Ok(())
-}
-
 pub fn answer(stdout: &mut impl Write, case: &[u8]) -> io::Result<()> {
-    show::text(stdout, b"ok")?;
+    write!(stdout, "ok")?;
     let source = source::read(text::field(case, b' ', 2));
     let given = record::read_all(text::field(case, b' ', 3));
-    let mut buffer = room();
+    let lent = text::field(case, b' ', 4);
+    let mut buffer: [u8; 1572864] = room(0);
     let n = given::read(text::field(case, b' ', 6), &mut buffer);
     let bytes = text::part(&buffer, 0, n);
-    all(
-        stdout,
-        text::field(case, b' ', 5),
-        source,
-        given,
-        text::field(case, b' ', 4),
-        bytes,
-    )
+    let queries = text::field(case, b' ', 5).split(|&b| b == b';');
+    for query in queries.take_while(|query| !query.is_empty()) {
+        run(stdout, query, source, given, lent, bytes)?;
+    }
+    Ok(())
 }

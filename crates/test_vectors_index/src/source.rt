@@ -2,29 +2,26 @@
 use prophesee_raw::RawSliceSource;
 use std::io;
 use std::io::Write;
-use test_text::{options, show, text};
+use test_text::{options, text};
 
 pub fn read(s: &[u8]) -> RawSliceSource {
-    let mut n = [0u64; 7];
-    text::numbers(s, &mut n);
+    let [_, spacing, start, length, width, height, events] = text::numbers::<7>(s);
     RawSliceSource {
         encoding: options::read_encoding(s),
-        spacing: n[1] as usize,
-        data_offset: n[2] as usize,
-        len: n[3] as usize,
-        width: n[4] as usize,
-        height: n[5] as usize,
-        n_events: n[6] as usize,
+        spacing: spacing as usize,
+        data_offset: start as usize,
+        len: length as usize,
+        width: width as usize,
+        height: height as usize,
+        n_events: events as usize,
     }
 }
 
 pub fn show(stdout: &mut impl Write, source: RawSliceSource) -> io::Result<()> {
-    let encoding = source.encoding;
-    show::number(stdout, evt_types::encoding_number(encoding) as u64)?;
-    show::next(stdout, b':', source.spacing as u64)?;
-    show::next(stdout, b',', source.data_offset as u64)?;
-    show::next(stdout, b',', source.len as u64)?;
-    show::next(stdout, b',', source.width as u64)?;
-    show::next(stdout, b',', source.height as u64)?;
-    show::next(stdout, b',', source.n_events as u64)
+    let encoding = u32::from(source.encoding);
+    write!(
+        stdout,
+        "{encoding}:{},{},{},{},{},{}",
+        source.spacing, source.data_offset, source.len, source.width, source.height, source.n_events
+    )
 }

@@ -1,8 +1,10 @@
 -- Words of n bytes counted by blocks of 64 bytes: each byte that is the last of a word and has the type of a trigger adds 1. What the sum over at most 64 bytes
 -- is, and the loop over blocks.
-use Rattle.std.specs.Prelude.{◌≡◌, refl, Bool, true, false, cond, List, [], ◌∷◌, ℕ, zero, suc, ◌+◌, ◌-◌, ◌*◌, ◌/◌, ◌%◌, ◌≤◌, ◌<◌}
+use Rattle.std.specs.Prelude.{◌≡◌, refl, Bool, true, false, cond, List, [], ◌∷◌, ◌++◌, ℕ, zero, suc, ◌+◌, ◌-◌, ◌*◌, ◌/◌, ◌%◌, ◌≤◌, ◌<◌}
 use Rattle.std.specs.Prelude.{eqb, ltb, length, drop, get_or}
-use Rattle.std.proofs.Common.{sym, ap, ◌∙◌, arith, zero-add, add-zero, zero-mul, add-one, ltb-true, ltb-false, length-take, drop_of_length-le, drop-cons}
+use Rattle.std.proofs.Common.{sym, ap, ◌∙◌, arith, zero-add, add-zero, zero-mul, add-one, ltb-true, ltb-false}
+use Rattle.std.proofs.Common.{length-take, length-drop, length-append, drop-drop, drop_of_length-le, drop-cons}
+use Rattle.std.proofs.Math.Seq.{take-append_seam, drop-append_seam}
 use Rattle.laws_stream.specs.{Part.between, Part.rest_of, Part.between-rest, Part.length-between, Words.words-end}
 use Rattle.evt_types.specs.Layout.{trigger_type}
 use Rattle.trigger_count.specs.Types.{type_count, Bytes, bytes-between, type_at, count_next, count-append}
@@ -116,6 +118,14 @@ module _ {flags l : List ℕ} {n j : ℕ} (g : Tallying flags l n j) where
 
 pub part_few : (l : List ℕ) (i e : ℕ) → e ≤ i + 64 → length (between l i e) ≤ 64
 part_few l i e h = omega (arith, length-take (e - i) (drop i l))
+
+-- the block at the head of what is left
+pub head-part : (l : List ℕ) (i n : ℕ) (x left : List ℕ) → i ≤ length l → drop i l ≡ x ++ left → length x ≡ n
+    → (i + n ≤ length l) × (x ≡ between l i (i + n)) × (left ≡ drop (i + n) l)
+head-part l i n x left within e h =
+    let long : length l ≡ i + n + length left = omega (arith, within, length-drop i l, ap length e, length-append x left, h) in
+    let size : i + n - i ≡ length x = omega (arith, h) in
+    (omega arith, sym (rw (size, e) (take-append_seam x left)), sym (drop-append_seam x left) ∙ rw (h, ← e) (drop-drop n i l))
 
 -- the words before i have `count` triggers
 pub record Counting (n : ℕ) (l : List ℕ) (count i : ℕ) : Type 0 where

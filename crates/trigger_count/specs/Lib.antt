@@ -1,5 +1,6 @@
 pub mod Types
 pub mod Marks
+pub mod Chunks
 pub mod Start
 pub mod Table
 pub mod Blocks

@@ -5,7 +5,7 @@
 ghost use Rattle.std.specs.Prelude.{◌≡◌, ◌≤◌, ◌<◌, length};
 ghost use Rattle.evt_types.specs.Layout.{trigger_type};
 ghost use Rattle.trigger_count.specs.Types.{type_count};
-ghost use Rattle.trigger_count.specs.Table.{Block, last_flag, LastBytes};
+ghost use Rattle.trigger_count.specs.Table.{Block, LastBytes};
 ghost use Rattle.trigger_count.specs.Blocks.{adds_up, tally, Flags};
 
 use evt_types::trigger;
@@ -13,24 +13,14 @@ use evt_types::trigger;
 // As a byte, since bytes are compared.
 const TYPE: u8 = trigger::TYPE as u8;
 
-// 1 for the last byte of a word, at index j of a block, else 0.
-fn last_flag(size: usize, j: usize) -> u8
-    requires { (0 < size) × (j < 64) }
-    ensures { result ≡ last_flag size j }
-{
-    if (j + 1) % size == 0 { 1 } else { 0 }
-}
-
-// The flags of a block's bytes.
+// 1 for each last byte of a word in a block, else 0.
 fn last_bytes(size: usize) -> [u8; 64]
     requires { 0 < size }
     ensures { LastBytes size result }
 {
-    let mut flags = [0u8; 64];
-    let mut j: usize = 0;
-    while j < 64 {
-        flags[j] = last_flag(size, j);
-        j += 1;
+    let mut flags = [0; 64];
+    for (j, flag) in flags.iter_mut().enumerate() {
+        *flag = ((j + 1) % size == 0) as u8;
     }
     flags
 }
@@ -49,10 +39,8 @@ fn sum(bytes: &[u8], flags: &[u8; 64]) -> u8
     ensures { result ≡ tally flags.now bytes.now }
 {
     let mut n: u8 = 0;
-    let mut j: usize = 0;
-    while j < bytes.len() {
-        n += adds_up(flags[j], bytes[j]);
-        j += 1;
+    for (byte, flag) in bytes.iter().zip(flags) {
+        n += adds_up(*flag, *byte);
     }
     n
 }
@@ -64,14 +52,11 @@ pub fn count(bytes: &[u8], size: usize) -> usize
     ensures { result ≡ type_count size trigger_type bytes.now }
 {
     let flags = last_bytes(size);
+    let blocks = bytes.chunks_exact(64);
+    let rest = blocks.remainder();
     let mut n: usize = 0;
-    let mut i: usize = 0;
-    while 64 <= bytes.len() - i {
-        let to = i + 64;
-        let m = sum(&bytes[i..to], &flags);
-        n += m as usize;
-        i = to;
+    for block in blocks {
+        n += sum(block, &flags) as usize;
     }
-    let m = sum(&bytes[i..], &flags);
-    n + m as usize
+    n + sum(rest, &flags) as usize
 }

@@ -1,6 +1,7 @@
 -- The times behind words that count no loop, looked for from their end back.
-use Rattle.std.specs.Prelude.{◌≡◌, List, ◌∷◌, ◌++◌, ℕ, zero, suc, ◌+◌, ◌*◌, ◌≤◌, ◌<◌, length, take, drop}
+use Rattle.std.specs.Prelude.{◌≡◌, List, ◌∷◌, ◌++◌, ℕ, zero, suc, ◌+◌, ◌-◌, ◌*◌, ◌/◌, ◌≤◌, ◌<◌, length, take, drop}
 use Rattle.std.proofs.Common.{sym, ap, ◌∙◌, arith, zero-mul, suc-mul, take-append-drop, length-take-le}
+use Rattle.std.proofs.Math.Nat.{mul-div_cancel}
 use Rattle.laws_stream.specs.Words.{words_of, words-end}
 use Rattle.evt_types.specs.Ahead.{ahead}
 use Rattle.trigger_fill.specs.declared.{form.Form.Form, times.Times.Times}
@@ -34,6 +35,10 @@ whole_none {f} known k h u = go u.words u.is
     go zero e = e ∙ zero-mul f.size
     go (suc m) e = absurd (omega (arith, e ∙ suc-mul m f.size))
 
+pub word_before : (k n : ℕ) → 0 < k → k * n ≡ (k - 1) * n + n
+word_before zero n h = absurd (omega arith)
+word_before (suc k) n h = let e : suc k - 1 ≡ k = omega arith in rw e (suc-mul k n)
+
 module _ {A : Type 0} (part : Times → A) {f : Form} (known : Known f) (l : List ℕ) where
   pub still_start : Whole f (length l) → Still part f l (length l)
   still_start u = record {
@@ -41,6 +46,12 @@ module _ {A : Type 0} (part : Times → A) {f : Form} (known : Known f) (l : Lis
     within = omega arith;
     same = λ c. ap part (ap (settled f c) (words-end f.size (size-pos known) l (length l) (omega (arith, size-pos known))) ∙ settled-nil f c);
   }
+
+  pub still_words : Whole f (length l) → Still part f l (length l / f.size * f.size)
+  still_words u = rw (← all) at (still_start u)
+    where
+      all : length l / f.size * f.size ≡ length l
+      all = rw u.is (ap (λ (m : ℕ). m * f.size) (mul-div_cancel u.words (size-pos known)))
 
   pub still_end : {k : ℕ} → Still part f l k → k < f.size → (c : Times) → part c ≡ part (settled f c (words_of f.size l))
   still_end {k} u h c = sym (rw (whole_none known k h u.whole) at (u.same c))

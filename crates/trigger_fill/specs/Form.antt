@@ -53,6 +53,10 @@ pub data Known : Form → Type 0 where
   known21 : Known form21
   known3 : Known form3
 
+-- of a format's constant, as a loop reads it
+pub known_at : {f form : Form} → f ≡ form → Known form → Known f
+known_at e known = rw e known
+
 -- a word's type, and the bits below it
 abbrev pub kind_in : Form → ℕ → ℕ
 kind_in f w = w / 2 ^ f.shift % 2 ^ 4
@@ -98,6 +102,9 @@ pub record Paced (f : Form) (n : ℕ) (c : Times) : Type 0 where
   pub base : c.base < suc c.loops * f.period
   pub near : c.time < c.base + f.grain
 
+pub paced_at : {f form : Form} {n : ℕ} {c : Times} → f ≡ form → Paced form n c → Paced f n c
+paced_at e p = rw e p
+
 -- ---- laws
 
 pub size-pos : {f : Form} → Known f → 0 < f.size
@@ -109,26 +116,6 @@ pub size_few : {f : Form} → Known f → f.size ≤ 8
 size_few known2 = omega arith
 size_few known21 = omega arith
 size_few known3 = omega arith
-
-pub is_form2 : {f : Form} → Known f → f.size ≡ word_size2 → f ≡ form2
-is_form2 known2 h = refl
-is_form2 known21 h = absurd (omega arith)
-is_form2 known3 h = absurd (omega arith)
-
-pub is_form3 : {f : Form} → Known f → f.size ≡ word_size3 → f ≡ form3
-is_form3 known2 h = absurd (omega arith)
-is_form3 known21 h = absurd (omega arith)
-is_form3 known3 h = refl
-
-pub is_form21 : {f : Form} → Known f → (f.size ≡ word_size2 → ⊥) → (f.size ≡ word_size3 → ⊥) → f ≡ form21
-is_form21 known2 h g = absurd (h refl)
-is_form21 known21 h g = refl
-is_form21 known3 h g = absurd (g refl)
-
-pub shift_few : {f : Form} → Known f → f.shift < 64
-shift_few known2 = omega arith
-shift_few known21 = omega arith
-shift_few known3 = omega arith
 
 pub low_few : {f : Form} → Known f → (f.from < 64) × (f.width < 64)
 low_few known2 = (omega arith, omega arith)

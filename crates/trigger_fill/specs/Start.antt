@@ -175,25 +175,27 @@ follows3 = record {
 -- ---- any
 
 abbrev pub outset_of : Codec → Outset
-outset_of (Evt2 d) = record { form = form2; started = d.initialised; times = times2 d }
-outset_of (Evt21 d) = record { form = form21; started = d.initialised; times = times21 d }
-outset_of (Evt3 d) = record { form = form3; started = d.initialised; times = times3 d }
+outset_of (Evt2 d) = record { started = d.initialised; times = times2 d }
+outset_of (Evt21 d) = record { started = d.initialised; times = times21 d }
+outset_of (Evt3 d) = record { started = d.initialised; times = times3 d }
 
-pub known_of : (c : Codec) → Known (outset_of c).form
-known_of (Evt2 d) = known2
-known_of (Evt21 d) = known21
-known_of (Evt3 d) = known3
+abbrev pub form_of : Codec → Form
+form_of (Evt2 d) = form2
+form_of (Evt21 d) = form21
+form_of (Evt3 d) = form3
 
-pub start : (c : Codec) (l : List ℕ) → Bounded (length l) c → {o : Outset} → o ≡ outset_of c → {i : ℕ} → i ≡ start_of o.form o.started l
-    → Started o.form o.times i l (triggers_from c l)
-start c l b is-o is-i = rw (is-i, is-o) (go c b)
-  where
-    go : (c : Codec) → Bounded (length l) c → let o = outset_of c in Started o.form o.times (start_of o.form o.started l) l (triggers_from c l)
-    go (Evt2 d) b =
-        starts known2 follows2 d l b.regular.unstarted (record { loops = omega (arith, b.loops); base = below2 d b.regular; near = omega arith })
-    go (Evt21 d) b =
-        starts known21 follows21 d l (λ off. ap of2 (b.regular.unstarted off))
-        (record { loops = omega (arith, b.loops); base = below2 (as2 d) b.regular; near = omega arith })
-    go (Evt3 d) b =
-        starts known3 follows3 d l b.regular.unstarted
-        (record { loops = omega (arith, b.loops); base = below3 d b.regular; near = near3 d b.regular })
+pub start : (c : Codec) (l : List ℕ) → Bounded (length l) c
+    → let o = outset_of c in Started (form_of c) o.times (start_of (form_of c) o.started l) l (triggers_from c l)
+start (Evt2 d) l b =
+    starts known2 follows2 d l b.regular.unstarted (record { loops = omega (arith, b.loops); base = below2 d b.regular; near = omega arith })
+start (Evt21 d) l b =
+    starts known21 follows21 d l (λ off. ap of2 (b.regular.unstarted off))
+    (record { loops = omega (arith, b.loops); base = below2 (as2 d) b.regular; near = omega arith })
+start (Evt3 d) l b =
+    starts known3 follows3 d l b.regular.unstarted
+    (record { loops = omega (arith, b.loops); base = below3 d b.regular; near = near3 d b.regular })
+
+-- by its encoding
+pub begun : (c : Codec) (l : List ℕ) → Bounded (length l) c → {o : Outset} → o ≡ outset_of c → {f : Form} → form_of c ≡ f
+    → Started f o.times (start_of f o.started l) l (triggers_from c l)
+begun c l b is_o is_f = rw (is_o, ← is_f) (start c l b)

@@ -2,61 +2,48 @@
 // them are near.
 ghost use Rattle.std.specs.Prelude.{◌≡◌, length};
 ghost use Rattle.laws_stream.specs.Words.{words_of};
-ghost use Rattle.trigger_fill.specs.Form.{Known, Paced};
+ghost use Rattle.trigger_fill.specs.Form.{Paced};
 ghost use Rattle.trigger_fill.specs.Calm.{settled};
 ghost use Rattle.trigger_fill.specs.Back.{Whole};
 
-use crate::form::Form;
+use crate::form::Format;
 use crate::times::Times;
 use crate::{form, times};
-use evt_types::fields::bits;
 
 // The last time word's, or as it was.
-fn base(f: Form, front: &[u8], c: Times) -> u64
-    requires known { Known f }
-    requires paced { Paced f 0 c }
-    requires whole { Whole f (length front.now) }
-    ensures { result ≡ (settled f c (words_of f.size front.now)).base }
+fn base<E: Format>(front: &[u8], c: Times) -> u64
+    requires paced { Paced E.FORM 0 c }
+    requires whole { Whole E.FORM (length front.now) }
+    ensures { result ≡ (settled E.FORM c (words_of E.FORM.size front.now)).base }
 {
-    let size = f.size;
-    let mut k = front.len();
-    while size <= k {
-        k -= size;
-        let w = form::word(f, front, k);
-        let kind = bits(w, f.shift, 4);
-        if kind == times::TYPE {
-            return times::coarse(f, c, w);
+    let f = E::FORM;
+    for k in (0..front.len() / f.size).rev() {
+        let w = E::word(front, k * f.size);
+        if form::kind::<E>(w) == times::TYPE {
+            return c.coarse::<E>(w);
         }
     }
     c.base
 }
 
-pub fn across(f: Form, front: &[u8], c: Times) -> Times
-    requires known { Known f }
-    requires paced { Paced f 0 c }
-    requires whole { Whole f (length front.now) }
-    ensures { result ≡ settled f c (words_of f.size front.now) }
+pub fn across<E: Format>(front: &[u8], c: Times) -> Times
+    requires paced { Paced E.FORM 0 c }
+    requires whole { Whole E.FORM (length front.now) }
+    ensures { result ≡ settled E.FORM c (words_of E.FORM.size front.now) }
 {
-    let size = f.size;
-    let mut k = front.len();
-    while size <= k {
-        k -= size;
-        let w = form::word(f, front, k);
-        let kind = bits(w, f.shift, 4);
+    let f = E::FORM;
+    for k in (0..front.len() / f.size).rev() {
+        let at = k * f.size;
+        let w = E::word(front, at);
+        let kind = form::kind::<E>(w);
         if kind == times::TYPE {
-            let coarse = times::coarse(f, c, w);
-            return Times {
-                base: coarse,
-                time: coarse,
-                loops: c.loops,
-            };
+            return Times::set_to(c.coarse::<E>(w), c.loops);
         }
         if kind == f.fine {
-            let b = base(f, &front[..k], c);
-            let low = bits(w, f.from, f.width);
+            let b = base::<E>(&front[..at], c);
             return Times {
                 base: b,
-                time: b + low,
+                time: b + form::low::<E>(w),
                 loops: c.loops,
             };
         }

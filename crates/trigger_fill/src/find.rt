@@ -2,13 +2,12 @@
 // and the times there.
 ghost use Rattle.std.specs.Prelude.{◌≡◌, ◌*◌};
 ghost use Rattle.laws_stream.specs.Words.{words_of};
-ghost use Rattle.trigger_fill.specs.Form.{Known};
 ghost use Rattle.trigger_fill.specs.Follow.{lead};
 ghost use Rattle.trigger_fill.specs.Calm.{notable};
 ghost use Rattle.trigger_fill.specs.Reach.{Reached};
 ghost use Rattle.trigger_fill.specs.Pulse.{Place};
 
-use crate::form::Form;
+use crate::form::Format;
 use crate::times::Times;
 use crate::{back, blocks};
 
@@ -18,32 +17,26 @@ pub struct Stop {
     pub times: Times,
 }
 
-// The index of the first notable word, or behind the last word if there is none. By a word's highest
-// byte, which is its last in every encoding: to read the whole word measured slower.
-fn find(f: Form, late: bool, s: &[u8]) -> usize
-    requires { Known f }
-    ensures { result ≡ lead (notable late f) (words_of f.size s.now) * f.size }
+// The index of the first notable word, or behind the last word if there is none.
+fn find<E: Format>(late: bool, s: &[u8]) -> usize
+    ensures { result ≡ lead (notable late E.FORM) (words_of E.FORM.size s.now) * E.FORM.size }
 {
-    let mut i = blocks::over(f, late, s);
-    while i + f.size <= s.len() {
-        let top = s[i + (f.size - 1)] as u64;
-        if blocks::is_notable(late, top) {
-            return i;
-        }
-        i += f.size;
-    }
-    i
+    let from = blocks::over::<E>(late, s);
+    let calm = s[from..]
+        .chunks_exact(E::FORM.size)
+        .take_while(|word| !blocks::is_notable_word::<E>(late, word))
+        .count();
+    from + calm * E::FORM.size
 }
 
 // From index i on.
-pub fn reach(f: Form, bytes: &[u8], i: usize, c: Times) -> Stop
-    requires known { Known f }
-    requires place { Place f bytes.now c i }
-    ensures { Reached f bytes.now c i result.times result.at }
+pub fn reach<E: Format>(bytes: &[u8], i: usize, c: Times) -> Stop
+    requires { Place E.FORM bytes.now c i }
+    ensures { Reached E.FORM bytes.now c i result.times result.at }
 {
-    let late = c.loops * f.period + f.late <= c.base;
+    let late = c.is_late::<E>();
     let rest = &bytes[i..];
-    let n = find(f, late, rest);
-    let times = back::across(f, &rest[..n], c);
+    let n = find::<E>(late, rest);
+    let times = back::across::<E>(&rest[..n], c);
     Stop { at: i + n, times }
 }

@@ -1,8 +1,9 @@
-// What of an encoding tells the times and fields of its triggers: one loop serves all encodings.
+// What of an encoding tells the times and fields of its triggers: one generic loop serves all encodings.
 ghost use Rattle.std.specs.Prelude.{◌≡◌, ◌+◌, ◌<◌, ◌^◌};
 ghost use Rattle.evt_types.specs.Ahead.{ahead};
-ghost use Rattle.trigger_fill.specs.Form.{form2_above, form2, form21, form3, Known};
+ghost use Rattle.trigger_fill.specs.Form.{form2, form21, form3, Known, known2, known21, known3, kind_in, low_in};
 
+use evt_types::fields::bits;
 use evt_types::words;
 use evt2_decoder::Evt2Decoder;
 use evt3_decoder::Decoder;
@@ -27,42 +28,70 @@ pub struct Form {
     pub channel: u64,
 }
 
-// EVT2's, of words of `size` bytes above a mask of `from` bits.
-fn above(size: usize, from: u64) -> Form
-    requires { from < 64 }
-    ensures { result ≡ form2_above size from }
-{
-    Form {
-        size,
-        shift: from + 28,
-        from,
-        width: 28,
-        fine: 8,
-        grain: Evt2Decoder::GRAIN,
-        period: Evt2Decoder::PERIOD,
-        threshold: Evt2Decoder::THRESHOLD,
-        late: 16106127360,
-        low: 6,
-        channel: 5,
+// A format, by its decoder: its numbers, which are constants of the loop, and its words.
+pub trait Format {
+    ghost use Rattle.trigger_fill.specs.declared.form.Form.{Form};
+
+    ghost FORM: { Form };
+
+    const FORM: Form;
+
+    // The word at index i, 0 if none is whole there.
+    fn word(bytes: &[u8], i: usize) -> u64
+        requires { i + 7 < 2 ^ 64 }
+        ensures { result ≡ ahead FORM.size bytes.now i };
+
+    ghost known: { Known FORM };
+}
+
+const EVT2: Form = Form {
+    size: Evt2Decoder::WORD_SIZE,
+    shift: 28,
+    from: 0,
+    width: 28,
+    fine: 8,
+    grain: Evt2Decoder::GRAIN,
+    period: Evt2Decoder::PERIOD,
+    threshold: Evt2Decoder::THRESHOLD,
+    late: 16106127360,
+    low: 6,
+    channel: 5,
+};
+
+impl Format for Evt2Decoder {
+    ghost FORM = { form2 };
+
+    const FORM: Form = EVT2;
+
+    ghost known = { known2 };
+
+    fn word(bytes: &[u8], i: usize) -> u64 {
+        words::four_at(bytes, i)
     }
 }
 
-pub fn evt2() -> Form
-    ensures { result ≡ form2 }
-{
-    above(Evt2Decoder::WORD_SIZE, 0)
+// Of EVT2's words above a mask of 32 bits.
+impl Format for Evt21Decoder {
+    ghost FORM = { form21 };
+
+    const FORM: Form = Form {
+        size: Evt21Decoder::WORD_SIZE,
+        shift: 60,
+        from: 32,
+        ..EVT2
+    };
+
+    ghost known = { known21 };
+
+    fn word(bytes: &[u8], i: usize) -> u64 {
+        words::eight_at(bytes, i)
+    }
 }
 
-pub fn evt21() -> Form
-    ensures { result ≡ form21 }
-{
-    above(Evt21Decoder::WORD_SIZE, 32)
-}
+impl Format for Decoder {
+    ghost FORM = { form3 };
 
-pub fn evt3() -> Form
-    ensures { result ≡ form3 }
-{
-    Form {
+    const FORM: Form = Form {
         size: Decoder::WORD_SIZE,
         shift: 12,
         from: 0,
@@ -74,20 +103,26 @@ pub fn evt3() -> Form
         late: 15728640,
         low: 0,
         channel: 4,
+    };
+
+    ghost known = { known3 };
+
+    fn word(bytes: &[u8], i: usize) -> u64 {
+        words::two_at(bytes, i)
     }
 }
 
-// The word at index i, 0 if none is whole there.
-pub fn word(f: Form, bytes: &[u8], i: usize) -> u64
-    requires known { Known f }
-    requires fits { i + 7 < 2 ^ 64 }
-    ensures { result ≡ ahead f.size bytes.now i }
+// A word's type.
+pub fn kind<E: Format>(word: u64) -> u64
+    ensures { result ≡ kind_in E.FORM word }
 {
-    if f.size == Evt2Decoder::WORD_SIZE {
-        return words::four_at(bytes, i);
-    }
-    if f.size == Decoder::WORD_SIZE {
-        return words::two_at(bytes, i);
-    }
-    words::eight_at(bytes, i)
+    bits(word, E::FORM.shift, 4)
+}
+
+// The bits below its type, above the mask.
+pub fn low<E: Format>(word: u64) -> u64
+    ensures { result ≡ low_in E.FORM word }
+{
+    let f = E::FORM;
+    bits(word, f.from, f.width)
 }

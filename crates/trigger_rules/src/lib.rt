@@ -7,12 +7,11 @@
 ghost use Rattle.std.specs.Prelude.{◌≡◌, ◌≤◌, ◌^◌, min, length, take};
 ghost use Rattle.evt_codec.specs.{Codec.fresh_c, Triggers.triggers_from};
 ghost use Rattle.read_rules.specs.Read.{body_events};
-ghost use Rattle.trigger_rules.specs.{Read.body_triggers, Laws.is_sizeless, Laws.short_of, Laws.is_done, Laws.answer_with};
+ghost use Rattle.trigger_rules.specs.{Read.body_triggers, Laws.is_sizeless, Laws.short_of};
 
 use evt_codec::Codec;
-use evt_types::num::min_usize;
-use evt_types::{Encoding, Limit, Refusal, SensorSize};
-use read_rules::{ReadAnswer, Reading};
+use evt_types::{Encoding, Refusal, SensorSize};
+use read_rules::Reading;
 
 // What was read, and how many triggers.
 #[derive(Clone, Copy)]
@@ -21,60 +20,56 @@ pub struct TriggerReading {
     pub triggers: usize,
 }
 
-#[derive(Clone, Copy)]
-pub enum TriggerReadAnswer {
-    Read(TriggerReading),
-    Refused(Refusal),
-}
-
-// The shortest of three columns counts.
+// The shortest of three columns counts. (As `read_capacity::shortest`: one function over an array would answer an Option.)
 pub fn shortest3(a: usize, b: usize, c: usize) -> usize
     ensures { result ≡ min a (min b c) }
 {
-    min_usize(a, min_usize(b, c))
+    a.min(b.min(c))
 }
 
 // Up to where a body's words have the triggers that the limit leaves. `requires`, here and below: every
 // caller has refused longer bodies (4).
-pub fn trigger_end(body: &[u8], encoding: Encoding, size: SensorSize, limit: Limit) -> usize
+pub fn trigger_end(
+    body: &[u8],
+    encoding: Encoding,
+    size: Option<SensorSize>,
+    limit: Option<usize>,
+) -> usize
     requires { length body.now ≤ 2 ^ 30 }
     ensures { (result ≤ length body.now)
         × (triggers_from (fresh_c encoding) (take result body.now) ≡ body_triggers encoding size limit body.now) }
 {
     match limit {
-        Limit::Unlimited => body.len(),
-        Limit::AtMost(n) => end_before(body, encoding, size, n),
+        None => body.len(),
+        Some(n) => end_before(body, encoding, size, n),
     }
 }
 
 // Up to the word that holds event n, counted from 1, of those that the size keeps, and through it: it
 // holds no trigger.
-fn end_before(body: &[u8], encoding: Encoding, size: SensorSize, n: usize) -> usize
+fn end_before(body: &[u8], encoding: Encoding, size: Option<SensorSize>, n: usize) -> usize
     requires { length body.now ≤ 2 ^ 30 }
     ensures { (result ≤ length body.now)
-        × (triggers_from (fresh_c encoding) (take result body.now) ≡ body_triggers encoding size (Limit.AtMost n) body.now) }
+        × (triggers_from (fresh_c encoding) (take result body.now) ≡ body_triggers encoding size (Some n) body.now) }
 {
     if n == 0 {
         return 0;
     }
     let codec = Codec::new(encoding);
-    let window = read_rules::window_of(size, Limit::AtMost(n));
+    let window = read_rules::window_of(size, Some(n));
     let words = read_select::survey(body, codec, window, 0).consumed;
     words * codec.word_size()
 }
 
 // No size, and no event to derive one from.
-fn is_sizeless(size: SensorSize, events: usize) -> bool
+fn is_sizeless(size: Option<SensorSize>, events: usize) -> bool
     ensures { result ≡ is_sizeless size events }
 {
-    match size {
-        SensorSize::Unknown => events == 0,
-        SensorSize::Known(_, _) => false,
-    }
+    size.is_none() && events == 0
 }
 
 // Of a body with so many events and n triggers, into columns of `room` places and too few for triggers.
-fn short_of(size: SensorSize, events: usize, room: usize, n: usize) -> Refusal
+fn short_of(size: Option<SensorSize>, events: usize, room: usize, n: usize) -> Refusal
     ensures { result ≡ short_of size events room n }
 {
     if is_sizeless(size, events) {
@@ -91,39 +86,16 @@ fn short_of(size: SensorSize, events: usize, room: usize, n: usize) -> Refusal
 pub fn refused_short(
     body: &[u8],
     encoding: Encoding,
-    size: SensorSize,
-    limit: Limit,
+    size: Option<SensorSize>,
+    limit: Option<usize>,
     room: usize,
     n: usize,
-) -> TriggerReadAnswer
+) -> Refusal
     requires { length body.now ≤ 2 ^ 30 }
-    ensures { result ≡ TriggerReadAnswer.Refused (short_of size (length (body_events encoding size limit body.now)) room n) }
+    ensures { result ≡ short_of size (length (body_events encoding size limit body.now)) room n }
 {
     let codec = Codec::new(encoding);
     let window = read_rules::window_of(size, limit);
     let events = read_select::survey(body, codec, window, 0).count;
-    TriggerReadAnswer::Refused(short_of(size, events, room, n))
-}
-
-// Nothing is left to write: the events were refused, or there is no trigger.
-pub fn is_done(answer: ReadAnswer, triggers: usize) -> bool
-    ensures { result ≡ is_done answer triggers }
-{
-    match answer {
-        ReadAnswer::Read(_) => triggers == 0,
-        ReadAnswer::Refused(_) => true,
-    }
-}
-
-// What reading the events answered, with so many triggers.
-pub fn answer_with(answer: ReadAnswer, triggers: usize) -> TriggerReadAnswer
-    ensures { result ≡ answer_with answer triggers }
-{
-    match answer {
-        ReadAnswer::Read(r) => TriggerReadAnswer::Read(TriggerReading {
-            reading: r,
-            triggers,
-        }),
-        ReadAnswer::Refused(r) => TriggerReadAnswer::Refused(r),
-    }
+    short_of(size, events, room, n)
 }

@@ -1,20 +1,21 @@
 -- Laws of specs/Rising.antt.
-use Rattle.evt_types.specs.{declared.Encoding.Encoding, declared.Sent.Sent}
+use Rattle.std.specs.Prelude.{Option, Some}
+use Rattle.evt_types.specs.{declared.Encoding.Encoding}
 use Rattle.laws_stream.specs.Order.{last_of}
 use Rattle.std.proofs.Common.{arith}
 use Rattle.std.specs.Prelude.{List, [], length, refl, ℕ, ℤ, ◌∷◌, ◌≡◌}
 use Rattle.write_append.specs.{Append.last_after, Append.next_sink, Rising.checked_rise, Rising.clock, Rising.earliest, Rising.in_bounds, Rising.state_none}
 use Rattle.write_buffer.specs.Columns.{events_in}
-use Rattle.write_rules.specs.{Checks.Checked, Range.not_before, Range.sink_not_before, declared.LastTime.LastTime, declared.LastTime.TheVariants.At}
+use Rattle.write_rules.specs.{Checks.Checked, Range.not_before, Range.sink_not_before}
 use Rattle.write_rules.specs.{declared.RawEventSink.RawEventSink}
 use Rattle.write_words.specs.Encode.{encode_state}
 
 -- ---- the writer's time after it
 
-after-some : (e : Encoding) (held : Sent) (l m : LastTime) (t : ℤ) (ts : List ℤ) → not_before e held (last_after l (t ∷ ts)) ≡ last_after m (t ∷ ts)
+after-some : (e : Encoding) (held : Option ℕ) (l m : Option ℤ) (t : ℤ) (ts : List ℤ) → not_before e held (last_after l (t ∷ ts)) ≡ last_after m (t ∷ ts)
 unfolding last_after
 after-some e held l m t [] = refl
-after-some e held l m t (u ∷ ts) = after-some e held (At t) (At t) u ts
+after-some e held l m t (u ∷ ts) = after-some e held (Some t) (Some t) u ts
 
 next_time : (s : RawEventSink) (xs ys : List ℕ) (ts : List ℤ) (ps : List ℕ) → length ts ≡ length xs
     → sink_not_before (next_sink s xs ys ts ps) ≡ last_after (sink_not_before s) ts

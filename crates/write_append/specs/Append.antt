@@ -4,8 +4,9 @@ use Rattle.evt_types.specs.{Outcome.Outcome, Outcome.refuse, Outcome.give, Outco
 use Rattle.evt_types.specs.{Told.accepted, declared.Refusal.TheVariants.OutputTooShort}
 use Rattle.write_buffer.specs.Columns.{events_in}
 use Rattle.write_words.specs.Encode.{encode_state, encode_bytes}
-use Rattle.write_rules.specs.declared.{LastTime.LastTime, LastTime.TheVariants.At, RawEventSink.RawEventSink}
-use Rattle.write_append.specs.declared.{AppendAnswer.AppendAnswer, AppendAnswer.TheVariants.Written, AppendAnswer.TheVariants.Refused}
+use Rattle.std.specs.Prelude.{Option, Some, Result, Ok, Err}
+use Rattle.evt_types.specs.declared.Refusal.{Refusal}
+use Rattle.write_rules.specs.declared.{RawEventSink.RawEventSink}
 use Rattle.write_append.specs.declared.{Appended.Appended}
 use Rattle.write_header.specs.Header.{header_text}
 use Rattle.write_rules.specs.Rules.{check_outcome}
@@ -17,9 +18,9 @@ some (a ∷ l) = true
 abbrev pub header_due : RawEventSink → List ℕ → Bool
 header_due s xs = not s.header_written && some xs
 
-unfoldable pub last_after : LastTime → List ℤ → LastTime
+unfoldable pub last_after : Option ℤ → List ℤ → Option ℤ
 last_after l [] = l
-last_after l (t ∷ ts) = last_after (At t) ts
+last_after l (t ∷ ts) = last_after (Some t) ts
 
 module _ (s : RawEventSink) (xs ys : List ℕ) (ts : List ℤ) (ps : List ℕ) where
   abbrev pub word_bytes : List ℕ
@@ -62,8 +63,8 @@ append_outcome s width height xs ys ts ps room =
 abbrev pub accepts : Outcome AppendedBytes → Bool
 accepts = on_outcome (λ r. false) (λ a. true)
 
-abbrev pub append_answer : Outcome AppendedBytes → AppendAnswer
-append_answer = on_outcome Refused (λ a. Written (length a.bytes))
+abbrev pub append_answer : Outcome AppendedBytes → Result ℕ Refusal
+append_answer = on_outcome Err (λ a. Ok (length a.bytes))
 
 -- an acceptance tells how many bytes are written
 abbrev pub append_verdict : Outcome AppendedBytes → Told
@@ -80,9 +81,9 @@ sink_after s = on_outcome (λ r. s) (λ a. a.sink)
 -- ---- promises
 
 -- what an answer tells
-abbrev pub told_append : AppendAnswer → Told
-told_append (Written n) = accepted (n ∷ [])
-told_append (Refused r) = told r
+abbrev pub told_append : Result ℕ Refusal → Told
+told_append (Ok n) = accepted (n ∷ [])
+told_append (Err r) = told r
 
 -- what an append with this outcome promises: r is what it returns, and `out` the output that was out₀
 pub record Appends (s : RawEventSink) (outcome : Outcome AppendedBytes) (out₀ : List ℕ) (r : Appended) (out : List ℕ) : Type 0 where

@@ -14,27 +14,26 @@ use Rattle.evt3_lead_words.specs.Evt3.{loop_of}
 use Rattle.write_words.specs.{Laws.encode_few, Laws.most-le, Laws.ahead_times, Encode.encode_state, Encode.encode_most, Encode.passed, Encode.Fitting}
 use Rattle.write_words.specs.Encode.{last_loop, Paced}
 use Rattle.write_header.specs.Header.{header_text, header_few}
-use Rattle.write_rules.specs.declared.{Check.TheVariants.Passed, Check.TheVariants.Failed, LastTime.LastTime, LastTime.TheVariants.At}
+use Rattle.std.specs.Prelude.{Option, Some, Ok, Err}
 use Rattle.write_rules.specs.{declared.RawEventSink.RawEventSink, Range.events_in_range, Rules.check_outcome, Rules.check_of, Checks.event_fine}
 use Rattle.write_rules.specs.{Checks.check_given, Checks.check_refused, Checks.Checked}
 use Rattle.write_append.specs.Rising.{append_rise, rises_paced}
-use Rattle.write_append.specs.declared.AppendAnswer.TheVariants.{Written, Refused}
 use Rattle.write_append.specs.Append.{some, header_due, due_header, word_bytes, last_after, sends, next_sink, AppendedBytes, append_outcome}
 use Rattle.write_append.specs.Append.{accepts, handed_over, sink_after, Appends, AppendOwed}
 
 -- ---- the last time
 
-last_is : (l : LastTime) (t : ℤ) (ts : List ℤ) → last_after l (t ∷ ts) ≡ At (get_or (t ∷ ts) (length ts) (pos 0))
+last_is : (l : Option ℤ) (t : ℤ) (ts : List ℤ) → last_after l (t ∷ ts) ≡ Some (get_or (t ∷ ts) (length ts) (pos 0))
 unfolding last_after
 last_is l t [] = refl
-last_is l t (u ∷ ts) = last_is (At t) u ts
+last_is l t (u ∷ ts) = last_is (Some t) u ts
 
-pub last_none : (l : LastTime) (ts : List ℤ) → length ts ≤ 0 → last_after l ts ≡ l
+pub last_none : (l : Option ℤ) (ts : List ℤ) → length ts ≤ 0 → last_after l ts ≡ l
 unfolding last_after
 last_none l [] h = refl
 last_none l (t ∷ ts) h = absurd (omega arith)
 
-pub last_some : (l : LastTime) (ts : List ℤ) → 0 < length ts → last_after l ts ≡ At (get_or ts (length ts - 1) (pos 0))
+pub last_some : (l : Option ℤ) (ts : List ℤ) → 0 < length ts → last_after l ts ≡ Some (get_or ts (length ts - 1) (pos 0))
 last_some l [] h = absurd (omega arith)
 last_some l (t ∷ ts) h = let n : suc (length ts) - 1 ≡ length ts = omega arith in last_is l t ts ∙ rw n
 
@@ -93,19 +92,19 @@ module _ (s : RawEventSink) (width height : ℕ) (xs ys : List ℕ) (ts : List �
         go (give u) false = (refl, refl)
 
   module _ (out : List ℕ) where
-    owes_refusal : (r : Refusal) → Appends s (refuse r) out (record { sink = s; answer = Refused r }) out
+    owes_refusal : (r : Refusal) → Appends s (refuse r) out (record { sink = s; answer = Err r }) out
     owes_refusal r = record { is_told = refl; is_answer = refl; is_sink_lem = refl; is_output = refl }
 
-    pub ends_failed : (r : Refusal) → check_of judged ≡ Failed r → AppendOwed s width height xs ys ts ps out (record { sink = s; answer = Refused r }) out
+    pub ends_failed : (r : Refusal) → check_of judged ≡ Err r → AppendOwed s width height xs ys ts ps out (record { sink = s; answer = Err r }) out
     ends_failed r e = rw (outcome_failed (length out) r (check_refused judged r e)) (owes_refusal r)
 
-    pub ends-short : (need : ℕ) → check_of judged ≡ Passed → need ≡ length all → length out < need
-        → AppendOwed s width height xs ys ts ps out (record { sink = s; answer = Refused (OutputTooShort need) }) out
+    pub ends-short : (need : ℕ) → check_of judged ≡ (Ok tt) → need ≡ length all → length out < need
+        → AppendOwed s width height xs ys ts ps out (record { sink = s; answer = Err (OutputTooShort need) }) out
     ends-short need e n h = rw (n, outcome-short (length out) (check_given judged e) (omega arith)) (owes_refusal (OutputTooShort (length all)))
 
-    pub ends-written : (next : RawEventSink) (out' : List ℕ) → check_of judged ≡ Passed → length all ≤ length out
+    pub ends-written : (next : RawEventSink) (out' : List ℕ) → check_of judged ≡ (Ok tt) → length all ≤ length out
         → next ≡ next_sink s xs ys ts ps → out' ≡ sets out 0 all → (n : ℕ) → n ≡ length all
-        → AppendOwed s width height xs ys ts ps out (record { sink = next; answer = Written n }) out'
+        → AppendOwed s width height xs ys ts ps out (record { sink = next; answer = Ok n }) out'
     ends-written next out' e h q o n m =
         rw (outcome-given (length out) (check_given judged e) h, m)
         (record { is_told = refl; is_answer = refl; is_sink_lem = q; is_output = o ∙ sets-eq all out 0 (omega arith) ∙ rw zero-add })

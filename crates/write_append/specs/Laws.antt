@@ -7,7 +7,8 @@ use Rattle.evt_types.specs.{Event.Event, Outcome.give, Num.natural}
 use Rattle.evt_types.specs.declared.{Encoding.Encoding, Encoding.TheVariants.Evt2, Encoding.TheVariants.Evt21, Encoding.TheVariants.Evt3}
 use Rattle.write_buffer.specs.declared.EncoderState.{EncoderState}
 use Rattle.write_words.specs.Encode.{encode_bytes}
-use Rattle.write_rules.specs.declared.{LastTime.LastTime, LastTime.TheVariants.Never, LastTime.TheVariants.At, RawEventSink.RawEventSink}
+use Rattle.std.specs.Prelude.{Option, Some, None}
+use Rattle.write_rules.specs.declared.{RawEventSink.RawEventSink}
 use Rattle.write_rules.specs.Range.{time_in_range, every, falls, falls_after, sink_in_range, sink_not_before}
 use Rattle.write_append.specs.Rising.{state_none}
 use Rattle.write_append.specs.Append.{last_after, sends, append_outcome}
@@ -22,10 +23,10 @@ and_none : (b : Bool) → (b && false) ≡ false
 and_none true = refl
 and_none false = refl
 
-falls_none : (l : LastTime) → falls_after l [] ≡ false
+falls_none : (l : Option ℤ) → falls_after l [] ≡ false
 unfolding falls
-falls_none Never = refl
-falls_none (At t) = refl
+falls_none None = refl
+falls_none (Some t) = refl
 
 words_none : (e : Encoding) (v : EncoderState) → encode_bytes e v [] ≡ []
 unfolding encode_bytes
@@ -53,9 +54,9 @@ module _ (s : RawEventSink) (in_range_lem : sink_in_range s ≡ true) (width hei
 -- ---- THE RANGE IS KEPT, the bound on the count aside
 
 -- the last of some columns whose events are in range
-pub record LastFine (l : Event) (last : LastTime) : Type 0 where
+pub record LastFine (l : Event) (last : Option ℤ) : Type 0 where
   pub time : ℤ
-  pub is_last : last ≡ At time
+  pub is_last : last ≡ Some time
   pub fine : time_in_range time ≡ true
   pub same : natural time ≡ l.t
   pub row : leb l.y 2047 ≡ true

@@ -3,13 +3,14 @@ use Rattle.std.specs.Prelude.{◌≡◌, refl, Bool, true, false, ◌&&◌, List
 use Rattle.std.proofs.Common.{sym, subst, true≢false, arith, eqb-true, ltb-true, ltb-false, le-ltb}
 use Rattle.std.specs.Int.Signed.{lt_z, non_neg}
 use Rattle.laws_stream.specs.{Machine.and_both, Order.Rise, Order.last_of}
-use Rattle.evt_types.specs.{Event.Event, Num.natural, Layout.grain3, declared.Sent.Sent, declared.Sent.TheVariants.Nothing, declared.Sent.TheVariants.Value}
+use Rattle.std.specs.Prelude.{Option, Some, None}
+use Rattle.evt_types.specs.{Event.Event, Num.natural, Layout.grain3}
 use Rattle.evt_types.specs.declared.{Encoding.Encoding, Encoding.TheVariants.Evt2, Encoding.TheVariants.Evt21, Encoding.TheVariants.Evt3}
 use Rattle.evt3_decoder.specs.Evt3.{period3}
 use Rattle.evt3_lead_words.specs.Evt3.{loop_of}
 use Rattle.write_buffer.specs.{declared.EncoderState.EncoderState, Columns.events_in}
 use Rattle.write_words.specs.Encode.{encode_state, loop_clock, Paced, loops_ahead}
-use Rattle.write_rules.specs.declared.{LastTime.LastTime, LastTime.TheVariants.Never, LastTime.TheVariants.At, RawEventSink.RawEventSink}
+use Rattle.write_rules.specs.declared.{RawEventSink.RawEventSink}
 use Rattle.write_rules.specs.Range.{time_bound, time_in_range, every, at_most, falls, falls_after, belongs, not_before, sink_not_before}
 use Rattle.write_rules.specs.Range.{last_in_range, sink_in_range}
 use Rattle.write_rules.specs.Checks.{Checked, or_neither}
@@ -26,9 +27,9 @@ abbrev pub Rises : ℕ → List Event → Type 0
 Rises = Rise clock in_bounds
 
 -- the earliest time that an event may have
-abbrev pub earliest : LastTime → ℕ
-earliest Never = 0
-earliest (At t) = natural t
+abbrev pub earliest : Option ℤ → ℕ
+earliest None = 0
+earliest (Some t) = natural t
 
 -- ---- columns
 
@@ -44,7 +45,7 @@ not_negative : (t : ℤ) → non_neg t ≡ true → lt_z t (pos 0) ≡ false
 not_negative (pos n) h = le-ltb n 0 (omega arith)
 not_negative (negsuc n) h = absurd (true≢false (sym h))
 
-columns_rise : (from : ℕ) (l : LastTime) (xs ys : List ℕ) (ts : List ℤ) (ps : List ℕ) → length ys ≡ length xs → length ts ≡ length xs
+columns_rise : (from : ℕ) (l : Option ℤ) (xs ys : List ℕ) (ts : List ℤ) (ps : List ℕ) → length ys ≡ length xs → length ts ≡ length xs
     → length ps ≡ length xs → earliest l ≡ from
     → falls (pos from) ts ≡ false → every (at_most 2047) xs ≡ true → every (at_most 2047) ys ≡ true → every (at_most 1) ps ≡ true → every time_in_range ts ≡ true
     → Rises from (events_in xs ys ts ps) × (earliest (last_after l ts) ≡ last_of clock in_bounds from (events_in xs ys ts ps))
@@ -62,20 +63,20 @@ columns_rise from l (x ∷ xs) (y ∷ ys) (t ∷ ts) (p ∷ ps) ey et ep el f hx
     let at = and_both (time_in_range t) (every time_in_range ts) ht in
     let b = and_both (non_neg t) (ltb (natural t) time_bound) at.0 in
     let f' : falls (pos (natural t)) ts ≡ false = subst (λ (z : ℤ). falls z ts ≡ false) (as_pos t b.0) g.1 in
-    let r = columns_rise (natural t) (At t) xs ys ts ps (omega arith) (omega arith) (omega arith) refl f' ax.1 ay.1 ap'.1 at.1 in
+    let r = columns_rise (natural t) (Some t) xs ys ts ps (omega arith) (omega arith) (omega arith) refl f' ax.1 ay.1 ap'.1 at.1 in
     ((record { rises = not_below t from b.0 g.0; fine = rw (ax.0, ay.0, ap'.0, b.1) }, r.0), r.1)
 
 -- from the writer's time on, or from 0 where it has none
-falls-from : (e : Encoding) (held : Sent) (l : LastTime) (ts : List ℤ) → falls_after (not_before e held l) ts ≡ false → every time_in_range ts ≡ true
+falls-from : (e : Encoding) (held : Option ℕ) (l : Option ℤ) (ts : List ℤ) → falls_after (not_before e held l) ts ≡ false → every time_in_range ts ≡ true
     → (v : EncoderState) (n : ℕ) → last_in_range e v n l ≡ true → falls (pos (earliest (not_before e held l))) ts ≡ false
 unfolding falls every
-falls-from e Nothing Never [] f h v n k = refl
-falls-from e Nothing Never (t ∷ ts) f h v n k =
+falls-from e None None [] f h v n k = refl
+falls-from e None None (t ∷ ts) f h v n k =
     let a = and_both (time_in_range t) (every time_in_range ts) h in
     let b = and_both (non_neg t) (ltb (natural t) time_bound) a.0 in
     rw (not_negative t b.0) f
-falls-from e (Value g) Never ts f h v n k = f
-falls-from e held (At t) ts f h v n k =
+falls-from e (Some g) None ts f h v n k = f
+falls-from e held (Some t) ts f h v n k =
     let a = and_both (time_in_range t) _ k in
     let b = and_both (non_neg t) (ltb (natural t) time_bound) a.0 in
     subst (λ (z : ℤ). falls z ts ≡ false) (as_pos t b.0) f
@@ -129,14 +130,14 @@ last_few held from (e ∷ es) r = few (loop_clock e) (bound e r.0.fine) e.t es r
     few k h from (e ∷ es) r = few (loop_clock e) (bound e r.0.fine) e.t es r.1
 
 -- the loop of what is held is none after that of the writer's time
-held-loop : (v : EncoderState) (n : ℕ) (l : LastTime) → last_in_range Evt3 v n l ≡ true
+held-loop : (v : EncoderState) (n : ℕ) (l : Option ℤ) → last_in_range Evt3 v n l ≡ true
     → loop_of v.time_high ≤ earliest (not_before Evt3 v.time_high l) / period3
 held-loop v n l h = go v.time_high l refl h
   where
-    go : (held : Sent) (l : LastTime) → v.time_high ≡ held → last_in_range Evt3 v n l ≡ true → loop_of held ≤ earliest (not_before Evt3 held l) / period3
-    go Nothing l e k = omega arith
-    go (Value g) Never e k = omega arith
-    go (Value g) (At t) e k =
+    go : (held : Option ℕ) (l : Option ℤ) → v.time_high ≡ held → last_in_range Evt3 v n l ≡ true → loop_of held ≤ earliest (not_before Evt3 held l) / period3
+    go None l e k = omega arith
+    go (Some g) None e k = omega arith
+    go (Some g) (Some t) e k =
         let a = and_both (time_in_range t) _ k in
         let b = and_both (leb n (2 ^ 62)) _ a.1 in
         let c = and_both (belongs v.time_high (natural t / grain3)) _ b.1 in

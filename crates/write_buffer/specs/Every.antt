@@ -1,7 +1,7 @@
--- What holds at each of some places in a row, found without a branch: numbers are gathered by `|`, and all are below a power of two where the result is.
-use Rattle.std.specs.Prelude.{◌≡◌, refl, Bool, true, false, cond, ◌&&◌, ℕ, zero, suc, ◌+◌, ◌-◌, ◌^◌, ◌≤◌, ◌<◌, eqb, leb}
-use Rattle.std.proofs.Common.{sym, ap, ◌∙◌, arith, add-zero, ne_eqb, eqb-true, leb-true, leb-false, le-leb}
-use Rattle.std.proofs.Math.Bool.{and-true, and_assoc}
+-- What holds at each of some places in a row; and what numbers come to that are gathered by `|`, without
+-- a branch: all are below a power of two where the result is.
+use Rattle.std.specs.Prelude.{◌≡◌, refl, Bool, true, false, cond, ◌&&◌, ℕ, zero, suc, ◌+◌, ◌^◌, eqb, leb}
+use Rattle.std.proofs.Common.{sym, ap, ◌∙◌, arith, ne_eqb, eqb-true, leb-true, leb-false, le-leb}
 use Rattle.std.specs.Int.Bits.{bit_or, bit_xor, xor_self, xor_add_and, or_add_and}
 use Rattle.std.proofs.lemmas.Nat.{or_lt, and_le_l, and_le_r}
 use Rattle.std.proofs.lemmas.Bool.{eqb-false, lt-leb}
@@ -79,44 +79,3 @@ xor_none a b = go (eqb a b) refl
 pub flag_none : (c : Bool) → leb (cond c 0 1) 0 ≡ c
 flag_none true = refl
 flag_none false = refl
-
--- ---- a loop over n places from i on: j of them are gathered
-
-pub record Gathered (most : ℕ) (f : ℕ → Bool) (n i all j : ℕ) : Type 0 where
-  pub width : ℕ
-  pub bound : suc most ≡ 2 ^ width
-  pub below : j ≤ n
-  pub so_far : (leb all most && every_from f (n - j) (i + j)) ≡ every_from f n i
-
-pub gathered_start : (k : ℕ) {most : ℕ} {f : ℕ → Bool} {n i : ℕ} → suc most ≡ 2 ^ k → Gathered most f n i 0 0
-gathered_start k {most} {f} {n} e =
-    record { width = k; bound = e; below = omega arith; so_far = let all : n - 0 ≡ n = omega arith in rw (le-leb 0 most (omega arith), add-zero, all) }
-
-module _ {most : ℕ} {f : ℕ → Bool} {n i all j : ℕ} (g : Gathered most f n i all j) where
-  -- v is at most the bound where the next place holds
-  pub gathered_iteration : j < n → (v : ℕ) → leb v most ≡ f (i + j) → Gathered most f n i (bit_or all v) (j + 1)
-  gathered_iteration h v e =
-      let left : n - j ≡ suc (n - (j + 1)) = omega arith in
-      let to : i + j + 1 ≡ i + (j + 1) = omega arith in
-      let split : every_from f (n - j) (i + j) ≡ (f (i + j) && every_from f (n - (j + 1)) (i + (j + 1))) = rw (left, every_from-some f, to) in
-      record {
-        width = g.width;
-        bound = g.bound;
-        below = omega arith;
-        so_far =
-            rw (or_most g.width most all v g.bound, e, and_assoc (leb all most) (f (i + j)))
-            (ap (λ (b : Bool). leb all most && b) (sym split) ∙ g.so_far);
-      }
-
-  pub gathered_end : n ≤ j → leb all most ≡ every_from f n i
-  gathered_end h =
-      let left : n - j ≡ 0 = omega (arith, g.below) in
-      sym (and-true (leb all most)) ∙ (rw (left, every_from_none f) at g.so_far)
-
--- all of the numbers v are y
-pub gathered_equal : (v : ℕ → ℕ) (y : ℕ) {n i all j : ℕ} → Gathered 0 (λ k. eqb (v k) y) n i all j → j < n
-    → Gathered 0 (λ k. eqb (v k) y) n i (bit_or all (bit_xor (v (i + j)) y)) (j + 1)
-gathered_equal v y {n} {i} {all} {j} g h = gathered_iteration g h (bit_xor (v (i + j)) y) (xor_none (v (i + j)) y)
-
-pub gathered_zero : {f : ℕ → Bool} {n i all j : ℕ} → Gathered 0 f n i all j → n ≤ j → eqb all 0 ≡ every_from f n i
-gathered_zero {f} {n} {i} {all} g h = none_leb all ∙ gathered_end g h

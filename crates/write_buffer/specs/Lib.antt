@@ -5,3 +5,4 @@ pub mod Emits
 pub mod Every
 pub mod Sent
 pub mod Storing
+pub mod Lent

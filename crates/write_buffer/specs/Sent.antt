@@ -2,16 +2,17 @@
 use Rattle.std.specs.Prelude.{◌≡◌, refl, Bool, true, false, List, [], ◌∷◌, ℕ, zero, suc, ◌-◌, ◌^◌, ◌≤◌, ◌<◌, eqb}
 use Rattle.std.proofs.Common.{arith, ne_eqb}
 use Rattle.laws_stream.specs.Machine.{Note}
-use Rattle.evt_types.specs.{Event.Event, declared.Sent.Sent, declared.Sent.TheVariants.Nothing, declared.Sent.TheVariants.Value}
+use Rattle.std.specs.Prelude.{Option, Some, None}
+use Rattle.evt_types.specs.{Event.Event}
 use Rattle.write_buffer.specs.declared.EncoderState.{EncoderState}
 
 -- a fresh writer has sent no half and no row
 abbrev pub fresh_state : EncoderState
-fresh_state = record { time_high = Nothing; time_low = Nothing; y = Nothing }
+fresh_state = record { time_high = None; time_low = None; y = None }
 
-abbrev pub sent_is : Sent → ℕ → Bool
-sent_is Nothing q = false
-sent_is (Value g) q = eqb g q
+abbrev pub sent_is : Option ℕ → ℕ → Bool
+sent_is None q = false
+sent_is (Some g) q = eqb g q
 
 -- the state after n inputs: as it was where there was none
 abbrev pub state_at : (n : ℕ) (first after : EncoderState) → EncoderState
@@ -41,10 +42,10 @@ due false w = quiet w ∷ []
 
 -- ---- inside a loop what was sent is one number: nothing is 2^64 - 1, which no half and no row is
 
-abbrev pub sent_number : Sent → ℕ
-sent_number Nothing = 2 ^ 64 - 1
-sent_number (Value g) = g
+abbrev pub sent_number : Option ℕ → ℕ
+sent_number None = 2 ^ 64 - 1
+sent_number (Some g) = g
 
-pub number_is : (s : Sent) (q : ℕ) → q < 2 ^ 60 → eqb (sent_number s) q ≡ sent_is s q
-number_is Nothing q h = ne_eqb (2 ^ 64 - 1) q (λ e. omega arith)
-number_is (Value g) q h = refl
+pub number_is : (s : Option ℕ) (q : ℕ) → q < 2 ^ 60 → eqb (sent_number s) q ≡ sent_is s q
+number_is None q h = ne_eqb (2 ^ 64 - 1) q (λ e. omega arith)
+number_is (Some g) q h = refl

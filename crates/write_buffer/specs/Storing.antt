@@ -1,11 +1,14 @@
 -- Bytes stored piece by piece, as far as a list reaches; and a loop that gives a writer its input piece by piece, and stores the bytes of its words.
-use Rattle.std.specs.Prelude.{◌≡◌, refl, List, [], ◌∷◌, ◌++◌, ℕ, zero, suc, ◌+◌, ◌*◌, ◌/◌, ◌%◌, ◌^◌, ◌≤◌, ◌<◌, length, set}
-use Rattle.std.proofs.Common.{sym, ◌∙◌, arith, add-zero, zero-add, suc-add, pow-suc, add-one, length-append, shr-shr, set-set}
+use Rattle.std.specs.Prelude.{◌≡◌, refl, List, [], ◌∷◌, ◌++◌, ℕ, zero, suc, ◌+◌, ◌/◌, ◌%◌, ◌^◌, ◌≤◌, ◌<◌, length, set, take}
+use Rattle.std.proofs.Common.{sym, ◌∙◌, arith, add-zero, pow-suc, length-append, set-set}
 use Rattle.std.proofs.Math.Path.{ap}
-use Rattle.std.proofs.Math.Numerals.{add-two, add-three}
-use Rattle.std.proofs.lemmas.List.Edits.{sets}
+use Rattle.std.proofs.lemmas.List.Edits.{sets, sets-eq}
+use Rattle.std.proofs.lemmas.Slice.{put_mid-paste}
+use Rattle.std.specs.Int.{byte_at, bytes_low_first}
+use Rattle.std.proofs.Math.Nat.{div-div-eq-div-mul}
+use borrow.Rule.Slice.PartMut.{put_mid}
 use Rattle.std.proofs.Math.Seq.{length-sets, set_out}
-use Rattle.std.proofs.lemmas.List.{set_comm}
+use Rattle.std.proofs.lemmas.List.{set_comm, take_all}
 use Rattle.laws_stream.specs.{Columns.sets_append, Machine.Machine, Machine.Note, Machine.run, Machine.emits, Machine.words, Machine.words_append}
 use Rattle.laws_stream.specs.{Words.stream, Words.bytes, Words.stream-append}
 
@@ -14,39 +17,25 @@ pub sets_out : (l : List ℕ) (i : ℕ) (vs : List ℕ) → length l ≤ i → s
 sets_out l i [] h = refl
 sets_out l i (v ∷ vs) h = ap (λ (k : List ℕ). sets k (suc i) vs) (set_out l i v h) ∙ sets_out l (suc i) vs (omega arith)
 
--- the byte of a word from bit `lo` up
-abbrev pub byte_at : (w lo : ℕ) → ℕ
-byte_at w lo = w / 2 ^ lo % 256
+-- the library's bytes of a number, the low byte first, are a word's
+le_byte : (i n : ℕ) → byte_at i n ≡ n / 256 ^ i % 256
+le_byte zero n = let e : n / 256 ^ 0 ≡ n = omega arith in rw e
+le_byte (suc i) n = refl
 
-bytes-two : (w : ℕ) → byte_at w 0 ∷ byte_at w 8 ∷ [] ≡ bytes 2 w
-bytes-two w = let a : byte_at w 0 ≡ w % 256 = omega arith in rw a
+le_bytes_from : (i k n : ℕ) → bytes_low_first i k n ≡ bytes k (n / 256 ^ i)
+le_bytes_from i zero n = refl
+le_bytes_from i (suc k) n =
+    let e : n / 256 ^ suc i ≡ n / 256 ^ i / 256 = rw pow-suc (sym (div-div-eq-div-mul n (256 ^ i) 256)) in
+    rw (le_byte i n, ← e) (ap (λ (l : List ℕ). n / 256 ^ i % 256 ∷ l) (le_bytes_from (suc i) k n))
 
-bytes_four : (w : ℕ) → byte_at w 0 ∷ byte_at w 8 ∷ byte_at w 16 ∷ byte_at w 24 ∷ [] ≡ bytes 4 w
-bytes_four w = let a : byte_at w 0 ≡ w % 256 = omega arith in rw (a, shr-shr w 8 8, shr-shr w 16 8)
+pub le_bytes : (k n : ℕ) → bytes_low_first 0 k n ≡ bytes k n
+le_bytes k n = let e : n / 256 ^ 0 ≡ n = omega arith in le_bytes_from 0 k n ∙ ap (bytes k) e
 
--- a word stored byte by byte
-module _ (out : List ℕ) (at w : ℕ) {a b : ℕ} (ea : a ≡ byte_at w 0) (eb : b ≡ byte_at w 8) where
-  pub stored_two : set (set out at a) (at + 1) b ≡ sets out at (bytes 2 w)
-  stored_two = rw (add-one, ea, eb) (ap (sets out at) (bytes-two w))
-
-  pub stored_four : {c d : ℕ} → c ≡ byte_at w 16 → d ≡ byte_at w 24 → set (set (set (set out at a) (at + 1) b) (at + 2) c) (at + 3) d ≡ sets out at (bytes 4 w)
-  stored_four ec ed = rw (add-one, add-two, add-three, ea, eb, ec, ed) (ap (sets out at) (bytes_four w))
-
--- by halves
-bytes-both : (n m a b : ℕ) → a < 256 ^ n → bytes n a ++ bytes m b ≡ bytes (n + m) (a + 256 ^ n * b)
-bytes-both zero m a b h = let e : a + 256 ^ 0 * b ≡ b = omega arith in rw (zero-add, e)
-bytes-both (suc n) m a b h =
-    let over = 256 ^ n * b in
-    let e : a + 256 ^ suc n * b ≡ a + 256 * over = rw pow-suc (omega arith) in
-    let low : (a + 256 * over) % 256 ≡ a % 256 = omega arith in
-    let high : (a + 256 * over) / 256 ≡ a / 256 + over = omega arith in
-    rw (suc-add, e, low, high) (ap (λ (l : List ℕ). a % 256 ∷ l) (bytes-both n m (a / 256) b (omega arith)))
-
-pub stored_eight : (out : List ℕ) (at w : ℕ) {o₁ o₂ : List ℕ} {a b : ℕ} → a ≡ w / 2 ^ 0 % 2 ^ 32 → b ≡ w / 2 ^ 32 % 2 ^ 32 → w < 2 ^ 64
-    → o₁ ≡ sets out at (bytes 4 a) → o₂ ≡ sets o₁ (at + 4) (bytes 4 b) → o₂ ≡ sets out at (bytes 8 w)
-stored_eight out at w {a = a} {b = b} ea eb w< p q =
-    let e : a + 256 ^ 4 * b ≡ w = omega arith in
-    q ∙ rw p (sym (sets_append out at (bytes 4 a) (bytes 4 b)) ∙ ap (sets out at) (bytes-both 4 4 a b (omega arith) ∙ ap (bytes 8) e))
+-- a word's bytes copied to a part of the buffer
+pub stored : (out part vs : List ℕ) (at n : ℕ) → part ≡ vs → n ≡ length vs → at + length vs ≤ length out → put_mid at n out part ≡ sets out at vs
+stored out part vs at n p q h =
+    let all : take n vs ≡ vs = take_all n vs (omega arith) in
+    put_mid-paste at n out part vs n p refl q ∙ rw (all, q) (sym (sets-eq vs out at h))
 
 -- n bytes have room from `at` on, or there is no byte at all: then nothing is stored
 abbrev pub Roomy : (out : List ℕ) (at n : ℕ) → Type 0

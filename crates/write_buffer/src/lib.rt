@@ -1,6 +1,6 @@
-// What every pass of a writer rests on: what a writer has sent, times as natural numbers, and
-// stores into a buffer that the caller lends. An empty buffer takes nothing: a pass into it is a
-// dry run. specs/Sent.antt says what counts as sent and which words are then due,
+// What every pass of a writer rests on: what a writer has sent, the four columns that a pass takes
+// (`lent`), and stores into a buffer that the caller lends. An empty buffer takes nothing: a pass into
+// it is a dry run. specs/Sent.antt says what counts as sent and which words are then due,
 // specs/Columns.antt which events four columns hold, and specs/Storing.antt what bytes stored
 // piece by piece come to.
 
@@ -12,17 +12,18 @@ ghost use Rattle.laws_stream.specs.Words.{bytes};
 ghost use Rattle.write_buffer.specs.Columns.{Whole};
 ghost use Rattle.evt_types.specs.Num.{natural};
 ghost use Rattle.write_buffer.specs.Sent.{sent_number, state_at};
-ghost use Rattle.write_buffer.specs.Storing.{Roomy, byte_at};
+ghost use Rattle.write_buffer.specs.Storing.{Roomy};
 
-use evt_types::Sent;
-use evt_types::fields::bits;
+pub use lent::Columns;
+
+mod lent;
 
 // What the writer has sent: the halves of the time, and the row.
 #[derive(Clone, Copy)]
 pub struct EncoderState {
-    pub time_high: Sent,
-    pub time_low: Sent,
-    pub y: Sent,
+    pub time_high: Option<u64>,
+    pub time_low: Option<u64>,
+    pub y: Option<u64>,
 }
 
 // The state after some words, and where the next go.
@@ -33,12 +34,12 @@ pub struct Put {
 }
 
 // What was sent as one number, for the loops: nothing is 2^64 - 1, which no half and no row is.
-pub fn sent_number(s: Sent) -> u64
+pub fn sent_number(s: Option<u64>) -> u64
     ensures { result ≡ sent_number s }
 {
     match s {
-        Sent::Nothing => 18446744073709551615,
-        Sent::Value(g) => g,
+        None => 18446744073709551615,
+        Some(g) => g,
     }
 }
 
@@ -66,24 +67,14 @@ pub fn put8(out: &mut [u8], at: usize, b: u8)
     }
 }
 
-// The byte of a word from bit `lo` up.
-fn byte(w: u64, lo: u64) -> u8
-    requires { lo < 64 }
-    ensures { result ≡ byte_at w lo }
-{
-    bits(w, lo, 8) as u8
-}
-
 // A word, the low byte first. The test is one of the buffer, not of the place, so that a loop
 // makes it once.
 pub fn put16(out: &mut [u8], at: usize, w: u16)
     requires { (at < 2 ^ 62) × Roomy out.old at 2 }
     ensures { out.new ≡ sets out.old at (bytes 2 w) }
 {
-    let v = w as u64;
     if 0 < out.len() {
-        out[at] = byte(v, 0);
-        out[at + 1] = byte(v, 8);
+        out[at..at + 2].copy_from_slice(&w.to_le_bytes());
     }
 }
 
@@ -91,22 +82,18 @@ pub fn put32(out: &mut [u8], at: usize, w: u32)
     requires { (at < 2 ^ 62) × Roomy out.old at 4 }
     ensures { out.new ≡ sets out.old at (bytes 4 w) }
 {
-    let v = w as u64;
     if 0 < out.len() {
-        out[at] = byte(v, 0);
-        out[at + 1] = byte(v, 8);
-        out[at + 2] = byte(v, 16);
-        out[at + 3] = byte(v, 24);
+        out[at..at + 4].copy_from_slice(&w.to_le_bytes());
     }
 }
 
-// The low half first.
 pub fn put64(out: &mut [u8], at: usize, w: u64)
     requires { (at < 2 ^ 61) × Roomy out.old at 8 }
     ensures { out.new ≡ sets out.old at (bytes 8 w) }
 {
-    put32(&mut *out, at, bits(w, 0, 32) as u32);
-    put32(&mut *out, at + 4, bits(w, 32, 32) as u32);
+    if 0 < out.len() {
+        out[at..at + 8].copy_from_slice(&w.to_le_bytes());
+    }
 }
 
 // The place after a word of n bytes at `at`, unless its content was sent.

@@ -12,11 +12,11 @@ use Rattle.evt3_decoder.specs.Range.{regular_range3}
 use Rattle.evt_codec.specs.declared.{codec.Codec.Codec, codec.Codec.TheVariants.Evt2, codec.Codec.TheVariants.Evt21, codec.Codec.TheVariants.Evt3}
 use Rattle.evt_codec.specs.Codec.{fresh_c, encoding_of, started_c, coarse_c, in_range_c, codec_after, encoding_after, encoding_fresh}
 use Rattle.read_fill.specs.Laws.{range_fresh}
-use Rattle.header.specs.declared.{HeaderAnswer.TheVariants.Header, HeaderAnswer.TheVariants.Refused as NoHeader}
+use Rattle.std.specs.Prelude.{Some, Ok, Err}
 use Rattle.header.specs.declared.Header as header
 use Rattle.header.specs.Header.{header_of}
 use Rattle.read_after.specs.After.{after_outcome, after_raw_outcome, some_size}
-use Rattle.write_rules.specs.{declared.RawEventSink.RawEventSink, declared.LastTime.TheVariants.At, Range.time_bound, Range.grain_of, Range.sink_in_range}
+use Rattle.write_rules.specs.{declared.RawEventSink.RawEventSink, Range.time_bound, Range.grain_of, Range.sink_in_range}
 use Rattle.write_rules.specs.{Range.sink_not_before, Rules.resumed_sink}
 use Rattle.write_resume.specs.Resume.{resumable, resume_outcome, resume_words_outcome, resume_raw_outcome, raw_encoding}
 
@@ -45,8 +45,8 @@ module _ (c : Codec) (fit : in_range_c c ≡ true) where
   resume-late h = rw (fit, le-ltb (coarse_c c) time_bound h)
 
   -- AFTER IT no event may be below the decoder's coarse time
-  pub resume_not_before : started_c c ≡ true → sink_not_before (resumed_sink (encoding_of c) (started_c c) (coarse_c c)) ≡ At (pos (coarse_c c))
-  resume_not_before on = rw on (ap (λ (t : ℕ). At (pos t)) (whole-coarse c fit on))
+  pub resume_not_before : started_c c ≡ true → sink_not_before (resumed_sink (encoding_of c) (started_c c) (coarse_c c)) ≡ Some (pos (coarse_c c))
+  resume_not_before on = rw on (ap (λ (t : ℕ). Some (pos t)) (whole-coarse c fit on))
 
 -- ---- EVERY WRITER THAT IS GIVEN IS IN RANGE
 
@@ -80,11 +80,11 @@ module _ (e : Encoding) (words : List ℕ) (short : length words ≤ most_bytes)
 -- ---- behind a recording's body
 
 module _ (recording : List ℕ) where
-  pub raw_encoding_unknown : (r : Refusal) → header_of recording some_size ≡ NoHeader r → raw_encoding recording ≡ E.Evt2
+  pub raw_encoding_unknown : (r : Refusal) → header_of recording some_size ≡ Err r → raw_encoding recording ≡ E.Evt2
   unfolding after_raw_outcome
   raw_encoding_unknown r e = rw e
 
-  module _ (h : header.Header) (e : header_of recording some_size ≡ Header h) where
+  module _ (h : header.Header) (e : header_of recording some_size ≡ Ok h) where
     pub raw_behind : resume_raw_outcome recording ≡ resume_outcome (codec_after (fresh_c h.encoding) (drop h.data_offset recording))
     unfolding after_raw_outcome
     raw_behind = rw e

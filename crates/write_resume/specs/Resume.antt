@@ -6,8 +6,9 @@ use Rattle.evt_codec.specs.{declared.codec.Codec.Codec, Codec.fresh_c, Codec.enc
 use Rattle.read_after.specs.After.{after_outcome, after_raw_outcome}
 use Rattle.write_rules.specs.{declared.RawEventSink.RawEventSink, Range.time_bound}
 use Rattle.write_rules.specs.Rules.{fresh_sink, resumed_sink}
-use Rattle.write_resume.specs.declared.{Resumed.Resumed, ResumeAnswer.ResumeAnswer, ResumeAnswer.TheVariants.Ready}
-use Rattle.write_resume.specs.declared.ResumeAnswer.TheVariants.{Refused}
+use Rattle.std.specs.Prelude.{Result, Ok, Err}
+use Rattle.evt_types.specs.declared.Refusal.{Refusal}
+use Rattle.write_resume.specs.declared.{Resumed.Resumed}
 
 -- a decoder in range, whose coarse time is one that an event may have
 abbrev pub resumable : Codec → Bool
@@ -39,8 +40,8 @@ raw_encoding recording = encoding_or Evt2 (after_raw_outcome recording)
 
 -- ---- what is read off an outcome
 
-abbrev pub resume_answer : Outcome RawEventSink → ResumeAnswer
-resume_answer = on_outcome Refused (λ s. Ready)
+abbrev pub resume_answer : Outcome RawEventSink → Result (Unit {0}) Refusal
+resume_answer = on_outcome Err (λ s. (Ok tt))
 
 -- an acceptance tells nothing: the writer stands beside it
 abbrev pub resume_verdict : Outcome RawEventSink → Told
@@ -53,9 +54,9 @@ sink_or e = on_outcome (λ r. fresh_sink e false) (λ s. s)
 -- ---- promises
 
 -- what an answer tells
-abbrev pub told_resume : ResumeAnswer → Told
-told_resume Ready = accepted []
-told_resume (Refused r) = told r
+abbrev pub told_resume : Result (Unit {0}) Refusal → Told
+told_resume (Ok tt) = accepted []
+told_resume (Err r) = told r
 
 -- what r with this outcome promises
 pub record Resumes (e : Encoding) (outcome : Outcome RawEventSink) (r : Resumed) : Type 0 where

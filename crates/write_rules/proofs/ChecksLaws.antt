@@ -6,18 +6,19 @@ use Rattle.std.specs.Prelude.{List, eqb, leb, length, true, ℕ, ℤ, ◌&&◌, 
 use Rattle.write_buffer.specs.declared.EncoderState.{EncoderState}
 use Rattle.write_rules.specs.{Checks.Checked, Checks.event_fine, Checks.lengths, Checks.sized_of, Range.events_in_range, Range.falls_after, Range.held_in_range}
 use Rattle.write_rules.specs.{Range.is_nothing, Range.last_in_range, Range.same_lengths, Range.sent_in_range, Range.sink_in_range, Range.sink_not_before}
-use Rattle.write_rules.specs.{Range.time_in_range, Rules.check_outcome, declared.LastTime.LastTime, declared.LastTime.TheVariants.At}
-use Rattle.write_rules.specs.{declared.LastTime.TheVariants.Never, declared.RawEventSink.RawEventSink}
+use Rattle.std.specs.Prelude.{Option, Some, None}
+use Rattle.write_rules.specs.{Range.time_in_range, Rules.check_outcome}
+use Rattle.write_rules.specs.{declared.RawEventSink.RawEventSink}
 
 -- ---- what a check that is passed says
 
-count_as : (e : Encoding) (v : EncoderState) (n : ℕ) (l : LastTime) → last_in_range e v n l ≡ true → n ≤ 2 ^ 62
-count_as e v n Never h =
+count_as : (e : Encoding) (v : EncoderState) (n : ℕ) (l : Option ℤ) → last_in_range e v n l ≡ true → n ≤ 2 ^ 62
+count_as e v n None h =
     let a = and_both (held_in_range e v.time_high) (is_nothing v.time_low && (is_nothing v.y && eqb n 0)) h in
     let b = and_both (is_nothing v.time_low) (is_nothing v.y && eqb n 0) a.1 in
     let c = and_both (is_nothing v.y) (eqb n 0) b.1 in
     omega (arith, eqb-true n 0 c.1)
-count_as e v n (At t) h =
+count_as e v n (Some t) h =
     let a = and_both (time_in_range t) (leb n (2 ^ 62) && sent_in_range e v (natural t)) h in
     let b = and_both (leb n (2 ^ 62)) (sent_in_range e v (natural t)) a.1 in
     leb-true n (2 ^ 62) b.0

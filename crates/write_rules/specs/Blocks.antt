@@ -1,10 +1,11 @@
 -- Columns looked through block by block: what a block says of what is left, and what all blocks come to.
 use Rattle.std.specs.Prelude.{◌≡◌, refl, Bool, true, false, ◌&&◌, ◌||◌, List, [], ◌∷◌, ◌++◌, ℕ, suc, ◌+◌, ◌-◌, ◌≤◌, ◌<◌, length, get_or, drop, ℤ, pos}
-use Rattle.std.proofs.Common.{sym, ap, ◌∙◌, true≢false, arith, length-drop, take_all}
+use Rattle.std.proofs.Common.{sym, ap, ◌∙◌, arith, length-drop, take_all}
 use Rattle.std.proofs.Math.Bool.{and-false, and_assoc, or_assoc}
 use Rattle.std.specs.Int.Signed.{lt_z}
 use Rattle.laws_stream.specs.Part.{between, between-rest, between_get_d, length-between}
-use Rattle.write_rules.specs.declared.{LastTime.TheVariants.Never, columns.Looked.Looked}
+use Rattle.std.specs.Prelude.{None, Result, Ok, Err}
+use Rattle.evt_types.specs.declared.{Refusal.Refusal, Refusal.TheVariants.TimeOrder}
 use Rattle.write_rules.specs.Range.{time_in_range, every, at_most, events_in_range, falls, falls_after}
 use Rattle.write_rules.specs.Checks.{last_of, falls-first, falls-end, every_none}
 
@@ -12,10 +13,18 @@ use Rattle.write_rules.specs.Checks.{last_of, falls-first, falls-end, every_none
 abbrev pub places_in_range : List ℕ → List ℕ → List ℕ → Bool
 places_in_range xs ys ps = every (at_most 2047) xs && (every (at_most 2047) ys && every (at_most 1) ps)
 
--- whether a time falls, and, if none does, whether all places are in range
-pub record Looks (fall : Bool) (xs ys ps : List ℕ) (r : Looked) : Type 0 where
-  pub is_falls : r.falls ≡ fall
-  pub is_fine : fall ≡ false → r.fine ≡ places_in_range xs ys ps
+-- 6 if a time falls, and else whether all places are in range
+abbrev pub looked_of : (fall fine : Bool) → Result Bool Refusal
+looked_of true fine = Err TimeOrder
+looked_of false fine = Ok fine
+
+pub looked_refused : (fall fine : Bool) (q : Refusal) → looked_of fall fine ≡ Err q → (fall ≡ true) × (q ≡ TimeOrder)
+looked_refused true fine q e = (refl, cc)
+looked_refused false fine q e = let z : ◌≡◌ {A = ℕ} 0 1 = cc in absurd (omega arith)
+
+pub looked_fine : (fall fine b : Bool) → looked_of fall fine ≡ Ok b → (fall ≡ false) × (b ≡ fine)
+looked_fine true fine b e = let z : ◌≡◌ {A = ℕ} 0 1 = cc in absurd (omega arith)
+looked_fine false fine b e = (refl, cc)
 
 -- ---- a part and what follows it
 
@@ -70,11 +79,11 @@ module _ (from : ℤ) (xs ys : List ℕ) (ts : List ℤ) (ps : List ℕ) where
 
   module _ {last : ℤ} {ok : Bool} {i : ℕ} (k : Looking last ok i) where
     -- a time that falls in a block falls
-    pub looked_falls : (to : ℕ) → i ≤ to → falls last (between ts i to) ≡ true → Looks (falls from ts) xs ys ps (record { falls = true; fine = false })
+    pub looked_falls : (to : ℕ) → i ≤ to → falls last (between ts i to) ≡ true → Err TimeOrder ≡ looked_of (falls from ts) (places_in_range xs ys ps)
     looked_falls to h f =
         let b : falls from ts ≡ true =
         sym k.order ∙ ap (falls last) (sym (between-rest ts i to h)) ∙ falls-append last (between ts i to) (drop to ts) ∙ rw f in
-        record { is_falls = sym b; is_fine = λ z. absurd (true≢false (sym b ∙ z)) }
+        rw b
 
     pub looking_iteration : (to : ℕ) → i < to → to ≤ length ts → falls last (between ts i to) ≡ false → (ok' : Bool)
         → ok' ≡ (ok && places_in_range (between xs i to) (between ys i to) (between ps i to))
@@ -99,21 +108,19 @@ module _ (from : ℤ) (xs ys : List ℕ) (ts : List ℤ) (ps : List ℕ) where
     -- the last block
     pub looked_end : (sized : length ts ≡ length xs) → length ys ≡ length xs → length ps ≡ length xs → (to : ℕ) → to ≡ length ts → (fall fine : Bool)
         → fall ≡ falls last (between ts i to) → fine ≡ (ok && places_in_range (between xs i to) (between ys i to) (between ps i to))
-        → Looks (falls from ts) xs ys ps (record { falls = fall; fine = fine })
+        → looked_of fall fine ≡ looked_of (falls from ts) (places_in_range xs ys ps)
     looked_end same-t same-y same_p to is fall fine f p =
         let all-t : between ts i to ≡ drop i ts = take_all (to - i) (drop i ts) (omega (arith, length-drop i ts)) in
         let all-x : between xs i to ≡ drop i xs = take_all (to - i) (drop i xs) (omega (arith, length-drop i xs)) in
         let all-y : between ys i to ≡ drop i ys = take_all (to - i) (drop i ys) (omega (arith, length-drop i ys)) in
         let all-p : between ps i to ≡ drop i ps = take_all (to - i) (drop i ps) (omega (arith, length-drop i ps)) in
-        record {
-          is_falls = f ∙ ap (falls last) all-t ∙ k.order;
-          is_fine = λ z. p ∙ (λ j. ok && places_in_range (all-x j) (all-y j) (all-p j)) ∙ k.places;
-        }
+        let order : fall ≡ falls from ts = f ∙ ap (falls last) all-t ∙ k.order in
+        let places : fine ≡ places_in_range xs ys ps = p ∙ (λ j. ok && places_in_range (all-x j) (all-y j) (all-p j)) ∙ k.places in
+        rw (order, places)
 
 -- no event, no last time
 pub looked_none : (xs ys : List ℕ) (ts : List ℤ) (ps : List ℕ) → length ts ≤ 0 → length xs ≤ 0 → length ys ≤ 0 → length ps ≤ 0
-    → Looks (falls_after Never ts) xs ys ps (record { falls = false; fine = true })
-looked_none xs ys ts ps ht hx hy hp = record {
-  is_falls = sym (sym (falls-first ts) ∙ falls-end ts (get_or ts 0 (pos 0)) 0 ht);
-  is_fine = λ z. sym (rw (every_none (at_most 2047) xs hx, every_none (at_most 2047) ys hy, every_none (at_most 1) ps hp));
-}
+    → Ok true ≡ looked_of (falls_after None ts) (places_in_range xs ys ps)
+looked_none xs ys ts ps ht hx hy hp =
+    let fall : falls_after None ts ≡ false = sym (falls-first ts) ∙ falls-end ts (get_or ts 0 (pos 0)) 0 ht in
+    rw (fall, every_none (at_most 2047) xs hx, every_none (at_most 2047) ys hy, every_none (at_most 1) ps hp)

@@ -1,18 +1,18 @@
 -- What the loops of a check keep, and what a check that is passed says.
 use Rattle.std.specs.Prelude.{◌≡◌, refl, Bool, true, false, cond, ◌&&◌, ◌||◌, List, [], ◌∷◌, ℕ, zero, suc, ◌+◌, ◌-◌, ◌*◌, ◌/◌, ◌^◌, ◌≤◌, ◌<◌, ltb, leb, length, get_or, drop, ℤ, pos, negsuc}
-use Rattle.std.proofs.Common.{sym, ap, ◌∙◌, true≢false, arith, zero-add, add-one, drop_of_length-le, eqb-true, leb-true, ltb-true, ltb-false, lt-ltb, le-ltb}
+use Rattle.std.proofs.Common.{sym, ap, ◌∙◌, true≢false, arith, add-one, drop_of_length-le, eqb-true, leb-true, ltb-true, ltb-false, lt-ltb, le-ltb, le-leb}
+use Rattle.std.proofs.Math.Bool.{and-true, and_assoc}
+use Rattle.std.specs.List.{fold}
 use Rattle.std.specs.Int.Bits.{bit_or}
 use Rattle.std.proofs.Math.Seq.{drop-cons}
 use Rattle.std.specs.Int.Signed.{lt_z, non_neg}
 use Rattle.laws_stream.specs.Machine.{and_both}
 use Rattle.evt_types.specs.declared.{Encoding.Encoding, Encoding.TheVariants.Evt2, Encoding.TheVariants.Evt21, Encoding.TheVariants.Evt3, Refusal.Refusal}
 use Rattle.evt_types.specs.declared.Refusal.TheVariants.{EventOutOfRange}
-use Rattle.evt_types.specs.declared.Sent.TheVariants.{Value}
+use Rattle.std.specs.Prelude.{Option, Some, None, Result, Ok, Err}
 use Rattle.evt_types.specs.{Outcome.Outcome, Outcome.refuse, Outcome.give, Outcome.given_if, Num.natural}
-use Rattle.write_buffer.specs.{declared.EncoderState.EncoderState, Columns.Sized, Columns.Whole, Every.every_from, Every.Gathered}
-use Rattle.write_buffer.specs.{Every.gathered_iteration, Every.gathered_end}
-use Rattle.write_rules.specs.declared.{Check.Check, Check.TheVariants.Passed, Check.TheVariants.Failed, LastTime.LastTime}
-use Rattle.write_rules.specs.declared.{LastTime.TheVariants.Never, LastTime.TheVariants.At, RawEventSink.RawEventSink}
+use Rattle.write_buffer.specs.{declared.EncoderState.EncoderState, Columns.Sized, Columns.Whole, Every.or_most}
+use Rattle.write_rules.specs.declared.{RawEventSink.RawEventSink}
 use Rattle.write_rules.specs.Range.{time_bound, time_in_range, every, at_most, events_in_range, falls, falls_after, same_lengths}
 use Rattle.write_rules.specs.Range.{grain_of, sink_not_before, held_in_range, last_in_range, sink_in_range}
 use Rattle.write_rules.specs.Rules.{lengths_outcome, check_outcome, check_of}
@@ -21,29 +21,16 @@ pub or_neither : (a b : Bool) → (a || b) ≡ false → (a ≡ false) × (b ≡
 or_neither true b h = absurd (true≢false h)
 or_neither false b h = (refl, h)
 
--- ---- a column whose elements are gathered by `|`
+-- ---- a column whose elements are gathered by `|`: all are below a power of two where the result is
 
-next_place : (f : ℕ → Bool) (n i : ℕ) → every_from f n (suc i) ≡ every_from (λ j. f (suc j)) n i
-unfolding every_from
-next_place f zero i = refl
-next_place f (suc n) i = let e : suc i + 1 ≡ suc (i + 1) = omega arith in rw e (ap (λ (b : Bool). f (suc i) && b) (next_place f n (i + 1)))
+gathered_from : (k most a : ℕ) (xs : List ℕ) → suc most ≡ 2 ^ k → leb (fold bit_or a xs) most ≡ (leb a most && every (at_most most) xs)
+unfolding every
+gathered_from k most a [] e = sym (and-true (leb a most))
+gathered_from k most a (x ∷ xs) e =
+    gathered_from k most (bit_or a x) xs e ∙ rw (or_most k most a x e) (and_assoc (leb a most) (leb x most) (every (at_most most) xs))
 
--- every element of a list, by its place
-every_place : {A : Type 0} (f : A → Bool) (d : A) (l : List A) → every_from (λ j. f (get_or l j d)) (length l) 0 ≡ every f l
-unfolding every every_from
-every_place f d [] = refl
-every_place f d (a ∷ l) = ap (λ (b : Bool). f a && b) (next_place (λ j. f (get_or (a ∷ l) j d)) (length l) 0 ∙ every_place f d l)
-
--- the first i elements are gathered
-abbrev pub GatheredColumn : (most : ℕ) → List ℕ → (all i : ℕ) → Type 0
-GatheredColumn most xs all i = Gathered most (λ j. at_most most (get_or xs j 0)) (length xs) 0 all i
-
-module _ (most : ℕ) (xs : List ℕ) {all i : ℕ} (g : GatheredColumn most xs all i) where
-  pub column-iteration : i < length xs → GatheredColumn most xs (bit_or all (get_or xs i 0)) (i + 1)
-  column-iteration h = gathered_iteration g h (get_or xs i 0) (rw zero-add)
-
-  pub column-end : length xs ≤ i → leb all most ≡ every (at_most most) xs
-  column-end h = gathered_end g h ∙ every_place (at_most most) 0 xs
+pub gathered : (k most : ℕ) (xs : List ℕ) → suc most ≡ 2 ^ k → leb (fold bit_or 0 xs) most ≡ every (at_most most) xs
+gathered k most xs e = gathered_from k most 0 xs e ∙ rw (le-leb 0 most (omega arith)) refl
 
 -- ---- times that don't fall
 
@@ -68,16 +55,16 @@ lt_z_self (pos n) = le-ltb n n (omega arith)
 lt_z_self (negsuc n) = le-ltb n n (omega arith)
 
 -- the first is never before itself
-pub falls-first : (ts : List ℤ) → falls (get_or ts 0 (pos 0)) ts ≡ falls_after Never ts
+pub falls-first : (ts : List ℤ) → falls (get_or ts 0 (pos 0)) ts ≡ falls_after None ts
 unfolding falls
 falls-first [] = refl
 falls-first (t ∷ ts) = rw (lt_z_self t)
 
-pub falls_never : (l : LastTime) (ts : List ℤ) → falls_after l ts ≡ false → falls_after Never ts ≡ false
+pub falls_never : (l : Option ℤ) (ts : List ℤ) → falls_after l ts ≡ false → falls_after None ts ≡ false
 unfolding falls
-falls_never Never ts h = h
-falls_never (At t) [] h = refl
-falls_never (At t) (u ∷ ts) h = (or_neither (lt_z u t) (falls u ts) h).1
+falls_never None ts h = h
+falls_never (Some t) [] h = refl
+falls_never (Some t) (u ∷ ts) h = (or_neither (lt_z u t) (falls u ts) h).1
 
 abbrev pub last_of : ℤ → List ℤ → ℤ
 last_of t ts = get_or (t ∷ ts) (length ts) (pos 0)
@@ -118,7 +105,7 @@ ends_go t (u ∷ ts) h =
     ∙ middle (time_in_range t) (time_in_range u) (time_in_range (last_of u ts)) (between_fine t u ts g.0 g.1)
 
 -- of times in order the first and the last tell
-pub times_ends : (ts : List ℤ) → 0 < length ts → falls_after Never ts ≡ false
+pub times_ends : (ts : List ℤ) → 0 < length ts → falls_after None ts ≡ false
     → (time_in_range (get_or ts 0 (pos 0)) && time_in_range (get_or ts (length ts - 1) (pos 0))) ≡ every time_in_range ts
 times_ends [] h f = absurd (omega arith)
 times_ends (t ∷ ts) h f = let n : suc (length ts) - 1 ≡ length ts = omega arith in rw n (sym (ends_go t ts f))
@@ -160,11 +147,11 @@ event_fine xs ys ts ps h i =
 
 -- ---- what a check says of its outcome
 
-pub check_given : (o : Outcome Unit) → check_of o ≡ Passed → o ≡ give tt
+pub check_given : (o : Outcome Unit) → check_of o ≡ (Ok tt) → o ≡ give tt
 check_given (refuse r) e = let no : ◌≡◌ {A = ℕ} 0 1 = cc in absurd (omega arith)
 check_given (give u) e = refl
 
-pub check_refused : (o : Outcome Unit) (r : Refusal) → check_of o ≡ Failed r → o ≡ refuse r
+pub check_refused : (o : Outcome Unit) (r : Refusal) → check_of o ≡ Err r → o ≡ refuse r
 check_refused (refuse q) r e = cc
 check_refused (give u) r e = let no : ◌≡◌ {A = ℕ} 0 1 = cc in absurd (omega arith)
 
@@ -173,24 +160,24 @@ check_refused (give u) r e = let no : ◌≡◌ {A = ℕ} 0 1 = cc in absurd (om
 abbrev pub lengths : (xs ys : List ℕ) (ts : List ℤ) (ps : List ℕ) → Outcome Unit
 lengths xs ys ts ps = lengths_outcome (length xs) (length ys) (length ts) (length ps)
 
-module _ (xs ys : List ℕ) (ts : List ℤ) (ps : List ℕ) (c : Check) (is : c ≡ check_of (lengths xs ys ts ps)) where
-  pub lengths-passed : c ≡ Passed → (same_lengths (length xs) (length ys) (length ts) (length ps) ≡ true) × (leb (length xs) (2 ^ 28) ≡ true)
+module _ (xs ys : List ℕ) (ts : List ℤ) (ps : List ℕ) (c : Result (Unit {0}) Refusal) (is : c ≡ check_of (lengths xs ys ts ps)) where
+  pub lengths-passed : c ≡ (Ok tt) → (same_lengths (length xs) (length ys) (length ts) (length ps) ≡ true) × (leb (length xs) (2 ^ 28) ≡ true)
   lengths-passed h =
       let a = given_if tt (same_lengths (length xs) (length ys) (length ts) (length ps)) _ _ (check_given (lengths xs ys ts ps) (sym is ∙ h)) in
       (a.0, (given_if tt (leb (length xs) (2 ^ 28)) _ _ a.1).0)
 
   -- what they refuse is refused
-  pub lengths_failed : (s : RawEventSink) → sink_in_range s ≡ true → (why : Refusal) → c ≡ Failed why → c ≡ check_of (check_outcome s xs ys ts ps)
+  pub lengths_failed : (s : RawEventSink) → sink_in_range s ≡ true → (why : Refusal) → c ≡ Err why → c ≡ check_of (check_outcome s xs ys ts ps)
   lengths_failed s r why h = h ∙ rw (r, check_refused (lengths xs ys ts ps) why (sym is ∙ h))
 
   -- behind them, and where no time falls, the events decide
-  pub events_decide : (s : RawEventSink) → sink_in_range s ≡ true → c ≡ Passed → falls_after (sink_not_before s) ts ≡ false
+  pub events_decide : (s : RawEventSink) → sink_in_range s ≡ true → c ≡ (Ok tt) → falls_after (sink_not_before s) ts ≡ false
       → (b : Bool) → b ≡ events_in_range xs ys ts ps → check_of (cond b (give tt) (refuse EventOutOfRange)) ≡ check_of (check_outcome s xs ys ts ps)
   events_decide s r h d b e = let l = lengths-passed h in rw (r, l.0, l.1, d, e)
 
 -- ---- a high half that is held without a last time
 
-pub held-bound : (e : Encoding) (h : ℕ) → held_in_range e (Value h) ≡ true → h * grain_of e < 2 ^ 34
+pub held-bound : (e : Encoding) (h : ℕ) → held_in_range e (Some h) ≡ true → h * grain_of e < 2 ^ 34
 held-bound e h r = ltb-true (h * grain_of e) time_bound r
 
 module _ (a b c d : ℕ) (below : a < b → c < d) (above : b ≤ a → d ≤ c) where
@@ -202,7 +189,7 @@ module _ (a b c d : ℕ) (below : a < b → c < d) (above : b ≤ a → d ≤ c)
   same_test = same_go (ltb a b) refl
 
 -- its bound without a product
-pub held_as : (e : Encoding) (h : ℕ) → ltb h (time_bound / grain_of e) ≡ held_in_range e (Value h)
+pub held_as : (e : Encoding) (h : ℕ) → ltb h (time_bound / grain_of e) ≡ held_in_range e (Some h)
 held_as Evt2 h = same_test h (time_bound / grain_of Evt2) (h * grain_of Evt2) time_bound (λ l. omega arith) (λ l. omega arith)
 held_as Evt21 h = same_test h (time_bound / grain_of Evt21) (h * grain_of Evt21) time_bound (λ l. omega arith) (λ l. omega arith)
 held_as Evt3 h = same_test h (time_bound / grain_of Evt3) (h * grain_of Evt3) time_bound (λ l. omega arith) (λ l. omega arith)
@@ -212,9 +199,9 @@ grain_some Evt2 = omega arith
 grain_some Evt21 = omega arith
 grain_some Evt3 = omega arith
 
-pub held_of : (e : Encoding) (v : EncoderState) (n : ℕ) (l : LastTime) → last_in_range e v n l ≡ true → l ≡ Never → held_in_range e v.time_high ≡ true
-held_of e v n Never h is = (and_both (held_in_range e v.time_high) _ h).0
-held_of e v n (At t) h is = let no : ◌≡◌ {A = ℕ} 0 1 = cc in absurd (omega arith)
+pub held_of : (e : Encoding) (v : EncoderState) (n : ℕ) (l : Option ℤ) → last_in_range e v n l ≡ true → l ≡ None → held_in_range e v.time_high ≡ true
+held_of e v n None h is = (and_both (held_in_range e v.time_high) _ h).0
+held_of e v n (Some t) h is = let no : ◌≡◌ {A = ℕ} 0 1 = cc in absurd (omega arith)
 
 -- ---- what a check that is passed says
 

@@ -3,9 +3,10 @@ use Rattle.std.specs.Prelude.{Bool, true, false, ◌&&◌, ◌||◌, List, [], �
 use Rattle.std.specs.Int.Signed.{lt_z, non_neg}
 use Rattle.evt_types.specs.Layout.{grain2, grain3}
 use Rattle.evt_types.specs.declared.{Encoding.Encoding, Encoding.TheVariants.Evt2, Encoding.TheVariants.Evt21, Encoding.TheVariants.Evt3}
-use Rattle.evt_types.specs.{declared.Sent.Sent, declared.Sent.TheVariants.Nothing, declared.Sent.TheVariants.Value, Num.natural}
+use Rattle.std.specs.Prelude.{Option, Some, None}
+use Rattle.evt_types.specs.{Num.natural}
 use Rattle.write_buffer.specs.declared.EncoderState.{EncoderState}
-use Rattle.write_rules.specs.declared.{LastTime.LastTime, LastTime.TheVariants.Never, LastTime.TheVariants.At, RawEventSink.RawEventSink}
+use Rattle.write_rules.specs.declared.{RawEventSink.RawEventSink}
 
 -- ---- 7: x or y > 2047, p > 1, t < 0 or t ≥ 2 ^ 34
 
@@ -31,10 +32,10 @@ unfoldable pub falls : (from : ℤ) → List ℤ → Bool
 falls from [] = false
 falls from (t ∷ ts) = lt_z t from || falls t ts
 
-abbrev pub falls_after : LastTime → List ℤ → Bool
-falls_after Never [] = false
-falls_after Never (t ∷ ts) = falls t ts
-falls_after (At last) ts = falls last ts
+abbrev pub falls_after : Option ℤ → List ℤ → Bool
+falls_after None [] = false
+falls_after None (t ∷ ts) = falls t ts
+falls_after (Some last) ts = falls last ts
 
 -- the unit of a high half
 abbrev pub grain_of : Encoding → ℕ
@@ -43,12 +44,12 @@ grain_of Evt21 = grain2
 grain_of Evt3 = grain3
 
 -- the time that no event of an append may be below: a resumed writer holds a coarse time and has no last time
-abbrev pub not_before : Encoding → (held : Sent) → LastTime → LastTime
-not_before e held (At t) = At t
-not_before e Nothing Never = Never
-not_before e (Value h) Never = At (pos (h * grain_of e))
+abbrev pub not_before : Encoding → (held : Option ℕ) → Option ℤ → Option ℤ
+not_before e held (Some t) = Some t
+not_before e None None = None
+not_before e (Some h) None = Some (pos (h * grain_of e))
 
-abbrev pub sink_not_before : RawEventSink → LastTime
+abbrev pub sink_not_before : RawEventSink → Option ℤ
 sink_not_before s = not_before s.version s.state.time_high s.last_t
 
 -- ---- 12: columns of several lengths
@@ -58,18 +59,18 @@ same_lengths a b c d = eqb b a && (eqb c a && eqb d a)
 
 -- ---- 10: a writer out of range
 
-abbrev pub is_nothing : Sent → Bool
-is_nothing Nothing = true
-is_nothing (Value g) = false
+abbrev pub is_nothing : Option ℕ → Bool
+is_nothing None = true
+is_nothing (Some g) = false
 
 -- sent as q, or not at all
-abbrev pub belongs : Sent → (q : ℕ) → Bool
-belongs Nothing q = true
-belongs (Value g) q = eqb g q
+abbrev pub belongs : Option ℕ → (q : ℕ) → Bool
+belongs None q = true
+belongs (Some g) q = eqb g q
 
-abbrev pub sent_at_most : Sent → (most : ℕ) → Bool
-sent_at_most Nothing most = true
-sent_at_most (Value g) most = leb g most
+abbrev pub sent_at_most : Option ℕ → (most : ℕ) → Bool
+sent_at_most None most = true
+sent_at_most (Some g) most = leb g most
 
 -- nothing but a high half is sent
 abbrev pub high_in_range : EncoderState → (high : ℕ) → Bool
@@ -82,14 +83,14 @@ sent_in_range Evt21 v t = high_in_range v (t / grain2)
 sent_in_range Evt3 v t = belongs v.time_high (t / grain3) && (belongs v.time_low (t % grain3) && sent_at_most v.y 2047)
 
 -- a high half without a last time: its coarse time is within 7's bounds
-abbrev pub held_in_range : Encoding → Sent → Bool
-held_in_range e Nothing = true
-held_in_range e (Value h) = ltb (h * grain_of e) time_bound
+abbrev pub held_in_range : Encoding → Option ℕ → Bool
+held_in_range e None = true
+held_in_range e (Some h) = ltb (h * grain_of e) time_bound
 
 -- without a last time no low half and no row was sent, and none counted
-abbrev pub last_in_range : Encoding → EncoderState → (count : ℕ) → LastTime → Bool
-last_in_range e v n Never = held_in_range e v.time_high && (is_nothing v.time_low && (is_nothing v.y && eqb n 0))
-last_in_range e v n (At t) = time_in_range t && (leb n (2 ^ 62) && sent_in_range e v (natural t))
+abbrev pub last_in_range : Encoding → EncoderState → (count : ℕ) → Option ℤ → Bool
+last_in_range e v n None = held_in_range e v.time_high && (is_nothing v.time_low && (is_nothing v.y && eqb n 0))
+last_in_range e v n (Some t) = time_in_range t && (leb n (2 ^ 62) && sent_in_range e v (natural t))
 
 abbrev pub sink_in_range : RawEventSink → Bool
 sink_in_range s = last_in_range s.version s.state s.n_events s.last_t

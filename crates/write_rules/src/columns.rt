@@ -2,31 +2,17 @@
 ghost use Rattle.std.specs.Prelude.{◌≡◌, false, ◌&&◌, ◌^◌, ◌≤◌, length};
 ghost use Rattle.std.specs.Int.Signed.{lt_z};
 ghost use Rattle.write_buffer.specs.Columns.{Sized};
-ghost use Rattle.write_rules.specs.declared.LastTime.TheVariants.{Never};
+ghost use Rattle.std.specs.Prelude.{None};
 ghost use Rattle.write_rules.specs.Range.{time_in_range, every, at_most, falls, falls_after, same_lengths};
-ghost use Rattle.write_rules.specs.Blocks.{places_in_range, Looks};
+ghost use Rattle.write_rules.specs.Blocks.{places_in_range, looked_of};
 
-use crate::{LastTime, range};
-use evt_types::num::{and2, and3};
+use crate::range;
+use evt_types::Refusal;
 
 pub fn same_lengths(a: usize, b: usize, c: usize, d: usize) -> bool
     ensures { result ≡ same_lengths a b c d }
 {
-    and3(b == a, c == a, d == a)
-}
-
-// What looking through columns tells: whether a time falls, and else whether all places, that is
-// columns, rows and polarities, are in range.
-#[derive(Clone, Copy)]
-pub struct Looked {
-    pub falls: bool,
-    pub fine: bool,
-}
-
-fn earlier(a: i64, b: i64) -> bool
-    ensures { result ≡ lt_z a b }
-{
-    a < b
+    b == a && c == a && d == a
 }
 
 // Whether a time is before the one before it, the first before `from`.
@@ -35,55 +21,39 @@ fn times_fall(from: i64, ts: &[i64]) -> bool
     ensures { result ≡ falls from ts.now }
 {
     let mut last = from;
-    let mut i = 0;
-    while i < ts.len() {
-        let t = ts[i];
-        if earlier(t, last) {
+    for &t in ts {
+        if t < last {
             return true;
         }
         last = t;
-        i += 1;
     }
     false
 }
 
-// Whether all are at most 2047: gathered by `|`, since that needs no branch.
+// Whether all are at most 2047: gathered by `|`, since that needs no branch. (One function over the
+// type of this and the next would need a trait with `|`, `<=` and a law, in place of one line.)
 fn all_at_most_2047(xs: &[u16]) -> bool
     requires { length xs.now ≤ 2 ^ 28 }
     ensures { result ≡ every (at_most 2047) xs.now }
 {
-    let mut all: u16 = 0;
-    let mut i: usize = 0;
-    while i < xs.len() {
-        all = all | xs[i];
-        i += 1;
-    }
-    all <= 2047
+    xs.iter().fold(0, |all, &x| all | x) <= 2047
 }
 
 fn all_at_most_1(ps: &[u8]) -> bool
     requires { length ps.now ≤ 2 ^ 28 }
     ensures { result ≡ every (at_most 1) ps.now }
 {
-    let mut all: u8 = 0;
-    let mut i: usize = 0;
-    while i < ps.len() {
-        all = all | ps[i];
-        i += 1;
-    }
-    all <= 1
+    ps.iter().fold(0, |all, &p| all | p) <= 1
 }
 
 // Of times in order the first and the last tell.
 fn times_in_range(ts: &[i64]) -> bool
-    requires { falls_after Never ts.now ≡ false }
+    requires { falls_after None ts.now ≡ false }
     ensures { result ≡ every time_in_range ts.now }
 {
     let n = ts.len();
     if 0 < n {
-        let first = range::time(ts[0]);
-        let last = range::time(ts[n - 1]);
-        and2(first, last)
+        range::time(ts[0]) && range::time(ts[n - 1])
     } else {
         true
     }
@@ -91,11 +61,10 @@ fn times_in_range(ts: &[i64]) -> bool
 
 // Rule 7, where the places were looked at.
 pub fn events_in_range(fine: bool, ts: &[i64]) -> bool
-    requires { falls_after Never ts.now ≡ false }
+    requires { falls_after None ts.now ≡ false }
     ensures { result ≡ (fine && every time_in_range ts.now) }
 {
-    let t = times_in_range(ts);
-    and2(fine, t)
+    fine && times_in_range(ts)
 }
 
 // Whether columns, rows and polarities are in range.
@@ -103,17 +72,15 @@ fn places_in_range(xs: &[u16], ys: &[u16], ps: &[u8]) -> bool
     requires { (length xs.now ≤ 2 ^ 28) × (length ys.now ≤ 2 ^ 28) × (length ps.now ≤ 2 ^ 28) }
     ensures { result ≡ places_in_range xs.now ys.now ps.now }
 {
-    let x = all_at_most_2047(xs);
-    let y = all_at_most_2047(ys);
-    let p = all_at_most_1(ps);
-    and3(x, y, p)
+    all_at_most_2047(xs) && all_at_most_2047(ys) && all_at_most_1(ps)
 }
 
-// Whether a time is before the one before it, the first before `from`, and else whether all places are
-// in range: 64 events at a time, all four columns of them.
-fn look(from: i64, xs: &[u16], ys: &[u16], ts: &[i64], ps: &[u8]) -> Looked
+// 6 where a time is before the one before it, the first before `from`, and else whether all places are
+// in range: 64 events at a time, all four columns of them. (Four `chunks(64)`, zipped, were no plainer:
+// `(((x, y), t), p)`, and the last time of a block besides.)
+fn look(from: i64, xs: &[u16], ys: &[u16], ts: &[i64], ps: &[u8]) -> Result<bool, Refusal>
     requires { Sized xs.now ys.now ts.now ps.now }
-    ensures { Looks (falls from ts.now) xs.now ys.now ps.now result }
+    ensures { result ≡ looked_of (falls from ts.now) (places_in_range xs.now ys.now ps.now) }
 {
     let mut last = from;
     let mut ok = true;
@@ -121,39 +88,38 @@ fn look(from: i64, xs: &[u16], ys: &[u16], ts: &[i64], ps: &[u8]) -> Looked
     while 64 < ts.len() - i {
         let to = i + 64;
         if times_fall(last, &ts[i..to]) {
-            return Looked {
-                falls: true,
-                fine: false,
-            };
+            return Err(Refusal::TimeOrder);
         }
-        let places = places_in_range(&xs[i..to], &ys[i..to], &ps[i..to]);
-        ok = and2(ok, places);
+        ok &= places_in_range(&xs[i..to], &ys[i..to], &ps[i..to]);
         last = ts[to - 1];
         i = to;
     }
     let end = ts.len();
-    let fall = times_fall(last, &ts[i..end]);
-    let places = places_in_range(&xs[i..end], &ys[i..end], &ps[i..end]);
-    let fine = and2(ok, places);
-    Looked { falls: fall, fine }
+    if times_fall(last, &ts[i..end]) {
+        return Err(Refusal::TimeOrder);
+    }
+    Ok(ok && places_in_range(&xs[i..end], &ys[i..end], &ps[i..end]))
 }
 
-// Rule 6, and of rule 7 the places.
-pub fn look_after(last: LastTime, xs: &[u16], ys: &[u16], ts: &[i64], ps: &[u8]) -> Looked
+// Rule 6, and of rule 7 whether the places are in range.
+pub fn look_after(
+    last: Option<i64>,
+    xs: &[u16],
+    ys: &[u16],
+    ts: &[i64],
+    ps: &[u8],
+) -> Result<bool, Refusal>
     requires { Sized xs.now ys.now ts.now ps.now }
-    ensures { Looks (falls_after last ts.now) xs.now ys.now ps.now result }
+    ensures { result ≡ looked_of (falls_after last ts.now) (places_in_range xs.now ys.now ps.now) }
 {
     match last {
-        LastTime::Never => {
+        None => {
             if 0 < ts.len() {
                 look(ts[0], xs, ys, ts, ps)
             } else {
-                Looked {
-                    falls: false,
-                    fine: true,
-                }
+                Ok(true)
             }
         }
-        LastTime::At(t) => look(t, xs, ys, ts, ps),
+        Some(t) => look(t, xs, ys, ts, ps),
     }
 }

@@ -8,7 +8,7 @@ ghost use Rattle.std.specs.Prelude.{◌≡◌};
 ghost use Rattle.write_rules.specs.Range.{sink_in_range};
 ghost use Rattle.write_rules.specs.Rules.{fresh_sink, lengths_outcome, check_outcome, check_of};
 
-use evt_types::{Encoding, Refusal, Sent};
+use evt_types::{Encoding, Refusal};
 use write_buffer::EncoderState;
 
 mod columns;
@@ -18,25 +18,12 @@ mod range;
 pub const TIMES: u64 = 17179869184;
 
 #[derive(Clone, Copy)]
-pub enum LastTime {
-    Never,
-    At(i64),
-}
-
-#[derive(Clone, Copy)]
 pub struct RawEventSink {
     pub version: Encoding,
     pub header_written: bool,
     pub n_events: usize,
-    pub last_t: LastTime,
+    pub last_t: Option<i64>,
     pub state: EncoderState,
-}
-
-// What the sink and the columns ask for, the output aside.
-#[derive(Clone, Copy)]
-pub enum Check {
-    Passed,
-    Failed(Refusal),
 }
 
 impl RawEventSink {
@@ -45,15 +32,15 @@ impl RawEventSink {
         ensures { result ≡ fresh_sink version header }
     {
         let state = EncoderState {
-            time_high: Sent::Nothing,
-            time_low: Sent::Nothing,
-            y: Sent::Nothing,
+            time_high: None,
+            time_low: None,
+            y: None,
         };
         Self {
             version,
             header_written: !header,
             n_events: 0,
-            last_t: LastTime::Never,
+            last_t: None,
             state,
         }
     }
@@ -62,48 +49,40 @@ impl RawEventSink {
 fn in_range(sink: RawEventSink) -> bool
     ensures { result ≡ sink_in_range sink }
 {
-    let version = sink.version;
-    let state = sink.state;
-    let last = sink.last_t;
-    range::last(version, state, sink.n_events, last)
+    range::last(sink.version, sink.state, sink.n_events, sink.last_t)
 }
 
 // Rules 12 and 4, by the columns' lengths.
-pub fn check_lengths(x: usize, y: usize, t: usize, p: usize) -> Check
+pub fn check_lengths(x: usize, y: usize, t: usize, p: usize) -> Result<(), Refusal>
     ensures { result ≡ check_of (lengths_outcome x y t p) }
 {
-    if columns::same_lengths(x, y, t, p) {} else {
-        return Check::Failed(Refusal::ColumnLengths);
+    if !columns::same_lengths(x, y, t, p) {
+        return Err(Refusal::ColumnLengths);
     }
     if 268435456 < x {
-        Check::Failed(Refusal::TooLong)
-    } else {
-        Check::Passed
+        return Err(Refusal::TooLong);
     }
+    Ok(())
 }
 
 // Rules 10, 12, 4, 6 and 7.
-pub fn check_append(sink: RawEventSink, xs: &[u16], ys: &[u16], ts: &[i64], ps: &[u8]) -> Check
+pub fn check_append(
+    sink: RawEventSink,
+    xs: &[u16],
+    ys: &[u16],
+    ts: &[i64],
+    ps: &[u8],
+) -> Result<(), Refusal>
     ensures { result ≡ check_of (check_outcome sink xs.now ys.now ts.now ps.now) }
 {
-    if in_range(sink) {} else {
-        return Check::Failed(Refusal::StateOutOfRange);
+    if !in_range(sink) {
+        return Err(Refusal::StateOutOfRange);
     }
-    let lengths = check_lengths(xs.len(), ys.len(), ts.len(), ps.len());
-    let Check::Passed = lengths else {
-        return lengths;
-    };
-    let version = sink.version;
-    let state = sink.state;
-    let last = sink.last_t;
-    let from = range::not_before(version, state, last);
-    let looked = columns::look_after(from, xs, ys, ts, ps);
-    if looked.falls {
-        return Check::Failed(Refusal::TimeOrder);
+    check_lengths(xs.len(), ys.len(), ts.len(), ps.len())?;
+    let from = range::not_before(sink.version, sink.state, sink.last_t);
+    let fine = columns::look_after(from, xs, ys, ts, ps)?;
+    if !columns::events_in_range(fine, ts) {
+        return Err(Refusal::EventOutOfRange);
     }
-    if columns::events_in_range(looked.fine, ts) {
-        Check::Passed
-    } else {
-        Check::Failed(Refusal::EventOutOfRange)
-    }
+    Ok(())
 }

@@ -13,10 +13,8 @@ pub fn put_text(out: &mut [u8], at: usize, s: &[u8]) -> usize
     requires { at + length s.now < 2 ^ 64 }
     ensures { Stored (length s.now) out.old at s.now result out.new }
 {
-    let mut i: usize = 0;
-    while i < s.len() {
-        write_buffer::put8(&mut *out, at + i, s[i]);
-        i += 1;
+    for (i, &b) in s.iter().enumerate() {
+        write_buffer::put8(&mut *out, at + i, b);
     }
     at + s.len()
 }

@@ -7,7 +7,8 @@ use Rattle.std.proofs.lemmas.List.Edits.{sets}
 use Rattle.laws_stream.specs.Machine.{All, run, run-append, emits-append, words_append}
 use Rattle.laws_stream.specs.{Part.between, Part.between_get_d, Part.length-between, Part.between_few, Order.Rise, Order.rise_last, Words.stream-append}
 use Rattle.evt3_decoder.specs.Evt3.{period3}
-use Rattle.evt_types.specs.{Event.Event, Num.natural, Layout.word_size3, declared.Sent.TheVariants.Value}
+use Rattle.std.specs.Prelude.{Some}
+use Rattle.evt_types.specs.{Event.Event, Num.natural, Layout.word_size3}
 use Rattle.write_buffer.specs.declared.{EncoderState.EncoderState, Put.Put}
 use Rattle.write_buffer.specs.Columns.{Sized, Whole, events_in, events_past, event, event_of, events-at, events-end, events-drop}
 use Rattle.write_buffer.specs.Storing.{Roomy, storing_iteration, storing_room, bytes_from, bytes-cons, Going, going_start, going_end}
@@ -47,7 +48,7 @@ in_next ts i e l h q = record {
 
 module _ (v : EncoderState) (t : ℕ) where
   pub enter_later : loop_of v.time_high < t / period3 → (a at : ℕ) → a ≡ at + length (ahead_bytes v t)
-      → record { state = record { time_high = Value (t / period3 * 2 ^ 12); time_low = Value 0; y = v.y }; at = a } ≡ entered v t at
+      → record { state = record { time_high = Some (t / period3 * 2 ^ 12); time_low = Some 0; y = v.y }; at = a } ≡ entered v t at
   enter_later h a at e =
       let n : suc (ahead3 v t - 1) ≡ ahead3 v t = omega arith in
       rw e (ap {B = Put} (λ (k : ℕ). record { state = looped_by v t k; at = at + length (ahead_bytes v t) }) n)

@@ -8,12 +8,13 @@
 
 ghost use Rattle.std.specs.Prelude.{◌≡◌, ◌^◌, ◌≤◌, ◌<◌, length};
 ghost use Rattle.std.proofs.lemmas.List.Edits.{sets};
-ghost use Rattle.write_buffer.specs.Columns.{Sized, Whole, events_in};
+ghost use Rattle.write_buffer.specs.Columns.{events_in};
+ghost use Rattle.write_buffer.specs.Lent.{of};
 ghost use Rattle.write_buffer.specs.Storing.{Roomy};
 ghost use Rattle.write_words.specs.Encode.{encode_bytes, encode_most, passed, Fitting, Paced};
 
 use evt_types::Encoding;
-use write_buffer::{EncoderState, Put};
+use write_buffer::{Columns, EncoderState, Put};
 
 pub mod evt3;
 
@@ -34,25 +35,21 @@ pub fn most_bytes(version: Encoding, n: usize, loops: u64) -> usize
 pub fn pass(
     version: Encoding,
     state: EncoderState,
-    xs: &[u16],
-    ys: &[u16],
-    ts: &[i64],
-    ps: &[u8],
+    events: Columns,
     out: &mut [u8],
     start: usize,
 ) -> Put
-    requires { Sized xs.now ys.now ts.now ps.now × (start ≤ 2 ^ 32) × Whole ts.now
-        × (length (encode_bytes version state (events_in xs.now ys.now ts.now ps.now)) ≤ 2 ^ 36)
-        × Roomy out.old start (length (encode_bytes version state (events_in xs.now ys.now ts.now ps.now)))
-        × Fitting version xs.now ys.now ts.now ps.now
-        × Paced version state (events_in xs.now ys.now ts.now ps.now) }
-    ensures passed { result ≡ passed version state (events_in xs.now ys.now ts.now ps.now) start }
-    ensures stores { out.new ≡ sets out.old start (encode_bytes version state (events_in
-        xs.now ys.now ts.now ps.now)) }
+    requires { (start ≤ 2 ^ 32)
+        × (length (encode_bytes version state (of events_in events)) ≤ 2 ^ 36)
+        × Roomy out.old start (length (encode_bytes version state (of events_in events)))
+        × of (Fitting version) events
+        × Paced version state (of events_in events) }
+    ensures passed { result ≡ passed version state (of events_in events.entry) start }
+    ensures stores { out.new ≡ sets out.old start (encode_bytes version state (of events_in events.entry)) }
 {
     match version {
-        Encoding::Evt2 => evt2_encoder::pass(state, xs, ys, ts, ps, &mut *out, start),
-        Encoding::Evt21 => evt21_encoder::pass(state, xs, ys, ts, ps, &mut *out, start),
-        Encoding::Evt3 => evt3::pass(state, xs, ys, ts, ps, &mut *out, start),
+        Encoding::Evt2 => evt2_encoder::pass(state, events, &mut *out, start),
+        Encoding::Evt21 => evt21_encoder::pass(state, events, &mut *out, start),
+        Encoding::Evt3 => evt3::pass(state, events, &mut *out, start),
     }
 }

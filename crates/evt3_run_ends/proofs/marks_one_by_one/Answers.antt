@@ -1,14 +1,14 @@
 use Rattle.std.proofs.Common.{◌-◌, arith}
 use Rattle.evt3_run_rules.specs.Marks.{gather_full, gather_rest, gather_small, gather_iteration, stop_le}
 use Rattle.evt3_run_ends.proofs.marks_one_by_one.Goals as goal
-use Rattle.evt3_run_ends.proofs.marks_one_by_one.Goals.{then-j-i-ge63, else-j-i-ge63}
+use Rattle.evt3_run_ends.proofs.marks_one_by_one.Goals.{then-last-i-ge63, else-last-i-ge63}
 
 pub loop-j-init : goal.loop-j-init
 loop-j-init c =
     let a = c.args in
-    elim c.if-j-i-ge63.branch [
-      | then-j-i-ge63 w ↦ rw (w.j-is, w.mask-is) (gather_full a.xs.now a.ys.now a.ts.now a.ps.now a.i (omega arith))
-      | else-j-i-ge63 w ↦ rw (w.j-is, w.mask-is) (gather_rest a.xs.now a.ys.now a.ts.now a.ps.now a.i c.requires.1 (omega arith))
+    elim c.if-last-i-ge63.branch [
+      | then-last-i-ge63 w ↦ rw w.end-is (gather_full a.events.xs.now a.events.ys.now a.events.ts.now a.events.ps.now a.i (omega arith))
+      | else-last-i-ge63 w ↦ rw w.end-is (gather_rest a.events.xs.now a.events.ys.now a.events.ts.now a.events.ps.now a.i c.requires (omega arith))
     ]
 
 pub overflow_mul-mask : goal.overflow_mul-mask
@@ -20,7 +20,7 @@ overflow_add-mask c =
     omega (
       arith,
       gather_small _ _ _ _ c.loop-j.invariant,
-      stop_le a.xs.now a.ys.now a.ts.now a.ps.now (c.loop-j.j - 1),
+      stop_le a.events.xs.now a.events.ys.now a.events.ts.now a.events.ps.now (c.loop-j.j - 1),
     )
 
 pub loop-j-preserved : goal.loop-j-preserved

@@ -1,29 +1,37 @@
-use Rattle.std.proofs.Common.{◌≡◌, true, List, ℕ, zero, suc, ◌+◌, ◌-◌, length, set, arith, ap, subst}
+use Rattle.std.proofs.Common.{◌≡◌, ap, ◌∙◌, List, ◌++◌, take, drop, arith, length-take}
 use Rattle.index_build.specs.declared.{Builder.Builder, Checkpoint.Checkpoint}
-use Rattle.index_build.specs.Build.{Begun}
-use Rattle.index_build.specs.Stage.{Stage, stage_fit, stage_next, stage_stops}
+use Rattle.std.specs.Prelude.{Ok}
+use Rattle.index_build.specs.{Build.builder_at, Build.concluded, Build.made_at, Index.firsts, Stage.laid_to}
+use Rattle.index_build.specs.Stage.{stage_fit, stage_next, stage_start, written_to}
 use Rattle.index_open.proofs.make.Goals as goal
 
-module _ (l : List ℕ) (first : Builder) (ys : List Checkpoint) (ok : Begun l (length ys) first) (t : Builder) (zs : List Checkpoint) where
-  -- while the builder goes on, a record is left to make
-  one_more : (m : ℕ) → t.more ≡ true → Stage l first ys m t zs → Stage l first ys (suc (m - 1)) t zs
-  one_more zero goes s = absurd (stage_stops l first ys ok t zs s goes)
-  one_more (suc m) goes s = let e : m ≡ suc m - 1 = omega arith in subst (λ (k : ℕ). Stage l first ys (suc k) t zs) e s
+pub loop-record-init : goal.loop-record-init
+loop-record-init c = stage_start c.args.recording.now c.args.first c.requires (take c.args.first.cap c.args.records.now)
 
-pub advance-m-requires : goal.advance-m-requires
-advance-m-requires c =
+pub advance-requires : goal.advance-requires
+advance-requires c =
     let a = c.args in
-    let p = c.loop-t in
-    stage_fit a.recording.now a.first a.records.now c.requires _ p.t p.records
-    (one_more a.recording.now a.first a.records.now c.requires p.t p.records _ c.loop-t-test.true p.invariant)
+    let p = c.loop-record in
+    stage_fit a.recording.now a.first c.requires (take a.first.cap a.records.now) p.record-index
+    (omega (arith, length-take a.first.cap a.records.now)) p.builder p.record-items p.invariant
 
-pub loop-t-preserved : goal.loop-t-preserved
-loop-t-preserved c =
+pub loop-record-preserved : goal.loop-record-preserved
+loop-record-preserved c =
     let a = c.args in
-    let p = c.loop-t in
-    let made = c.advance-m in
-    let at : made.result.next.at ≡ p.t.at + 1 = ap (λ (u : Builder). u.at) made.ensures.is_next in
-    let left : a.first.cap - p.t.at - 1 ≡ a.first.cap - made.result.next.at = omega arith in
-    subst (λ (m : ℕ). Stage a.recording.now a.first a.records.now m made.result.next (set p.records p.t.at made.result.record)) left
-    (stage_next a.recording.now a.first a.records.now c.requires _ p.t p.records
-    (one_more a.recording.now a.first a.records.now c.requires p.t p.records _ c.loop-t-test.true p.invariant) made.result made.ensures)
+    let p = c.loop-record in
+    stage_next a.recording.now a.first c.requires (take a.first.cap a.records.now) p.record-index
+    (omega (arith, length-take a.first.cap a.records.now)) p.builder p.record-items p.invariant (omega arith) _ _ c.advance.ensures
+
+pub returns : goal.returns
+returns c =
+    let a = c.args in
+    let p = c.loop-record in
+    let end : p.record-index ≡ a.first.cap = omega (arith, length-take a.first.cap a.records.now) in
+    let last = p.invariant.is_builder ∙ ap (builder_at a.recording.now a.first) end in
+    let laid = p.invariant.laid ∙ ap (laid_to a.recording.now a.first (take a.first.cap a.records.now)) end in
+    record {
+      is_answer = c.conclude.ensures ∙ ap (λ (u : Builder). Ok (concluded u)) last;
+      laid =
+          ap (λ (zs : List Checkpoint). zs ++ drop a.first.cap a.records.now) laid
+          ∙ written_to (firsts (made_at a.recording.now a.first) a.first.cap) a.records.now a.first.cap;
+    }

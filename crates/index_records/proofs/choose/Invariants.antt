@@ -1,10 +1,9 @@
-use Rattle.std.proofs.Common.{suc, ◌-◌, cond}
-use Rattle.index_records.specs.Search.{Finds}
+use Rattle.std.proofs.Common.{◌-◌}
+use Rattle.index_records.specs.Search.{Searches}
 use Rattle.index_records.proofs.choose.Given as goal
 
--- how many records are still to be read, at most
-abbrev pub decreases-loop-t : goal.decreases-loop-t
-decreases-loop-t l = cond l.t.more (suc (l.t.hi - l.t.lo)) 0
+abbrev pub invariant-loop-lo : goal.invariant-loop-lo
+invariant-loop-lo g l = Searches l.asked (g.R.Records.listed l.records) l.lo l.hi
 
-abbrev pub invariant-loop-t : goal.invariant-loop-t
-invariant-loop-t l = Finds l.fn.asked l.records (cond l.t.more (suc (l.t.hi - l.t.lo)) 0) l.t
+abbrev pub decreases-loop-lo : goal.decreases-loop-lo
+decreases-loop-lo g l = l.hi - l.lo

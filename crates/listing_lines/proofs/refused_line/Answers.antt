@@ -2,4 +2,4 @@ use Rattle.listing_lines.specs.Lines.{stored_refused}
 use Rattle.listing_lines.proofs.refused_line.Goals as goal
 
 pub returns : goal.returns
-returns c = stored_refused c.args.r _ c.refusal_number.ensures c.put_text-a.ensures c.field.ensures
+returns c = stored_refused c.args.r _ c.from.ensures c.put_text-a.ensures c.field.ensures

@@ -1,8 +1,6 @@
+use Rattle.std.proofs.Common.{◌+◌, ◌-◌}
 use Rattle.listing_text.specs.Laws.{Listing}
 use Rattle.listing_text.proofs.lines_text.Given as goal
 
-abbrev pub invariant-loop-left : goal.invariant-loop-left
-invariant-loop-left l = Listing l.xs l.ys l.ts l.ps l.from l.n l.initial.out l.at l.i l.left l.out
-
-abbrev pub decreases-loop-left : goal.decreases-loop-left
-decreases-loop-left l = l.left
+abbrev pub invariant-loop-i : goal.invariant-loop-i
+invariant-loop-i l = Listing l.xs l.ys l.ts l.ps l.from l.n l.initial.out l.at l.i (l.from + l.n - l.i) l.out

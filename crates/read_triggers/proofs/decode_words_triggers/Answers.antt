@@ -1,13 +1,15 @@
 use Rattle.std.proofs.Common.{sym, ◌∙◌}
+use Rattle.std.proofs.lemmas.Result.{err_from_is_err_and}
 use Rattle.trigger_rules.specs.Laws.{words-refused, words_read}
 use Rattle.read_triggers.proofs.decode_words_triggers.Goals as goal
 
-pub returns-in-Unfit : goal.returns-in-Unfit
-returns-in-Unfit c =
+pub returns-in_err-judge : goal.returns-in_err-judge
+returns-in_err-judge c =
     let a = c.args in
-    words-refused a.words.now a.encoding a.size a.limit _ (sym c.judge-judged.ensures ∙ c.in-Unfit.is)
+    let p = err_from_is_err_and c.from_residual.result c.from_residual.ensures.1 in
+    rw (p.1, p.2) (words-refused a.words.now a.encoding a.size a.limit _ (sym c.judge.ensures ∙ c.in_err-judge.was))
 
 pub returns : goal.returns
 returns c =
     let a = c.args in
-    words_read a.words.now a.encoding a.size a.limit (sym c.judge-judged.ensures ∙ c.in_default.is) c.read_body_triggers.ensures
+    words_read a.words.now a.encoding a.size a.limit (sym c.judge.ensures ∙ c.in_ok-judge.was) c.read_body_triggers.ensures

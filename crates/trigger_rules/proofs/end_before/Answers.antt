@@ -1,6 +1,6 @@
 use Rattle.std.proofs.Common.{arith, length}
 use Rattle.read_rules.specs.Laws.{ready_new}
-use Rattle.evt_types.specs.declared.Limit.TheVariants.{AtMost}
+use Rattle.std.specs.Prelude.{Some}
 use Rattle.trigger_rules.specs.Laws.{ends_none}
 use Rattle.trigger_rules.proofs.end_before.Goals as goal
 use Rattle.trigger_rules.proofs.EndLaws.{ends_by}
@@ -12,7 +12,7 @@ returns-then-n-eq0 c =
 pub survey-words-requires : goal.survey-words-requires
 survey-words-requires c =
     let a = c.args in
-    ready_new a.size a.encoding (AtMost a.n) c.new-codec.result c.new-codec.ensures (length a.body.now) c.requires
+    ready_new a.size a.encoding (Some a.n) c.new-codec.result c.new-codec.ensures (length a.body.now) c.requires
 
 pub overflow_mul-result : goal.overflow_mul-result
 overflow_mul-result c =

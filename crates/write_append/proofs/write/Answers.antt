@@ -8,25 +8,23 @@ pass-requires c =
     let header-due = c.header_due-due in
     let few = due_few header-due.result c.args.sink.version c.args.width c.args.height (omega arith) (omega arith) in
     let a = c.args in (
-      c.requires.0,
       omega arith,
-      c.requires.1,
       omega (
         arith,
-        c.requires.2.few,
-        length-append (due_header a.sink a.width a.height a.xs.now a.ys.now a.ts.now a.ps.now)
-            (word_bytes a.sink a.xs.now a.ys.now a.ts.now a.ps.now),
+        c.requires.0.few,
+        length-append (due_header a.sink a.width a.height a.events.xs.now a.events.ys.now a.events.ts.now a.events.ps.now)
+            (word_bytes a.sink a.events.xs.now a.events.ys.now a.events.ts.now a.events.ps.now),
       ),
-      room-words a.sink a.width a.height a.xs.now a.ys.now a.ts.now a.ps.now a.out.now
+      room-words a.sink a.width a.height a.events.xs.now a.events.ys.now a.events.ts.now a.events.ps.now a.out.now
           c.put_due-at.new.out header-due.ensures c.put_due-at.ensures.ends
-          c.put_due-at.auto.out c.requires.3,
-      c.requires.4,
-      c.requires.2.paced,
+          c.put_due-at.auto.out c.requires.1,
+      c.requires.2,
+      c.requires.0.paced,
     )
 
 pub returns : goal.returns
 returns c =
     let a = c.args in
-    let all = wrote_is a.sink a.width a.height a.xs.now a.ys.now a.ts.now a.ps.now a.out.now
+    let all = wrote_is a.sink a.width a.height a.events.xs.now a.events.ys.now a.events.ts.now a.events.ps.now a.out.now
     c.header_due-due.ensures c.put_due-at.ensures.ends c.put_due-at.ensures.stores c.pass.ensures.passed c.pass.ensures.stores in
     record { wrote = all.0; stores = all.1 }

@@ -1,8 +1,5 @@
-use Rattle.c_index.specs.Making.{left, Stage}
+use Rattle.c_index.specs.Making.{Stage}
 use Rattle.c_index.proofs.opening.make_records.Given as goal
 
-abbrev pub invariant-loop-t : goal.invariant-loop-t
-invariant-loop-t l = Stage l.recording l.initial.t l.initial.records l.t l.records
-
-abbrev pub decreases-loop-t : goal.decreases-loop-t
-decreases-loop-t l = left l.t
+abbrev pub invariant-loop-entries : goal.invariant-loop-entries
+invariant-loop-entries l = Stage l.recording l.fn.first l.initial.entries-items l.entries-index l.builder l.entries-items

@@ -3,6 +3,3 @@ use Rattle.evt3_run_ends.proofs.flags.gather.Given as goal
 
 abbrev pub invariant-loop-j : goal.invariant-loop-j
 invariant-loop-j l = Packing l.flags l.mask l.j
-
-abbrev pub decreases-loop-j : goal.decreases-loop-j
-decreases-loop-j l = l.j

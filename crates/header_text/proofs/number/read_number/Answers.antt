@@ -1,12 +1,12 @@
-use mathlib.Core.Path.{◌∙◌}
+use Rattle.std.proofs.Common.{rules, ◌∙◌}
 use Rattle.header_text.proofs.NumberLaws as laws
 use Rattle.header_text.proofs.number.read_number.Goals as goal
 
-pub returns-then-text-eq0 : goal.returns-then-text-eq0
-returns-then-text-eq0 c = laws.read_none _ c.if-text-eq0.true
+pub returns-in-empty : goal.returns-in-empty
+returns-in-empty c = laws.read_none _ (search rules)
 
-pub returns-then-text-eq43 : goal.returns-then-text-eq43
-returns-then-text-eq43 c = c.digits.ensures ∙ laws.read_plus _ c.if-text-eq0.false c.if-text-eq43.true
+pub returns-in-43 : goal.returns-in-43
+returns-in-43 c = c.digits.ensures ∙ laws.read_plus _ (search rules)
 
-pub returns : goal.returns
-returns c = c.digits-2.ensures ∙ laws.read_plain _ c.if-text-eq0.false c.if-text-eq43.false
+pub returns-in_default : goal.returns-in_default
+returns-in_default c = c.digits-in_default.ensures ∙ laws.read_plain _ (search rules) (search rules)

@@ -1,28 +1,20 @@
-use Prim.Native.Nat.{◌+◌}
-use mathlib.Core.Path.{sym, ◌∙◌}
-use native.Mathlib.Omega.{arith}
+use Rattle.std.proofs.Common.{◌+◌, sym, ◌∙◌, arith}
 use Rattle.header_text.specs.Size.{both}
 use Rattle.header_text.specs.Parts.{halves_at}
-use Rattle.header_text.specs.Place.{value-number, bad_number}
 use Rattle.header_text.proofs.TextLaws.{tail-part}
 use Rattle.header_text.proofs.size.size_at.Goals as goal
 
-pub returns-in_default : goal.returns-in_default
+pub returns-in_err-width : goal.returns-in_err-width
 unfolding halves_at both
-returns-in_default c = rw (← c.trim.ensures, bad_number _ _ (sym c.read_number.ensures ∙ c.in_default.is))
+returns-in_err-width c = c.from_residual.ensures ∙ rw (sym c.half.ensures ∙ c.in_err-width.was)
 
-pub returns-in_default-read_number : goal.returns-in_default-read_number
+pub returns-in_err-height : goal.returns-in_err-height
 unfolding halves_at both
-returns-in_default-read_number c =
-    let a = c.args in
-    let w = value-number _ _ (sym c.read_number.ensures ∙ c.in-Value.is) in
-    let h = bad_number _ _ (sym c.read_number-2.ensures ∙ c.in_default-read_number.is) in
-    rw (← tail-part a.s.now (a.n + 1) (omega arith), ← c.trim.ensures, ← c.trim-2.ensures, w, h)
+returns-in_err-height c =
+    c.from_residual-in_err-height.ensures
+    ∙ rw (← tail-part c.args.s.now (c.args.n + 1) (omega arith), sym c.half.ensures ∙ c.in_ok-width.was, sym c.half-2.ensures ∙ c.in_err-height.was)
 
 pub returns : goal.returns
 unfolding halves_at both
 returns c =
-    let a = c.args in
-    let w = value-number _ _ (sym c.read_number.ensures ∙ c.in-Value.is) in
-    let h = value-number _ _ (sym c.read_number-2.ensures ∙ c.in-Value-read_number.is) in
-    rw (← tail-part a.s.now (a.n + 1) (omega arith), ← c.trim.ensures, ← c.trim-2.ensures, w, h)
+    rw (← tail-part c.args.s.now (c.args.n + 1) (omega arith), sym c.half.ensures ∙ c.in_ok-width.was, sym c.half-2.ensures ∙ c.in_ok-height.was)

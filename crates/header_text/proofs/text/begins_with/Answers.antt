@@ -1,20 +1,15 @@
-use mathlib.Core.Path.{sym, ◌∙◌}
-use native.Mathlib.Omega.{arith}
+use Rattle.std.proofs.Common.{rules, ◌∙◌}
+use Rattle.std.proofs.lemmas.Iterator.{YieldsList-from_slice, YieldsList-from_zip}
+use Rattle.std.proofs.lemmas.Iterator.Search.{all_from_yields_List}
 use Rattle.header_text.proofs.TextLaws as laws
 use Rattle.header_text.proofs.text.begins_with.Goals as goal
 
-pub returns-then-s-i : goal.returns-then-s-i
-returns-then-s-i c = laws.begins-short _ _ _ c.loop-i.invariant.1.1 c.loop-i-test.true c.if-s-i.true
+pub returns-then-name-s : goal.returns-then-name-s
+returns-then-name-s c =
+    all_from_yields_List laws.named c.all.new.self _ c.all.result c.all.ensures.ran
+    (YieldsList-from_zip (YieldsList-from_slice c.args.s.now cc) (YieldsList-from_slice c.args.name.now cc))
+    (λ x b q k. search rules)
+    ∙ laws.begins-zip c.args.name.now c.args.s.now c.if-name-s.true
 
-pub returns-then-lower-name : goal.returns-then-lower-name
-returns-then-lower-name c =
-    laws.begins_wrong _ _ _ c.loop-i.invariant.1.1 c.loop-i-test.true c.if-s-i.false
-    (λ e. c.if-lower-name.true (c.lower.ensures ∙ e))
-
-pub loop-i-preserved : goal.loop-i-preserved
-loop-i-preserved c =
-    let same = sym c.lower.ensures ∙ c.if-lower-name.false in
-    (omega arith, (omega arith, laws.begins-next _ _ _ c.loop-i.invariant.1.1 c.loop-i-test.true c.if-s-i.false same))
-
-pub returns : goal.returns
-returns c = laws.begins-end _ _ _ c.loop-i.invariant.1.1 c.loop-i-test.false
+pub returns-else-name-s : goal.returns-else-name-s
+returns-else-name-s c = search (rules, laws.begins-short)

@@ -1,21 +1,9 @@
-use mathlib.Core.Path.{sym, ◌∙◌}
-use native.Mathlib.Omega.{arith}
-use borrow.Author.Tests.{not-true, not-false}
+use Rattle.std.proofs.Common.{rules}
 use Rattle.header_text.proofs.TextLaws as laws
 use Rattle.header_text.proofs.text.trim_end.Goals as goal
 
-pub returns-then-not-blank : goal.returns-then-not-blank
-returns-then-not-blank c =
-    let inv = c.loop-n.invariant in
-    laws.end_dark _ _ c.loop-n-test.true inv.0
-    (sym c.blank.ensures ∙ not-true _ c.if-not-blank.true-raw) inv.1
+pub returns-in-Some : goal.returns-in-Some
+returns-in-Some c = laws.trim_last _ _ (search rules) (search rules) (search rules)
 
-pub loop-n-preserved : goal.loop-n-preserved
-loop-n-preserved c =
-    let inv = c.loop-n.invariant in (
-      omega arith,
-      laws.end-blank _ _ c.loop-n-test.true inv.0 (sym c.blank.ensures ∙ not-false _ c.if-not-blank.false-raw) inv.1,
-    )
-
-pub returns : goal.returns
-returns c = laws.end_none _ _ c.loop-n-test.false c.loop-n.invariant.1
+pub returns-in-None : goal.returns-in-None
+returns-in-None c = laws.trim_none _ (search rules)

@@ -1,15 +1,19 @@
-use mathlib.Core.Path.{sym, ◌∙◌}
-use native.Mathlib.Omega.{arith}
+use Rattle.std.proofs.Common.{rules, length, ◌≡◌, true, false, ◌^◌, ◌<◌, sym, ◌∙◌}
+use Rattle.std.proofs.lemmas.Iterator.{IsFirst-from_position, YieldsList-from_slice}
+use Rattle.std.specs.Prelude.{unwrap_or}
+use Rattle.header_text.specs.Text.{up_to}
 use Rattle.header_text.proofs.TextLaws as laws
 use Rattle.header_text.proofs.text.until.Goals as goal
 
-pub returns-then-is_in : goal.returns-then-is_in
-returns-then-is_in c =
-    laws.until_found _ _ _ c.loop-i.invariant.1 c.loop-i-test.true (sym c.is_in.ensures ∙ c.if-is_in.true)
-
-pub loop-i-preserved : goal.loop-i-preserved
-loop-i-preserved c =
-    (omega arith, laws.until-next _ _ _ c.loop-i.invariant.1 c.loop-i-test.true (sym c.is_in.ensures ∙ c.if-is_in.false))
-
 pub returns : goal.returns
-returns c = laws.until_end _ _ _ c.loop-i.invariant.1 c.loop-i-test.false
+returns g c = record {
+  within = search rules;
+  first = λ p h.
+      let found =
+      IsFirst-from_position _ _ c.position.result (λ b. b < 2 ^ 8 → p b ≡ true) (λ b. b < 2 ^ 8 → p b ≡ false)
+      c.position.ensures.ran (YieldsList-from_slice c.args.s.now (search rules))
+      (λ x q e l. sym (h _ true l (search rules))) (λ x q e. (search rules, λ l. sym (h _ false l (search rules)))) in
+      let first : unwrap_or c.position.result (length c.args.s.now) ≡ length (up_to p c.args.s.now) =
+      laws.search_up_to p c.args.s.now c.position.result (λ k. (c.type_inv.s k).fits) found in
+      ◌∙◌ {b = unwrap_or c.position.result (length c.args.s.now)} c.unwrap_or.ensures first;
+}

@@ -10,7 +10,7 @@ pub open_records-requires : goal.open_records-requires
 open_records-requires c =
     let l = c.args.recording.now in
     let room = length c.args.records.now in
-    let o = c.open_options_of-o.result in
+    let o = c.from-o.result in
     begins l room (open_raw_outcome l o room) (accepted_raw l o room) _ c.prepare-prepared.ensures
 
 pub returns : goal.returns
@@ -20,4 +20,4 @@ returns c =
     let room = length a.records.now in
     let o = open_options_of a.options in
     c.open_records.ensures (open_raw_outcome l o room) (accepted_raw l o room)
-    (c.prepare-prepared.ensures ∙ ap (λ (x : OpenOptions). prepared_by (open_raw_outcome l x room)) c.open_options_of-o.ensures)
+    (c.prepare-prepared.ensures ∙ ap (λ (x : OpenOptions). prepared_by (open_raw_outcome l x room)) c.from-o.ensures)

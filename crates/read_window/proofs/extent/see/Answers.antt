@@ -8,8 +8,8 @@ returns-then-mask-eq0 c = extent_quiet c.args.e c.args.v c.if-mask-eq0.true
 pub returns : goal.returns
 returns c =
     rw (
-      c.max_u64.ensures,
-      c.max_u64-2.ensures,
-      c.max_u64-3.ensures,
+      c.max.ensures,
+      c.max-2.ensures,
+      c.max-3.ensures,
       c.saturate-x.ensures,
     ) (sym (extent_top c.args.v c.if-mask-eq0.false c.requires.mask< c.args.e))

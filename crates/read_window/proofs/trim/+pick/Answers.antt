@@ -17,11 +17,11 @@ returns-then-skips t c =
 pub returns-then-win-saturating_add : goal.returns-then-win-saturating_add
 returns-then-win-saturating_add t c =
     let a = c.args in
-    picked_out_bit a.v a.win a.k (omega arith) c.requires.0.mask< c.pick.result (omega arith) (rw c.clear_lowest-rest.ensures at c.pick.ensures)
+    picked_out_bit a.v a.win a.k (omega arith) c.requires.0.mask< c.pick.result (omega arith) c.pick.ensures
 
 pub overflow_add-result : goal.overflow_add-result
 overflow_add-result t c =
-    let q = rw c.clear_lowest-rest.ensures at c.pick-r.ensures in
+    let q = c.pick-r.ensures in
     let less = clear_lt c.args.v.mask (omega arith) in
     omega (arith, picked_few (omega arith) q.picked)
 
@@ -29,10 +29,10 @@ pub returns-then-spans : goal.returns-then-spans
 returns-then-spans t c =
     let a = c.args in
     picked_keep_bit a.v a.win a.k (omega arith) c.requires.0.mask< c.pick-r.result (omega arith) c.if-win-v.false
-    (rw c.clear_lowest-rest.ensures at c.pick-r.ensures) (sym c.spans.ensures ∙ c.if-spans.true)
+    c.pick-r.ensures (sym c.spans.ensures ∙ c.if-spans.true)
 
 pub returns-else-spans : goal.returns-else-spans
 returns-else-spans t c =
     let a = c.args in
     picked_pass_bit a.v a.win a.k (omega arith) c.requires.0.mask< c.pick-r.result (omega arith) c.if-win-v.false
-    (rw c.clear_lowest-rest.ensures at c.pick-r.ensures) (sym c.spans.ensures ∙ c.if-spans.false)
+    c.pick-r.ensures (sym c.spans.ensures ∙ c.if-spans.false)

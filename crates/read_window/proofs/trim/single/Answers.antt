@@ -5,14 +5,14 @@ use Rattle.read_window.proofs.trim.single.Goals as goal
 pub returns-then-spans : goal.returns-then-spans
 returns-then-spans c =
     single_in c.args.v c.args.win c.args.k c.requires.0 c.requires.1
-    (sym c.inside.ensures ∙ c.if-inside.true) (sym c.spans.ensures ∙ c.if-spans.true)
+    (sym c.inside.ensures ∙ c.if-not-inside.false) (sym c.spans.ensures ∙ c.if-spans.true)
 
 pub returns-else-spans : goal.returns-else-spans
 returns-else-spans c =
     single-numbered c.args.v c.args.win c.args.k c.requires.0 c.requires.1
-    (sym c.inside.ensures ∙ c.if-inside.true) (sym c.spans.ensures ∙ c.if-spans.false)
+    (sym c.inside.ensures ∙ c.if-not-inside.false) (sym c.spans.ensures ∙ c.if-spans.false)
 
-pub returns-else-inside : goal.returns-else-inside
-returns-else-inside c =
+pub returns-then-not-inside : goal.returns-then-not-inside
+returns-then-not-inside c =
     single_out c.args.v c.args.win c.args.k c.requires.0
-    c.requires.1 (sym c.inside.ensures ∙ c.if-inside.false)
+    c.requires.1 (sym c.inside.ensures ∙ c.if-not-inside.true)

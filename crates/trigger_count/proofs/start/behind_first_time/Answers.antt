@@ -1,12 +1,11 @@
-use Rattle.std.proofs.Common.{arith}
-use Rattle.trigger_count.specs.Start.{seeking_next, seeking_found, seeking_end}
+use Rattle.std.proofs.Common.{rules}
+use Rattle.trigger_count.specs.Chunks.{Front, front_of}
+use Rattle.trigger_count.specs.Start.{is_early, behind_early}
 use Rattle.trigger_count.proofs.start.behind_first_time.Goals as goal
 
-pub returns-then-kind-eq-TYPE : goal.returns-then-kind-eq-TYPE
-returns-then-kind-eq-TYPE c = seeking_found c.loop-i.invariant c.requires (λ k. (c.type_inv.bytes k).fits) (omega arith) c.if-kind-eq-TYPE.true
-
-pub loop-i-preserved : goal.loop-i-preserved
-loop-i-preserved c = seeking_next c.loop-i.invariant c.requires (λ k. (c.type_inv.bytes k).fits) (omega arith) c.if-kind-eq-TYPE.false
-
 pub returns : goal.returns
-returns c = seeking_end c.loop-i.invariant c.requires (omega arith)
+returns c =
+    let early : Front is_early c.args.size c.args.bytes.now c.count-early.result =
+    front_of is_early c.requires c.chunks_exact.ensures.size c.chunks_exact.ensures.rest c.chunks_exact.ensures.runs
+    c.take_while.ensures.runs c.count-early.ensures.runs (λ a r f q. search rules) c.args.bytes (λ x b f long called. search rules) in
+    rw c.min.ensures (behind_early c.requires (λ k. (c.type_inv.bytes k).fits) early)

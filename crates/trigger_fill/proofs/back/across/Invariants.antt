@@ -1,8 +1,6 @@
+use Rattle.std.proofs.Common.{◌*◌}
 use Rattle.trigger_fill.specs.Back.{Still, whole_times}
 use Rattle.trigger_fill.proofs.back.across.Given as goal
 
 abbrev pub invariant-loop-k : goal.invariant-loop-k
-invariant-loop-k l = Still whole_times l.f l.front l.k
-
-abbrev pub decreases-loop-k : goal.decreases-loop-k
-decreases-loop-k l = l.k
+invariant-loop-k g l = Still whole_times g.E.Format.FORM l.front (l.k * g.E.Format.FORM.size)

@@ -1,40 +1,23 @@
-use Rattle.std.proofs.Common.{◌≡◌, refl, sym, ap, ◌∙◌, arith}
-use Rattle.evt_types.specs.Ahead.{ahead}
-use Rattle.trigger_fill.specs.Form.{size-pos, size_few}
-use Rattle.trigger_fill.specs.Follow.{leading_found, leading-next, leading_end}
-use Rattle.trigger_fill.specs.Pulse.{word-here}
-use Rattle.trigger_fill.specs.Calm.{top_byte, notable, notable_top}
+use Rattle.std.proofs.Common.{rules, not, ◌≡◌, ◌*◌, ◌∙◌, ap, arith, drop}
+use Rattle.laws_stream.specs.{Part.rest_of, Words.value, Words.words_of}
+use Rattle.trigger_fill.specs.declared.form.Form.{Form}
+use Rattle.trigger_fill.specs.Form.{size-pos}
+use Rattle.trigger_fill.specs.Calm.{notable}
+use Rattle.trigger_fill.specs.Follow.{lead}
+use Rattle.trigger_count.specs.Chunks.{Front, front_of}
+use Rattle.trigger_fill.specs.Find.{lead_front, chunk_word}
 use Rattle.trigger_fill.proofs.find.find.Goals as goal
 
-pub overflow_add-i : goal.overflow_add-i
-overflow_add-i c = omega (arith, size_few c.requires, c.loop-i.invariant.within)
-
-pub overflow_sub-top : goal.overflow_sub-top
-overflow_sub-top c = size-pos c.requires
-
-pub bounds-s-i : goal.bounds-s-i
-bounds-s-i c = omega (arith, size-pos c.requires, c.loop-i-test.true)
-
-pub returns-then-is_notable : goal.returns-then-is_notable
-returns-then-is_notable c =
-    let i = c.loop-i.i in
-    let top = top_byte c.requires c.args.s.now i c.loop-i-test.true (λ j. (c.type_inv.s j).fits) in
-    let tested : notable c.args.late c.args.f (ahead c.args.f.size c.args.s.now i) ≡ c.is_notable.result =
-    ap (notable_top c.args.late) top ∙ sym c.is_notable.ensures in
-    leading_found (size-pos c.requires) c.loop-i.invariant c.loop-i-test.true _ (word-here c.requires c.args.s.now i c.loop-i-test.true _ refl)
-    (tested ∙ c.if-is_notable.true)
-
-pub loop-i-smaller : goal.loop-i-smaller
-loop-i-smaller c = omega (arith, size-pos c.requires, c.loop-i-test.true)
-
-pub loop-i-preserved : goal.loop-i-preserved
-loop-i-preserved c =
-    let i = c.loop-i.i in
-    let top = top_byte c.requires c.args.s.now i c.loop-i-test.true (λ j. (c.type_inv.s j).fits) in
-    let tested : notable c.args.late c.args.f (ahead c.args.f.size c.args.s.now i) ≡ c.is_notable.result =
-    ap (notable_top c.args.late) top ∙ sym c.is_notable.ensures in
-    leading-next (size-pos c.requires) c.loop-i.invariant c.loop-i-test.true _ (word-here c.requires c.args.s.now i c.loop-i-test.true _ refl)
-    (tested ∙ c.if-is_notable.false)
-
 pub returns : goal.returns
-returns c = leading_end (size-pos c.requires) c.loop-i.invariant c.loop-i-test.false
+returns g c =
+    let n = g.E.Format.FORM.size in
+    let pos = size-pos g.met.E.Format.known in
+    let rest = drop c.over-from.result c.args.s.now in
+    let calm : Front (λ x. not (notable c.args.late g.E.Format.FORM (value x))) n rest c.count-calm.result =
+    front_of (λ x. not (notable c.args.late g.E.Format.FORM (value x))) pos (c.chunks_exact.ensures.size ∙ ap (λ (f : Form). f.size) c.FORM.ensures)
+    (c.chunks_exact.ensures.rest ∙ rest_of c.args.s.now c.over-from.result) c.chunks_exact.ensures.runs
+    c.take_while.ensures.runs c.count-calm.ensures.runs (λ a r f q. search rules) c.args.s
+    (λ x b f long called. rw (← chunk_word n x.now long) (search rules)) in
+    let found : c.count-calm.result * n ≡ lead (notable c.args.late g.E.Format.FORM) (words_of n rest) * n =
+    lead_front (notable c.args.late g.E.Format.FORM) pos calm in
+    rw c.FORM-2.ensures (omega (arith, found, c.over-from.ensures.comes))

@@ -1,28 +1,19 @@
-use Rattle.std.proofs.Common.{arith, eq-eqb, ne_eqb, sym, ◌∙◌}
-use Rattle.trigger_fill.specs.Form.{kind_in, size-pos}
-use Rattle.trigger_fill.specs.Follow.{leading_found, leading-next, leading_end}
-use Rattle.trigger_fill.specs.Pulse.{word-here}
+use Rattle.std.proofs.Common.{rules, not, ◌≡◌, ◌*◌}
+use Rattle.trigger_fill.specs.Form.{known_at, size-pos}
+use Rattle.trigger_fill.specs.Start.{is_time}
+use Rattle.trigger_fill.specs.Follow.{lead}
+use Rattle.trigger_count.specs.Chunks.{Front, front_of}
+use Rattle.trigger_fill.specs.Find.{lead_front, chunk_word}
+use Rattle.laws_stream.specs.Words.{value, words_of}
 use Rattle.trigger_fill.proofs.first.first.Goals as goal
 
-pub returns-then-kind-eq-TYPE : goal.returns-then-kind-eq-TYPE
-returns-then-kind-eq-TYPE c =
-    let word = c.word-w in
-    let h = c.loop-i-test.true in
-    rw c.if-started.false (leading_found (size-pos c.requires) c.loop-i.invariant h word.result
-    (word-here c.requires c.args.bytes.now _ h word.result word.ensures)
-    (eq-eqb (kind_in c.args.f word.result) 8 (sym c.bits-kind.ensures ∙ c.if-kind-eq-TYPE.true)))
-
-pub loop-i-smaller : goal.loop-i-smaller
-loop-i-smaller c = omega (arith, size-pos c.requires, c.loop-i-test.true)
-
-pub loop-i-preserved : goal.loop-i-preserved
-loop-i-preserved c =
-    let word = c.word-w in
-    let h = c.loop-i-test.true in
-    leading-next (size-pos c.requires) c.loop-i.invariant h word.result
-    (word-here c.requires c.args.bytes.now _ h word.result word.ensures)
-    (ne_eqb (kind_in c.args.f word.result) 8 (λ e. c.if-kind-eq-TYPE.false (c.bits-kind.ensures ∙ e)))
-
 pub returns : goal.returns
-returns c =
-    rw c.if-started.false (leading_end (size-pos c.requires) c.loop-i.invariant c.loop-i-test.false)
+returns g c =
+    let pos = size-pos (known_at c.FORM.ensures g.met.E.Format.known) in
+    let early : Front (λ x. not (is_time g.E.Format.FORM (value x))) c.FORM.result.size c.args.bytes.now c.count-early.result =
+    front_of (λ x. not (is_time g.E.Format.FORM (value x))) pos c.chunks_exact.ensures.size c.chunks_exact.ensures.rest c.chunks_exact.ensures.runs
+    c.take_while.ensures.runs c.count-early.ensures.runs (λ a r f q. search rules) c.args.bytes
+    (λ x b f long called. rw (← chunk_word c.FORM.result.size x.now long) (search rules)) in
+    let found : c.count-early.result * c.FORM.result.size ≡ lead (is_time g.E.Format.FORM) (words_of c.FORM.result.size c.args.bytes.now) * c.FORM.result.size =
+    lead_front (is_time g.E.Format.FORM) pos early in
+    rw (c.if-started.false, c.FORM-2.ensures) (rw c.FORM.ensures at found)

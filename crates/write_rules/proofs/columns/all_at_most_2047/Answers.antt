@@ -1,13 +1,8 @@
-use Rattle.std.proofs.Common.{refl}
-use Rattle.write_buffer.specs.Every.{gathered_start}
-use Rattle.write_rules.specs.Checks.{column-iteration, column-end}
+use Rattle.std.proofs.Common.{◌≡◌, refl, rules}
+use Rattle.std.specs.List.{fold}
+use Rattle.std.specs.Int.Bits.{bit_or}
+use Rattle.write_rules.specs.Checks.{gathered}
 use Rattle.write_rules.proofs.columns.all_at_most_2047.Goals as goal
 
-pub loop-i-init : goal.loop-i-init
-loop-i-init c = gathered_start 11 refl
-
-pub loop-i-preserved : goal.loop-i-preserved
-loop-i-preserved c = column-iteration 2047 c.args.xs.now c.loop-i.invariant c.loop-i-test.true
-
 pub returns : goal.returns
-returns c = column-end 2047 c.args.xs.now c.loop-i.invariant c.loop-i-test.false
+returns c = let all : c.fold.result ≡ fold bit_or 0 c.args.xs.now = search rules in rw all (gathered 11 2047 c.args.xs.now refl)

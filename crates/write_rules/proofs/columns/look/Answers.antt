@@ -1,4 +1,4 @@
-use Rattle.std.proofs.Common.{sym, ◌∙◌, arith, rules, ◌+◌, ◌-◌, get_or, pos, SFits, w64, to_z-of_z}
+use Rattle.std.proofs.Common.{refl, sym, ◌∙◌, arith, rules, ◌+◌, ◌-◌, get_or, pos, SFits, w64, to_z-of_z}
 use Rattle.write_rules.specs.Blocks.{looked_falls, looking_iteration}
 use Rattle.write_rules.proofs.columns.look.Goals as goal
 
@@ -13,4 +13,4 @@ loop-i-preserved c =
     let l = c.loop-i in
     let fits : SFits w64 (get_or c.args.ts.now (l.i + 64 - 1) (pos 0)) = search rules in
     simp to_z-of_z (looking_iteration _ _ _ _ _ l.invariant (l.i + 64) (omega arith) (omega arith)
-    (sym c.times_fall.ensures ∙ c.if-times_fall.false) _ (c.and2-ok.ensures ∙ rw c.places_in_range-places.ensures))
+    (sym c.times_fall.ensures ∙ c.if-times_fall.false) _ (rw c.places_in_range.ensures refl))

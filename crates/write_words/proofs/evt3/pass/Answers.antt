@@ -6,4 +6,4 @@ pub pass_still-requires : goal.pass_still-requires
 pass_still-requires c =
     let p = c.requires in
     let none = sym c.loops_ahead.ensures ∙ c.if-loops_ahead-eq0.true in
-    (p.0, omega (arith, p.1), p.2, paced_still p.0 c.args.state p.5 none, omega (arith, p.3), p.4)
+    (omega (arith, p.0), paced_still c.args.events.sized c.args.state p.3 none, omega (arith, p.1), p.2)

@@ -2,7 +2,7 @@ use Rattle.std.proofs.Common.{refl, sym, ◌∙◌, inl, inr}
 use Rattle.evt3_decoder.specs.Evt3.{slimmed}
 use Rattle.read_count.specs.Evt3Step.{decoder_of, started_agrees, quiet_agrees}
 use Rattle.read_count.proofs.evt3_step.CountingDecoder.table_step.Goals as goal
-use Rattle.read_count.proofs.evt3_step.CountingDecoder.table_step.Goals.{then-self+else-bits-ne8, else-self}
+use Rattle.read_count.proofs.evt3_step.CountingDecoder.table_step.Goals.{else-self-via-then-self+else-bits-ne8, else-self-via-else-self}
 
 pub returns-then-bits-ne8 : goal.returns-then-bits-ne8
 returns-then-bits-ne8 c =
@@ -12,6 +12,9 @@ returns-then-bits-ne8 c =
 pub returns : goal.returns
 returns c =
     quiet_agrees (slimmed (decoder_of c.args.self)) c.args.word
-    (elim c.if-self.branch [ then-self+else-bits-ne8 w ↦ inr (sym w.bits.ensures ∙ w.if-bits-ne8.false) | else-self w ↦ inl w.if-self.false ])
+    (elim c.else-self.branch [
+      | else-self-via-then-self+else-bits-ne8 w ↦ inr (sym w.bits.ensures ∙ w.if-bits-ne8.false)
+      | else-self-via-else-self w ↦ inl w.if-self.false
+    ])
     (record { next = c.counting.result; x = 0; mask = 0 })
     (c.counting.ensures ∙ rw c.wide.ensures at c.advance-step.ensures.0) refl refl

@@ -22,7 +22,9 @@ module _ (e : Encoding) (f : Front) (header : Bool) (ran : List Ran) (cut : ℕ)
   ReadAs Read es = (bytes : List ℕ) → length bytes ≤ 2 ^ 30 → Exact e f bytes es → Read bytes es
 
   pub ran_as : Chained (writer e f header ran cut) ran
-      → Claim e f (stream_of (writer e f header ran cut) (calls_of ran)) (stream_words (writer e f header ran cut) (calls_of ran)) (accepted_events (writer e f header ran cut) (calls_of ran)) cut → Resumer e f header ran cut
+      → Claim e f (stream_of (writer e f header ran cut) (calls_of ran)) (stream_words (writer e f header ran cut) (calls_of ran))
+      (accepted_events (writer e f header ran cut) (calls_of ran)) cut
+      → Resumer e f header ran cut
       → (Read : List ℕ → List Event → Type 0) → ReadAs Read (whole_ran (writer e f header ran cut) f ran cut) → ReadAs Read (accepted_events (writer e f header ran cut) (calls_of ran))
       → CutAndResumed (writer e f header ran cut) f ran cut Read
   ran_as chained claim resumer Read part all =

@@ -148,8 +148,15 @@ module _ (e : Encoding) where
                     ∙ append_assoc (front e f) (take (count e f bytes ws es sent cut behind * size) (note_bytes e ws)) (stream_of writer₂ second)
                     ∙ ap (λ (l : List ℕ). front e f ++ l)
                     (ap (λ (l : List ℕ). take (count e f bytes ws es sent cut behind * size) (note_bytes e ws) ++ l) added ∙ resumed_bytes e n ws ms);
-                noted = rw (notes-append (take (count e f bytes ws es sent cut behind) ws) ms, stream-notes writer₂ second, rest ∙ rest-notes e f bytes ws es sent cut behind) (notes_split (count e f bytes ws es sent cut behind) ws ∙ sent.noted);
-                typed = all_append (Typed e) (take (count e f bytes ws es sent cut behind) ws) ms (all_take (Typed e) (count e f bytes ws es sent cut behind) ws sent.typed) (stream_typed writer₂ second);
+                noted =
+                    rw (
+                      notes-append (take (count e f bytes ws es sent cut behind) ws) ms,
+                      stream-notes writer₂ second,
+                      rest ∙ rest-notes e f bytes ws es sent cut behind,
+                    ) (notes_split (count e f bytes ws es sent cut behind) ws ∙ sent.noted);
+                typed =
+                    all_append (Typed e) (take (count e f bytes ws es sent cut behind) ws) ms
+                    (all_take (Typed e) (count e f bytes ws es sent cut behind) ws sent.typed) (stream_typed writer₂ second);
                 rises = sent.rises;
                 understood = understood₂;
               }
@@ -159,14 +166,20 @@ module _ (e : Encoding) where
 
       pub resumed-sent : (second : List Call) → accepted_events (resuming e f cut bytes) second ≡ others e f cut ws
           → Sent e f (joined e f cut bytes (resuming e f cut bytes) second) (joined_words e f cut ws (resuming e f cut bytes) second) es
-      resumed-sent second rest = rw (resuming-is e f bytes ws es sent cut behind) (joined-sent (held e f bytes ws es sent cut behind) (held-agreed e f bytes ws es sent cut behind) second (rw (resuming-is e f bytes ws es sent cut behind) at rest))
+      resumed-sent second rest =
+          rw (resuming-is e f bytes ws es sent cut behind)
+          (joined-sent (held e f bytes ws es sent cut behind) (held-agreed e f bytes ws es sent cut behind) second
+          (rw (resuming-is e f bytes ws es sent cut behind) at rest))
 
       -- by a fresh one, where no loop was counted
       fresh-agreed : loops_c (decoder_left e f cut bytes) ≡ 0 → AgreeOf e fresh_state (there e f bytes ws es sent cut behind) ⊎ (others e f cut ws ≡ [])
-      fresh-agreed z = inl (fresh_agrees e (there e f bytes ws es sent cut behind) (sym (loops_is e (there e f bytes ws es sent cut behind)) ∙ ap loops_c (sym (there-is e f bytes ws es sent cut behind)) ∙ z))
+      fresh-agreed z =
+          inl (fresh_agrees e (there e f bytes ws es sent cut behind)
+          (sym (loops_is e (there e f bytes ws es sent cut behind)) ∙ ap loops_c (sym (there-is e f bytes ws es sent cut behind)) ∙ z))
 
       -- none was, where the others are of the first
-      first-agreed : (rest : List Event) → ReadyOf e (there e f bytes ws es sent cut behind) rest → InFirstLoop e rest → AgreeOf e fresh_state (there e f bytes ws es sent cut behind) ⊎ (rest ≡ [])
+      first-agreed : (rest : List Event) → ReadyOf e (there e f bytes ws es sent cut behind) rest → InFirstLoop e rest
+          → AgreeOf e fresh_state (there e f bytes ws es sent cut behind) ⊎ (rest ≡ [])
       first-agreed [] rd first = inr refl
       first-agreed (a ∷ rest) rd first = inl (fresh_agrees e (there e f bytes ws es sent cut behind) (ready_first e (there e f bytes ws es sent cut behind) a rest rd first.0))
 
@@ -179,7 +192,9 @@ module _ (e : Encoding) where
       resumes : length (left e f cut bytes) ≤ 2 ^ 30 → resume_outcome (decoder_left e f cut bytes) ≡ give (resuming e f cut bytes)
       resumes few =
           resume-given (decoder_left e f cut bytes) (fresh-in-range e (left e f cut bytes) few)
-          (rw (there-is e f bytes ws es sent cut behind) (rw (coarse-is e (there e f bytes ws es sent cut behind)) (ready_coarse e (there e f bytes ws es sent cut behind) (others e f cut ws) (rest-ready e f bytes ws es sent cut behind)).0))
+          (rw (there-is e f bytes ws es sent cut behind)
+          (rw (coarse-is e (there e f bytes ws es sent cut behind))
+          (ready_coarse e (there e f bytes ws es sent cut behind) (others e f cut ws) (rest-ready e f bytes ws es sent cut behind)).0))
 
       pub claim : Claim e f bytes ws es cut
       claim =

@@ -520,16 +520,16 @@ module _ (s : RawEventSink) (f : Front) (ran : List Ran) (cut : ℕ) where
   joined_ran second = unbroken version f cut (all_written ran) ++ all_written second
 
   -- where `Read bytes es` says how some bytes are read as es
-  pub record CutAndResumed (Ok : List ℕ → List Event → Type 0) : Type 0 where
-    pub of_cut : length (take cut (all_written ran)) ≤ 2 ^ 30 → Ok (take cut (all_written ran)) whole_ran
+  pub record CutAndResumed (Read : List ℕ → List Event → Type 0) : Type 0 where
+    pub of_cut : length (take cut (all_written ran)) ≤ 2 ^ 30 → Read (take cut (all_written ran)) whole_ran
     -- by the writer that resuming over what stands returned
     pub of_joined : length (take cut (all_written ran)) ≤ 2 ^ 30 → (r : Resumed) → ResumedBy version f (take cut (all_written ran)) r
         → (second : List Ran) → Chained r.sink second → accepted_events r.sink (calls_of second) ≡ others_ran
-        → length (joined_ran second) ≤ 2 ^ 30 → Ok (joined_ran second) (accepted_events s (calls_of ran))
+        → length (joined_ran second) ≤ 2 ^ 30 → Read (joined_ran second) (accepted_events s (calls_of ran))
     -- by a fresh one, where all events are of the first loop
     pub of_joined-first : InFirstLoop version (accepted_events s (calls_of ran)) → (second : List Ran) → Chained (fresh version) second
         → accepted_events (fresh version) (calls_of second) ≡ others_ran
-        → length (joined_ran second) ≤ 2 ^ 30 → Ok (joined_ran second) (accepted_events s (calls_of ran))
+        → length (joined_ran second) ≤ 2 ^ 30 → Read (joined_ran second) (accepted_events s (calls_of ran))
 
 abbrev pub DemandThreeRan : Type 0
 DemandThreeRan = (e : Encoding) (ran : List Ran) → Chained (fresh e) ran → (cut : ℕ) → cut ≤ length (all_written ran)

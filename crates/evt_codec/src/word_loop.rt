@@ -5,7 +5,7 @@ ghost use Rattle.std.specs.Prelude.{◌≡◌, refl, ℕ, ◌+◌, ◌/◌, ◌�
 ghost use Rattle.evt_types.specs.Ahead.{ahead};
 ghost use Rattle.evt_codec.specs.Codec.{Bounded};
 ghost use Rattle.evt_codec.specs.Reader.{Reader, evt2, evt21, evt3};
-ghost use Rattle.evt_codec.specs.Sound.{Sound, sound2, sound21, sound3};
+ghost use Rattle.evt_codec.specs.Sound.{Sound, sound2, sound21, sound3, small2, small21, small3};
 ghost use Rattle.evt2_decoder.specs.Evt2.{Sane2};
 ghost use Rattle.evt2_decoder.specs.Range.{bounded_sane2};
 ghost use Rattle.evt21_decoder.specs.Evt21.{as2, of2};
@@ -59,6 +59,8 @@ pub trait WordLoop: Copy {
 
     ghost size: { WORD_SIZE ≡ reader.size };
 
+    ghost small: { reader.size ≤ 8 };
+
     ghost codec_bounded: { (n : ℕ) (d : Self) → reader.Bounded (n / reader.size) (state d) → Bounded n (reader.codec (state d)) };
 }
 
@@ -76,6 +78,8 @@ impl WordLoop for Evt2Decoder {
     ghost bounded_sane = { λ n d b. bounded_sane2 b };
 
     ghost size = { refl };
+
+    ghost small = { small2 };
 
     ghost codec_bounded = { λ n d b. b };
 
@@ -132,6 +136,8 @@ impl WordLoop for Evt21Loop {
 
     ghost size = { refl };
 
+    ghost small = { small21 };
+
     ghost codec_bounded = { λ n d b. b };
 
     const WORD_SIZE: usize = Evt21Decoder::WORD_SIZE;
@@ -173,6 +179,8 @@ impl WordLoop for WideDecoder {
     ghost bounded_sane = { λ n d b. (bounded_sane3 b, bounded_slim3 b) };
 
     ghost size = { refl };
+
+    ghost small = { small3 };
 
     ghost codec_bounded = { λ n d b. b };
 

@@ -64,12 +64,26 @@ pub trait WordLoop: Copy {
     ghost codec_bounded: { (n : ℕ) (d : Self) → reader.Bounded (n / reader.size) (state d) → Bounded n (reader.codec (state d)) };
 }
 
-impl WordLoop for Evt2Decoder {
+// EVT2's: no `Evt2Decoder`, since nothing that `prophesee_raw` passes on has a method with a `requires`.
+#[derive(Clone, Copy)]
+pub struct Evt2Loop {
+    pub evt2: Evt2Decoder,
+}
+
+impl Evt2Loop {
+    pub fn new(d: Evt2Decoder) -> Self
+        ensures { result.evt2 ≡ d }
+    {
+        Evt2Loop { evt2: d }
+    }
+}
+
+impl WordLoop for Evt2Loop {
     ghost reader = { evt2 };
 
-    ghost state = { λ d. d };
+    ghost state = { λ d. d.evt2 };
 
-    ghost sane = { Sane2 };
+    ghost sane = { λ d. Sane2 d.evt2 };
 
     ghost WORD_SIZE = { 4 };
 
@@ -90,20 +104,20 @@ impl WordLoop for Evt2Decoder {
     }
 
     fn advance(self, word: u64) -> (Self, Vector) {
-        let step = evt2_decoder::advance(self, word);
-        (step.next, step.events)
+        let step = evt2_decoder::advance(self.evt2, word);
+        (Evt2Loop { evt2: step.next }, step.events)
     }
 
     fn started(self) -> bool {
-        self.initialised
+        self.evt2.initialised
     }
 
     fn time(self) -> u64 {
-        self.time
+        self.evt2.time
     }
 
     fn codec(self) -> Codec {
-        Codec::Evt2(self)
+        Codec::Evt2(self.evt2)
     }
 }
 

@@ -6,7 +6,7 @@ ghost use Rattle.read_seek.specs.Skip.{Over2, over2, over21};
 
 use crate::Marked;
 use evt_codec::Codec;
-use evt_codec::word_loop::Evt21Loop;
+use evt_codec::word_loop::{Evt2Loop, Evt21Loop};
 use evt_types::fields::bits;
 use evt_types::words;
 use evt2_decoder::{Evt2Decoder, advance};
@@ -31,7 +31,7 @@ pub trait HoldsEvt2 {
     ghost size: { WORD_SIZE ≡ over.reader.size };
 }
 
-impl HoldsEvt2 for Evt2Decoder {
+impl HoldsEvt2 for Evt2Loop {
     ghost over = { over2 };
 
     ghost WORD_SIZE = { 4 };

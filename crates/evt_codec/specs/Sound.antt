@@ -30,7 +30,6 @@ use Rattle.evt3_decoder.proofs.{TriggersLaws.trigger_alone3}
 
 pub record Sound (R : Reader) : Type 0 where
   pub some : 0 < R.size
-  pub small : R.size ≤ 8
   pub emits : (s : R.State) (w : ℕ) → R.machine.emit s w ≡ events_of (R.vector s w)
   pub few : (s : R.State) (w : ℕ) → (R.vector s w).mask < 2 ^ R.most
   pub spread : (n : ℕ) → R.most * (n / R.size) ≤ 6 * n
@@ -97,7 +96,6 @@ stays2 d w h = Evt2.by_kinds (λ k. (Evt2.step_as k d w).initialised ≡ true) (
 pub sound2 : Sound evt2
 sound2 = record {
   some = omega arith;
-  small = omega arith;
   emits = λ d w. refl;
   few = few2;
   spread = λ n. omega arith;
@@ -146,7 +144,6 @@ apart21 d w = alone d.initialised (type2 (upper w)) (trigger_in2 (as2 d) (upper 
 pub sound21 : Sound evt21
 sound21 = record {
   some = omega arith;
-  small = omega arith;
   emits = λ d w. refl;
   few = few21;
   spread = λ n. omega arith;
@@ -238,7 +235,6 @@ stays3 d w h = Evt3.by_kinds (λ k. (Evt3.step_as k d w).initialised ≡ true) (
 pub sound3 : Sound evt3
 sound3 = record {
   some = omega arith;
-  small = omega arith;
   emits = λ d w. refl;
   few = few3;
   spread = λ n. omega arith;
@@ -265,6 +261,16 @@ sound3 = record {
 }
 
 -- ---- every encoding's
+
+-- words have at most 8 bytes
+pub small2 : evt2.size ≤ 8
+small2 = omega arith
+
+pub small21 : evt21.size ≤ 8
+small21 = omega arith
+
+pub small3 : evt3.size ≤ 8
+small3 = omega arith
 
 pub sound_of : (e : Encoding) → Sound (reader_of e)
 sound_of E.Evt2 = sound2

@@ -5,7 +5,7 @@ ghost use Rattle.std.specs.Prelude.{◌≡◌, refl, ℕ, ◌+◌, ◌/◌, ◌�
 ghost use Rattle.evt_types.specs.Ahead.{ahead};
 ghost use Rattle.evt_codec.specs.Codec.{Bounded};
 ghost use Rattle.evt_codec.specs.Reader.{Reader, evt2, evt21, evt3};
-ghost use Rattle.evt_codec.specs.Sound.{Sound, sound2, sound21, sound3};
+ghost use Rattle.evt_codec.specs.Sound.{Sound, sound2, sound21, sound3, small2, small21, small3};
 ghost use Rattle.evt2_decoder.specs.Evt2.{Sane2};
 ghost use Rattle.evt2_decoder.specs.Range.{bounded_sane2};
 ghost use Rattle.evt21_decoder.specs.Evt21.{as2, of2};
@@ -59,15 +59,31 @@ pub trait WordLoop: Copy {
 
     ghost size: { WORD_SIZE ≡ reader.size };
 
+    ghost small: { reader.size ≤ 8 };
+
     ghost codec_bounded: { (n : ℕ) (d : Self) → reader.Bounded (n / reader.size) (state d) → Bounded n (reader.codec (state d)) };
 }
 
-impl WordLoop for Evt2Decoder {
+// EVT2's: no `Evt2Decoder`, since nothing that `prophesee_raw` passes on has a method with a `requires`.
+#[derive(Clone, Copy)]
+pub struct Evt2Loop {
+    pub evt2: Evt2Decoder,
+}
+
+impl Evt2Loop {
+    pub fn new(d: Evt2Decoder) -> Self
+        ensures { result.evt2 ≡ d }
+    {
+        Evt2Loop { evt2: d }
+    }
+}
+
+impl WordLoop for Evt2Loop {
     ghost reader = { evt2 };
 
-    ghost state = { λ d. d };
+    ghost state = { λ d. d.evt2 };
 
-    ghost sane = { Sane2 };
+    ghost sane = { λ d. Sane2 d.evt2 };
 
     ghost WORD_SIZE = { 4 };
 
@@ -76,6 +92,8 @@ impl WordLoop for Evt2Decoder {
     ghost bounded_sane = { λ n d b. bounded_sane2 b };
 
     ghost size = { refl };
+
+    ghost small = { small2 };
 
     ghost codec_bounded = { λ n d b. b };
 
@@ -86,20 +104,20 @@ impl WordLoop for Evt2Decoder {
     }
 
     fn advance(self, word: u64) -> (Self, Vector) {
-        let step = evt2_decoder::advance(self, word);
-        (step.next, step.events)
+        let step = evt2_decoder::advance(self.evt2, word);
+        (Evt2Loop { evt2: step.next }, step.events)
     }
 
     fn started(self) -> bool {
-        self.initialised
+        self.evt2.initialised
     }
 
     fn time(self) -> u64 {
-        self.time
+        self.evt2.time
     }
 
     fn codec(self) -> Codec {
-        Codec::Evt2(self)
+        Codec::Evt2(self.evt2)
     }
 }
 
@@ -131,6 +149,8 @@ impl WordLoop for Evt21Loop {
     ghost bounded_sane = { λ n d b. bounded_sane2 b };
 
     ghost size = { refl };
+
+    ghost small = { small21 };
 
     ghost codec_bounded = { λ n d b. b };
 
@@ -173,6 +193,8 @@ impl WordLoop for WideDecoder {
     ghost bounded_sane = { λ n d b. (bounded_sane3 b, bounded_slim3 b) };
 
     ghost size = { refl };
+
+    ghost small = { small3 };
 
     ghost codec_bounded = { λ n d b. b };
 

@@ -7,8 +7,8 @@ ghost use Rattle.read_fill.specs.Iteration.{Fits};
 ghost use Rattle.read_fill.specs.Decode.{inside_words, filled_words};
 
 use crate::FilledAll;
-use evt_codec::word_loop::Evt21Loop;
-use evt_codec::{Evt2Decoder, WordLoop};
+use evt_codec::WordLoop;
+use evt_codec::word_loop::{Evt2Loop, Evt21Loop};
 use evt_types::vector::Vector;
 use evt3_decoder::WideDecoder;
 
@@ -31,7 +31,7 @@ pub trait Fill: WordLoop {
             xs.new ys.new ts.new ps.new };
 }
 
-impl Fill for Evt2Decoder {
+impl Fill for Evt2Loop {
     fn put(
         v: Vector,
         width: u64,

@@ -14,7 +14,7 @@ ghost use Rattle.read_fill.specs.Iteration.{Fits};
 ghost use Rattle.read_fill.specs.Decode.{Bounded, Fitting, inside_events, filled_all_of};
 
 use evt_codec::Codec;
-use evt_codec::word_loop::Evt21Loop;
+use evt_codec::word_loop::{Evt2Loop, Evt21Loop};
 use evt3_decoder::widen;
 
 pub mod extent;
@@ -60,7 +60,14 @@ pub fn fill_all(
     match codec {
         Codec::Evt2(d) => {
             fill::words(
-                bytes, d, width, height, &mut *xs, &mut *ys, &mut *ts, &mut *ps,
+                bytes,
+                Evt2Loop::new(d),
+                width,
+                height,
+                &mut *xs,
+                &mut *ys,
+                &mut *ts,
+                &mut *ps,
             )
         }
         Codec::Evt21(d) => {

@@ -7,8 +7,7 @@ use Rattle.evt2_decoder.specs.{declared.Evt2Decoder.Evt2Decoder, Evt2.step2, Ran
 use Rattle.evt2_decoder.specs.Evt2 as Evt2
 use Rattle.evt21_decoder.specs.Evt21.{of2}
 use Rattle.evt3_decoder.specs.{declared.Decoder.Decoder, Evt3.step3, Evt3.reader3, Range.Bounded3}
-use Rattle.evt_codec.specs.declared.codec.Codec.TheVariants.{Evt2, Evt21, Evt3}
-use Rattle.evt_codec.specs.{Reader.Reader, Reader.evt2, Reader.evt21, Sound.Sound, Sound.sound2, Sound.sound21}
+use Rattle.evt_codec.specs.{declared.codec.Codec.TheVariants.Evt3, Reader.Reader, Reader.evt2, Reader.evt21, Sound.Sound, Sound.sound2, Sound.sound21}
 use Rattle.evt_codec.specs.Sound.{sound3}
 use Rattle.read_seek.specs.{declared.times.Times.Times, Times.carries_as, Seek.Midway, Iteration.Seeking, Iteration.seeking_start}
 use Rattle.read_seek.specs.{Iteration.seeking_next, Iteration.midway}
@@ -61,8 +60,6 @@ pub record Over2 : Type 1 where
   pub step_is : (d : Evt2Decoder) (w : ℕ) → reader.machine.step (of d) w ≡ of (step2 d (half w))
   pub time_is : (d : Evt2Decoder) → reader.time (of d) ≡ d.time
   pub bounded : (n : ℕ) (d : Evt2Decoder) → reader.Bounded n (of d) → Bounded2 n d
-  pub found : (t : ℕ) (d s : Evt2Decoder) (bytes : List ℕ) (i : ℕ) → Seeking reader 0 t (of d) bytes (of s) false i
-      → Midway t (reader.codec (of d)) bytes i (reader.codec (of s))
 
 abbrev pub over2 : Over2
 over2 = record {
@@ -73,7 +70,6 @@ over2 = record {
   step_is = λ d w. refl;
   time_is = λ d. refl;
   bounded = λ n d b. b;
-  found = λ t d s bytes i u. midway t (Evt2 d) bytes u;
 }
 
 abbrev pub over21 : Over2
@@ -85,7 +81,6 @@ over21 = record {
   step_is = λ d w. refl;
   time_is = λ d. refl;
   bounded = λ n d b. b;
-  found = λ t d s bytes i u. midway t (Evt21 (of2 d)) bytes u;
 }
 
 module _ (O : Over2) (t : ℕ) (d : Evt2Decoder) (bytes : List ℕ) where

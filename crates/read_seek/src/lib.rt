@@ -11,8 +11,8 @@ ghost use Rattle.read_seek.specs.Seek.{sought_of, Midway};
 
 use crate::strides::strides;
 use crate::walk::walk;
-use evt_codec::word_loop::Evt21Loop;
-use evt_codec::{Codec, Evt2Decoder};
+use evt_codec::Codec;
+use evt_codec::word_loop::{Evt2Loop, Evt21Loop};
 
 mod back;
 mod evt3;
@@ -63,7 +63,7 @@ pub fn span(bytes: &[u8], codec: Codec, t0: u64, t1: u64) -> Sought
     ensures { (result ≡ sought_of t0 t1 codec bytes.now) × Bounded (length (drop result.at bytes.now)) result.codec }
 {
     match codec {
-        Codec::Evt2(d) => walk(bytes, d, t0, t1),
+        Codec::Evt2(d) => walk(bytes, Evt2Loop::new(d), t0, t1),
         Codec::Evt21(d) => walk(bytes, Evt21Loop::new(d), t0, t1),
         Codec::Evt3(d) => evt3::span3(bytes, d, t0, t1),
     }
@@ -77,7 +77,7 @@ fn skip(bytes: &[u8], codec: Codec, t: u64) -> Marked
     ensures { Midway t codec bytes.now result.at result.codec }
 {
     match codec {
-        Codec::Evt2(d) => strides::<Evt2Decoder>(bytes, d, t),
+        Codec::Evt2(d) => strides::<Evt2Loop>(bytes, d, t),
         Codec::Evt21(d) => strides::<Evt21Loop>(bytes, d.evt2(), t),
         Codec::Evt3(d) => evt3::skip3(bytes, d, t),
     }

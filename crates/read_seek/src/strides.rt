@@ -1,12 +1,16 @@
 // The strides over words of EVT2, and over words that hold one, as the upper halves of EVT 2.1's words are.
-ghost use Rattle.std.specs.Prelude.{◌≡◌, refl, ℕ, ◌+◌, ◌/◌, ◌≤◌, ◌^◌, length};
+ghost use Rattle.std.specs.Prelude.{◌≡◌, refl, false, List, ℕ, ◌+◌, ◌/◌, ◌≤◌, ◌^◌, length};
 ghost use Rattle.evt_types.specs.Ahead.{ahead};
+ghost use Rattle.evt_codec.specs.declared.codec.Codec.TheVariants.{Evt2, Evt21};
+ghost use Rattle.evt2_decoder.specs.declared.Evt2Decoder.{Evt2Decoder};
+ghost use Rattle.evt21_decoder.specs.Evt21.{of2};
+ghost use Rattle.read_seek.specs.Iteration.{Seeking, midway};
 ghost use Rattle.read_seek.specs.Seek.{Midway};
 ghost use Rattle.read_seek.specs.Skip.{Over2, over2, over21};
 
 use crate::Marked;
 use evt_codec::Codec;
-use evt_codec::word_loop::Evt21Loop;
+use evt_codec::word_loop::{Evt2Loop, Evt21Loop};
 use evt_types::fields::bits;
 use evt_types::words;
 use evt2_decoder::{Evt2Decoder, advance};
@@ -29,14 +33,19 @@ pub trait HoldsEvt2 {
         ensures { result ≡ over.reader.codec (over.of d) };
 
     ghost size: { WORD_SIZE ≡ over.reader.size };
+
+    ghost found: { (t : ℕ) (d s : Evt2Decoder) (bytes : List ℕ) (i : ℕ) → Seeking over.reader 0 t (over.of d) bytes (over.of s) false i
+        → Midway t (over.reader.codec (over.of d)) bytes i (over.reader.codec (over.of s)) };
 }
 
-impl HoldsEvt2 for Evt2Decoder {
+impl HoldsEvt2 for Evt2Loop {
     ghost over = { over2 };
 
     ghost WORD_SIZE = { 4 };
 
     ghost size = { refl };
+
+    ghost found = { λ t d s bytes i u. midway t (Evt2 d) bytes u };
 
     const WORD_SIZE: usize = Evt2Decoder::WORD_SIZE;
 
@@ -55,6 +64,8 @@ impl HoldsEvt2 for Evt21Loop {
     ghost WORD_SIZE = { 8 };
 
     ghost size = { refl };
+
+    ghost found = { λ t d s bytes i u. midway t (Evt21 (of2 d)) bytes u };
 
     const WORD_SIZE: usize = Evt21Decoder::WORD_SIZE;
 

@@ -6,8 +6,8 @@ ghost use Rattle.read_fill.specs.Decode.{Bounded};
 ghost use Rattle.read_seek.specs.Seek.{sought_from};
 
 use crate::{Sought, strays, times};
-use evt_codec::word_loop::Evt21Loop;
-use evt_codec::{Evt2Decoder, WordLoop};
+use evt_codec::WordLoop;
+use evt_codec::word_loop::{Evt2Loop, Evt21Loop};
 use evt_types::fields::bits;
 use evt_types::words;
 use evt3_decoder::WideDecoder;
@@ -21,11 +21,11 @@ pub trait Walks: WordLoop {
             × (result.1 ≡ Self.reader.carries (ahead Self.reader.size bytes.now i)) };
 }
 
-impl Walks for Evt2Decoder {
+impl Walks for Evt2Loop {
     fn pass(self, bytes: &[u8], i: usize) -> (Self, bool) {
         let w = words::four_at(bytes, i);
-        let step = evt2_decoder::advance(self, w);
-        (step.next, bits(w, 28, 4) < 2)
+        let step = evt2_decoder::advance(self.evt2, w);
+        (Evt2Loop { evt2: step.next }, bits(w, 28, 4) < 2)
     }
 }
 

@@ -10,7 +10,7 @@ ghost use Rattle.evt_types.specs.Columns.{Wrote};
 ghost use Rattle.read_select.specs.Pass.{Ready, Fits, handed_over, surveyed, filled};
 
 use evt_codec::Codec;
-use evt_codec::word_loop::Evt21Loop;
+use evt_codec::word_loop::{Evt2Loop, Evt21Loop};
 use evt3_decoder::widen;
 pub use read_window::Window;
 
@@ -47,7 +47,7 @@ pub fn survey(bytes: &[u8], codec: Codec, win: Window, number: u64) -> SurveyTot
     ensures { result ≡ surveyed win number codec bytes.now }
 {
     match codec {
-        Codec::Evt2(d) => passes::survey(bytes, d, win, number),
+        Codec::Evt2(d) => passes::survey(bytes, Evt2Loop::new(d), win, number),
         Codec::Evt21(d) => passes::survey(bytes, Evt21Loop::new(d), win, number),
         Codec::Evt3(d) => passes::survey(bytes, widen(d), win, number),
     }
@@ -76,7 +76,14 @@ pub fn fill(
     match codec {
         Codec::Evt2(d) => {
             passes::fill(
-                bytes, d, win, number, &mut *xs, &mut *ys, &mut *ts, &mut *ps,
+                bytes,
+                Evt2Loop::new(d),
+                win,
+                number,
+                &mut *xs,
+                &mut *ys,
+                &mut *ts,
+                &mut *ps,
             )
         }
         Codec::Evt21(d) => {

@@ -5,8 +5,8 @@ ghost use Rattle.read_window.specs.Trim.{Picked};
 ghost use Rattle.read_window.specs.Trim as T;
 ghost use Rattle.read_select.specs.Word.{Notable, noted};
 
-use evt_codec::word_loop::Evt21Loop;
-use evt_codec::{Evt2Decoder, WordLoop};
+use evt_codec::WordLoop;
+use evt_codec::word_loop::{Evt2Loop, Evt21Loop};
 use evt_types::vector::Vector;
 use evt3_decoder::WideDecoder;
 use read_window::extent::Extent;
@@ -48,7 +48,7 @@ pub trait Trims: WordLoop {
 }
 
 // At most the lowest bit is set.
-impl Trims for Evt2Decoder {
+impl Trims for Evt2Loop {
     #[inline(always)]
     fn cut(v: Vector, win: Window, k: u64) -> Trimmed {
         if v.mask == 0 {

@@ -6,12 +6,12 @@ use Rattle.read_select.proofs.survey.Goals as goal
 pub survey-requires : goal.survey-requires
 survey-requires c =
     let r = rw c.in-Evt2.is at c.requires in
-    record { bounded = r.able; long = r.long; low = r.low }
+    rw c.new.ensures (record { bounded = r.able; long = r.long; low = r.low })
 
 pub survey-requires-in-Evt21 : goal.survey-requires-in-Evt21
 survey-requires-in-Evt21 c =
     let r = rw c.in-Evt21.is at c.requires in
-    rw c.new.ensures (record { bounded = r.able; long = r.long; low = r.low })
+    rw c.new-in-Evt21.ensures (record { bounded = r.able; long = r.long; low = r.low })
 
 pub survey-requires-in-Evt3 : goal.survey-requires-in-Evt3
 survey-requires-in-Evt3 c =
@@ -23,10 +23,10 @@ survey-requires-in-Evt3 c =
     })
 
 pub returns-in-Evt2 : goal.returns-in-Evt2
-returns-in-Evt2 c = rw c.in-Evt2.is c.survey.ensures
+returns-in-Evt2 c = rw c.in-Evt2.is (rw c.new.ensures at c.survey.ensures)
 
 pub returns-in-Evt21 : goal.returns-in-Evt21
-returns-in-Evt21 c = rw c.in-Evt21.is (rw c.new.ensures at c.survey-in-Evt21.ensures)
+returns-in-Evt21 c = rw c.in-Evt21.is (rw c.new-in-Evt21.ensures at c.survey-in-Evt21.ensures)
 
 pub returns-in-Evt3 : goal.returns-in-Evt3
 returns-in-Evt3 c = rw c.in-Evt3.is (rw c.widen.ensures.0 at c.survey-in-Evt3.ensures)

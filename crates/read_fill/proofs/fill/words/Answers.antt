@@ -12,7 +12,7 @@ loop-i-init g c =
 pub overflow_add-i : goal.overflow_add-i
 overflow_add-i g c =
     let L = g.met.D.WordLoop in
-    omega (arith, c.WORD_SIZE-size.ensures, L.size, L.sound.small, c.loop-i.invariant.stand.within)
+    omega (arith, c.WORD_SIZE-size.ensures, L.size, L.small, c.loop-i.invariant.stand.within)
 
 pub advance-next-requires : goal.advance-next-requires
 advance-next-requires g c = g.met.D.WordLoop.bounded_sane _ _ c.loop-i.invariant.stand.inv

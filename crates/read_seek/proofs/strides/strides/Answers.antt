@@ -12,7 +12,7 @@ use Rattle.read_seek.proofs.strides.strides.Goals as goal
 pub returns-then-t-d : goal.returns-then-t-d
 returns-then-t-d g c =
     let O = g.E.HoldsEvt2.over in
-    rw c.codec.ensures (O.found c.args.t c.args.d c.args.d c.args.bytes.now 0 (seeking_start O.sound c.requires.bounded))
+    rw c.codec.ensures (g.met.E.HoldsEvt2.found c.args.t c.args.d c.args.d c.args.bytes.now 0 (seeking_start O.sound c.requires.bounded))
 
 pub loop-i-init : goal.loop-i-init
 loop-i-init g c = skip_start2 g.E.HoldsEvt2.over c.args.t c.args.d c.args.bytes.now c.requires.bounded (omega arith)
@@ -69,4 +69,4 @@ returns g c =
           w.bits-kind.result (rw w.half_at-w.ensures at w.bits-kind.ensures) w.if-kind-eq8.true w.advance.result.next
           (rw w.half_at-w.ensures at w.advance.ensures.0) w.if-t-next.false)
     ] in
-    rw c.codec-2.ensures (O.found a.t a.d l.s a.bytes.now l.at mark)
+    rw c.codec-2.ensures (g.met.E.HoldsEvt2.found a.t a.d l.s a.bytes.now l.at mark)

@@ -13,7 +13,7 @@ ghost use Rattle.header.specs.Notes.{line_length, said_of, scan_of};
 
 use evt_types::{Encoding, MOST_BYTES, Refusal, SensorSize};
 use header_text::size::geometry;
-use header_text::text::{begins_with, is_blank, is_word, tail_from, trim, until};
+use header_text::text::{ByteClass, begins_with, is_word, tail_from, trim, until};
 
 // Where the body starts, the size that holds (the caller's before the header's), and the encoding.
 #[derive(Clone, Copy, Debug, PartialEq, Eq)]
@@ -43,7 +43,7 @@ struct Scan<'a> {
 fn line_body(line: &[u8]) -> &[u8]
     ensures { result.now ≡ body_of line.now }
 {
-    trim(tail_from(trim(line), |b| b != b'%'))
+    trim(tail_from(trim(line), ByteClass::NotPercent))
 }
 
 // Whether a line ends the header.
@@ -58,7 +58,7 @@ fn read_line<'a>(seen: Seen<'a>, line: &'a [u8]) -> Seen<'a>
     ensures { said_of result ≡ read_line (said_of seen.entry) line.now }
 {
     let body = line_body(line);
-    let n = until(body, is_blank);
+    let n = until(body, ByteClass::Blank);
     let key = &body[..n];
     let value = trim(&body[n..]);
     if is_word(key, b"geometry") {
@@ -83,7 +83,7 @@ fn read_line<'a>(seen: Seen<'a>, line: &'a [u8]) -> Seen<'a>
 fn line_length(s: &[u8]) -> usize
     ensures { result ≡ line_length s.now }
 {
-    (until(s, |b| b == b'\n') + 1).min(s.len())
+    (until(s, ByteClass::Byte(b'\n')) + 1).min(s.len())
 }
 
 // A `while`, since each turn takes off a line, whose length `line_length` finds.

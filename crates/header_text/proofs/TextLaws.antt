@@ -1,5 +1,5 @@
 -- Laws of texts: where they part, trimming, names; and the loops of src/text.rt over them.
-use Prim.Native.Nat.{ℕ, zero, suc, ◌+◌, ◌-◌, ◌^◌, ◌<◌, ◌≤◌}
+use Prim.Native.Nat.{ℕ, suc, ◌+◌, ◌-◌, ◌<◌, ◌≤◌}
 use mathlib.Core.Path.{◌≡◌, refl, sym, ◌∙◌, ap}
 use mathlib.Core.List.{List, [], ◌∷◌, ◌++◌, reverse, reverse-append, reverse-reverse}
 use mathlib.Core.Bool.{Bool, true, false, and-false}
@@ -8,9 +8,9 @@ use native.Mathlib.Omega.{arith}
 use lib.ListN.{length, get_or, take, drop, length-drop, drop_of_length-le}
 use lib.Seq.{take_all, drop-cons, drop-drop, take-suc}
 use lib.Dec.{ltb, leb-suc-suc}
-use borrow.Author.Tests.{lt-ltb, le-ltb}
-use Rattle.std.specs.Prelude.{Option, Some, None, unwrap_or, MatchOption}
-use Rattle.std.specs.List.{AllWithin, HoldsAt, list_all, zip, position, position_or_len}
+use borrow.Author.Tests.{lt-ltb, le-ltb, ltb-false}
+use Rattle.std.specs.Prelude.{Option, Some, None, unwrap_or}
+use Rattle.std.specs.List.{list_all, zip, position, position_or_len}
 use Rattle.std.proofs.lemmas.List.Recursion.{is_position_or_len}
 use mathlib.Core.Bool.{cond}
 use Rattle.std.specs.Char.{to_ascii_lowercase}
@@ -52,19 +52,6 @@ lt-up_to p (b ∷ s) =
     by_bool (p b) (λ e. rw e (lt-ltb 0 (suc (length s)) (omega arith)))
     (λ e. rw e (leb-suc-suc (suc (length (up_to p s))) (length s) ∙ lt-up_to p s))
 
-pub first-up_to : (p : ℕ → Bool) (s : List ℕ) (i : ℕ) → i < length s → p (get_or s i 0) ≡ true
-    → ((k : ℕ) → k < i → p (get_or s k 0) ≡ false) → i ≡ length (up_to p s)
-unfolding up_to
-first-up_to p [] i h here before = absurd (omega arith)
-first-up_to p (b ∷ s) zero h here before = rw here
-first-up_to p (b ∷ s) (suc i) h here before =
-    rw (before 0 (omega arith)) (ap suc (first-up_to p s i (omega arith) here (λ k l. before (suc k) (omega arith))))
-
-pub none-up_to : (p : ℕ → Bool) (s : List ℕ) → ((k : ℕ) → k < length s → p (get_or s k 0) ≡ false) → length s ≡ length (up_to p s)
-unfolding up_to
-none-up_to p [] none = refl
-none-up_to p (b ∷ s) none = rw (none 0 (omega arith)) (ap suc (none-up_to p s (λ k l. none (suc k) (omega arith))))
-
 more-up_to : (p : ℕ → Bool) (b : ℕ) (s : List ℕ) → length (up_to p (b ∷ s)) ≡ cond (p b) 0 (1 + length (up_to p s))
 unfolding up_to
 more-up_to p b s = by_bool (p b) (λ e. rw e) (λ e. rw e (omega arith))
@@ -76,13 +63,10 @@ position-up_to p s =
     let is : length (up_to p s) ≡ position_or_len p s = is_position_or_len (λ t. length (up_to p t)) p refl (more-up_to p) s in
     rw (← is, lt-up_to p s)
 
--- what a search found in bytes, where each answer is that of p: the place of the first with the property, or that there is none
-pub search_up_to : (p : ℕ → Bool) (s : List ℕ) (r : Option ℕ) → ((k : ℕ) → get_or s k 0 < 2 ^ 8)
-    → MatchOption r (AllWithin (λ b. b < 2 ^ 8 → p b ≡ false) s 0 (length s))
-    (λ i. (i < length s) × HoldsAt (λ b. b < 2 ^ 8 → p b ≡ true) s i × AllWithin (λ b. b < 2 ^ 8 → p b ≡ false) s 0 i)
-    → unwrap_or r (length s) ≡ length (up_to p s)
-search_up_to p s None fits none = none-up_to p s (λ k h. none k 0 (omega arith) h (fits k))
-search_up_to p s (Some i) fits (h, here, before) = first-up_to p s i h (here 0 (fits i)) (λ k l. before k 0 (omega arith) l (fits k))
+pub found-up_to : (p : ℕ → Bool) (s : List ℕ) (r : Option ℕ) → r ≡ position p s → unwrap_or r (length s) ≡ length (up_to p s)
+found-up_to p s r e =
+    rw (e, position-up_to p s)
+    (by_bool (any p s) (λ h. rw h) (λ h. rw h (omega (arith, up_to-le p s, ltb-false (length (up_to p s)) (length s) (lt-up_to p s ∙ h)))))
 
 drop-one : (s : List ℕ) → drop 1 s ≡ rest_of s
 unfolding rest_of

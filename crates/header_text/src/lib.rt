@@ -1,9 +1,8 @@
 // What header lines are written in: texts (blanks are trimmed, the case of names is ignored), decimal
 // numbers, and sizes. Proved: each function yields what specs/Text.antt, specs/Number.antt or
-// specs/Size.antt says, for any bytes; those that another crate can call ask for nothing, but that a
-// test of bytes may be called.
+// specs/Size.antt says, for any bytes; those that another crate can call ask for nothing.
 // specs/Place.antt says what the place of a bad number is, and proofs/PlaceLaws.antt has the laws of it;
-// specs/Parts.antt says what a test of bytes has to tell, specs/Cases.antt has one law for proofs.
+// specs/Parts.antt has the classes of bytes that the code scans for, specs/Cases.antt one law for proofs.
 
 #![tactic(auto)]
 

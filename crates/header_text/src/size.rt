@@ -35,7 +35,7 @@ fn size_at(s: &[u8], n: usize) -> Option<SensorSize>
 pub fn geometry(s: &[u8], old: Option<SensorSize>) -> Option<SensorSize>
     ensures { result ≡ geometry_of s.now old }
 {
-    match place_of(b'x', s).or(place_of(b'X', s)) {
+    match place_of(b'x', s).or_else(|| place_of(b'X', s)) {
         Some(n) => size_at(s, n),
         None => old,
     }

@@ -1,8 +1,32 @@
 // Bytes and texts: where a text parts, trimming, and names whose case is ignored. Each is one pass over
 // the text, and what it yields is a part of the slice.
-ghost use Rattle.std.specs.Prelude.{◌≡◌, ◌≤◌, ℕ, Bool, length};
+ghost use Rattle.std.specs.Prelude.{◌≡◌, ◌≤◌, length};
 ghost use Rattle.header_text.specs.Text.{is_blank, lower_of, up_to, from, trim_end, trim_of, begins, same};
-ghost use Rattle.header_text.specs.Parts.{Tells};
+ghost use Rattle.header_text.specs.Parts.{is_in};
+
+// A set of bytes that a scan stops at.
+#[derive(Clone, Copy, Debug, PartialEq, Eq)]
+pub enum ByteClass {
+    Blank,
+    NotBlank,
+    NotPercent,
+    NotAscii,
+    Byte(u8),
+}
+
+impl ByteClass {
+    fn contains(self, b: u8) -> bool
+        ensures { result ≡ is_in self b }
+    {
+        match self {
+            ByteClass::Blank => is_blank(b),
+            ByteClass::NotBlank => !is_blank(b),
+            ByteClass::NotPercent => b != b'%',
+            ByteClass::NotAscii => !b.is_ascii(),
+            ByteClass::Byte(x) => b == x,
+        }
+    }
+}
 
 #[tactic(auto, unfolding(crate::specs::Text::is_blank))]
 // The bytes 9 to 13 and 32: `is_ascii_whitespace` leaves out 11.
@@ -12,20 +36,18 @@ pub fn is_blank(b: u8) -> bool
     matches!(b, 9..=13 | b' ')
 }
 
-// How many bytes stand before the first of which `test` says yes, or how many there are.
-pub fn until<F: Fn(u8) -> bool>(s: &[u8], test: F) -> usize
-    requires { F.IsAlwaysCallable test }
+// How many bytes stand before the first of the class, or how many there are.
+pub fn until(s: &[u8], class: ByteClass) -> usize
     ensures within { result ≤ length s.now }
-    ensures first { (p : ℕ → Bool) → Tells (F.post test) p → result ≡ length (up_to p s.now) }
+    ensures first { result ≡ length (up_to (is_in class) s.now) }
 {
-    s.iter().position(|&b| test(b)).unwrap_or(s.len())
+    s.iter().position(|&b| class.contains(b)).unwrap_or(s.len())
 }
 
-pub fn tail_from<F: Fn(u8) -> bool>(s: &[u8], test: F) -> &[u8]
-    requires { F.IsAlwaysCallable test }
-    ensures { (p : ℕ → Bool) → Tells (F.post test) p → result.now ≡ from p s.now }
+pub fn tail_from(s: &[u8], class: ByteClass) -> &[u8]
+    ensures { result.now ≡ from (is_in class) s.now }
 {
-    let n = until(s, test);
+    let n = until(s, class);
     &s[n..]
 }
 
@@ -41,7 +63,7 @@ fn trim_end(s: &[u8]) -> &[u8]
 pub fn trim(s: &[u8]) -> &[u8]
     ensures { result.now ≡ trim_of s.now }
 {
-    trim_end(tail_from(s, |b| !is_blank(b)))
+    trim_end(tail_from(s, ByteClass::NotBlank))
 }
 
 // `name` is in lowercase.

@@ -1,5 +1,5 @@
 -- What opening comes to: a body that is accepted, and that what its builder yields is what specs/Index.antt defines.
-use Rattle.std.specs.Prelude.{◌≡◌, Bool, List, [], ◌∷◌, ◌++◌, ℕ, zero, suc, ◌+◌, ◌-◌, ◌*◌, ◌/◌, ◌%◌, ◌≤◌, ◌<◌, eqb, drop}
+use Rattle.std.specs.Prelude.{◌≡◌, Bool, List, [], ◌∷◌, ◌++◌, ℕ, zero, suc, ◌+◌, ◌-◌, ◌*◌, ◌/◌, ◌%◌, ◌≤◌, ◌<◌, ◌^◌, eqb, drop}
 use Rattle.std.proofs.Math.Path.{refl, ap}
 use Rattle.std.proofs.Common.{sym, ◌∙◌, true≢false, arith, length-drop}
 use Rattle.std.proofs.Math.Bool.{true, false, cond}
@@ -82,6 +82,11 @@ module _ (n spacing : ℕ) (s : Spaced spacing) where
       let l : (n + (spacing - 1)) % spacing < spacing = mod-lt (n + (spacing - 1)) (omega (arith, s.low)) in
       let m : d * spacing ≤ record_count n spacing * spacing = native.Mathlib.Nat.mul-le-mul_right {m = d} {n = record_count n spacing} spacing (omega arith) in
       omega (arith, e, l, m, s.low)
+
+  pub count_few : n ≤ most_bytes → record_count n spacing < 2 ^ 63
+  count_few h =
+      let d : (n + (spacing - 1)) / spacing ≤ n + (spacing - 1) = native.Mathlib.Nat.div-le_self (n + (spacing - 1)) spacing in
+      omega (arith, d, s.high)
 
 -- ---- events that count
 

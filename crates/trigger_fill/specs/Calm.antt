@@ -1,11 +1,11 @@
 -- Words that carry no trigger and leave the time late in its period, or not late, as it was: they count no loop, and the times behind them are by the last
 -- words that set them.
-use Rattle.std.specs.Prelude.{◌≡◌, Bool, true, false, cond, not, List, [], ◌∷◌, ◌++◌, ℕ, ◌+◌, ◌-◌, ◌*◌, ◌/◌, ◌%◌, ◌^◌, ◌≤◌, ◌<◌, eqb, leb}
+use Rattle.std.specs.Prelude.{◌≡◌, Bool, true, false, cond, not, List, [], ◌∷◌, ◌++◌, ℕ, ◌+◌, ◌-◌, ◌*◌, ◌/◌, ◌%◌, ◌^◌, ◌≤◌, ◌<◌, eqb, leb, length, get_or}
 use Rattle.std.proofs.Math.Path.{refl}
 use Rattle.std.proofs.Common.{sym, ap, ◌∙◌, true≢false, arith}
 use borrow.Author.Tests.{eq-eqb, ne_eqb, eqb-true, eqb-false, leb-true, leb-false}
 use Rattle.laws_stream.specs.Machine.{All, emits}
-use Rattle.evt_types.specs.{Layout.trigger_type}
+use Rattle.evt_types.specs.{Ahead.ahead, Ahead.ahead-two, Ahead.ahead_four, Ahead.ahead_eight, Layout.trigger_type}
 use Rattle.trigger_fill.specs.declared.{form.Form.Form, times.Times.Times}
 use Rattle.trigger_fill.specs.Form.{form2, form21, form3, Known, known2, known21, known3, kind_in, low_in, set_to, fine_word, ticked, pulses, Paced}
 use Rattle.trigger_fill.specs.Form.{raw_in, paced_fine, by_kind, tick_time, tick_fine, tick_other, no_trigger_lem}
@@ -14,6 +14,25 @@ use Rattle.laws_stream.proofs.LoopLaws.{tracks_same}
 -- a word's highest byte
 abbrev pub top_in : Form → ℕ → ℕ
 top_in f w = w / 2 ^ (f.shift - 4) % 2 ^ 8
+
+-- that of the word at i is its last byte
+pub top_byte : {f : Form} → Known f → (l : List ℕ) (i : ℕ) → i + f.size ≤ length l → ((k : ℕ) → get_or l k 0 < 256)
+    → top_in f (ahead f.size l i) ≡ get_or l (i + (f.size - 1)) 0
+top_byte known2 l i h small = omega (arith, ahead_four l i _ (omega arith) refl, small i, small (i + 1), small (i + 2), small (i + 3))
+top_byte known21 l i h small =
+    omega (
+      arith,
+      ahead_eight l i _ (omega arith) refl,
+      small i,
+      small (i + 1),
+      small (i + 2),
+      small (i + 3),
+      small (i + 4),
+      small (i + 5),
+      small (i + 6),
+      small (i + 7),
+    )
+top_byte known3 l i h small = omega (arith, ahead-two l i _ (omega arith) refl, small i, small (i + 1))
 
 -- a trigger, or a time word that is late in its period where the time isn't, or the other way round
 abbrev pub notable_top : (late : Bool) → ℕ → Bool

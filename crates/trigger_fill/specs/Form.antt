@@ -117,6 +117,11 @@ size_few known2 = omega arith
 size_few known21 = omega arith
 size_few known3 = omega arith
 
+pub shift_few : {f : Form} → Known f → f.shift < 64
+shift_few known2 = omega arith
+shift_few known21 = omega arith
+shift_few known3 = omega arith
+
 pub low_few : {f : Form} → Known f → (f.from < 64) × (f.width < 64)
 low_few known2 = (omega arith, omega arith)
 low_few known21 = (omega arith, omega arith)

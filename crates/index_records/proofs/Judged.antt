@@ -3,19 +3,30 @@ use Rattle.evt_codec.specs.Codec.{in_range_c}
 use Rattle.index_build.specs.{declared.Checkpoint.Checkpoint, declared.RawSliceSource.RawSliceSource}
 use Rattle.index_records.specs.{Choose.passes_of, InRange.index_in_range, InRange.record_in_range, InRange.records_in_range}
 use Rattle.index_records.specs.{Judge.is_other, JudgeLaws.Before}
-use Rattle.index_records.specs.Due.{Admits, due_behind, due_first, judged_from, place_of}
+use Rattle.index_records.specs.Due.{Admits, admits_of, due_behind, due_first, judged_from, place_of}
 use Rattle.index_records.specs.{JudgeLaws.Good, JudgeLaws.last-all, Start.Parted, Start.last_passing}
 use Rattle.index_records.specs.declared.{Due.Due, Choice.Choice, Choice.TheVariants.ByNumber, Choice.TheVariants.ByTime}
 use Rattle.laws_stream.specs.Machine.{All, all_map, and_both}
 use Rattle.std.proofs.{Common.arith, Common.eqb-true, Common.le-leb, Common.le-ltb, Common.leb-false, Common.leb-true}
 use Rattle.std.proofs.{Common.lt-ltb, Common.ltb-false, Common.ltb-true, Common.sym, Common.ap, Common.◌∙◌, Math.Path.refl}
 use Rattle.std.proofs.{lemmas.Bool.lt-leb, lemmas.Bool.not-true}
-use Rattle.std.specs.Prelude.{Bool, List, [], false, int_le, int_lt, leb, nat_le, nat_lt, negsuc, not, pos, true, ℕ, ℤ, ◌+◌}
+use Rattle.std.specs.Prelude.{Bool, List, [], None, Option, Some, cond, false, int_le, int_lt, leb, nat_le, nat_lt, negsuc, not, pos, true, ℕ, ℤ, ◌+◌}
 use Rattle.std.specs.Prelude.{length, suc, true, ◌&&◌, ◌==◌, ◌^◌, ◌∷◌, ◌≡◌, ◌≤◌}
 
 -- ---- one after another, as the code judges
 
--- the test is one that the code's `admits` may be
+-- the code's tests of a record come to the rule's, at whichever offset is due
+pub admits_is : (s : RawSliceSource) (due : Due) (c : Checkpoint) → Admits s due c (admits_of s due c)
+admits_is s due c offset p = ap (λ (o : Option ℕ). admits_of s (at-offset o) c) p ∙ go (nat_lt offset (2 ^ 64)) refl
+  where
+    at-offset : Option ℕ → Due
+    at-offset o = record { offset = o; count = due.count; time = due.time }
+
+    go : (b : Bool) → nat_lt offset (2 ^ 64) ≡ b → admits_of s (at-offset (cond b (Some offset) None)) c ≡ record_in_range s offset due.count due.time c
+    go true q = rw q
+    go false q = rw q
+
+-- the test is one that says as much: the code's `admits_of` is one
 module _ (s : RawSliceSource) (test : Due → Checkpoint → Bool) (says : (due : Due) (c : Checkpoint) → Admits s due c (test due c)) where
   judged-from : (offset : ℕ) (due : Due) → due.offset ≡ place_of offset → (l : List Checkpoint)
       → judged_from s test due l ≡ records_in_range s offset due.count due.time l

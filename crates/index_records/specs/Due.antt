@@ -1,10 +1,13 @@
--- What the next record of an index must be like, by rule 10: judging the records one after another comes to it.
-use Rattle.std.specs.Prelude.{◌≡◌, refl, ℕ, suc, ◌+◌, ◌^◌, ◌<◌, ◌≤◌, Bool, true, false, cond, ◌&&◌, List, [], ◌∷◌, ◌==◌}
-use Rattle.std.specs.Prelude.{length, drop, pos, nat_lt, Option, Some, None}
-use Rattle.std.proofs.Common.{sym, ap, ◌∙◌, arith, add-one, drop_of_length-le, drop-cons, eqb-true, lt-ltb}
-use Rattle.laws_stream.specs.Machine.{and_both}
+-- What the next record of an index must be like, by rule 10, and the judging of records one after another, as the code does it.
+-- proofs/Judged.antt has that this comes to the rule: `judged_in_range`.
+use Rattle.std.specs.Prelude.{◌≡◌, refl, ℕ, suc, ◌+◌, ◌^◌, ◌<◌, ◌≤◌, Bool, true, false, cond, ◌&&◌, List, [], ◌∷◌}
+use Rattle.std.specs.Prelude.{length, drop, not, pos, int_le, nat_eq, nat_le, nat_lt, Option, Some, None}
+use Rattle.std.specs.Option.{option_eq}
+use Rattle.std.proofs.Common.{sym, ap, ◌∙◌, arith, add-one, drop_of_length-le, drop-cons, lt-ltb}
+use Rattle.std.proofs.Math.Bool.{and-true}
+use Rattle.evt_codec.specs.Codec.{in_range_c}
 use Rattle.index_build.specs.{declared.Checkpoint.Checkpoint, declared.RawSliceSource.RawSliceSource, Nth.nth, Nth.blank}
-use Rattle.index_records.specs.{declared.Due.Due, InRange.record_in_range, InRange.records_in_range, InRange.index_in_range}
+use Rattle.index_records.specs.{declared.Due.Due, InRange.record_in_range, Judge.is_other}
 
 -- an offset that a record can stand at: none is from 2^64 on
 abbrev pub place_of : ℕ → Option ℕ
@@ -15,6 +18,17 @@ due_first s = record { offset = place_of s.data_offset; count = 0; time = pos 0 
 
 abbrev pub due_behind : RawSliceSource → Checkpoint → Due
 due_behind s c = record { offset = place_of (c.byte_offset + s.spacing); count = c.event_index; time = c.time }
+
+-- whether c is what is due, test by test as the code asks
+abbrev pub admits_of : RawSliceSource → Due → Checkpoint → Bool
+admits_of s due c =
+    option_eq nat_eq (Some c.byte_offset) due.offset
+    && (not (is_other c.codec s.encoding)
+    && (in_range_c c.codec
+    && (nat_le due.count c.event_index
+    && (nat_le c.event_index (2 ^ 33)
+    && (nat_le c.event_index s.n_events
+    && int_le due.time c.time)))))
 
 -- r tells whether c is what is due, at whichever offset that is
 abbrev pub Admits : RawSliceSource → Due → Checkpoint → Bool → Type 0
@@ -27,50 +41,38 @@ abbrev pub judged_from : RawSliceSource → (test : Due → Checkpoint → Bool)
 judged_from s test due [] = true
 judged_from s test due (c ∷ cs) = test due c && judged_from s test (due_behind s c) cs
 
--- the first i of the records l are in range, and behind them `due` is due
-pub record Judged (s : RawSliceSource) (l : List Checkpoint) (i : ℕ) (due : Due) : Type 0 where
-  pub offset : ℕ
-  pub place : due.offset ≡ place_of offset
-  pub same : records_in_range s offset due.count due.time (drop i l) ≡ records_in_range s s.data_offset 0 (pos 0) l
+-- whether there is a record, and each is what is due
+abbrev pub judged_records : RawSliceSource → List Checkpoint → Bool
+judged_records s l = nat_lt 0 (length l) && judged_from s (admits_of s) (due_first s) l
+
+-- ---- a loop that judges
 
 module _ (s : RawSliceSource) (l : List Checkpoint) where
-  pub judged_first : Judged s l 0 (due_first s)
-  judged_first = record { offset = s.data_offset; place = refl; same = refl }
+  abbrev all : Bool
+  all = judged_from s (admits_of s) (due_first s) l
 
-  module _ (i : ℕ) (due : Due) (j : Judged s l i due) (h : i < length l) (r : Bool) (a : Admits s due (nth l i) r) where
+  -- behind the first i records `due` is due: judging the rest comes to judging all
+  pub record Judged (i : ℕ) (due : Due) : Type 0 where
+    pub same : judged_from s (admits_of s) due (drop i l) ≡ all
+
+  pub judged_first : Judged 0 (due_first s)
+  judged_first = record { same = refl }
+
+  module _ (i : ℕ) (due : Due) (j : Judged i due) (h : i < length l) (r : Bool) (is : r ≡ admits_of s due (nth l i)) where
     abbrev rest : Bool
-    rest = records_in_range s (j.offset + s.spacing) (nth l i).event_index (nth l i).time (drop (suc i) l)
+    rest = judged_from s (admits_of s) (due_behind s (nth l i)) (drop (suc i) l)
 
-    by_record : r && rest ≡ records_in_range s s.data_offset 0 (pos 0) l
-    by_record =
-        ap (λ (b : Bool). b && rest) (a j.offset j.place)
-        ∙ sym (ap (records_in_range s j.offset due.count due.time) (drop-cons l i blank h)) ∙ j.same
+    by_record : r && rest ≡ all
+    by_record = ap (λ (b : Bool). b && rest) is ∙ sym (ap (judged_from s (admits_of s) due) (drop-cons l i blank h)) ∙ j.same
 
-    pub judged_next : r ≡ true → (next : Due) → next ≡ due_behind s (nth l i) → Judged s l (i + 1) next
-    judged_next e next is =
-        let admitted = and_both (nat_lt j.offset (2 ^ 64)) _ (sym (a j.offset j.place) ∙ e) in
-        let stands = eqb-true (nth l i).byte_offset j.offset (and_both ((nth l i).byte_offset == j.offset) _ admitted.1).0 in
-        rw is (record {
-          offset = j.offset + s.spacing;
-          place = ap (λ (o : ℕ). place_of (o + s.spacing)) stands;
-          same = rw add-one (ap (λ (b : Bool). b && rest) (sym e) ∙ by_record);
-        })
+    pub judged_next : r ≡ true → (next : Due) → next ≡ due_behind s (nth l i) → Judged (i + 1) next
+    judged_next e next behind = rw behind (record { same = rw add-one (ap (λ (b : Bool). b && rest) (sym e) ∙ by_record) })
 
-    pub judged_stops : r ≡ false → false ≡ index_in_range s l
-    unfolding index_in_range
-    judged_stops e = go l refl
-      where
-        go : (k : List Checkpoint) → l ≡ k → false ≡ index_in_range s k
-        go [] q = refl
-        go (c ∷ cs) q = ap (λ (b : Bool). b && rest) (sym e) ∙ by_record ∙ ap (records_in_range s s.data_offset 0 (pos 0)) q
+    pub judged_stops : r ≡ false → false ≡ judged_records s l
+    judged_stops e =
+        ap (λ (b : Bool). b && rest) (sym e) ∙ by_record ∙ sym (ap (λ (b : Bool). b && all) (lt-ltb 0 (length l) (omega (arith, h))))
 
-  pub judged_all : (i : ℕ) (due : Due) → Judged s l i due → length l ≤ i → nat_lt 0 (length l) ≡ index_in_range s l
-  unfolding index_in_range
-  judged_all i due j h = go l refl
-    where
-      go : (k : List Checkpoint) → l ≡ k → nat_lt 0 (length k) ≡ index_in_range s k
-      go [] q = refl
-      go (c ∷ cs) q =
-          lt-ltb 0 (suc (length cs)) (omega arith)
-          ∙ sym (ap (records_in_range s j.offset due.count due.time) (drop_of_length-le l h)) ∙ j.same
-          ∙ ap (records_in_range s s.data_offset 0 (pos 0)) q
+  pub judged_all : (i : ℕ) (due : Due) → Judged i due → length l ≤ i → nat_lt 0 (length l) ≡ judged_records s l
+  judged_all i due j h =
+      sym (and-true (nat_lt 0 (length l)))
+      ∙ ap (λ (b : Bool). nat_lt 0 (length l) && b) (sym (ap (judged_from s (admits_of s) due) (drop_of_length-le l h)) ∙ j.same)

@@ -1,7 +1,8 @@
 // The records of an index: whether they are in range (rule 10), and the one that a slice starts at.
 // specs/InRange.antt has when an index is in range; specs/Due.antt what the record behind another one
-// must be like, and that judging them one after another comes to it. specs/Choose.antt has which record
-// is looked for, specs/BinarySearch.antt the binary search, which finds it (specs/Search.antt).
+// must be like, and the judging of one after another, which comes to it (proofs/Judged.antt).
+// specs/Choose.antt has which record is looked for, specs/BinarySearch.antt the binary search, which
+// finds it (specs/Search.antt).
 
 #![tactic(auto)]
 
@@ -11,7 +12,7 @@ ghost use Rattle.index_build.specs.{declared.Checkpoint.Checkpoint, Nth.nth};
 ghost use Rattle.index_records.specs.Choose.{passes_of};
 ghost use Rattle.index_records.specs.BinarySearch.{chosen_of};
 ghost use Rattle.index_records.specs.InRange.{index_in_range};
-ghost use Rattle.index_records.specs.Due.{Admits, due_first, due_behind};
+ghost use Rattle.index_records.specs.Due.{Admits, admits_of, due_first, due_behind, judged_records};
 
 use evt_codec::Codec;
 use evt_types::Encoding;
@@ -127,7 +128,8 @@ impl Due {
 
     // Whether a record is what the next one must be like.
     fn admits(self, source: RawSliceSource, c: Checkpoint) -> bool
-        ensures { Admits source self c result }
+        ensures tested { result ≡ admits_of source self c }
+        ensures ruled { Admits source self c result }
     {
         Some(c.byte_offset) == self.offset
             && encoding_of(c.codec) == source.encoding
@@ -153,7 +155,8 @@ fn encoding_of(codec: Codec) -> Encoding
 // is known the decoder isn't kept as a union in memory.
 #[inline(always)]
 pub fn are_in_range<R: Records>(records: &R, source: RawSliceSource) -> bool
-    ensures { result ≡ index_in_range source (R.listed records.now) }
+    ensures judged { result ≡ judged_records source (R.listed records.now) }
+    ensures in_range { result ≡ index_in_range source (R.listed records.now) }
 {
     let n = records.count();
     let mut due = Due::first(source);

@@ -30,7 +30,7 @@ most_small c n = subst (λ (k : ℕ). k ≤ 6 * n) (mul_comm (view c).reader.mos
 -- ---- with the records judged all is as specs/Slice.antt has it
 
 module _ (recording : List ℕ) (s : RawSliceSource) (records : List Checkpoint) (ok : Bool) (from es : List Event)
-    (judged : ok ≡ index_in_range s records)
+    (judged : spacing_ok s.encoding s.spacing ≡ true → ok ≡ index_in_range s records)
     (same : length recording ≤ most_bytes → index_in_range s records ≡ true → from ≡ es) where
   same_outcome : (room : ℕ) → slice_outcome recording s ok from room ≡ slice_outcome recording s (index_in_range s records) es room
   unfolding slice_outcome
@@ -46,8 +46,8 @@ module _ (recording : List ℕ) (s : RawSliceSource) (records : List Checkpoint)
       go true p b c q d r = refl
       go false p true c q d r = refl
       go false p false false q d r = refl
-      go false p false true q true r = rw (judged ∙ r) (ap (λ (l : List Event). room_outcome l room) (same (ltb-false most_bytes (length recording) p) r))
-      go false p false true q false r = rw (judged ∙ r)
+      go false p false true q true r = rw (judged q ∙ r) (ap (λ (l : List Event). room_outcome l room) (same (ltb-false most_bytes (length recording) p) r))
+      go false p false true q false r = rw (judged q ∙ r)
 
   pub slices_from : {r : Result ℕ Refusal} {xs₀ ys₀ : List ℕ} {ts₀ : List ℤ} {ps₀ xs ys : List ℕ} {ts : List ℤ} {ps : List ℕ}
       → SlicesFrom recording s ok from r xs₀ ys₀ ts₀ ps₀ xs ys ts ps
@@ -113,7 +113,7 @@ module _ (recording : List ℕ) (s : RawSliceSource) (records : List Checkpoint)
         → SlicesFrom recording s judged (passed_from recording asked.window start) r xs₀ ys₀ ts₀ ps₀ xs ys ts ps
         → SlicesIndex recording s records i0 i1 r xs₀ ys₀ ts₀ ps₀ xs ys ts ps
     slices_index =
-        slices_from recording s records judged (passed_from recording asked.window start) (index_events recording s records i0 i1) b.judged
+        slices_from recording s records judged (passed_from recording asked.window start) (index_events recording s records i0 i1) (λ _. b.judged)
         (λ short ok. same_number s records asked judged start b recording short ok i0 i1
         (ap (λ (a : Asked). passes_of a.choice) is) (ap (λ (a : Asked). a.window) is))
 
@@ -122,6 +122,6 @@ module _ (recording : List ℕ) (s : RawSliceSource) (records : List Checkpoint)
         → SlicesFrom recording s judged (passed_from recording asked.window start) r xs₀ ys₀ ts₀ ps₀ xs ys ts ps
         → SlicesTime recording s records t0 t1 r xs₀ ys₀ ts₀ ps₀ xs ys ts ps
     slices_time =
-        slices_from recording s records judged (passed_from recording asked.window start) (time_events recording s records t0 t1) b.judged
+        slices_from recording s records judged (passed_from recording asked.window start) (time_events recording s records t0 t1) (λ _. b.judged)
         (λ short ok. same_time s records asked judged start b recording short ok t0 t1
         (ap (λ (a : Asked). passes_of a.choice) is) (ap (λ (a : Asked). a.window) is))

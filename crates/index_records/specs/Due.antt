@@ -19,7 +19,7 @@ due_first s = record { offset = place_of s.data_offset; count = 0; time = pos 0 
 abbrev pub due_behind : RawSliceSource → Checkpoint → Due
 due_behind s c = record { offset = place_of (c.byte_offset + s.spacing); count = c.event_index; time = c.time }
 
--- whether c is what is due, test by test as the code asks
+-- whether c is what is due
 abbrev pub admits_of : RawSliceSource → Due → Checkpoint → Bool
 admits_of s due c =
     option_eq nat_eq (Some c.byte_offset) due.offset

@@ -126,18 +126,18 @@ impl Due {
         }
     }
 
-    // Whether a record is what the next one must be like.
+    // Whether a record is what the next one must be like. The decoder comes last: it is a call, across which the other tests' numbers would be kept.
     fn admits(self, source: RawSliceSource, c: Checkpoint) -> bool
         ensures tested { result ≡ admits_of source self c }
         ensures ruled { Admits source self c result }
     {
         Some(c.byte_offset) == self.offset
             && encoding_of(c.codec) == source.encoding
-            && c.codec.in_range()
             && self.count <= c.event_index
             && c.event_index <= MOST_EVENTS
             && c.event_index <= source.n_events
             && self.time <= c.time
+            && c.codec.in_range()
     }
 }
 

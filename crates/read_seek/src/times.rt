@@ -40,9 +40,11 @@ pub fn tick(c: Times, word: u64) -> Times
             loops: n.loops,
         };
     }
+    // The sum comes first: where only one side has it, the compiler makes a branch of the choice.
+    let fine = c.base + low;
     Times {
         base: c.base,
-        time: if kind == 6 { c.base + low } else { c.time },
+        time: if kind == 6 { fine } else { c.time },
         loops: c.loops,
     }
 }

@@ -1,16 +1,16 @@
 // Single words, as they come in.
 use crate::print;
-use prophesee_raw::{Codec, Decoder, Encoding, decoder_after};
+use prophesee_raw::{Codec, Decoded, Decoder, Encoding, decoder_after};
 use std::io;
 use std::io::Write;
 
-// A step answers the next decoder, and the word's events. The words 8001 300A 4003 have two,
+// A step answers a `Decoded`: the next decoder, and the word's events. The words 8001 300A 4003 have two,
 // at columns 10 and 11.
 pub fn decode_singly(stdout: &mut impl Write) -> io::Result<()> {
     let decoder = Decoder::new();
     let first = decoder.step(0x8001);
     let second = first.next.step(0x300A);
-    let third = second.next.step(0x4003);
+    let third: Decoded<Decoder> = second.next.step(0x4003);
     print::first(stdout, "decode_singly: ", third.answer)
 }
 

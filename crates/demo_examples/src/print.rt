@@ -1,11 +1,8 @@
 // Printing what a call answered, behind the name of the example.
-use evt_types::{EventVector, RawTrigger};
-use index_build::Opening;
-use prophesee_raw::{Reading, Refusal};
+use prophesee_raw::{EventVector, Opening, RawTrigger, Reading, Refusal, TriggerReading};
 use std::io;
 use std::io::Write;
 use test_text::{columns, show, text};
-use trigger_rules::TriggerReading;
 
 // The first n events of the columns.
 pub fn events(

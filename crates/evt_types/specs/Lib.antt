@@ -1,6 +1,7 @@
 pub mod Ahead
 pub mod Num
 pub mod Told
+pub mod Text
 pub mod Outcome
 pub mod Event
 pub mod Layout

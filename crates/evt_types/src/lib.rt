@@ -1,7 +1,7 @@
 // The types that every crate here shares, and what all encodings have in common: the public word
 // layouts of EVT 2.0 and EVT 3.0 (specs/Layout.antt), fields of a word, the clock that counts loops
-// (specs/Clock.antt), the events of a word (specs/Event.antt), triggers (specs/Trigger.antt), and the
-// number and the values of every refusal (specs/Told.antt).
+// (specs/Clock.antt), the events of a word (specs/Event.antt), triggers (specs/Trigger.antt), and of every
+// refusal the number and the values (specs/Told.antt) and what it prints (specs/Text.antt).
 
 #![tactic(auto)]
 
@@ -120,7 +120,13 @@ impl From<Refusal> for u32 {
     }
 }
 
+// What it says, with the count that it tells.
 impl fmt::Display for Refusal {
+    ghost use Rattle.std.specs.Prelude.{Some};
+    ghost use Rattle.evt_types.specs.Text.{refusal_text};
+
+    ghost output = { λ r. Some (refusal_text r) };
+
     fn fmt<W: fmt::Write>(&self, f: &mut fmt::Formatter<W>) -> fmt::Result {
         match self {
             Refusal::InvalidSensorSize => write!(f, "width or height 0, or no size and no event"),

@@ -1,7 +1,8 @@
 // Prophesee RAW recordings of EVT2, EVT2.1 and EVT3: all that a user calls. The code, the definitions and
 // the proofs stand in the crates below; this one names what is for use from outside. No call has a
-// `requires`: each takes any arguments, and answers a `Result`: what was asked for, or a `Refusal`. The
-// examples named here are functions of the program crates/demo_examples, which runs them.
+// `requires`: each takes any arguments, and answers what was asked for or a refusal, most of them as a
+// `Result`, which is the field `answer` where more stands beside it. The examples named here are functions
+// of the program crates/demo_examples, which runs them.
 //
 // Reading. `read_raw` reads a recording, header and words, into four columns that the caller lends:
 // column, row, time in microseconds, polarity. `LoadOptions` has the sensor's size, an
@@ -62,10 +63,10 @@
 // Examples: `resume_stream`, `resume_recording`; with a fresh writer `cut_and_resume`, `cut_recording`.
 //
 // Single words. `Evt2Decoder`, `Evt21Decoder`, `Decoder` (EVT3) and `Codec` (any) step over one word, by
-// value (`step`) or lent (`decode`). `EventVector::next` takes out the word's events one by one: it
-// answers an `Option` of an event and the vector without it. `decoder_after` has the decoder after all
-// whole words of some bytes, `decoder_after_raw` the one after a recording's body. Examples:
-// `decode_singly`, `decode_after`.
+// value (`step`) or lent (`decode`). `step` answers a `Decoded`: the next decoder, and the word's events
+// or the refusal. `EventVector::next` takes out the word's events one by one: it answers an `Option` of an
+// event and the vector without it. `decoder_after` has the decoder after all whole words of some bytes,
+// `decoder_after_raw` the one after a recording's body. Examples: `decode_singly`, `decode_after`.
 //
 // Refusals. A `Refusal` is an error type, with a `Display`; `u32::from(refusal)` is its number in the
 // table of docs/RULES.md, and `u32::from(encoding)` that of an `Encoding`. 5, 9, 11 and 13 tell how many
@@ -77,7 +78,9 @@
 #![tactic(auto)]
 
 pub use evt_codec::Codec;
-pub use evt_types::{Encoding, EventVector, EvtVersion, RawEvent, RawTrigger, Refusal, SensorSize};
+pub use evt_types::{
+    Decoded, Encoding, EventVector, EvtVersion, RawEvent, RawTrigger, Refusal, SensorSize,
+};
 pub use evt2_decoder::Evt2Decoder;
 pub use evt3_decoder::Decoder;
 pub use evt21_decoder::Evt21Decoder;

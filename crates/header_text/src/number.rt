@@ -4,15 +4,9 @@ ghost use Rattle.header_text.specs.Number.{digits_at, read_of};
 
 // The value of the digit d behind digits of value n, if it doesn't pass 2^64 - 1.
 fn append_digit(n: usize, d: usize) -> Option<usize>
-    requires { d ≤ 9 }
     ensures { result ≡ cond (ltb (n * 10 + d) (2 ^ 64)) (Some (n * 10 + d)) None }
 {
-    // By a comparison: `checked_mul` and `checked_add` take a third longer.
-    if n < usize::MAX / 10 || (n == usize::MAX / 10 && d <= usize::MAX % 10) {
-        Some(n * 10 + d)
-    } else {
-        None
-    }
+    n.checked_mul(10)?.checked_add(d)
 }
 
 // One or more digits, of which the first is at the place.

@@ -4,8 +4,13 @@ ghost use Rattle.header_text.specs.Number.{digits_at, read_of};
 
 // The value of the digit d behind digits of value n, if it doesn't pass 2^64 - 1.
 fn append_digit(n: usize, d: usize) -> Option<usize>
+    requires { d ≤ 9 }
     ensures { result ≡ cond (ltb (n * 10 + d) (2 ^ 64)) (Some (n * 10 + d)) None }
 {
+    // Behind 18 digits or fewer any digit fits, and the value waits for two instructions a digit, where the checked sums take three.
+    if n < usize::MAX / 10 {
+        return Some(n * 10 + d);
+    }
     n.checked_mul(10)?.checked_add(d)
 }
 

@@ -24,7 +24,8 @@ pub fn of(d: Decoder) -> Times
     }
 }
 
-// A word to a started decoder. Types other than 8 go without a branch.
+// A word to a started decoder. Types other than 8 go without a branch, for which the choice by type 6 goes by methods: the compiler makes
+// one branch of an `if` and the test for type 8.
 pub fn tick(c: Times, word: u64) -> Times
     requires { Slow c }
     ensures { result ≡ ticked c word }
@@ -40,11 +41,9 @@ pub fn tick(c: Times, word: u64) -> Times
             loops: n.loops,
         };
     }
-    // The sum comes first: where only one side has it, the compiler makes a branch of the choice.
-    let fine = c.base + low;
     Times {
         base: c.base,
-        time: if kind == 6 { fine } else { c.time },
+        time: (kind == 6).then_some(c.base + low).unwrap_or(c.time),
         loops: c.loops,
     }
 }

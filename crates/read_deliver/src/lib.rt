@@ -51,7 +51,9 @@ pub fn deliver_all(
     Ok(t.count)
 }
 
-// Writes what the window leaves of all the bytes.
+// Writes what the window leaves of all the bytes. Never inlined: within `deliver` its loops have too few registers, and EVT3's takes up
+// to a tenth longer.
+#[inline(never)]
 fn deliver_window(
     bytes: &[u8],
     codec: Codec,

@@ -6,11 +6,13 @@
 #![tactic(auto)]
 
 ghost use Rattle.std.specs.Prelude.{◌≡◌, length};
+ghost use Rattle.evt_codec.specs.declared.codec.Codec.TheVariants.{Evt2};
 ghost use Rattle.evt_types.specs.Columns.{Wrote};
 ghost use Rattle.read_select.specs.Pass.{Ready, Fits, handed_over, surveyed, filled};
 
 use evt_codec::Codec;
 use evt_codec::word_loop::{Evt2Loop, Evt21Loop};
+use evt2_decoder::Evt2Decoder;
 use evt3_decoder::widen;
 pub use read_window::Window;
 
@@ -75,15 +77,8 @@ pub fn fill(
 {
     match codec {
         Codec::Evt2(d) => {
-            passes::fill(
-                bytes,
-                Evt2Loop::new(d),
-                win,
-                number,
-                &mut *xs,
-                &mut *ys,
-                &mut *ts,
-                &mut *ps,
+            fill_evt2(
+                bytes, d, win, number, &mut *xs, &mut *ys, &mut *ts, &mut *ps,
             )
         }
         Codec::Evt21(d) => {
@@ -111,4 +106,36 @@ pub fn fill(
             )
         }
     }
+}
+
+// Of EVT2. Never inlined: beside the other two its loop has too few registers, and takes up to a third longer.
+#[inline(never)]
+fn fill_evt2(
+    bytes: &[u8],
+    d: Evt2Decoder,
+    win: Window,
+    number: u64,
+    xs: &mut [u16],
+    ys: &mut [u16],
+    ts: &mut [i64],
+    ps: &mut [u8],
+) -> Filled
+    requires ready { Ready (Evt2 d) number (length bytes.now) }
+    requires fit { Fits (length (handed_over win number (Evt2 d) bytes.now)) (length xs.old)
+        (length ys.old) (length ts.old) (length ps.old) }
+    ensures filled { result ≡ filled win number (Evt2 d) bytes.now }
+    ensures wrote { Wrote (handed_over win number (Evt2 d) bytes.now) 0
+        xs.old ys.old ts.old ps.old
+        xs.new ys.new ts.new ps.new }
+{
+    passes::fill(
+        bytes,
+        Evt2Loop::new(d),
+        win,
+        number,
+        &mut *xs,
+        &mut *ys,
+        &mut *ts,
+        &mut *ps,
+    )
 }

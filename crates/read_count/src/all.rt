@@ -30,6 +30,8 @@ pub struct Counted<D> {
     pub decoder: D,
 }
 
+// Never inlined: beside it the other two loops have too few registers.
+#[inline(never)]
 pub fn evt2(bytes: &[u8], d: Evt2Decoder, width: u64, height: u64) -> Counted<Evt2Decoder>
     requires { Bounded2 (length bytes.now / word_size2) d }
     ensures { (result.count ≡ length (inside_all word_size2 reader2 width height d bytes.now))

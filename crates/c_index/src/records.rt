@@ -118,7 +118,9 @@ impl<'a> Records for LentRecords<'a> {
 }
 
 impl<'a> Judge for LentRecords<'a> {
-    // A loop for each encoding, so that the compiler knows which kind of decoder a record has.
+    // A loop for each encoding, so that the compiler knows which kind of decoder a record has. Never inlined: within a slice they have too
+    // few registers.
+    #[inline(never)]
     fn in_range(&self, source: RawSliceSource) -> bool {
         let entries = self.entries;
         match self.encoding {
